@@ -1,0 +1,9 @@
+pub mod Texts
+pub mod Elements
+pub mod UniqueName
+pub mod WellKnown
+pub mod Interface
+pub mod Member
+pub mod ErrorName
+pub mod ObjectPath
+pub mod BusName
