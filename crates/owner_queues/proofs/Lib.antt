@@ -1,0 +1,3 @@
+pub mod QueueLemmas
+pub mod QueueLaws
+pub mod WorkedQueues

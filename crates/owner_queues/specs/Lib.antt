@@ -1,0 +1,4 @@
+pub mod Laws
+pub mod Queues
+pub mod Replies
+pub mod Requests
