@@ -1,0 +1,6 @@
+pub mod Types
+pub mod Signatures
+pub mod Faults
+pub mod Values
+pub mod Spelling
+pub mod Reading

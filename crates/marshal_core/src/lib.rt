@@ -1,0 +1,18 @@
+//! Types and values of the D-Bus wire format, and signatures.
+//!
+//! What bytes spell which values, and which fault of bad bytes is told, are the definitions of
+//! `specs/`: `Types`, `Signatures`, `Values`, `Spelling` and `Reading`, after "Type System" and
+//! "Marshaling (Wire Format)" of the D-Bus Specification.
+#![tactic(auto)]
+
+mod data_type;
+mod fault;
+mod order;
+mod signature;
+mod value;
+
+pub use data_type::{BasicType, DataType};
+pub use fault::MarshalFault;
+pub use order::Order;
+pub use signature::Signature;
+pub use value::{BasicValue, Value};
