@@ -1,0 +1,9 @@
+pub mod Facts
+pub mod FactsView
+pub mod Fitting
+pub mod Keys
+pub mod Kinds
+pub mod RuleBytes
+pub mod RuleFaults
+pub mod Rules
+pub mod RuleTexts

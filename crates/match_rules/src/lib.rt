@@ -1,0 +1,19 @@
+//! Match rules: which messages a connection asks to be sent, or a monitor to be shown.
+//!
+//! A [`Rule`] is a set of keys with a value for each; a message is seen by rules as [`Facts`].
+//! `specs/RuleTexts.antt` says which text is which rule, `specs/RuleFaults.antt` what is wrong with
+//! any other text, and `specs/Fitting.antt` which rules fit a message.
+//! (D-Bus Specification: "Match Rules".)
+#![tactic(auto)]
+
+mod facts;
+mod fault;
+mod key;
+mod kind;
+mod rule;
+
+pub use facts::{Argument, Facts};
+pub use fault::RuleFault;
+pub use key::Key;
+pub use kind::MessageKind;
+pub use rule::{MAX_RULE_LENGTH, Rule};

@@ -1,0 +1,34 @@
+//! A match rule.
+
+use arrayvec::ArrayVec;
+use std::marker::Model;
+
+/// The longest text of a rule, in bytes.
+pub const MAX_RULE_LENGTH: usize = 1024;
+
+/// A match rule: keys, each with a value that it takes.
+/// (D-Bus Specification: "Match Rules".)
+#[derive(Drop, PartialEq, Eq)]
+pub struct Rule {
+    /// The keys in their order: a byte for the key, two for the length of its value, the lower first, and the value.
+    entries: ArrayVec<u8, MAX_RULE_LENGTH>,
+}
+
+impl Model for Rule {
+    ghost use Rattle.std.specs.Prelude.{◌≡◌};
+    ghost use Rattle.std.proofs.Common.{ap, sym};
+    ghost use Rattle.match_rules.specs.Rules.{Rule as Entries, IsRule};
+    ghost use Rattle.match_rules.specs.RuleBytes.{rule_bytes, rule_in};
+
+    ghost Value = { Entries };
+
+    ghost view = { λ rule. rule_in rule.entries.items };
+
+    ghost invariant = { λ rule. ∥ IsRule (rule_in rule.entries.items) ∥₁ × (rule.entries.items ≡ rule_bytes (rule_in rule.entries.items)) };
+
+    ghost inverse = { λ rule. record { entries = record { items = rule_bytes rule } } };
+
+    ghost inverse_ok = { λ rule h. ap (λ bytes. record { entries = record { items = bytes } }) (sym h.1) };
+}
+
+const _: () = prove!(size_of::<Rule>() <= 1040);
