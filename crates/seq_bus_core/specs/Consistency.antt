@@ -1,0 +1,43 @@
+-- What holds of the state of every bus.
+use Rattle.std.specs.Prelude.{◌≡◌, ◌≢◌, ℕ, ◌<◌, true, false, IsSome, List, [], ◌∷◌}
+use Rattle.std.specs.List.{AllByRecursion as Each, list_all}
+use Rattle.names.specs.Texts.{text_eq, text_lt}
+use Rattle.owner_queues.specs.Queues.{IsQueue, queue_head}
+use Rattle.seq_bus_core.specs.BusState.{BusState, Connection, OwnedName, RunningStart, is_client}
+use Rattle.seq_bus_core.specs.Steps.{is_reserved}
+
+-- each of a list stands in a relation to each behind it
+abbrev pub Pairwise : {X : Type 0} → (X → X → Type 0) → List X → Type 0
+Pairwise R [] = Unit {0}
+Pairwise R (x ∷ xs) = Each (R x) xs × Pairwise R xs
+
+-- a connection's number is not the bus's, and has been given
+pub record IsGiven (next_number : ℕ) (c : Connection) : Type 0 where
+  pub not_bus : 0 < c.number
+  pub given : c.number < next_number
+
+-- a name has an owner; in its queue stand connections that are no monitors, each once
+pub record IsOwned (connections : List Connection) (n : OwnedName) : Type 0 where
+  pub ownable : is_reserved n.name ≡ false
+  pub owned : IsSome (queue_head n.queue)
+  pub once : IsQueue n.queue
+  pub clients : list_all (λ q. is_client connections q.connection) n.queue ≡ true
+
+-- a start was numbered, its name has no owner, and its tickets rise
+pub record IsRunning (names : List OwnedName) (next_start next_ticket : ℕ) (r : RunningStart) : Type 0 where
+  pub given : r.number < next_start
+  pub unowned : Each (λ n. text_eq n.name r.name ≡ false) names
+  pub tickets_given : Each (λ t. t < next_ticket) r.tickets
+  pub tickets_rise : Pairwise (λ t u. t < u) r.tickets
+
+pub record IsConsistent (s : BusState) : Type 0 where
+  pub next_not_bus : 0 < s.next_number
+  pub connections_given : Each (IsGiven s.next_number) s.connections
+  pub connections_rise : Pairwise (λ a b. a.number < b.number) s.connections
+  pub slots_differ : Pairwise (λ a b. a.slot ≢ b.slot) s.connections
+  pub names_owned : Each (IsOwned s.connections) s.names
+  pub names_rise : Pairwise (λ a b. text_lt a.name b.name ≡ true) s.names
+  pub rules_of_clients : Each (λ r. is_client s.connections r.connection ≡ true) s.rules
+  pub starts_running : Each (IsRunning s.names s.next_start s.next_ticket) s.starts
+  pub starts_rise : Pairwise (λ a b. a.number < b.number) s.starts
+  pub start_names_differ : Pairwise (λ a b. text_eq a.name b.name ≡ false) s.starts

@@ -1,0 +1,32 @@
+//! What a message bus is: its state, what each change does to it, what a query is answered and who gets a message.
+//!
+//! The definitions stand in `specs/`, in the terms of the D-Bus Specification; the types here are what they speak of.
+//! [`Change`] and [`Query`] are what is asked of a bus, [`Outcome`] and [`Verdict`] what it answers, and an
+//! [`Entry`] is one line of its history. [`ErrorKind`] names the errors of the bus.
+#![tactic(auto)]
+
+mod change;
+mod connection;
+mod entry;
+mod error_kind;
+mod monitor_rules;
+mod outcome;
+mod query;
+mod recipients;
+mod relayed;
+mod signal;
+mod ticket;
+mod verdict;
+
+pub use change::{Call, Change, Ending};
+pub use connection::Conn;
+pub use entry::Entry;
+pub use error_kind::ErrorKind;
+pub use monitor_rules::MonitorRules;
+pub use outcome::{NumberedOutcome, Outcome, Reply};
+pub use query::Query;
+pub use recipients::Recipients;
+pub use relayed::Relayed;
+pub use signal::{AddressedSignal, BusSignal, Signals};
+pub use ticket::{Fate, SettledNumber, SettledTicket, Ticket, TicketNumbers, Tickets};
+pub use verdict::{Verdict, VerdictKind};

@@ -1,0 +1,62 @@
+//! The rules of a monitor.
+
+ghost use Rattle.std.specs.Prelude.{◌≡◌, ◌<◌, ◌↔◌, [], ◌∷◌, ◌++◌, length, IsTrue, OnOk, OnErr};
+
+use match_rules::Rule;
+use std::alloc::{AllocError, Global};
+use std::marker::Model;
+
+/// The rules by which a monitor is shown messages, at most 64. Where there are none, it is shown every message.
+#[derive(Drop)]
+pub struct MonitorRules {
+    rules: Vec<Rule>,
+}
+
+impl Model for MonitorRules {
+    ghost use Rattle.std.specs.Prelude.{◌≤◌, List, vec_len};
+    ghost use Rattle.match_rules.specs.Rules.{Rule as Entries};
+
+    ghost Value = { List Entries };
+
+    ghost view = { λ r. r.rules.items };
+
+    ghost invariant = { λ r. vec_len r.rules ≤ 64 };
+}
+
+impl MonitorRules {
+    /// The most rules of one monitor.
+    pub const MAX: usize = 64;
+
+    /// No rules.
+    pub fn new(alloc: Global) -> Self
+        ensures { result ≡ [] }
+    {
+        MonitorRules {
+            rules: Vec::new(alloc),
+        }
+    }
+
+    /// Whether no other rule has room.
+    pub fn is_full(&self) -> bool
+        ensures { IsTrue result ↔ (length self.now ≡ Self.MAX) }
+    {
+        self.rules.len() == Self::MAX
+    }
+
+    /// One more rule, behind the others.
+    pub fn push(&mut self, rule: Rule) -> Result<(), AllocError>
+        requires { length self.old < Self.MAX }
+        ensures ok { OnOk result (self.new ≡ self.old ++ rule ∷ []) }
+        ensures err { OnErr result (self.new ≡ self.old) }
+    {
+        self.rules.push(rule)?;
+        Ok(())
+    }
+
+    /// The rules, in order.
+    pub fn as_slice(&self) -> &[Rule]
+        ensures { result.now ≡ self.now }
+    {
+        self.rules.as_slice()
+    }
+}
