@@ -1,0 +1,6 @@
+pub mod Runs
+pub mod QueueRows
+pub mod RoutingRows
+pub mod ServiceRows
+pub mod MonitorRows
+pub mod RouterRows
