@@ -5,6 +5,8 @@ use Rattle.names.specs.Elements.{colon}
 use Rattle.names.specs.UniqueName.{IsUniqueName, unique_name_fault}
 use Rattle.names.specs.WellKnown.{IsWellKnownName, well_known_fault}
 use Rattle.names.specs.declared.fault.NameFault.{NameFault}
+use Rattle.names.specs.declared.bus_name_kind.BusNameKind.{BusNameKind}
+use Rattle.names.specs.declared.bus_name_kind.BusNameKind.TheVariants.{Bus, Unique, WellKnown}
 
 -- the name of the bus itself, which is spelled as a well-known name
 abbrev pub bus_text : Text
@@ -17,6 +19,9 @@ is_bus text = text_eq text bus_text
 abbrev pub is_unique : Text → Bool
 is_unique [] = false
 is_unique (b ∷ bytes) = b == colon
+
+abbrev pub kind_of : Text → BusNameKind
+kind_of text = if is_unique text then Unique else (if is_bus text then Bus else WellKnown)
 
 abbrev pub IsBusName : Text → Type 0
 IsBusName text = IsUniqueName text ⊎ IsWellKnownName text

@@ -1,4 +1,5 @@
 pub mod Texts
+pub mod Faults
 pub mod Elements
 pub mod UniqueName
 pub mod WellKnown

@@ -1,10 +1,20 @@
 //! Bus names.
 
+ghost use Rattle.std.specs.Prelude.{◌≡◌, ◌↔◌, Some, None, IsOk, IfOk, MatchResult};
+ghost use Rattle.names.specs.BusName.{bus_text, is_bus, kind_of, IsBusName, bus_name_fault};
+
+use crate::bus_name_kind::BusNameKind;
+use crate::fault::NameFault;
 use crate::short_text::ShortText;
+use crate::unique_name::UniqueName;
+use crate::well_known_name::WellKnown;
+use std::fmt;
 use std::marker::Model;
 
+const BUS: &str = "org.freedesktop.DBus";
+
 /// A unique name, a well-known name or the name of the bus itself ("Bus names" of the D-Bus Specification), of at most 255 bytes.
-#[derive(Clone, Copy)]
+#[derive(Clone, Copy, Debug, PartialEq, Eq, PartialOrd, Ord, Hash)]
 pub struct BusName {
     text: ShortText,
 }
@@ -17,18 +27,89 @@ impl Model for BusName {
 
     ghost view = { λ name. name.text };
 
-    ghost invariant = { λ name. ∥ IsBusName name.text ∥₁ };
+    ghost invariant = { λ name. IsBusName name.text };
 
     ghost inverse = { λ text. record { text = text } };
 }
 
-/// What a bus name names.
-#[derive(Clone, Copy, Debug, PartialEq, Eq)]
-pub enum BusNameKind {
-    /// The bus itself.
-    Bus,
-    /// One connection.
-    Unique,
-    /// The owner of a well-known name.
-    WellKnown,
+impl BusName {
+    /// The name of the bus itself, `org.freedesktop.DBus`.
+    pub fn bus() -> Self
+        ensures { result ≡ bus_text }
+    {
+        BusName {
+            text: ShortText::joined(BUS, ""),
+        }
+    }
+
+    /// Reads a bus name: a unique name where the text begins with a colon, else a well-known name or the name of the bus.
+    pub fn parse(text: &str) -> Result<Self, NameFault>
+        ensures value { IfOk result (λ name. name ≡ text.now) }
+        ensures variant { IsOk result ↔ IsBusName text.now }
+        ensures fault { MatchResult result (λ _. bus_name_fault text.now ≡ None) (λ fault. bus_name_fault text.now ≡ Some fault) }
+    {
+        let bytes = text.as_bytes();
+        if !bytes.is_empty() && bytes[0] == b':' {
+            match UniqueName::parse(text) {
+                Ok(name) => Ok(BusName::from(name)),
+                Err(fault) => Err(fault),
+            }
+        } else {
+            match WellKnown::parse(text) {
+                Ok(name) => Ok(BusName::from(name)),
+                Err(fault) => Err(fault),
+            }
+        }
+    }
+
+    /// What the name names. The text of the bus's own name is that name, and no other's.
+    pub fn kind(&self) -> BusNameKind
+        ensures { result ≡ kind_of self.now }
+    {
+        let bytes = self.as_str().as_bytes();
+        if !bytes.is_empty() && bytes[0] == b':' {
+            BusNameKind::Unique
+        } else if self.is_bus() {
+            BusNameKind::Bus
+        } else {
+            BusNameKind::WellKnown
+        }
+    }
+
+    pub fn is_bus(&self) -> bool
+        ensures { result ≡ is_bus self.now }
+    {
+        self.as_str() == BUS
+    }
+
+    pub fn as_str(&self) -> &str
+        ensures value { result.now ≡ self.now }
+        ensures name { IsBusName self.now }
+    {
+        self.text.as_str()
+    }
+}
+
+impl From<UniqueName> for BusName {
+    ghost from_gives = { λ unique name. name ≡ unique };
+
+    fn from(name: UniqueName) -> Self {
+        BusName { text: name.text }
+    }
+}
+
+impl From<WellKnown> for BusName {
+    ghost from_gives = { λ well_known name. name ≡ well_known };
+
+    fn from(name: WellKnown) -> Self {
+        BusName { text: name.text }
+    }
+}
+
+impl fmt::Display for BusName {
+    ghost output = { λ name. Some name };
+
+    fn fmt<W: fmt::Write>(&self, f: &mut fmt::Formatter<W>) -> fmt::Result {
+        f.pad(self.as_str())
+    }
 }

@@ -1,5 +1,8 @@
 //! Why a text is no name.
 
+ghost use Rattle.std.specs.Prelude.{◌≡◌};
+ghost use Rattle.names.specs.Faults.{code_of};
+
 use thiserror::Error;
 
 /// Why a text is no name of its kind. `Empty` and `TooLong` come first, then the first fault from the left, then `TooFewElements`.
@@ -16,4 +19,19 @@ pub enum NameFault {
     TooFewElements,
     #[error("an element begins with a digit")]
     DigitFirst,
+}
+
+impl NameFault {
+    /// The fault's number, 1 to 5 in the order above.
+    pub fn code(self) -> u8
+        ensures { result ≡ code_of self }
+    {
+        match self {
+            NameFault::Empty => 1,
+            NameFault::TooLong => 2,
+            NameFault::BadByte(_) => 3,
+            NameFault::TooFewElements => 4,
+            NameFault::DigitFirst => 5,
+        }
+    }
 }

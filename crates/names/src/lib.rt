@@ -2,19 +2,24 @@
 #![tactic(auto)]
 
 mod bus_name;
+mod bus_name_kind;
+mod elements;
 mod error_name;
 mod fault;
 mod interface_name;
+mod laws;
 mod member_name;
 mod object_path;
 mod short_text;
 mod unique_name;
 mod well_known_name;
 
-pub use bus_name::{BusName, BusNameKind};
+pub use bus_name::BusName;
+pub use bus_name_kind::BusNameKind;
 pub use error_name::ErrorName;
 pub use fault::NameFault;
 pub use interface_name::Interface;
+pub use laws::{connections_have_unique_names, unique_names_differ};
 pub use member_name::Member;
 pub use object_path::ObjectPath;
 pub use unique_name::UniqueName;

@@ -1,10 +1,22 @@
 //! Member names.
 
+ghost use Rattle.std.specs.Prelude.{◌≡◌, ◌↔◌, Some, None, IsOk, IfOk, MatchResult};
+ghost use Rattle.names.specs.Member.{IsMember, member_fault};
+
+use crate::elements::Style;
+use crate::fault::NameFault;
 use crate::short_text::ShortText;
+use std::fmt;
 use std::marker::Model;
 
+const STYLE: Style = Style {
+    separator: None,
+    hyphen: false,
+    digit_first: false,
+};
+
 /// The name of a method or signal ("Member names" of the D-Bus Specification), of at most 255 bytes.
-#[derive(Clone, Copy)]
+#[derive(Clone, Copy, Debug, PartialEq, Eq, PartialOrd, Ord, Hash)]
 pub struct Member {
     text: ShortText,
 }
@@ -17,7 +29,36 @@ impl Model for Member {
 
     ghost view = { λ name. name.text };
 
-    ghost invariant = { λ name. ∥ IsMember name.text ∥₁ };
+    ghost invariant = { λ name. IsMember name.text };
 
     ghost inverse = { λ text. record { text = text } };
+}
+
+impl Member {
+    /// Reads a member name: one element, with no dot.
+    pub fn parse(text: &str) -> Result<Self, NameFault>
+        ensures value { IfOk result (λ name. name ≡ text.now) }
+        ensures variant { IsOk result ↔ IsMember text.now }
+        ensures fault { MatchResult result (λ _. member_fault text.now ≡ None) (λ fault. member_fault text.now ≡ Some fault) }
+    {
+        match STYLE.parse(true, text) {
+            Ok(text) => Ok(Member { text }),
+            Err(fault) => Err(fault),
+        }
+    }
+
+    pub fn as_str(&self) -> &str
+        ensures value { result.now ≡ self.now }
+        ensures name { IsMember self.now }
+    {
+        self.text.as_str()
+    }
+}
+
+impl fmt::Display for Member {
+    ghost output = { λ name. Some name };
+
+    fn fmt<W: fmt::Write>(&self, f: &mut fmt::Formatter<W>) -> fmt::Result {
+        f.pad(self.as_str())
+    }
 }

@@ -1,6 +1,17 @@
 //! A text in fixed room.
 
+ghost use Rattle.std.specs.Prelude.{◌≡◌, ◌↔◌, ◌≤◌, ◌+◌, ◌++◌, length as text_length, take, drop, Some, IsSome, IfSome, nat_eq, refl};
+ghost use Rattle.std.specs.Ordering.{nat_cmp};
+ghost use Rattle.std.specs.Cmp.{on_equiv, on_total, on_po, on_per, partial_equiv_from_equiv};
+ghost use Rattle.std.specs.Cmp.Lexicographic.{pointwise, slice_cmp, nat_list_eq_equiv, nat_list_cmp_total, texts_po, texts_ties};
+ghost use Rattle.std.specs.Cmp.Rules.{hashing};
+ghost use Rattle.std.specs.Hash as fed;
+ghost use Rattle.std.proofs.Common.{rules};
+
+use std::cmp::Ordering;
+use std::hash::{Hash, Hasher};
 use std::marker::Model;
+use std::{fmt, str};
 
 /// A text of at most 255 bytes, which lie in the value itself. The room behind them is zero.
 #[derive(Clone, Copy)]
@@ -26,4 +37,106 @@ impl Model for ShortText {
         let long = length-take-le t.length t.bytes (omega (arith, h.0, h.1)) in
         let whole = ap (λ n. take t.length t.bytes ++ replicate (255 - n) 0) long ∙ ap (λ room. take t.length t.bytes ++ room) (sym h.2) ∙ take-append-drop t.length t.bytes in
         λ i. record { bytes = whole i; length = long i } };
+}
+
+impl ShortText {
+    /// A copy of the text, where it fits.
+    pub fn new(text: &str) -> Option<Self>
+        ensures variant { IsSome result ↔ (text_length text.now ≤ 255) }
+        ensures value { IfSome result (λ copy. copy ≡ text.now) }
+    {
+        if text.len() > 255 {
+            return None;
+        }
+        Some(ShortText::joined(text, ""))
+    }
+
+    /// A copy of two texts, one after the other.
+    pub fn joined(front: &str, back: &str) -> Self
+        requires { text_length front.now + text_length back.now ≤ 255 }
+        ensures { result ≡ front.now ++ back.now }
+    {
+        let mut bytes = [0; 255];
+        write_at(&mut bytes, 0, front.as_bytes());
+        write_at(&mut bytes, front.len(), back.as_bytes());
+        let length = (front.len() + back.len()) as u8;
+        ShortText { bytes, length }
+    }
+
+    pub fn as_str(&self) -> &str
+        ensures value { result.now ≡ self.now }
+        ensures fits { text_length result.now ≤ 255 }
+    {
+        let bytes = &self.bytes[..usize::from(self.length)];
+        unsafe { str::from_utf8_unchecked(bytes) }
+    }
+}
+
+fn write_at(room: &mut [u8], place: usize, bytes: &[u8])
+    requires { place + text_length bytes.now ≤ text_length room.old }
+    ensures { room.new ≡ take place room.old ++ bytes.now ++ drop (place + text_length bytes.now) room.old }
+{
+    room[place..place + bytes.len()].copy_from_slice(bytes);
+}
+
+impl PartialEq for ShortText {
+    ghost eq = { λ a b. pointwise nat_eq a b };
+
+    ghost laws = { on_per (λ a. a) (partial_equiv_from_equiv nat_list_eq_equiv) };
+
+    fn eq(&self, other: &Self) -> bool {
+        self.as_str() == other.as_str()
+    }
+}
+
+impl Eq for ShortText {
+    ghost laws = { on_equiv (λ a. a) nat_list_eq_equiv };
+}
+
+impl PartialOrd for ShortText {
+    ghost partial_cmp = { λ a b. Some (slice_cmp nat_cmp a b) };
+
+    ghost laws = { on_po (λ a. a) texts_po };
+
+    fn partial_cmp(&self, other: &Self) -> Option<Ordering> {
+        Some(self.cmp(other))
+    }
+}
+
+impl Ord for ShortText {
+    ghost cmp = { λ a b. slice_cmp nat_cmp a b };
+
+    ghost total = { on_total (λ a. a) nat_list_cmp_total };
+
+    ghost matches_partial_cmp = { λ a b. refl };
+
+    ghost matches_eq = { λ a b. texts_ties a b };
+
+    fn cmp(&self, other: &Self) -> Ordering {
+        self.as_str().cmp(other.as_str())
+    }
+}
+
+impl Hash for ShortText {
+    ghost hash_input = { λ a. fed.str a };
+
+    ghost respects_eq = { Prim.search (hashing, rules) };
+
+    fn hash<H: Hasher>(&self, state: &mut H) {
+        self.as_str().hash(state);
+    }
+}
+
+impl fmt::Debug for ShortText {
+    fn fmt<W: fmt::Write>(&self, f: &mut fmt::Formatter<W>) -> fmt::Result {
+        fmt::Debug::fmt(&self.as_str(), f)
+    }
+}
+
+impl fmt::Display for ShortText {
+    ghost output = { λ a. Some a };
+
+    fn fmt<W: fmt::Write>(&self, f: &mut fmt::Formatter<W>) -> fmt::Result {
+        f.pad(self.as_str())
+    }
 }

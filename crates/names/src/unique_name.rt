@@ -1,12 +1,24 @@
 //! Unique connection names.
 
+ghost use Rattle.std.specs.Prelude.{◌≡◌, ◌↔◌, ◌<◌, ◌^◌, ℕ, Some, None, IsOk, IfOk, MatchResult};
+ghost use Rattle.names.specs.UniqueName.{IsUniqueName, unique_name_fault, unique_text};
+
+use crate::elements::Style;
+use crate::fault::NameFault;
 use crate::short_text::ShortText;
+use std::fmt;
 use std::marker::Model;
 
+const STYLE: Style = Style {
+    separator: Some(b'.'),
+    hyphen: true,
+    digit_first: true,
+};
+
 /// The unique name of a connection ("Bus names" of the D-Bus Specification), of at most 255 bytes.
-#[derive(Clone, Copy)]
+#[derive(Clone, Copy, Debug, PartialEq, Eq, PartialOrd, Ord, Hash)]
 pub struct UniqueName {
-    text: ShortText,
+    pub(crate) text: ShortText,
 }
 
 impl Model for UniqueName {
@@ -17,7 +29,69 @@ impl Model for UniqueName {
 
     ghost view = { λ name. name.text };
 
-    ghost invariant = { λ name. ∥ IsUniqueName name.text ∥₁ };
+    ghost invariant = { λ name. IsUniqueName name.text };
 
     ghost inverse = { λ text. record { text = text } };
+}
+
+impl UniqueName {
+    /// Reads a unique name: a colon, and then two or more elements joined by dots.
+    pub fn parse(text: &str) -> Result<Self, NameFault>
+        ensures value { IfOk result (λ name. name ≡ text.now) }
+        ensures variant { IsOk result ↔ IsUniqueName text.now }
+        ensures fault { MatchResult result (λ _. unique_name_fault text.now ≡ None) (λ fault. unique_name_fault text.now ≡ Some fault) }
+    {
+        if text.is_empty() {
+            return Err(NameFault::Empty);
+        }
+        let Some(name) = ShortText::new(text) else {
+            return Err(NameFault::TooLong);
+        };
+        let bytes = text.as_bytes();
+        if bytes[0] != b':' {
+            return Err(NameFault::BadByte(0));
+        }
+        match STYLE.fault(false, 1, bytes) {
+            Some(fault) => Err(fault),
+            None => Ok(UniqueName { text: name }),
+        }
+    }
+
+    /// The name that the bus gives to the connection of a number: `:1.` and the number.
+    pub fn of(number: u64) -> Self
+        ensures { result ≡ unique_text number }
+    {
+        let mut digits = itoa::Buffer::new();
+        UniqueName {
+            text: ShortText::joined(":1.", digits.format(number)),
+        }
+    }
+
+    /// The number of the connection to which the bus gives this name, if there is one.
+    pub fn connection(&self) -> Option<u64>
+        ensures { (number : ℕ) → number < 2 ^ 64 → (result ≡ Some number) ↔ (self.now ≡ unique_text number) }
+    {
+        let digits = self.as_str().strip_prefix(":1.")?;
+        let number = digits.parse().ok()?;
+        if UniqueName::of(number) == *self {
+            Some(number)
+        } else {
+            None
+        }
+    }
+
+    pub fn as_str(&self) -> &str
+        ensures value { result.now ≡ self.now }
+        ensures name { IsUniqueName self.now }
+    {
+        self.text.as_str()
+    }
+}
+
+impl fmt::Display for UniqueName {
+    ghost output = { λ name. Some name };
+
+    fn fmt<W: fmt::Write>(&self, f: &mut fmt::Formatter<W>) -> fmt::Result {
+        f.pad(self.as_str())
+    }
 }
