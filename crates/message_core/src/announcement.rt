@@ -1,0 +1,84 @@
+//! What the first bytes of a message announce.
+
+ghost use Rattle.std.specs.Prelude.{◌≡◌, ◌≤◌, ◌+◌, length, IfOk};
+ghost use Rattle.message_core.specs.Announcements.{announced, announced_in, number as number_at, whole_length as length_of};
+
+use crate::fault::FrameFault;
+use marshal_core::Order;
+
+/// The bytes before the elements of the field array.
+pub const FIXED_LENGTH: usize = 16;
+
+/// The longest message that the bus reads, in bytes.
+pub const MESSAGE_LIMIT: usize = 1_048_576;
+
+/// The longest message that there is, in bytes ("Message Format" of the D-Bus Specification).
+pub const MAXIMUM_LENGTH: usize = 134_217_728;
+
+/// The longest field array, in bytes.
+const MAXIMUM_FIELDS: usize = 67_108_864;
+
+/// The number in the four bytes at a place.
+pub fn number(order: Order, place: usize, bytes: &[u8]) -> u32
+    requires { place + 4 ≤ length bytes.now }
+    ensures { result ≡ number_at order place bytes.now }
+{
+    let four = [
+        bytes[place],
+        bytes[place + 1],
+        bytes[place + 2],
+        bytes[place + 3],
+    ];
+    match order {
+        Order::Little => u32::from_le_bytes(four),
+        Order::Big => u32::from_be_bytes(four),
+    }
+}
+
+fn whole_length(order: Order, bytes: &[u8]) -> usize
+    requires { 16 ≤ length bytes.now }
+    ensures { result ≡ length_of order bytes.now }
+{
+    let fields = number(order, 12, bytes) as usize;
+    let body = number(order, 4, bytes) as usize;
+    FIXED_LENGTH + (fields + (8 - fields % 8) % 8) + body
+}
+
+fn announced_in_order(limit: usize, order: Order, bytes: &[u8]) -> Result<usize, FrameFault>
+    requires { 16 ≤ length bytes.now }
+    ensures { result ≡ announced_in limit order bytes.now }
+{
+    if bytes[1] == 0 {
+        return Err(FrameFault::Kind);
+    }
+    if bytes[3] != 1 {
+        return Err(FrameFault::Version);
+    }
+    if number(order, 8, bytes) == 0 {
+        return Err(FrameFault::Serial);
+    }
+    if number(order, 12, bytes) as usize > MAXIMUM_FIELDS {
+        return Err(FrameFault::TooLong);
+    }
+    let length = whole_length(order, bytes);
+    if length > limit {
+        return Err(FrameFault::TooLong);
+    }
+    Ok(length)
+}
+
+/// The length of the message that begins here, in bytes, as its first sixteen bytes announce it
+/// ("Message Format" of the D-Bus Specification). Their faults come in the order byte order, type,
+/// version, serial, length; a message longer than the limit is `TooLong`.
+#[tactic(auto, unfolding(crate::specs::Announcements::announced))]
+pub fn announced_length(limit: usize, bytes: &[u8]) -> Result<usize, FrameFault>
+    requires { 16 ≤ length bytes.now }
+    ensures announced { result ≡ announced limit bytes.now }
+    ensures fixed { IfOk result (λ length. 16 ≤ length) }
+{
+    match bytes[0] {
+        b'l' => announced_in_order(limit, Order::Little, bytes),
+        b'B' => announced_in_order(limit, Order::Big, bytes),
+        _ => Err(FrameFault::Order),
+    }
+}

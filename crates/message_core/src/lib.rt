@@ -1,0 +1,15 @@
+//! Messages of the D-Bus wire protocol: what they are, and reading one whole message.
+//!
+//! `specs/` says which bytes are which message, what the first bytes of a stream announce, and how
+//! a stream is cut into messages, after "Message Protocol" of the D-Bus Specification.
+#![tactic(auto)]
+
+mod announcement;
+mod fault;
+mod header;
+mod header_field;
+
+pub use announcement::{FIXED_LENGTH, MAXIMUM_LENGTH, MESSAGE_LIMIT, announced_length};
+pub use fault::{FaultCode, FrameFault};
+pub use header::{ALLOW_INTERACTIVE_AUTHORIZATION, Header, NO_AUTO_START, NO_REPLY_EXPECTED};
+pub use header_field::HeaderField;
