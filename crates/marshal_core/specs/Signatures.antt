@@ -1,5 +1,5 @@
 -- Signatures, after "Valid Signatures" of the D-Bus Specification.
-use Rattle.std.specs.Prelude.{◌≡◌, ℕ, zero, suc, ◌-◌, Bool, true, false, ◌&&◌, List, [], ◌∷◌, ◌++◌, length, Option, Some, None, Result, Ok, Err, nat_lt, nat_le, ◌==◌, if◌then◌else◌}
+use Rattle.std.specs.Prelude.{◌≡◌, ℕ, zero, suc, ◌+◌, ◌-◌, Bool, true, false, ◌&&◌, List, [], ◌∷◌, ◌++◌, length, Option, Some, None, Result, Ok, Err, nat_lt, nat_le, ◌==◌, if◌then◌else◌}
 use Rattle.marshal_core.specs.declared.data_type.BasicType.{BasicType}
 use Rattle.marshal_core.specs.declared.data_type.BasicType.TheVariants as of_type
 use Rattle.marshal_core.specs.declared.fault.MarshalFault.{MarshalFault}
@@ -120,14 +120,14 @@ basic_from c cs (Some b) = Ok (b, cs)
 basic_from c cs None = Err (not_a_code c)
 
 -- a basic type, as the key of a dict entry
-abbrev pub key_type_at : List ℕ → Parsed BasicType
+unfoldable pub key_type_at : List ℕ → Parsed BasicType
 key_type_at [] = Err Signature
 key_type_at (c ∷ cs) = basic_from c cs (with_code c basic_types)
 
 -- what ends a dict entry
-abbrev pub entry_end_at : List ℕ → Result (List ℕ) MarshalFault
+unfoldable pub entry_end_at : List ℕ → Result (List ℕ) MarshalFault
 entry_end_at [] = Err Signature
-entry_end_at (c ∷ cs) = if c == entry_end then Ok cs else Err (if c == descriptor_code then Descriptor else Signature)
+entry_end_at (c ∷ cs) = if c == entry_end then Ok cs else Err (not_a_code c)
 
 unfoldable pub entry_type_at : (List ℕ → Parsed Ty) → List ℕ → Parsed Ty
 entry_type_at read text = do
@@ -138,8 +138,11 @@ entry_type_at read text = do
 
 -- the element type of an array
 unfoldable pub element_type_at : (List ℕ → Parsed Ty) → List ℕ → Parsed Ty
-element_type_at read [] = Err Signature
+element_type_at read [] = read []
 element_type_at read (c ∷ cs) = if c == entry_begin then entry_type_at read cs else read (c ∷ cs)
+
+unfoldable pub array_type_at : (List ℕ → Parsed Ty) → List ℕ → Parsed Ty
+array_type_at read text = element_type_at read text >>= λ t. Ok (array t.0, t.1)
 
 -- Types one after the other: those within a struct to its end, others to the end of the text. The number bounds how many.
 unfoldable pub types_at : Bool → (List ℕ → Parsed Ty) → ℕ → List ℕ → Parsed Tys
@@ -154,7 +157,10 @@ abbrev pub struct_of : Tys × List ℕ → Parsed Ty
 struct_of (no_types, rest) = Err Signature
 struct_of (more_types t ts, rest) = Ok (struct (more_types t ts), rest)
 
-abbrev pub basic_type_at : List ℕ → Parsed Ty
+unfoldable pub struct_type_at : (List ℕ → Parsed Ty) → List ℕ → Parsed Ty
+struct_type_at read text = types_at true read (length text) text >>= struct_of
+
+unfoldable pub basic_type_at : List ℕ → Parsed Ty
 basic_type_at text = key_type_at text >>= λ b. Ok (basic b.0, b.1)
 
 -- A single complete type, with so many arrays and so many structs about one another at most. The first number bounds both.
@@ -163,12 +169,12 @@ type_at zero arrays structs text = Err Signature
 type_at (suc both) arrays structs [] = Err Signature
 type_at (suc both) arrays structs (c ∷ cs) =
     if c == variant_code then Ok (variant, cs)
-    else if c == array_code then (if arrays == 0 then Err Signature else (element_type_at (type_at both (arrays - 1) structs) cs >>= λ t. Ok (array t.0, t.1)))
-    else if c == struct_begin then (if structs == 0 then Err Signature else (types_at true (type_at both arrays (structs - 1)) (length cs) cs >>= struct_of))
+    else if c == array_code then (if arrays == 0 then Err Signature else array_type_at (type_at both (arrays - 1) structs) cs)
+    else if c == struct_begin then (if structs == 0 then Err Signature else struct_type_at (type_at both arrays (structs - 1)) cs)
     else basic_type_at (c ∷ cs)
 
 abbrev pub complete_type_at : List ℕ → Parsed Ty
-complete_type_at = type_at 65 max_array_nesting max_struct_nesting
+complete_type_at = type_at (max_array_nesting + max_struct_nesting + 1) max_array_nesting max_struct_nesting
 
 -- the types of a signature
 unfoldable pub signature_of : List ℕ → Result Tys MarshalFault

@@ -1,5 +1,14 @@
 //! Single complete types.
 
+ghost use Rattle.std.specs.Prelude.{◌≡◌, IfOk};
+ghost use Rattle.marshal_core.specs.Types.{ty_of};
+ghost use Rattle.marshal_core.specs.Signatures.{basic_code, basic_types, variant_type_of, with_code};
+ghost use Rattle.marshal_core.specs.Faults.{Gives};
+
+use crate::fault::MarshalFault;
+use crate::parsing::variant_type;
+use std::alloc::{AllocError, Global};
+
 /// A basic type ("Basic Types" of the D-Bus Specification), but for UNIX_FD: file descriptors are
 /// not passed.
 #[derive(Clone, Copy, Debug, PartialEq, Eq)]
@@ -18,6 +27,49 @@ pub enum BasicType {
     Signature,
 }
 
+impl BasicType {
+    /// The letter of the type in a signature.
+    pub fn code(self) -> u8
+        ensures { result ≡ basic_code self }
+    {
+        match self {
+            BasicType::Byte => b'y',
+            BasicType::Boolean => b'b',
+            BasicType::Int16 => b'n',
+            BasicType::Uint16 => b'q',
+            BasicType::Int32 => b'i',
+            BasicType::Uint32 => b'u',
+            BasicType::Int64 => b'x',
+            BasicType::Uint64 => b't',
+            BasicType::Double => b'd',
+            BasicType::String => b's',
+            BasicType::ObjectPath => b'o',
+            BasicType::Signature => b'g',
+        }
+    }
+
+    /// The basic type of a letter, if it has one.
+    pub fn from_code(code: u8) -> Option<BasicType>
+        ensures { result ≡ with_code code basic_types }
+    {
+        match code {
+            b'y' => Some(BasicType::Byte),
+            b'b' => Some(BasicType::Boolean),
+            b'n' => Some(BasicType::Int16),
+            b'q' => Some(BasicType::Uint16),
+            b'i' => Some(BasicType::Int32),
+            b'u' => Some(BasicType::Uint32),
+            b'x' => Some(BasicType::Int64),
+            b't' => Some(BasicType::Uint64),
+            b'd' => Some(BasicType::Double),
+            b's' => Some(BasicType::String),
+            b'o' => Some(BasicType::ObjectPath),
+            b'g' => Some(BasicType::Signature),
+            _ => None,
+        }
+    }
+}
+
 /// A single complete type. A dictionary is an array of dict entries, which stand nowhere else and
 /// have a key of a basic type ("Container Types" of the D-Bus Specification).
 #[derive(Debug, Drop, PartialEq, Eq)]
@@ -27,4 +79,39 @@ pub enum DataType {
     Array(Box<DataType>),
     Dictionary(BasicType, Box<DataType>),
     Struct(Vec<DataType>),
+}
+
+impl DataType {
+    /// The type of a text that is one single complete type, as the signature of a variant is, or
+    /// the first fault from the left.
+    pub fn from_bytes(alloc: Global, text: &[u8]) -> Result<DataType, MarshalFault>
+        ensures { Gives (λ x. ty_of x) result (variant_type_of text.now) }
+    {
+        variant_type(alloc, text)
+    }
+
+    /// The same type once more.
+    pub fn try_clone(&self, alloc: Global) -> Result<DataType, AllocError>
+        ensures { IfOk result (λ x. ty_of x ≡ ty_of self.now) }
+    {
+        match self {
+            DataType::Basic(basic) => Ok(DataType::Basic(*basic)),
+            DataType::Variant => Ok(DataType::Variant),
+            DataType::Array(element) => {
+                let copy = element.try_clone(alloc)?;
+                Ok(DataType::Array(Box::new(alloc, copy)?))
+            }
+            DataType::Dictionary(key, value) => {
+                let copy = value.try_clone(alloc)?;
+                Ok(DataType::Dictionary(*key, Box::new(alloc, copy)?))
+            }
+            DataType::Struct(fields) => {
+                let mut copies = Vec::new(alloc);
+                for field in fields {
+                    copies.push(field.try_clone(alloc)?)?;
+                }
+                Ok(DataType::Struct(copies))
+            }
+        }
+    }
 }

@@ -8,6 +8,7 @@
 mod data_type;
 mod fault;
 mod order;
+mod parsing;
 mod signature;
 mod value;
 

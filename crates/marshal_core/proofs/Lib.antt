@@ -1,0 +1,6 @@
+pub mod Views
+pub mod Results
+pub mod TypesLoop
+pub mod TypeSteps
+pub mod TypesAgain
+pub mod TypesTaken
