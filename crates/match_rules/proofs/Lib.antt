@@ -1,1 +1,4 @@
 pub mod WorkedRules
+pub mod KeyLemmas
+pub mod RuleLemmas
+pub mod FittingLemmas

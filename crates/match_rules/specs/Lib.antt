@@ -3,6 +3,7 @@ pub mod FactsView
 pub mod Fitting
 pub mod Keys
 pub mod Kinds
+pub mod Laws
 pub mod RuleBytes
 pub mod RuleFaults
 pub mod Rules

@@ -10,6 +10,7 @@ mod facts;
 mod fault;
 mod key;
 mod kind;
+pub mod laws;
 mod rule;
 
 pub use facts::{Argument, Facts};

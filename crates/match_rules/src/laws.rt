@@ -1,0 +1,18 @@
+//! The laws of match rules. Each function does nothing: what it ensures is the law.
+
+ghost use Rattle.match_rules.specs.Laws.{RulesHaveRoom, SameRulesAreOne, SendersAreKnownByName};
+
+/// Rules with the same keys and values are one rule.
+pub fn same_rules_are_one()
+    ensures { SameRulesAreOne }
+{}
+
+/// A rule whose text is short enough has room in the bytes of a [`crate::Rule`].
+pub fn rules_have_room()
+    ensures { RulesHaveRoom }
+{}
+
+/// A rule by a connection's unique name fits what the connection sends.
+pub fn senders_are_known_by_name()
+    ensures { SendersAreKnownByName }
+{}
