@@ -6,3 +6,4 @@ pub mod Histories
 pub mod Tickets
 pub mod Consistency
 pub mod Errors
+pub mod Laws

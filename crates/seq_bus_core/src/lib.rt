@@ -3,12 +3,14 @@
 //! The definitions stand in `specs/`, in the terms of the D-Bus Specification; the types here are what they speak of.
 //! [`Change`] and [`Query`] are what is asked of a bus, [`Outcome`] and [`Verdict`] what it answers, and an
 //! [`Entry`] is one line of its history. [`ErrorKind`] names the errors of the bus.
+//! The laws of the definitions stand in [`laws`].
 #![tactic(auto)]
 
 mod change;
 mod connection;
 mod entry;
 mod error_kind;
+pub mod laws;
 mod monitor_rules;
 mod outcome;
 mod query;

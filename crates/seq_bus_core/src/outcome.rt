@@ -61,20 +61,6 @@ pub struct Outcome {
     pub start: Option<u64>,
 }
 
-impl NumberedOutcome {
-    /// Nothing else than a reply.
-    pub fn new(alloc: Global, reply: Reply) -> Self
-        ensures { result ≡ record { reply = reply; signals = []; tickets = []; start = None } }
-    {
-        NumberedOutcome {
-            reply,
-            signals: Signals::new(alloc),
-            tickets: TicketNumbers::new(alloc),
-            start: None,
-        }
-    }
-}
-
 impl Outcome {
     /// Nothing else than a reply.
     pub fn new(alloc: Global, reply: Reply) -> Self

@@ -1,0 +1,10 @@
+pub mod Lists
+pub mod TextLemmas
+pub mod NameLemmas
+pub mod ClientLemmas
+pub mod StepCases
+pub mod NumberLaws
+pub mod OwnedLemmas
+pub mod ConsistencyLaws
+pub mod HistoryLaws
+pub mod RecipientLaws

@@ -1,0 +1,22 @@
+-- How texts are compared.
+use Rattle.std.proofs.Common.{◌≡◌, true, false, Ordering, refl, sym, ap, ◌∙◌}
+use Rattle.std.specs.Ordering.{nat_cmp, is_lt}
+use Rattle.std.specs.declared.cmp.Ordering.TheVariants.{Less, Equal, Greater}
+use Rattle.std.specs.Cmp.Lexicographic.{slice_cmp, same_text}
+use Rattle.std.proofs.lemmas.Bool.{true≢false}
+use Rattle.std.proofs.lemmas.Cmp.{nat_list_cmp_total, nat_list_eq_equiv}
+use Rattle.names.specs.Texts.{Text, text_eq, text_lt}
+
+less_from_is_lt : (o : Ordering) → is_lt o ≡ true → o ≡ Less
+less_from_is_lt Less e = refl
+less_from_is_lt Equal e = absurd (true≢false (sym e))
+less_from_is_lt Greater e = absurd (true≢false (sym e))
+
+pub text_lt-trans : (a b c : Text) → text_lt a b ≡ true → text_lt b c ≡ true → text_lt a c ≡ true
+text_lt-trans a b c h k = ap is_lt (nat_list_cmp_total.trans a b c (less_from_is_lt (slice_cmp nat_cmp a b) h) (less_from_is_lt (slice_cmp nat_cmp b c) k))
+
+pub text_eq-true : (a b : Text) → text_eq a b ≡ true → a ≡ b
+text_eq-true a b h = same_text a b (sym h)
+
+pub text_eq-swapped : (a b : Text) → text_eq a b ≡ false → text_eq b a ≡ false
+text_eq-swapped a b h = nat_list_eq_equiv.symm b a ∙ h

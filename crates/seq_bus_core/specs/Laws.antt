@@ -1,0 +1,49 @@
+-- What holds of every bus, whatever is asked of it.
+use Rattle.std.specs.Prelude.{◌≡◌, ℕ, ◌≤◌, ◌<◌, true, false, List}
+use Rattle.std.specs.List.{AllByRecursion as Each}
+use Rattle.names.specs.Texts.{Text}
+use Rattle.match_rules.specs.Facts.{Facts}
+use Rattle.owner_queues.specs.declared.request.Profile.{Profile}
+use Rattle.seq_bus_core.specs.BusState.{BusState}
+use Rattle.seq_bus_core.specs.Steps.{step, addressed, is_among}
+use Rattle.seq_bus_core.specs.Recipients.{recipients}
+use Rattle.seq_bus_core.specs.Histories.{History, opening, after, IsLegal, Begins, ends_publication}
+use Rattle.seq_bus_core.specs.Consistency.{Pairwise, IsConsistent}
+use Rattle.seq_bus_core.specs.declared.change.Change.{Change}
+use Rattle.seq_bus_core.specs.declared.connection.Conn.{Conn}
+use Rattle.seq_bus_core.specs.declared.signal.BusSignal.{BusSignal}
+
+-- A change leaves a consistent state consistent.
+abbrev pub StepsKeepConsistency : Type 0
+StepsKeepConsistency = (s : BusState) (seat : ℕ) (change : Change) → IsConsistent s → IsConsistent (step s seat change).0
+
+-- Whatever was changed since it was opened, the state of a bus is consistent.
+abbrev pub BusesAreConsistent : Type 0
+BusesAreConsistent = (profile : Profile) (routers : ℕ) (services : List Text) (history : History) → IsConsistent (after (opening profile routers services) history)
+
+-- the numbers that were given stay given
+pub record GivesOn (s next : BusState) : Type 0 where
+  pub numbers : s.next_number ≤ next.next_number
+  pub tickets : s.next_ticket ≤ next.next_ticket
+  pub starts : s.next_start ≤ next.next_start
+
+-- No number is given twice.
+abbrev pub NumbersOnlyRise : Type 0
+NumbersOnlyRise = (s : BusState) (seat : ℕ) (change : Change) → GivesOn s (step s seat change).0
+
+-- What begins a legal history and does not end within a publication is legal.
+abbrev pub BeginningsAreLegal : Type 0
+BeginningsAreLegal = (front history : History) → Begins front history → ends_publication front ≡ true → IsLegal history → IsLegal front
+
+-- each by a number above those before it, and so each once
+abbrev pub Rise : List Conn → Type 0
+Rise conns = Pairwise (λ a b. a.number < b.number) conns
+
+-- The recipients of a message and the monitors that are shown it are each named once.
+abbrev pub RecipientsAreNamedOnce : Type 0
+RecipientsAreNamedOnce = (s : BusState) (from : ℕ) (facts : Facts) → IsConsistent s → Rise (recipients s from facts).to × Rise (recipients s from facts).monitors
+
+-- So are those of a signal of the bus, and no monitor is shown a signal that goes to it.
+abbrev pub SignalsGoToEachOnce : Type 0
+SignalsGoToEachOnce = (s : BusState) (signal : BusSignal) → IsConsistent s →
+    Rise (addressed s signal).to × Rise (addressed s signal).monitors × Each (λ m. is_among (addressed s signal).to m ≡ false) (addressed s signal).monitors

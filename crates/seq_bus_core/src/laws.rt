@@ -1,0 +1,33 @@
+//! The laws of the bus. Each function does nothing: what it ensures is the law.
+
+ghost use Rattle.seq_bus_core.specs.Laws.{BeginningsAreLegal, BusesAreConsistent, NumbersOnlyRise, RecipientsAreNamedOnce, SignalsGoToEachOnce, StepsKeepConsistency};
+
+/// A change leaves a consistent state consistent.
+pub fn steps_keep_consistency()
+    ensures { StepsKeepConsistency }
+{}
+
+/// Whatever was changed since it was opened, the state of a bus is consistent.
+pub fn buses_are_consistent()
+    ensures { BusesAreConsistent }
+{}
+
+/// No number of a connection, a ticket or a start is given twice.
+pub fn numbers_only_rise()
+    ensures { NumbersOnlyRise }
+{}
+
+/// What begins a legal history and does not end within a publication is legal.
+pub fn beginnings_are_legal()
+    ensures { BeginningsAreLegal }
+{}
+
+/// The recipients of a message and the monitors that are shown it are each named once, by rising number.
+pub fn recipients_are_named_once()
+    ensures { RecipientsAreNamedOnce }
+{}
+
+/// So are those of a signal of the bus, and no monitor is shown a signal that goes to it.
+pub fn signals_go_to_each_once()
+    ensures { SignalsGoToEachOnce }
+{}
