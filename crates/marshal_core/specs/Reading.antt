@@ -1,6 +1,6 @@
 -- Reading from left to right, with the first fault that is met, after "Marshaling (Wire Format)" of the D-Bus Specification.
 -- In each reader `short` is the fault where the bytes end too early.
-use Rattle.std.specs.Prelude.{ℕ, zero, suc, ◌+◌, ◌-◌, Bool, true, false, List, [], ◌∷◌, length, take, drop, slice_index, Option, Some, None, Result, Ok, Err, nat_lt, nat_le, ◌==◌, if◌then◌else◌}
+use Rattle.std.specs.Prelude.{ℕ, zero, suc, ◌+◌, ◌-◌, ◌%◌, Bool, true, false, List, [], ◌∷◌, length, take, drop, slice_index, Option, Some, None, Result, Ok, Err, nat_lt, nat_le, ◌==◌, if◌then◌else◌}
 use Rattle.std.specs.Int.{Width, w16, w32, w64, byte_len, from_le_bytes, from_be_bytes, cast_signed}
 use Rattle.std.specs.Str.{is_utf8}
 use Rattle.names.specs.Texts.{Text}
@@ -65,6 +65,9 @@ boolean_of x =
     else if x.0 == 1 then Ok (true, x.1, x.2)
     else Err Boolean
 
+unfoldable pub boolean_at : Order → MarshalFault → ℕ → List ℕ → Field Bool
+boolean_at order short at bytes = number_at order w32 short at bytes >>= boolean_of
+
 -- ---- texts
 
 -- a text of known length without zero bytes, and the zero byte that ends it
@@ -112,7 +115,7 @@ variant_type_at short at bytes = do
 
 unfoldable pub basic_at : Order → MarshalFault → BasicType → ℕ → List ℕ → Field BasicVal
 basic_at order short of_type.Byte at bytes = as_a a_byte (byte_at short at bytes)
-basic_at order short of_type.Boolean at bytes = as_a a_boolean (number_at order w32 short at bytes >>= boolean_of)
+basic_at order short of_type.Boolean at bytes = as_a a_boolean (boolean_at order short at bytes)
 basic_at order short of_type.Int16 at bytes = as_a (λ n. an_int16 (cast_signed w16 n)) (number_at order w16 short at bytes)
 basic_at order short of_type.Uint16 at bytes = as_a a_uint16 (number_at order w16 short at bytes)
 basic_at order short of_type.Int32 at bytes = as_a (λ n. an_int32 (cast_signed w32 n)) (number_at order w32 short at bytes)
@@ -147,24 +150,24 @@ variant_at read short at bytes = do
   v ← read short t.0 t.1 t.2
   Ok (a_variant v.0, v.1, v.2)
 
--- the elements that stand in so many bytes after the length
-unfoldable pub inside_at : Reader → MarshalFault → Ty → ℕ → ℕ → List ℕ → Field Val
-inside_at read short t n at bytes = do
-  p ← padding_at (alignment t) short at bytes
-  vs ← elements_at read t n p.0 (take n p.1)
-  Ok (an_array t vs, p.0 + n, drop n p.1)
-
--- The length is judged where it is read: that the array is not too long, and ends where there still are bytes.
-unfoldable pub sized_at : Reader → MarshalFault → Ty → ℕ → ℕ → List ℕ → Field Val
-sized_at read short t n at bytes =
+-- Where the first element stands, and the bytes of all elements, after a length. It is judged before its padding:
+-- that the array is not too long, and ends where there still are bytes.
+unfoldable pub sized_at : MarshalFault → ℕ → ℕ → ℕ → List ℕ → Field (ℕ × List ℕ)
+sized_at short align n at bytes =
     if nat_lt max_array_length n then Err ArrayLength
-    else if nat_lt (length bytes) (pad_len (alignment t) at + n) then Err short
-    else inside_at read short t n at bytes
+    else if nat_lt (length bytes) (pad_len align at + n) then Err short
+    else (padding_at align short at bytes >>= λ p. Ok ((p.0, take n p.1), p.0 + n, drop n p.1))
+
+unfoldable pub inside_at : Order → MarshalFault → ℕ → ℕ → List ℕ → Field (ℕ × List ℕ)
+inside_at order short align at bytes = do
+  n ← number_at order w32 short at bytes
+  sized_at short align n.0 n.1 n.2
 
 unfoldable pub array_at : Reader → Order → MarshalFault → Ty → ℕ → List ℕ → Field Val
 array_at read order short t at bytes = do
-  n ← number_at order w32 short at bytes
-  sized_at read short t n.0 n.1 n.2
+  inside ← inside_at order short (alignment t) at bytes
+  vs ← elements_at read t (length inside.0.1) inside.0.0 inside.0.1
+  Ok (an_array t vs, inside.1, inside.2)
 
 unfoldable pub entry_at : Reader → Order → MarshalFault → BasicType → Ty → ℕ → List ℕ → Field Val
 entry_at read order short b t at bytes = do
@@ -173,13 +176,14 @@ entry_at read order short b t at bytes = do
   v ← read short t k.1 k.2
   Ok (an_entry k.0 v.0, v.1, v.2)
 
+unfoldable pub struct_fields_at : Reader → MarshalFault → Tys → ℕ → List ℕ → Field Val
+struct_fields_at read short ts at bytes = do
+  p ← padding_at 8 short at bytes
+  vs ← fields_at read short ts p.0 p.1
+  Ok (a_struct vs.0, vs.1, vs.2)
+
 unfoldable pub struct_at : Reader → MarshalFault → Tys → ℕ → List ℕ → Field Val
-struct_at read short ts at bytes =
-    if has_types ts then (do
-      p ← padding_at 8 short at bytes
-      vs ← fields_at read short ts p.0 p.1
-      Ok (a_struct vs.0, vs.1, vs.2))
-    else Err Signature
+struct_at read short ts at bytes = if has_types ts then struct_fields_at read short ts at bytes else Err Signature
 
 -- one value, with how containers read what stands in them; where there is no such reader, a container is one too many
 unfoldable pub layer : Option Reader → Order → Reader
@@ -198,6 +202,6 @@ unfoldable pub value_at : ℕ → Order → Reader
 value_at zero order = layer None order
 value_at (suc depth) order = layer (Some (value_at depth order)) order
 
--- the values of the types, and how many bytes they take
+-- The values of the types, and how many bytes they take. Padding depends on the remainder of the offset by 8 alone.
 abbrev pub decode_at : Order → Tys → ℕ → List ℕ → Result (Vals × ℕ) MarshalFault
-decode_at order ts at bytes = fields_at (value_at max_container_depth order) Truncated ts at bytes >>= λ x. Ok (x.0, x.1 - at)
+decode_at order ts offset bytes = fields_at (value_at max_container_depth order) Truncated ts (offset % 8) bytes >>= λ x. Ok (x.0, x.1 - offset % 8)

@@ -73,21 +73,23 @@ basic_of (basic_forms.String s) = a_string (string_bytes s)
 basic_of (basic_forms.ObjectPath s) = an_object_path (string_bytes s)
 basic_of (basic_forms.Signature s) = a_signature (types_of s.types.items)
 
--- the entries of a dictionary
-abbrev pub entry_values : List (BasicValue × Val) → Vals
-entry_values [] = no_values
-entry_values (e ∷ es) = more_values (an_entry (basic_of e.0) e.1) (entry_values es)
+-- an entry of a dictionary
+abbrev pub entry_value : BasicValue × Val → Val
+entry_value e = an_entry (basic_of e.0) e.1
 
 -- a dictionary is an array of dict entries
 abbrev pub val_step : Value-F Val → Val
 val_step (forms.Basic b) = a_basic (basic_of b)
 val_step (forms.Variant v) = a_variant v.value
 val_step (forms.Array t vs) = an_array (ty_of t) (values vs.items)
-val_step (forms.Dictionary k t es) = an_array (entry k (ty_of t)) (entry_values es.items)
+val_step (forms.Dictionary k t es) = an_array (entry k (ty_of t)) (values (map entry_value es.items))
 val_step (forms.Struct vs) = a_struct (values vs.items)
 
 abbrev pub val_of : Value → Val
 val_of = fold-Value Val val_step
+
+abbrev pub entry_of : BasicValue × Value → Val
+entry_of e = an_entry (basic_of e.0) (val_of e.1)
 
 abbrev pub values_of : List Value → Vals
 values_of vs = values (map val_of vs)

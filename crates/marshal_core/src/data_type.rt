@@ -1,8 +1,9 @@
 //! Single complete types.
 
-ghost use Rattle.std.specs.Prelude.{◌≡◌, IfOk};
+ghost use Rattle.std.specs.Prelude.{◌≡◌, ◌<◌, ◌≤◌, IfOk};
 ghost use Rattle.marshal_core.specs.Types.{ty_of};
 ghost use Rattle.marshal_core.specs.Signatures.{basic_code, basic_types, variant_type_of, with_code};
+ghost use Rattle.marshal_core.specs.Spelling.{alignment, basic_alignment};
 ghost use Rattle.marshal_core.specs.Faults.{Gives};
 
 use crate::fault::MarshalFault;
@@ -48,6 +49,24 @@ impl BasicType {
         }
     }
 
+    /// What its values are aligned to in bytes.
+    pub fn alignment(self) -> usize
+        ensures value { result ≡ basic_alignment self }
+        ensures positive { 0 < result }
+        ensures most { result ≤ 8 }
+    {
+        match self {
+            BasicType::Byte | BasicType::Signature => 1,
+            BasicType::Int16 | BasicType::Uint16 => 2,
+            BasicType::Boolean
+            | BasicType::Int32
+            | BasicType::Uint32
+            | BasicType::String
+            | BasicType::ObjectPath => 4,
+            BasicType::Int64 | BasicType::Uint64 | BasicType::Double => 8,
+        }
+    }
+
     /// The basic type of a letter, if it has one.
     pub fn from_code(code: u8) -> Option<BasicType>
         ensures { result ≡ with_code code basic_types }
@@ -88,6 +107,20 @@ impl DataType {
         ensures { Gives (λ x. ty_of x) result (variant_type_of text.now) }
     {
         variant_type(alloc, text)
+    }
+
+    /// What its values are aligned to in bytes.
+    pub fn alignment(&self) -> usize
+        ensures value { result ≡ alignment (ty_of self.now) }
+        ensures positive { 0 < result }
+        ensures most { result ≤ 8 }
+    {
+        match self {
+            DataType::Basic(basic) => basic.alignment(),
+            DataType::Variant => 1,
+            DataType::Array(_) | DataType::Dictionary(_, _) => 4,
+            DataType::Struct(_) => 8,
+        }
     }
 
     /// The same type once more.
