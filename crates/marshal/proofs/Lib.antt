@@ -1,0 +1,5 @@
+pub mod Steps
+pub mod Loops
+pub mod Layers
+pub mod ValueViews
+pub mod Numbers

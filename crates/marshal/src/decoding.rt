@@ -1,0 +1,401 @@
+//! Reading values.
+
+ghost use Rattle.std.specs.Prelude.{◌≡◌, ◌+◌, ◌<◌, ◌≤◌, ◌^◌, ℕ, List, ◌++◌, length, map, take, Ok, IfOk};
+ghost use Rattle.marshal_core.specs.Types.{Tys, entry, ty_of, types_of};
+ghost use Rattle.marshal_core.specs.Values.{Vals, a_basic, entry_of, val_of, values, values_of};
+ghost use Rattle.marshal_core.specs.Spelling.{SpellFields, Spells};
+ghost use Rattle.marshal_core.specs.Faults.{Gives, Tells};
+ghost use Rattle.marshal_core.specs.Reading.{array_at, as_a, basic_at, decode_at, elements_at, entry_at, fields_at, inside_at, sized_at, struct_at, struct_fields_at, value_at, variant_at};
+
+use crate::basic::basic;
+use crate::fixed::{gap, number32, padding};
+use crate::text::variant_type;
+use marshal_core::{BasicType, BasicValue, DataType, MarshalFault, Order, Signature, Value};
+use std::alloc::Global;
+
+/// The most bytes that the elements of an array have.
+const MAX_ARRAY_LENGTH: usize = 67_108_864;
+
+/// The most containers about one another.
+const MAX_CONTAINER_DEPTH: u8 = 64;
+
+/// What dict entries are aligned to.
+const ENTRY_ALIGNMENT: usize = 8;
+
+/// What structs are aligned to.
+const STRUCT_ALIGNMENT: usize = 8;
+
+/// The bytes of an array of known length: the place of the first element, the bytes of all, the
+/// place after them and the bytes there.
+#[tactic(auto, unfolding(marshal_core::specs::Reading::sized_at))]
+fn sized(
+    short: MarshalFault,
+    align: usize,
+    len: usize,
+    at: usize,
+    bytes: &[u8],
+) -> Result<(usize, &[u8], usize, &[u8]), MarshalFault>
+    requires align { 0 < align }
+    requires most { align ≤ 8 }
+    requires room { at + length bytes.now < 2 ^ 64 }
+    ensures reads { Tells (λ x. ((x.0, x.1.now), x.2, x.3.now)) result (sized_at short align len at bytes.now) }
+    ensures place { IfOk result (λ x. x.2 + length x.3.now ≡ at + length bytes.now) }
+    ensures inside { IfOk result (λ x. x.0 + length x.1.now ≡ x.2) }
+    ensures within { IfOk result (λ x. length x.3.now ≤ length bytes.now) }
+{
+    if len > MAX_ARRAY_LENGTH {
+        return Err(MarshalFault::ArrayLength);
+    }
+    if bytes.len() < gap(align, at) + len {
+        return Err(short);
+    }
+    let (place, rest) = padding(align, short, at, bytes)?;
+    let (inside, behind) = rest.split_at(len);
+    Ok((place, inside, place + len, behind))
+}
+
+/// The same, with the length before it.
+#[tactic(auto, unfolding(marshal_core::specs::Reading::inside_at))]
+fn inside(
+    order: Order,
+    short: MarshalFault,
+    align: usize,
+    at: usize,
+    bytes: &[u8],
+) -> Result<(usize, &[u8], usize, &[u8]), MarshalFault>
+    requires align { 0 < align }
+    requires most { align ≤ 8 }
+    requires room { at + length bytes.now < 2 ^ 64 }
+    ensures reads { Tells (λ x. ((x.0, x.1.now), x.2, x.3.now)) result (inside_at order short align at bytes.now) }
+    ensures place { IfOk result (λ x. x.2 + length x.3.now ≡ at + length bytes.now) }
+    ensures inside { IfOk result (λ x. x.0 + length x.1.now ≡ x.2) }
+    ensures shorter { IfOk result (λ x. length x.3.now < length bytes.now) }
+{
+    let (len, at, rest) = number32(order, short, at, bytes)?;
+    sized(short, align, len as usize, at, rest)
+}
+
+fn basic_value(
+    alloc: Global,
+    order: Order,
+    short: MarshalFault,
+    of: BasicType,
+    at: usize,
+    bytes: &[u8],
+) -> Result<(Value, usize, &[u8]), MarshalFault>
+    requires room { at + length bytes.now < 2 ^ 64 }
+    ensures reads { Gives (λ x. (val_of x.0, x.1, x.2.now)) result (as_a a_basic (basic_at order short of at bytes.now)) }
+    ensures place { IfOk result (λ x. x.1 + length x.2.now ≡ at + length bytes.now) }
+    ensures shorter { IfOk result (λ x. length x.2.now < length bytes.now) }
+{
+    let (one, at, rest) = basic(alloc, order, short, of, at, bytes)?;
+    Ok((Value::Basic(one), at, rest))
+}
+
+/// A value, where so many containers may still stand in one another.
+#[cycle(values)]
+fn value<'a>(
+    alloc: Global,
+    depth: u8,
+    order: Order,
+    short: MarshalFault,
+    of: &DataType,
+    at: usize,
+    bytes: &'a [u8],
+) -> Result<(Value, usize, &'a [u8]), MarshalFault>
+    requires room { at + length bytes.now < 2 ^ 64 }
+    ensures reads { Gives (λ x. (val_of x.0, x.1, x.2.now)) result (value_at depth order short (ty_of of.now) at bytes.now) }
+    ensures place { IfOk result (λ x. x.1 + length x.2.now ≡ at + length bytes.now) }
+    ensures shorter { IfOk result (λ x. length x.2.now < length bytes.now) }
+{
+    match of {
+        DataType::Basic(of) => basic_value(alloc, order, short, *of, at, bytes),
+        DataType::Variant => {
+            if depth == 0 {
+                return Err(MarshalFault::Depth);
+            }
+            variant(alloc, depth - 1, order, short, at, bytes)
+        }
+        DataType::Array(element) => {
+            if depth == 0 {
+                return Err(MarshalFault::Depth);
+            }
+            array(alloc, depth - 1, order, short, element, at, bytes)
+        }
+        DataType::Dictionary(key, of) => {
+            if depth == 0 {
+                return Err(MarshalFault::Depth);
+            }
+            dictionary(alloc, depth - 1, order, short, *key, of, at, bytes)
+        }
+        DataType::Struct(fields) => {
+            if depth == 0 {
+                return Err(MarshalFault::Depth);
+            }
+            structure(alloc, depth - 1, order, short, fields, at, bytes)
+        }
+    }
+}
+
+#[cycle(values)]
+#[tactic(auto, unfolding(marshal_core::specs::Reading::variant_at))]
+fn variant(
+    alloc: Global,
+    depth: u8,
+    order: Order,
+    short: MarshalFault,
+    at: usize,
+    bytes: &[u8],
+) -> Result<(Value, usize, &[u8]), MarshalFault>
+    requires room { at + length bytes.now < 2 ^ 64 }
+    ensures reads { Gives (λ x. (val_of x.0, x.1, x.2.now)) result (variant_at (value_at depth order) short at bytes.now) }
+    ensures place { IfOk result (λ x. x.1 + length x.2.now ≡ at + length bytes.now) }
+    ensures shorter { IfOk result (λ x. length x.2.now < length bytes.now) }
+{
+    let (of, at, rest) = variant_type(alloc, short, at, bytes)?;
+    let (held, at, rest) = value(alloc, depth, order, short, &of, at, rest)?;
+    Ok((Value::Variant(Box::new(alloc, held)?), at, rest))
+}
+
+#[cycle(values)]
+#[tactic(auto, unfolding(marshal_core::specs::Reading::array_at))]
+fn array<'a>(
+    alloc: Global,
+    depth: u8,
+    order: Order,
+    short: MarshalFault,
+    of: &DataType,
+    at: usize,
+    bytes: &'a [u8],
+) -> Result<(Value, usize, &'a [u8]), MarshalFault>
+    requires room { at + length bytes.now < 2 ^ 64 }
+    ensures reads { Gives (λ x. (val_of x.0, x.1, x.2.now)) result (array_at (value_at depth order) order short (ty_of of.now) at bytes.now) }
+    ensures place { IfOk result (λ x. x.1 + length x.2.now ≡ at + length bytes.now) }
+    ensures shorter { IfOk result (λ x. length x.2.now < length bytes.now) }
+{
+    let (place, inside, at, rest) = inside(order, short, of.alignment(), at, bytes)?;
+    let items = elements(alloc, depth, order, of, place, inside)?;
+    let of = of.try_clone(alloc)?;
+    Ok((Value::Array(of, items), at, rest))
+}
+
+#[cycle(values)]
+#[tactic(auto, unfolding(marshal_core::specs::Reading::array_at))]
+fn dictionary<'a>(
+    alloc: Global,
+    depth: u8,
+    order: Order,
+    short: MarshalFault,
+    key: BasicType,
+    of: &DataType,
+    at: usize,
+    bytes: &'a [u8],
+) -> Result<(Value, usize, &'a [u8]), MarshalFault>
+    requires room { at + length bytes.now < 2 ^ 64 }
+    ensures reads { Gives (λ x. (val_of x.0, x.1, x.2.now)) result (array_at (value_at depth order) order short (entry key (ty_of of.now)) at bytes.now) }
+    ensures place { IfOk result (λ x. x.1 + length x.2.now ≡ at + length bytes.now) }
+    ensures shorter { IfOk result (λ x. length x.2.now < length bytes.now) }
+{
+    let (place, inside, at, rest) = inside(order, short, ENTRY_ALIGNMENT, at, bytes)?;
+    let items = entries(alloc, depth, order, key, of, place, inside)?;
+    let of = of.try_clone(alloc)?;
+    Ok((Value::Dictionary(key, of, items), at, rest))
+}
+
+#[cycle(values)]
+fn one_entry<'a>(
+    alloc: Global,
+    depth: u8,
+    order: Order,
+    key: BasicType,
+    of: &DataType,
+    at: usize,
+    bytes: &'a [u8],
+) -> Result<((BasicValue, Value), usize, &'a [u8]), MarshalFault>
+    requires room { at + length bytes.now < 2 ^ 64 }
+    ensures reads { Gives (λ x. (entry_of x.0, x.1, x.2.now)) result (value_at depth order MarshalFault.ArrayLength (entry key (ty_of of.now)) at bytes.now) }
+    ensures place { IfOk result (λ x. x.1 + length x.2.now ≡ at + length bytes.now) }
+    ensures shorter { IfOk result (λ x. length x.2.now < length bytes.now) }
+{
+    if depth == 0 {
+        return Err(MarshalFault::Depth);
+    }
+    key_and_value(alloc, depth - 1, order, key, of, at, bytes)
+}
+
+#[cycle(values)]
+#[tactic(auto, unfolding(marshal_core::specs::Reading::entry_at))]
+fn key_and_value<'a>(
+    alloc: Global,
+    depth: u8,
+    order: Order,
+    key: BasicType,
+    of: &DataType,
+    at: usize,
+    bytes: &'a [u8],
+) -> Result<((BasicValue, Value), usize, &'a [u8]), MarshalFault>
+    requires room { at + length bytes.now < 2 ^ 64 }
+    ensures reads { Gives (λ x. (entry_of x.0, x.1, x.2.now)) result (entry_at (value_at depth order) order MarshalFault.ArrayLength key (ty_of of.now) at bytes.now) }
+    ensures place { IfOk result (λ x. x.1 + length x.2.now ≡ at + length bytes.now) }
+    ensures shorter { IfOk result (λ x. length x.2.now < length bytes.now) }
+{
+    let (at, rest) = padding(ENTRY_ALIGNMENT, MarshalFault::ArrayLength, at, bytes)?;
+    let (key, at, rest) = basic(alloc, order, MarshalFault::ArrayLength, key, at, rest)?;
+    let (one, at, rest) = value(alloc, depth, order, MarshalFault::ArrayLength, of, at, rest)?;
+    Ok(((key, one), at, rest))
+}
+
+#[cycle(values)]
+#[tactic(auto, unfolding(marshal_core::specs::Reading::struct_at))]
+fn structure<'a>(
+    alloc: Global,
+    depth: u8,
+    order: Order,
+    short: MarshalFault,
+    of: &[DataType],
+    at: usize,
+    bytes: &'a [u8],
+) -> Result<(Value, usize, &'a [u8]), MarshalFault>
+    requires room { at + length bytes.now < 2 ^ 64 }
+    ensures reads { Gives (λ x. (val_of x.0, x.1, x.2.now)) result (struct_at (value_at depth order) short (types_of of.now) at bytes.now) }
+    ensures place { IfOk result (λ x. x.1 + length x.2.now ≡ at + length bytes.now) }
+    ensures shorter { IfOk result (λ x. length x.2.now < length bytes.now) }
+{
+    if of.is_empty() {
+        return Err(MarshalFault::Signature);
+    }
+    fields_of(alloc, depth, order, short, of, at, bytes)
+}
+
+/// The fields of a struct that has some.
+#[cycle(values)]
+#[tactic(auto, unfolding(marshal_core::specs::Reading::struct_fields_at))]
+fn fields_of<'a>(
+    alloc: Global,
+    depth: u8,
+    order: Order,
+    short: MarshalFault,
+    of: &[DataType],
+    at: usize,
+    bytes: &'a [u8],
+) -> Result<(Value, usize, &'a [u8]), MarshalFault>
+    requires some { 0 < length of.now }
+    requires room { at + length bytes.now < 2 ^ 64 }
+    ensures reads { Gives (λ x. (val_of x.0, x.1, x.2.now)) result (struct_fields_at (value_at depth order) short (types_of of.now) at bytes.now) }
+    ensures place { IfOk result (λ x. x.1 + length x.2.now ≡ at + length bytes.now) }
+    ensures shorter { IfOk result (λ x. length x.2.now < length bytes.now) }
+{
+    let (at, rest) = padding(STRUCT_ALIGNMENT, short, at, bytes)?;
+    let (items, at, rest) = fields(alloc, depth, order, short, of, at, rest)?;
+    Ok((Value::Struct(items), at, rest))
+}
+
+#[cycle(values)]
+fn elements(
+    alloc: Global,
+    depth: u8,
+    order: Order,
+    of: &DataType,
+    at: usize,
+    bytes: &[u8],
+) -> Result<Vec<Value>, MarshalFault>
+    requires room { at + length bytes.now < 2 ^ 64 }
+    ensures { Gives (λ x. values_of x.items) result (elements_at (value_at depth order) (ty_of of.now) (length bytes.now) at bytes.now) }
+{
+    let mut items = Vec::new(alloc);
+    let mut rest = bytes;
+    let mut place = at;
+    'each: while !rest.is_empty() {
+        let (one, after, behind) = value(
+            alloc,
+            depth,
+            order,
+            MarshalFault::ArrayLength,
+            of,
+            place,
+            rest,
+        )?;
+        items.push(one)?;
+        place = after;
+        rest = behind;
+    }
+    Ok(items)
+}
+
+#[cycle(values)]
+fn entries(
+    alloc: Global,
+    depth: u8,
+    order: Order,
+    key: BasicType,
+    of: &DataType,
+    at: usize,
+    bytes: &[u8],
+) -> Result<Vec<(BasicValue, Value)>, MarshalFault>
+    requires room { at + length bytes.now < 2 ^ 64 }
+    ensures { Gives (λ x. values (map entry_of x.items)) result (elements_at (value_at depth order) (entry key (ty_of of.now)) (length bytes.now) at bytes.now) }
+{
+    let mut items = Vec::new(alloc);
+    let mut rest = bytes;
+    let mut place = at;
+    'each: while !rest.is_empty() {
+        let (one, after, behind) = one_entry(alloc, depth, order, key, of, place, rest)?;
+        items.push(one)?;
+        place = after;
+        rest = behind;
+    }
+    Ok(items)
+}
+
+#[cycle(values)]
+fn fields<'a>(
+    alloc: Global,
+    depth: u8,
+    order: Order,
+    short: MarshalFault,
+    of: &[DataType],
+    at: usize,
+    bytes: &'a [u8],
+) -> Result<(Vec<Value>, usize, &'a [u8]), MarshalFault>
+    requires room { at + length bytes.now < 2 ^ 64 }
+    ensures reads { Gives (λ x. (values_of x.0.items, x.1, x.2.now)) result (fields_at (value_at depth order) short (types_of of.now) at bytes.now) }
+    ensures place { IfOk result (λ x. x.1 + length x.2.now ≡ at + length bytes.now) }
+    ensures shorter { IfOk result (λ x. length x.2.now ≤ length bytes.now) }
+    ensures some { IfOk result (λ x. 0 < length of.now → length x.2.now < length bytes.now) }
+{
+    let mut items = Vec::new(alloc);
+    let mut rest = bytes;
+    let mut place = at;
+    for one in of {
+        let (read, after, behind) = value(alloc, depth, order, short, one, place, rest)?;
+        items.push(read)?;
+        place = after;
+        rest = behind;
+    }
+    Ok((items, place, rest))
+}
+
+/// The values of the signature's types that the bytes begin with, where the first byte stands at
+/// this offset of the message, and how many bytes they take; or the first fault from the left
+/// ("Marshaling (Wire Format)" of the D-Bus Specification). What follows them is not looked at.
+pub fn decode(
+    alloc: Global,
+    order: Order,
+    offset: usize,
+    signature: &Signature,
+    bytes: &[u8],
+) -> Result<(Vec<Value>, usize), MarshalFault>
+    ensures exact { Gives (λ x. (values_of x.0.items, x.1)) result (decode_at order (types_of signature.now.types.items) offset bytes.now) }
+{
+    let at = offset % 8;
+    let (items, end, _rest) = fields(
+        alloc,
+        MAX_CONTAINER_DEPTH,
+        order,
+        MarshalFault::Truncated,
+        &signature.types,
+        at,
+        bytes,
+    )?;
+    Ok((items, end - at))
+}
