@@ -10,7 +10,7 @@ use Rattle.owner_queues.specs.declared.request.RequestFlags.{RequestFlags}
 use Rattle.owner_queues.proofs.QueueLemmas.{all-without}
 use Rattle.owner_queues.proofs.QueueLaws.{requests_keep, requests_add, releases_take}
 use Rattle.seq_bus_core.specs.BusState.{BusState, Connection, OwnedName, AddedRule, RunningStart, is_client, queue_of, with_queue, start_of}
-use Rattle.seq_bus_core.specs.Steps.{is_reserved, is_taken, with_connection, without_connection, rules_without, with_owned, without_first, monitor_if, with_monitor, waiting_if, ticket_of, step}
+use Rattle.seq_bus_core.specs.Steps.{is_reserved, is_taken, with_connection, without_connection, rules_without, with_owned, without_first, monitor_if, with_monitor, waiting_if, wait_with_start, step}
 use Rattle.seq_bus_core.specs.Histories.{History, opening, after}
 use Rattle.seq_bus_core.specs.Consistency.{IsGiven, IsOwned, IsRunning, IsConsistent}
 use Rattle.seq_bus_core.specs.Laws.{StepsKeepConsistency, BusesAreConsistent}
@@ -210,7 +210,7 @@ with_rules s h rules clients = record {
 
 -- ## Starts
 
-first_ticket : (s : BusState) → IsConsistent s → (name : Text) → Each (λ n. text_eq n.name name ≡ false) s.names → start_of s name ≡ None → IsConsistent (ticket_of s name None).0
+first_ticket : (s : BusState) → IsConsistent s → (name : Text) → Each (λ n. text_eq n.name name ≡ false) s.names → start_of s name ≡ None → IsConsistent (wait_with_start s name None).0
 first_ticket s h name unowned none =
     let new : RunningStart = record { name = name; number = s.next_start; tickets = s.next_ticket ∷ [] } in
     record {

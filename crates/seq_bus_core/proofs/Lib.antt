@@ -8,3 +8,4 @@ pub mod OwnedLemmas
 pub mod ConsistencyLaws
 pub mod HistoryLaws
 pub mod RecipientLaws
+pub mod MonitorLaws

@@ -1,7 +1,7 @@
 -- Lists each of whose elements, or each pair of whose elements, has a property.
 use Rattle.std.proofs.Common.{◌≡◌, Bool, true, false, Some, None, List, [], ◌∷◌, ◌++◌, map, refl, sym, ap, ◌∙◌, inl, inr}
 use Rattle.std.specs.List.{AllByRecursion as Each, filter, list_all, list_any, find}
-use Rattle.std.proofs.lemmas.Bool.{cond_both, true≢false, or_parts, or_left, or_right, or_cases, and_parts, and_from}
+use Rattle.std.proofs.lemmas.Bool.{cond_both, true≢false, or_from, or_parts, or_left, or_right, or_cases, and_parts, and_from}
 use Rattle.seq_bus_core.specs.Consistency.{Pairwise}
 
 pub each_weaker : {X : Type 0} (P Q : X → Type 0) → ((x : X) → P x → Q x) → (xs : List X) → Each P xs → Each Q xs
@@ -104,3 +104,19 @@ any_none test [] h = tt
 any_none test (x ∷ xs) h =
     let parts : (test x ≡ false) × (list_any test xs ≡ false) = or_parts (test x) (list_any test xs) h in
     (parts.0, any_none test xs parts.1)
+
+pub none_any : {X : Type 0} (test : X → Bool) (xs : List X) → Each (λ x. test x ≡ false) xs → list_any test xs ≡ false
+none_any test [] h = refl
+none_any test (x ∷ xs) h = or_from (test x) (list_any test xs) h.0 (none_any test xs h.1)
+
+-- an element that passes a test, of a list each of whose elements has a property
+pub any_having : {X : Type 0} (P : X → Type 0) (test : X → Bool) (Q : Type 0) → ((x : X) → test x ≡ true → P x → Q) → (xs : List X) → list_any test xs ≡ true → Each P xs → Q
+any_having P test Q gives [] any h = absurd (true≢false (sym any))
+any_having P test Q gives (x ∷ xs) any h = elim (or_cases (test x) (list_any test xs) any) [ inl passes ↦ gives x passes h.0 | inr later ↦ any_having P test Q gives xs later h.1 ]
+
+-- an element that a search finds is there for another test, if it passes that too
+pub found_any : {X : Type 0} (test other : X → Bool) (xs : List X) (x : X) → find test xs ≡ Some x → other x ≡ true → list_any other xs ≡ true
+found_any test other [] x e passes = cc
+found_any test other (y ∷ ys) x e passes =
+    cond_both (test y) (Some y) (find test ys) (λ o. o ≡ Some x → list_any other (y ∷ ys) ≡ true)
+    (λ _ found. let same : y ≡ x = cc in or_left (other y) (list_any other ys) (ap other same ∙ passes)) (λ _ found. or_right (other y) (list_any other ys) (found_any test other ys x found passes)) e

@@ -9,7 +9,7 @@ use Rattle.match_rules.specs.Rules.{Rule}
 use Rattle.owner_queues.specs.Queues.{requested, released}
 use Rattle.owner_queues.specs.declared.request.RequestFlags.{RequestFlags}
 use Rattle.seq_bus_core.specs.BusState.{BusState, Connection, AddedRule, RunningStart, queue_of, with_queue, head_of, start_of, is_client, client_of, connection_of, max_number, is_service}
-use Rattle.seq_bus_core.specs.Steps.{Stepped, is_reserved, is_taken, slots_of, free_slot, with_connection, welcomed, hello, without_connection, leave, with_owned, is_within_names, request, release, with_rule, is_within_rules, add_match, is_rule_of, without_first, remove_match, with_monitor, become_monitor, waiting_if, ticket_of, has_room_for_ticket, wait_for, start, pass_or_wait, hold, is_run, fail_of, exited_well, for_client, unchanged, step}
+use Rattle.seq_bus_core.specs.Steps.{Stepped, is_reserved, is_taken, slots_of, free_slot, with_connection, welcomed, hello, without_connection, leave, with_owned, is_within_names, request, release, with_rule, is_within_rules, add_match, is_rule_of, without_first, remove_match, with_monitor, become_monitor, waiting_if, wait_with_start, has_room_for_ticket, wait_for, start, pass_or_wait, hold, is_run, fail_with_start, exited_well, for_client, unchanged, step}
 use Rattle.seq_bus_core.specs.declared.change.Change.{Change}
 use Rattle.seq_bus_core.specs.declared.change.Change.TheVariants.{Hello, Leave, Request, Release, AddMatch, RemoveMatch, BecomeMonitor, Start, Hold, ChildEnded, StartTimedOut}
 use Rattle.seq_bus_core.specs.declared.outcome.Reply.TheVariants.{LimitsExceeded}
@@ -25,7 +25,7 @@ pub record AfterEach (s : BusState) (P : BusState → Type 0) : Type 0 where
   pub add_match : (number : ℕ) (rule : Rule) → is_client s.connections number ≡ true → P (with_rule s number rule)
   pub remove_match : (test : AddedRule → Bool) → P (record s { rules = without_first test s.rules })
   pub monitor : (number : ℕ) (rules : List Rule) → P (with_monitor s number rules)
-  pub first_ticket : (name : Text) → option_and_then (connection_of s) (head_of s name) ≡ None → start_of s name ≡ None → P (ticket_of s name None).0
+  pub first_ticket : (name : Text) → option_and_then (connection_of s) (head_of s name) ≡ None → start_of s name ≡ None → P (wait_with_start s name None).0
   pub later_ticket : (name : Text) → P (record s { starts = map (waiting_if name s.next_ticket) s.starts; next_ticket = s.next_ticket + 1 })
   pub failed : (test : RunningStart → Bool) → P (record s { starts = filter test s.starts })
 
@@ -44,7 +44,7 @@ leave_case : (s : BusState) (P : BusState → Type 0) (h : AfterEach s P) (numbe
 leave_case s P h number None = h.same
 leave_case s P h number (Some c) = h.leave number
 
-ticket_case : (s : BusState) (P : BusState → Type 0) (h : AfterEach s P) (name : Text) (o : Option RunningStart) → option_and_then (connection_of s) (head_of s name) ≡ None → start_of s name ≡ o → P (ticket_of s name o).0
+ticket_case : (s : BusState) (P : BusState → Type 0) (h : AfterEach s P) (name : Text) (o : Option RunningStart) → option_and_then (connection_of s) (head_of s name) ≡ None → start_of s name ≡ o → P (wait_with_start s name o).0
 ticket_case s P h name None unowned e = h.first_ticket name unowned e
 ticket_case s P h name (Some r) unowned e = h.later_ticket name
 
@@ -67,7 +67,7 @@ hold_case : (s : BusState) (P : BusState → Type 0) (h : AfterEach s P) (name :
 hold_case s P h name None e = wait_case s P h name e
 hold_case s P h name (Some c) e = h.same
 
-fail_case : (s : BusState) (P : BusState → Type 0) (h : AfterEach s P) (name : Text) (number : ℕ) (o : Option RunningStart) → P (fail_of s name number o).0
+fail_case : (s : BusState) (P : BusState → Type 0) (h : AfterEach s P) (name : Text) (number : ℕ) (o : Option RunningStart) → P (fail_with_start s name number o).0
 fail_case s P h name number None = h.same
 fail_case s P h name number (Some r) = h.failed (λ q. not (is_run name number q))
 

@@ -47,3 +47,7 @@ RecipientsAreNamedOnce = (s : BusState) (from : ℕ) (facts : Facts) → IsConsi
 abbrev pub SignalsGoToEachOnce : Type 0
 SignalsGoToEachOnce = (s : BusState) (signal : BusSignal) → IsConsistent s →
     Rise (addressed s signal).to × Rise (addressed s signal).monitors × Each (λ m. is_among (addressed s signal).to m ≡ false) (addressed s signal).monitors
+
+-- A monitor is shown no message that goes to it.
+abbrev pub NobodyGetsAMessageTwice : Type 0
+NobodyGetsAMessageTwice = (s : BusState) (from : ℕ) (facts : Facts) → IsConsistent s → Each (λ m. is_among (recipients s from facts).to m ≡ false) (recipients s from facts).monitors

@@ -193,24 +193,24 @@ owned_outcome s after name result = record {
 }
 
 -- the request by the queue after it
-abbrev pub request_of : BusState → ℕ → Text → Queue × QueueReply → Stepped
-request_of s number name result =
+abbrev pub request_with_queue : BusState → ℕ → Text → Queue × QueueReply → Stepped
+request_with_queue s number name result =
     if is_within_names (with_owned s name result.0) number then (with_owned s name result.0, owned_outcome s (with_owned s name result.0) name result)
     else unchanged s LimitsExceeded
 
 abbrev pub request : BusState → ℕ → Text → RequestFlags → Stepped
 request s number name flags =
     if is_reserved name then unchanged s InvalidName
-    else request_of s number name (requested s.profile number flags (queue_of s.names name))
+    else request_with_queue s number name (requested s.profile number flags (queue_of s.names name))
 
-abbrev pub release_of : BusState → Text → Queue × QueueReply → Stepped
-release_of s name result =
+abbrev pub release_with_queue : BusState → Text → Queue × QueueReply → Stepped
+release_with_queue s name result =
     announced (record s { names = with_queue name result.0 s.names }) (OfQueue result.1) (owner_signals name (queue_head (queue_of s.names name)) (queue_head result.0))
 
 abbrev pub release : BusState → ℕ → Text → Stepped
 release s number name =
     if is_reserved name then unchanged s InvalidName
-    else release_of s name (released number (queue_of s.names name))
+    else release_with_queue s name (released number (queue_of s.names name))
 
 -- ## AddMatch and RemoveMatch
 
@@ -267,8 +267,8 @@ abbrev pub waiting_if : Text → ℕ → RunningStart → RunningStart
 waiting_if name ticket r = if text_eq r.name name then record r { tickets = r.tickets ++ ticket ∷ [] } else r
 
 -- The first ticket of a name asks for a start; later ones join it.
-abbrev pub ticket_of : BusState → Text → Option RunningStart → Stepped
-ticket_of s name None = (
+abbrev pub wait_with_start : BusState → Text → Option RunningStart → Stepped
+wait_with_start s name None = (
   record s {
     starts = s.starts ++ record { name = name; number = s.next_start; tickets = s.next_ticket ∷ [] } ∷ [];
     next_ticket = s.next_ticket + 1;
@@ -276,7 +276,7 @@ ticket_of s name None = (
   },
   record (replied (Held s.next_ticket)) { start = Some s.next_start },
 )
-ticket_of s name (Some r) = (record s { starts = map (waiting_if name s.next_ticket) s.starts; next_ticket = s.next_ticket + 1 }, replied (Held s.next_ticket))
+wait_with_start s name (Some r) = (record s { starts = map (waiting_if name s.next_ticket) s.starts; next_ticket = s.next_ticket + 1 }, replied (Held s.next_ticket))
 
 -- one ticket more, and one start more where none of the name runs
 abbrev pub has_room_for_ticket : BusState → Text → Bool
@@ -289,7 +289,7 @@ abbrev pub wait_for : BusState → Text → Stepped
 wait_for s name =
     if not (is_service s name) then unchanged s ServiceUnknown
     else if not (has_room_for_ticket s name) then unchanged s LimitsExceeded
-    else ticket_of s name (start_of s name)
+    else wait_with_start s name (start_of s name)
 
 abbrev pub start : BusState → Text → Stepped
 start s name = if is_bus name || is_some (head_of s name) then unchanged s AlreadyRunning else wait_for s name
@@ -305,12 +305,12 @@ hold s name = pass_or_wait s name (option_and_then (connection_of s) (head_of s 
 abbrev pub is_run : Text → ℕ → RunningStart → Bool
 is_run name number r = text_eq r.name name && (r.number == number)
 
-abbrev pub fail_of : BusState → Text → ℕ → Option RunningStart → Stepped
-fail_of s name number None = unchanged s Ignored
-fail_of s name number (Some r) = (record s { starts = filter (λ q. not (is_run name number q)) s.starts }, record (replied Done) { tickets = settled Failed (Some r) })
+abbrev pub fail_with_start : BusState → Text → ℕ → Option RunningStart → Stepped
+fail_with_start s name number None = unchanged s Ignored
+fail_with_start s name number (Some r) = (record s { starts = filter (λ q. not (is_run name number q)) s.starts }, record (replied Done) { tickets = settled Failed (Some r) })
 
 abbrev pub fail : BusState → Text → ℕ → Stepped
-fail s name number = fail_of s name number (find (is_run name number) s.starts)
+fail s name number = fail_with_start s name number (find (is_run name number) s.starts)
 
 -- A program that exits well may have started a service that takes the name later.
 abbrev pub exited_well : Ending → Bool

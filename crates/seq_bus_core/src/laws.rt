@@ -1,6 +1,6 @@
 //! The laws of the bus. Each function does nothing: what it ensures is the law.
 
-ghost use Rattle.seq_bus_core.specs.Laws.{BeginningsAreLegal, BusesAreConsistent, NumbersOnlyRise, RecipientsAreNamedOnce, SignalsGoToEachOnce, StepsKeepConsistency};
+ghost use Rattle.seq_bus_core.specs.Laws.{BeginningsAreLegal, BusesAreConsistent, NobodyGetsAMessageTwice, NumbersOnlyRise, RecipientsAreNamedOnce, SignalsGoToEachOnce, StepsKeepConsistency};
 
 /// A change leaves a consistent state consistent.
 pub fn steps_keep_consistency()
@@ -30,4 +30,9 @@ pub fn recipients_are_named_once()
 /// So are those of a signal of the bus, and no monitor is shown a signal that goes to it.
 pub fn signals_go_to_each_once()
     ensures { SignalsGoToEachOnce }
+{}
+
+/// A monitor is shown no message that goes to it, and so nobody gets one message twice.
+pub fn nobody_gets_a_message_twice()
+    ensures { NobodyGetsAMessageTwice }
 {}
