@@ -2,3 +2,8 @@ pub mod WorkedRules
 pub mod KeyLemmas
 pub mod RuleLemmas
 pub mod FittingLemmas
+pub mod Quotes
+pub mod KeyTexts
+pub mod Items
+pub mod RuleOrder
+pub mod RuleTextLaws

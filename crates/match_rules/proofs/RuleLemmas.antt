@@ -98,7 +98,7 @@ length-parts (Quoted bytes ∷ parts) =
 length-parts (Escaped ∷ parts) = let rest : length (flat_map part_value parts) ≤ length (flat_map part_text parts) = length-parts parts in omega (arith, rest)
 length-parts (Plain b ∷ parts) = let rest : length (flat_map part_value parts) ≤ length (flat_map part_text parts) = length-parts parts in omega (arith, rest)
 
-length-item : (item : Item) → 3 + length (entry_of item).1 ≤ length (item_text item)
+pub length-item : (item : Item) → 3 + length (entry_of item).1 ≤ length (item_text item)
 length-item item =
     omega (
       arith,

@@ -1,10 +1,11 @@
 -- What holds of rules, whatever their keys and values are.
-use Rattle.std.specs.Prelude.{◌≡◌, ◌<◌, ◌≤◌, ◌↔◌, true, length}
+use Rattle.std.specs.Prelude.{◌≡◌, ◌<◌, ◌≤◌, ◌↔◌, true, None, length}
 use Rattle.names.specs.Texts.{Text}
 use Rattle.names.specs.UniqueName.{unique_text}
 use Rattle.match_rules.specs.declared.key.Key.TheVariants.{Sender}
 use Rattle.match_rules.specs.Rules.{Rule, IsRule, same_rule}
 use Rattle.match_rules.specs.RuleTexts.{IsRuleText}
+use Rattle.match_rules.specs.RuleFaults.{rule_fault}
 use Rattle.match_rules.specs.RuleBytes.{rule_bytes, rule_in}
 use Rattle.match_rules.specs.Facts.{Facts}
 use Rattle.match_rules.specs.Fitting.{Heads, holds}
@@ -20,3 +21,11 @@ RulesHaveRoom = (text : Text) (rule : Rule) → IsRuleText text rule → (length
 -- A connection that has a number is known by its own name, whatever names are owned.
 abbrev pub SendersAreKnownByName : Type 0
 SendersAreKnownByName = (heads : Heads) (facts : Facts) → 0 < facts.sender → holds heads Sender (unique_text facts.sender) facts ≡ true
+
+-- A text has no fault exactly where it is the text of a rule,
+abbrev pub FaultsAreExact : Type 0
+FaultsAreExact = (text : Text) → (rule_fault text ≡ None) ↔ ((rule : Rule) × IsRuleText text rule)
+
+-- and of no other rule.
+abbrev pub TextsHaveOneRule : Type 0
+TextsHaveOneRule = (text : Text) (a b : Rule) → IsRuleText text a → IsRuleText text b → a ≡ b

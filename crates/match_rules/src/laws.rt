@@ -1,6 +1,16 @@
 //! The laws of match rules. Each function does nothing: what it ensures is the law.
 
-ghost use Rattle.match_rules.specs.Laws.{RulesHaveRoom, SameRulesAreOne, SendersAreKnownByName};
+ghost use Rattle.match_rules.specs.Laws.{FaultsAreExact, RulesHaveRoom, SameRulesAreOne, SendersAreKnownByName, TextsHaveOneRule};
+
+/// A text has no fault exactly where it is the text of a rule.
+pub fn faults_are_exact()
+    ensures { FaultsAreExact }
+{}
+
+/// No text is that of two rules.
+pub fn texts_have_one_rule()
+    ensures { TextsHaveOneRule }
+{}
 
 /// Rules with the same keys and values are one rule.
 pub fn same_rules_are_one()
