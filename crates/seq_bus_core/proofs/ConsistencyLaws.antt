@@ -19,7 +19,7 @@ use Rattle.seq_bus_core.proofs.TextLemmas.{text_eq-true, text_eq-swapped}
 use Rattle.seq_bus_core.proofs.NameLemmas.{each_kept, each_with_queue, with_queue_rises, each_without, names_without_rises, owned_without}
 use Rattle.seq_bus_core.proofs.ClientLemmas.{client_after_hello, client_after_leave, client_after_monitor}
 use Rattle.seq_bus_core.proofs.OwnedLemmas.{queue_of_each, queue_of_unowned, unowned_without_head}
-use Rattle.seq_bus_core.proofs.StepCases.{step_cases}
+use Rattle.seq_bus_core.proofs.StepCases.{free_is_free, step_cases}
 
 -- ## Connections that come and go
 
@@ -113,7 +113,7 @@ names_with s h name queue free once clients =
     (each_kept (IsOwned s.connections) name queue
     (λ owner waiting e. record { ownable = free; owned = refl; once = subst IsQueue e once; clients = subst (λ q. list_all (λ p. is_client s.connections p.connection) q ≡ true) e clients }))
 
-queue_is : (s : BusState) → IsConsistent s → (name : Text) → IsQueue (queue_of s.names name)
+pub queue_is : (s : BusState) → IsConsistent s → (name : Text) → IsQueue (queue_of s.names name)
 queue_is s h name = queue_of_each IsQueue tt s.names name (each_weaker (IsOwned s.connections) (λ n. IsQueue n.queue) (λ n o. o.once) s.names h.names_owned)
 
 queue_clients : (s : BusState) → IsConsistent s → (name : Text) → list_all (λ q. is_client s.connections q.connection) (queue_of s.names name) ≡ true
@@ -293,15 +293,15 @@ steps_keep_consistency s seat change h =
     step_cases s IsConsistent
     (record {
       same = h;
-      hello = after_hello s h;
+      hello = λ c seat numbered _ free. after_hello s h c numbered (free_is_free s seat c.slot free);
       leave = after_leave s h;
-      request = after_request s h;
+      request = λ c name flags client free _. after_request s h c name flags client free;
       release = after_release s h;
-      add_match = λ c rule client. with_rules s h (s.rules ++ record { connection = c; rule = rule } ∷ []) (each_push (λ r. is_client s.connections r.connection ≡ true) s.rules (record { connection = c; rule = rule }) h.rules_of_clients client);
+      add_match = λ c rule client _. with_rules s h (s.rules ++ record { connection = c; rule = rule } ∷ []) (each_push (λ r. is_client s.connections r.connection ≡ true) s.rules (record { connection = c; rule = rule }) h.rules_of_clients client);
       remove_match = λ test. with_rules s h (without_first test s.rules) (each_without_first (λ r. is_client s.connections r.connection ≡ true) test s.rules h.rules_of_clients);
       monitor = after_monitor s h;
-      first_ticket = λ name headless none. first_ticket s h name (unowned_without_head s name h headless) none;
-      later_ticket = later_ticket s h;
+      first_ticket = λ name headless none _. first_ticket s h name (unowned_without_head s name h headless) none;
+      later_ticket = λ name _. later_ticket s h name;
       failed = failed_start s h;
     }) seat change
 

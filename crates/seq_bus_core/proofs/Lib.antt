@@ -9,3 +9,5 @@ pub mod ConsistencyLaws
 pub mod HistoryLaws
 pub mod RecipientLaws
 pub mod MonitorLaws
+pub mod Counts
+pub mod LimitLaws

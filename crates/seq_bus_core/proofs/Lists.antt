@@ -1,5 +1,5 @@
 -- Lists each of whose elements, or each pair of whose elements, has a property.
-use Rattle.std.proofs.Common.{◌≡◌, Bool, true, false, Some, None, List, [], ◌∷◌, ◌++◌, map, refl, sym, ap, ◌∙◌, inl, inr}
+use Rattle.std.proofs.Common.{◌≡◌, Bool, true, false, Some, None, List, [], ◌∷◌, ◌++◌, map, refl, sym, ap, ◌∙◌, subst, inl, inr}
 use Rattle.std.specs.List.{AllByRecursion as Each, filter, list_all, list_any, find}
 use Rattle.std.proofs.lemmas.Bool.{cond_both, true≢false, or_from, or_parts, or_left, or_right, or_cases, and_parts, and_from}
 use Rattle.seq_bus_core.specs.Consistency.{Pairwise}
@@ -120,3 +120,8 @@ found_any test other [] x e passes = cc
 found_any test other (y ∷ ys) x e passes =
     cond_both (test y) (Some y) (find test ys) (λ o. o ≡ Some x → list_any other (y ∷ ys) ≡ true)
     (λ _ found. let same : y ≡ x = cc in or_left (other y) (list_any other ys) (ap other same ∙ passes)) (λ _ found. or_right (other y) (list_any other ys) (found_any test other ys x found passes)) e
+
+-- what holds of each element holds of one that a search finds
+pub found_having : {X : Type 0} (P : X → Type 0) (test : X → Bool) (xs : List X) (x : X) → find test xs ≡ Some x → Each P xs → P x
+found_having P test [] x e h = cc
+found_having P test (y ∷ ys) x e h = cond_both (test y) (Some y) (find test ys) (λ o. o ≡ Some x → P x) (λ _ found. let same : y ≡ x = cc in subst P same h.0) (λ _ found. found_having P test ys x found h.1) e

@@ -9,14 +9,14 @@ numbers_only_rise s seat change =
     step_cases s (GivesOn s)
     (record {
       same = same;
-      hello = λ c _ _. record { numbers = omega arith; tickets = omega arith; starts = omega arith };
+      hello = λ c _ _ _ _. record { numbers = omega arith; tickets = omega arith; starts = omega arith };
       leave = λ _. record { numbers = omega arith; tickets = omega arith; starts = omega arith };
-      request = λ _ _ _ _ _. record { numbers = omega arith; tickets = omega arith; starts = omega arith };
+      request = λ _ _ _ _ _ _. record { numbers = omega arith; tickets = omega arith; starts = omega arith };
       release = λ _ _ _. record { numbers = omega arith; tickets = omega arith; starts = omega arith };
-      add_match = λ _ _ _. record { numbers = omega arith; tickets = omega arith; starts = omega arith };
+      add_match = λ _ _ _ _. record { numbers = omega arith; tickets = omega arith; starts = omega arith };
       remove_match = λ _. record { numbers = omega arith; tickets = omega arith; starts = omega arith };
       monitor = λ _ _. record { numbers = omega arith; tickets = omega arith; starts = omega arith };
-      first_ticket = λ _ _ _. record { numbers = omega arith; tickets = omega arith; starts = omega arith };
-      later_ticket = λ _. record { numbers = omega arith; tickets = omega arith; starts = omega arith };
+      first_ticket = λ _ _ _ _. record { numbers = omega arith; tickets = omega arith; starts = omega arith };
+      later_ticket = λ _ _. record { numbers = omega arith; tickets = omega arith; starts = omega arith };
       failed = λ _. record { numbers = omega arith; tickets = omega arith; starts = omega arith };
     }) seat change

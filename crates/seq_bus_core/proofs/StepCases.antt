@@ -2,7 +2,7 @@
 use Rattle.std.proofs.Common.{◌≡◌, ℕ, ◌+◌, nat_lt, Bool, true, false, not, ◌||◌, Option, Some, None, is_some, List, map, refl}
 use Rattle.std.specs.Prelude.{option_and_then}
 use Rattle.std.specs.List.{filter, find, list_any}
-use Rattle.std.proofs.lemmas.Bool.{cond_both, not-true, true≢false, or_parts}
+use Rattle.std.proofs.lemmas.Bool.{cond_both, not-true, not-false, true≢false, or_parts}
 use Rattle.names.specs.Texts.{Text}
 use Rattle.names.specs.BusName.{is_bus}
 use Rattle.match_rules.specs.Rules.{Rule}
@@ -18,16 +18,20 @@ use Rattle.seq_bus_core.proofs.ClientLemmas.{client_found}
 
 pub record AfterEach (s : BusState) (P : BusState → Type 0) : Type 0 where
   pub same : P s
-  pub hello : (c : Connection) → c.number ≡ s.next_number → is_taken s c.slot ≡ false → P (with_connection s c)
+  pub hello : (c : Connection) (seat : ℕ) → c.number ≡ s.next_number → nat_lt max_number s.next_number ≡ false → free_slot s seat ≡ Some c.slot → P (with_connection s c)
   pub leave : (number : ℕ) → P (without_connection s number)
-  pub request : (number : ℕ) (name : Text) (flags : RequestFlags) → is_client s.connections number ≡ true → is_reserved name ≡ false → P (with_owned s name (requested s.profile number flags (queue_of s.names name)).0)
+  pub request : (number : ℕ) (name : Text) (flags : RequestFlags) → is_client s.connections number ≡ true → is_reserved name ≡ false → is_within_names (with_owned s name (requested s.profile number flags (queue_of s.names name)).0) number ≡ true → P (with_owned s name (requested s.profile number flags (queue_of s.names name)).0)
   pub release : (number : ℕ) (name : Text) → is_reserved name ≡ false → P (record s { names = with_queue name (released number (queue_of s.names name)).0 s.names })
-  pub add_match : (number : ℕ) (rule : Rule) → is_client s.connections number ≡ true → P (with_rule s number rule)
+  pub add_match : (number : ℕ) (rule : Rule) → is_client s.connections number ≡ true → is_within_rules (with_rule s number rule) number ≡ true → P (with_rule s number rule)
   pub remove_match : (test : AddedRule → Bool) → P (record s { rules = without_first test s.rules })
   pub monitor : (number : ℕ) (rules : List Rule) → P (with_monitor s number rules)
-  pub first_ticket : (name : Text) → option_and_then (connection_of s) (head_of s name) ≡ None → start_of s name ≡ None → P (wait_with_start s name None).0
-  pub later_ticket : (name : Text) → P (record s { starts = map (waiting_if name s.next_ticket) s.starts; next_ticket = s.next_ticket + 1 })
+  pub first_ticket : (name : Text) → option_and_then (connection_of s) (head_of s name) ≡ None → start_of s name ≡ None → has_room_for_ticket s name ≡ true → P (wait_with_start s name None).0
+  pub later_ticket : (name : Text) → has_room_for_ticket s name ≡ true → P (record s { starts = map (waiting_if name s.next_ticket) s.starts; next_ticket = s.next_ticket + 1 })
   pub failed : (test : RunningStart → Bool) → P (record s { starts = filter test s.starts })
+
+-- the slot that a Hello gets is no other connection's
+pub free_is_free : (s : BusState) (seat slot : ℕ) → free_slot s seat ≡ Some slot → is_taken s slot ≡ false
+free_is_free s seat slot e = not-true (is_taken s slot) (find_passes (λ slot. not (is_taken s slot)) (slots_of s seat) slot e)
 
 client_case : (s : BusState) (P : BusState → Type 0) (number : ℕ) (o : Option Connection) (act : Connection → Stepped) → client_of s number ≡ o → P s → (is_client s.connections number ≡ true → (c : Connection) → P (act c).0) → P (for_client s o act).0
 client_case s P number None act e same does = same
@@ -38,20 +42,20 @@ hello_case s P h seat privileged None e = h.same
 hello_case s P h seat privileged (Some slot) e =
     let c : Connection = record { number = s.next_number; router = seat; slot = slot; privileged = privileged; monitor = None } in
     cond_both (nat_lt max_number s.next_number) (unchanged s LimitsExceeded) (welcomed s c) (λ (r : Stepped). P r.0) (λ _. h.same)
-    (λ _. h.hello c refl (not-true (is_taken s slot) (find_passes (λ slot. not (is_taken s slot)) (slots_of s seat) slot e)))
+    (λ numbered. h.hello c seat refl numbered e)
 
 leave_case : (s : BusState) (P : BusState → Type 0) (h : AfterEach s P) (number : ℕ) (o : Option Connection) → P (leave s number o).0
 leave_case s P h number None = h.same
 leave_case s P h number (Some c) = h.leave number
 
-ticket_case : (s : BusState) (P : BusState → Type 0) (h : AfterEach s P) (name : Text) (o : Option RunningStart) → option_and_then (connection_of s) (head_of s name) ≡ None → start_of s name ≡ o → P (wait_with_start s name o).0
-ticket_case s P h name None unowned e = h.first_ticket name unowned e
-ticket_case s P h name (Some r) unowned e = h.later_ticket name
+ticket_case : (s : BusState) (P : BusState → Type 0) (h : AfterEach s P) (name : Text) (o : Option RunningStart) → option_and_then (connection_of s) (head_of s name) ≡ None → has_room_for_ticket s name ≡ true → start_of s name ≡ o → P (wait_with_start s name o).0
+ticket_case s P h name None unowned room e = h.first_ticket name unowned e room
+ticket_case s P h name (Some r) unowned room e = h.later_ticket name room
 
 wait_case : (s : BusState) (P : BusState → Type 0) (h : AfterEach s P) (name : Text) → option_and_then (connection_of s) (head_of s name) ≡ None → P (wait_for s name).0
 wait_case s P h name unowned =
     cond_both (not (is_service s name)) _ _ (λ (r : Stepped). P r.0) (λ _. h.same)
-    (λ _. cond_both (not (has_room_for_ticket s name)) _ _ (λ (r : Stepped). P r.0) (λ _. h.same) (λ _. ticket_case s P h name (start_of s name) unowned refl))
+    (λ _. cond_both (not (has_room_for_ticket s name)) _ _ (λ (r : Stepped). P r.0) (λ _. h.same) (λ room. ticket_case s P h name (start_of s name) unowned (not-false (has_room_for_ticket s name) room) refl))
 
 no_head : (s : BusState) (o : Option ℕ) → is_some o ≡ false → option_and_then (connection_of s) o ≡ None
 no_head s None e = refl
@@ -78,13 +82,13 @@ step_cases s P h seat (Request number name flags) =
     client_case s P number (client_of s number) (λ c. request s number name flags) refl h.same
     (λ client c. cond_both (is_reserved name) _ _ (λ (r : Stepped). P r.0) (λ _. h.same)
     (λ free. let result = requested s.profile number flags (queue_of s.names name) in
-    cond_both (is_within_names (with_owned s name result.0) number) _ _ (λ (r : Stepped). P r.0) (λ _. h.request number name flags client free) (λ _. h.same)))
+    cond_both (is_within_names (with_owned s name result.0) number) _ _ (λ (r : Stepped). P r.0) (λ within. h.request number name flags client free within) (λ _. h.same)))
 step_cases s P h seat (Release number name) =
     client_case s P number (client_of s number) (λ c. release s number name) refl h.same
     (λ client c. cond_both (is_reserved name) _ _ (λ (r : Stepped). P r.0) (λ _. h.same) (λ free. h.release number name free))
 step_cases s P h seat (AddMatch number rule) =
     client_case s P number (client_of s number) (λ c. add_match s number rule) refl h.same
-    (λ client c. cond_both (is_within_rules (with_rule s number rule) number) _ _ (λ (r : Stepped). P r.0) (λ _. h.add_match number rule client) (λ _. h.same))
+    (λ client c. cond_both (is_within_rules (with_rule s number rule) number) _ _ (λ (r : Stepped). P r.0) (λ within. h.add_match number rule client within) (λ _. h.same))
 step_cases s P h seat (RemoveMatch number rule) =
     client_case s P number (client_of s number) (λ c. remove_match s number rule) refl h.same
     (λ client c. cond_both (list_any (is_rule_of number rule) s.rules) _ _ (λ (r : Stepped). P r.0) (λ _. h.remove_match (is_rule_of number rule)) (λ _. h.same))

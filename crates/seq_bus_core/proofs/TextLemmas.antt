@@ -1,10 +1,10 @@
 -- How texts are compared.
 use Rattle.std.proofs.Common.{◌≡◌, true, false, Ordering, refl, sym, ap, ◌∙◌}
-use Rattle.std.specs.Ordering.{nat_cmp, is_lt}
+use Rattle.std.specs.Ordering.{nat_cmp, is_lt, ordering_reverse}
 use Rattle.std.specs.declared.cmp.Ordering.TheVariants.{Less, Equal, Greater}
 use Rattle.std.specs.Cmp.Lexicographic.{slice_cmp, same_text}
 use Rattle.std.proofs.lemmas.Bool.{true≢false}
-use Rattle.std.proofs.lemmas.Cmp.{nat_list_cmp_total, nat_list_eq_equiv}
+use Rattle.std.proofs.lemmas.Cmp.{nat_list_cmp_total, nat_list_eq_equiv, tied_itself}
 use Rattle.names.specs.Texts.{Text, text_eq, text_lt}
 
 less_from_is_lt : (o : Ordering) → is_lt o ≡ true → o ≡ Less
@@ -20,3 +20,9 @@ text_eq-true a b h = same_text a b (sym h)
 
 pub text_eq-swapped : (a b : Text) → text_eq a b ≡ false → text_eq b a ≡ false
 text_eq-swapped a b h = nat_list_eq_equiv.symm b a ∙ h
+
+pub text_lt-itself : (a : Text) → text_lt a a ≡ false
+text_lt-itself a = ap is_lt (tied_itself nat_list_cmp_total a)
+
+pub text_lt-back : (a b : Text) → text_lt a b ≡ true → text_lt b a ≡ false
+text_lt-back a b h = ap is_lt (nat_list_cmp_total.antisymm b a ∙ ap ordering_reverse (less_from_is_lt (slice_cmp nat_cmp a b) h))

@@ -1,9 +1,9 @@
 -- What holds of the state of every bus.
-use Rattle.std.specs.Prelude.{◌≡◌, ◌≢◌, ℕ, ◌<◌, true, false, IsSome, List, [], ◌∷◌}
+use Rattle.std.specs.Prelude.{◌≡◌, ◌≢◌, ℕ, ◌+◌, ◌<◌, ◌≤◌, true, false, IsSome, List, [], ◌∷◌, length}
 use Rattle.std.specs.List.{AllByRecursion as Each, list_all}
 use Rattle.names.specs.Texts.{text_eq, text_lt}
 use Rattle.owner_queues.specs.Queues.{IsQueue, queue_head}
-use Rattle.seq_bus_core.specs.BusState.{BusState, Connection, OwnedName, RunningStart, is_client}
+use Rattle.seq_bus_core.specs.BusState.{BusState, Connection, OwnedName, RunningStart, is_client, max_connections, max_names, max_queued, max_names_of_one, max_rules, max_rules_of_one, max_tickets, max_number, queued_in, names_of, rules_of, tickets_in}
 use Rattle.seq_bus_core.specs.Steps.{is_reserved}
 
 -- each of a list stands in a relation to each behind it
@@ -41,3 +41,17 @@ pub record IsConsistent (s : BusState) : Type 0 where
   pub starts_running : Each (IsRunning s.names s.next_start s.next_ticket) s.starts
   pub starts_rise : Pairwise (λ a b. a.number < b.number) s.starts
   pub start_names_differ : Pairwise (λ a b. text_eq a.name b.name ≡ false) s.starts
+
+-- The limits of the bus hold, and no number above the last was given.
+pub record IsWithinLimits (s : BusState) : Type 0 where
+  pub slots : Each (λ c. c.slot < max_connections) s.connections
+  pub connections : length s.connections ≤ max_connections
+  pub names : length s.names ≤ max_names
+  pub queued : queued_in s.names ≤ max_queued
+  pub names_of_one : (connection : ℕ) → names_of connection s.names ≤ max_names_of_one
+  pub rules : length s.rules ≤ max_rules
+  pub rules_of_one : (connection : ℕ) → rules_of connection s.rules ≤ max_rules_of_one
+  pub tickets : tickets_in s.starts ≤ max_tickets
+  pub next_number : s.next_number ≤ max_number + 1
+  pub next_ticket : s.next_ticket ≤ max_number + 1
+  pub next_start : s.next_start ≤ max_number + 1

@@ -8,7 +8,7 @@ use Rattle.seq_bus_core.specs.BusState.{BusState}
 use Rattle.seq_bus_core.specs.Steps.{step, addressed, is_among}
 use Rattle.seq_bus_core.specs.Recipients.{recipients}
 use Rattle.seq_bus_core.specs.Histories.{History, opening, after, IsLegal, Begins, ends_publication}
-use Rattle.seq_bus_core.specs.Consistency.{Pairwise, IsConsistent}
+use Rattle.seq_bus_core.specs.Consistency.{Pairwise, IsConsistent, IsWithinLimits}
 use Rattle.seq_bus_core.specs.declared.change.Change.{Change}
 use Rattle.seq_bus_core.specs.declared.connection.Conn.{Conn}
 use Rattle.seq_bus_core.specs.declared.signal.BusSignal.{BusSignal}
@@ -20,6 +20,14 @@ StepsKeepConsistency = (s : BusState) (seat : ℕ) (change : Change) → IsConsi
 -- Whatever was changed since it was opened, the state of a bus is consistent.
 abbrev pub BusesAreConsistent : Type 0
 BusesAreConsistent = (profile : Profile) (routers : ℕ) (services : List Text) (history : History) → IsConsistent (after (opening profile routers services) history)
+
+-- A change exceeds no limit of the bus.
+abbrev pub StepsKeepLimits : Type 0
+StepsKeepLimits = (s : BusState) (seat : ℕ) (change : Change) → IsConsistent s → IsWithinLimits s → IsWithinLimits (step s seat change).0
+
+-- Whatever was changed since it was opened, the limits of a bus hold.
+abbrev pub BusesAreWithinLimits : Type 0
+BusesAreWithinLimits = (profile : Profile) (routers : ℕ) (services : List Text) (history : History) → IsWithinLimits (after (opening profile routers services) history)
 
 -- the numbers that were given stay given
 pub record GivesOn (s next : BusState) : Type 0 where

@@ -1,6 +1,6 @@
 //! The laws of the bus. Each function does nothing: what it ensures is the law.
 
-ghost use Rattle.seq_bus_core.specs.Laws.{BeginningsAreLegal, BusesAreConsistent, NobodyGetsAMessageTwice, NumbersOnlyRise, RecipientsAreNamedOnce, SignalsGoToEachOnce, StepsKeepConsistency};
+ghost use Rattle.seq_bus_core.specs.Laws.{BeginningsAreLegal, BusesAreConsistent, BusesAreWithinLimits, NobodyGetsAMessageTwice, NumbersOnlyRise, RecipientsAreNamedOnce, SignalsGoToEachOnce, StepsKeepConsistency, StepsKeepLimits};
 
 /// A change leaves a consistent state consistent.
 pub fn steps_keep_consistency()
@@ -35,4 +35,14 @@ pub fn signals_go_to_each_once()
 /// A monitor is shown no message that goes to it, and so nobody gets one message twice.
 pub fn nobody_gets_a_message_twice()
     ensures { NobodyGetsAMessageTwice }
+{}
+
+/// A change exceeds no limit of the bus.
+pub fn steps_keep_limits()
+    ensures { StepsKeepLimits }
+{}
+
+/// Whatever was changed since it was opened, the limits of a bus hold.
+pub fn buses_are_within_limits()
+    ensures { BusesAreWithinLimits }
 {}
