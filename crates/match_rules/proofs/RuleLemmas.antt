@@ -1,18 +1,19 @@
 -- Lemmas on rules and on the bytes in which they are kept.
-use Rattle.std.proofs.Common.{◌≡◌, ℕ, zero, suc, ◌+◌, ◌*◌, ◌/◌, ◌%◌, ◌≤◌, true, ◌&&◌, List, [], ◌∷◌, ◌++◌, map, length, take, drop, get_or, sum_by, codes, lit≤, decimal, refl, ap, ◌∙◌, arith}
+use Rattle.std.proofs.Common.{◌≡◌, ℕ, zero, suc, ◌+◌, ◌*◌, ◌/◌, ◌%◌, ◌≤◌, true, ◌&&◌, List, [], ◌∷◌, ◌++◌, map, length, take, drop, get_or, sum_by, codes, lit≤, decimal, refl, ap, ◌∙◌, arith, inl, inr, subst, sym}
 use Rattle.std.specs.List.{AllByRecursion, flat_map}
-use Rattle.std.proofs.lemmas.Bool.{eqb-true, eq-eqb, and_parts, and_from}
+use Rattle.std.proofs.lemmas.Bool.{eqb-true, eq-eqb, and_parts, and_from, cases_Bool, true≢false}
 use Rattle.std.proofs.lemmas.Slice.Eq.{bytes_eq-Decides}
 use Rattle.std.proofs.lemmas.List.{length-append}
 use Rattle.std.proofs.Math.Seq.{take-append_seam, drop-append_seam}
 use Rattle.std.proofs.lemmas.List.Sums.{sum_by-cons}
 use Rattle.std.proofs.lemmas.List.Sorted.{sum_by-IsPermutation}
 use Rattle.std.specs.List.Sorted.{IsPermutation}
+use Rattle.std.specs.Str.{bytes_eq}
 use Rattle.names.specs.Texts.{Text, text_eq}
 use Rattle.match_rules.specs.declared.key.Key.{Key}
 use Rattle.match_rules.specs.declared.key.Key.TheVariants.{«Type» as MessageType, Sender, Interface, Member, Path, PathNamespace, Destination, Argument, ArgumentPath, Argument0Namespace, Eavesdrop}
 use Rattle.match_rules.specs.Keys.{key_text, key_place, same_key, all_keys}
-use Rattle.match_rules.specs.Rules.{Rule, IsEntry, same_rule}
+use Rattle.match_rules.specs.Rules.{Rule, IsEntry, same_rule, IsRule}
 use Rattle.match_rules.specs.RuleBytes.{rule_bytes, entries_in, rule_in}
 use Rattle.match_rules.specs.RuleTexts.{apostrophe, comma, equals, Part, Quoted, Escaped, Plain, part_text, part_value, Item, item_text, entry_of, joined}
 use Rattle.match_rules.proofs.KeyLemmas.{key_again, key_by_place}
@@ -133,3 +134,17 @@ length-joined (item ∷ items) =
 pub rule_has_room : (items : List Item) (rule : Rule) → IsPermutation (map entry_of items) rule → length (rule_bytes rule) ≤ length (joined items)
 rule_has_room items rule same =
     omega (arith, length-rule_bytes rule, length-joined items, sum_by-IsPermutation (λ e. 3 + length e.1) (map entry_of items) rule same)
+
+-- Bytes are compared in place of the rules that are kept in them.
+pub bytes_compare :
+    (x y : Text) → IsRule (rule_in x) → x ≡ rule_bytes (rule_in x) → IsRule (rule_in y) → y ≡ rule_bytes (rule_in y) → bytes_eq x y ≡ same_rule (rule_in x) (rule_in y)
+bytes_compare x y hx ex hy ey =
+    elim (cases_Bool (bytes_eq x y)) [
+      | inl same ↦ same ∙ sym (subst (λ bytes. same_rule (rule_in x) (rule_in bytes) ≡ true) ((bytes_eq-Decides x y).0 same) (same_rule-same (rule_in x)))
+      | inr other ↦ elim (cases_Bool (same_rule (rule_in x) (rule_in y))) [
+        | inl same ↦
+            let one : x ≡ y = ex ∙ ap (λ rule. rule_bytes rule) (same_rule-true (rule_in x) (rule_in y) hx.1 hy.1 same) ∙ sym ey in
+            absurd (true≢false (sym ((bytes_eq-Decides x y).1 one) ∙ other))
+        | inr differ ↦ other ∙ sym differ
+      ]
+    ]

@@ -5,6 +5,7 @@ pub mod Keys
 pub mod Kinds
 pub mod Laws
 pub mod RuleBytes
+pub mod RuleEquality
 pub mod RuleFaults
 pub mod Rules
 pub mod RuleTexts

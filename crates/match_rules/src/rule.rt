@@ -8,7 +8,7 @@ pub const MAX_RULE_LENGTH: usize = 1024;
 
 /// A match rule: keys, each with a value that it takes.
 /// (D-Bus Specification: "Match Rules".)
-#[derive(Drop, PartialEq, Eq)]
+#[derive(Drop)]
 pub struct Rule {
     /// The keys in their order: a byte for the key, two for the length of its value, the lower first, and the value.
     entries: ArrayVec<u8, MAX_RULE_LENGTH>,
@@ -16,7 +16,6 @@ pub struct Rule {
 
 impl Model for Rule {
     ghost use Rattle.std.specs.Prelude.{◌≡◌};
-    ghost use Rattle.std.proofs.Common.{ap, sym};
     ghost use Rattle.match_rules.specs.Rules.{Rule as Entries, IsRule};
     ghost use Rattle.match_rules.specs.RuleBytes.{rule_bytes, rule_in};
 
@@ -25,10 +24,25 @@ impl Model for Rule {
     ghost view = { λ rule. rule_in rule.entries.items };
 
     ghost invariant = { λ rule. ∥ IsRule (rule_in rule.entries.items) ∥₁ × (rule.entries.items ≡ rule_bytes (rule_in rule.entries.items)) };
+}
 
-    ghost inverse = { λ rule. record { entries = record { items = rule_bytes rule } } };
+impl PartialEq for Rule {
+    ghost use Rattle.match_rules.specs.Rules.{same_rule};
+    ghost use Rattle.match_rules.specs.RuleEquality.{same_rule_partial};
 
-    ghost inverse_ok = { λ rule h. ap (λ bytes. record { entries = record { items = bytes } }) (sym h.1) };
+    ghost eq = { same_rule };
+
+    ghost laws = { same_rule_partial };
+
+    fn eq(&self, other: &Self) -> bool {
+        self.entries == other.entries
+    }
+}
+
+impl Eq for Rule {
+    ghost use Rattle.match_rules.specs.RuleEquality.{same_rule_equivalence};
+
+    ghost laws = { same_rule_equivalence };
 }
 
 const _: () = prove!(size_of::<Rule>() <= 1040);
