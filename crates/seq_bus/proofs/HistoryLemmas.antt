@@ -1,0 +1,77 @@
+-- The history of a bus with one seat.
+use Rattle.std.proofs.Common.{◌≡◌, ℕ, zero, suc, ◌+◌, ◌==◌, Bool, true, false, cond, List, [], ◌∷◌, ◌++◌, length, map, filter, refl, sym, ap, ◌∙◌, arith}
+use Rattle.std.specs.List.{range_with_len, AllByRecursion}
+use Rattle.std.proofs.Common.{length-append}
+use Rattle.std.proofs.lemmas.List.{map-append}
+use Rattle.seq_bus_core.specs.Histories.{History, IsLegal, numbers_of, has_whole_publications}
+use Rattle.seq_bus_core.specs.Tickets.{WholeBus, bus_step, bus_after}
+use Rattle.seq_bus_core.specs.declared.entry.Entry.{Entry}
+use Rattle.seq_bus.specs.PlainBus.{AreOwnEntries, opened_as, without_tickets, IsStepped}
+use Rattle.seq_bus_core.specs.BusState.{BusState}
+use Rattle.seq_bus_core.specs.declared.change.Change.{Change}
+use Rattle.seq_bus_core.specs.declared.outcome.Outcome.{Outcome}
+
+pub after_one : (b : WholeBus) (history : History) (e : Entry) → bus_after b (history ++ e ∷ []) ≡ (bus_step (bus_after b history) e.seat e.change).0
+after_one b [] e = refl
+after_one b (x ∷ history) e = after_one (bus_step b x.seat x.change).0 history e
+
+-- the history after a change that was made
+pub step_made : (s t : BusState) (history : History) (number : ℕ) (change : Change) (outcome : Outcome) →
+    bus_after (opened_as s) history ≡ without_tickets s → opened_as t ≡ opened_as s → IsStepped s t change outcome →
+    bus_after (opened_as t) (history ++ record { seat = 1; number = number; change = change; left = 0 } ∷ []) ≡ without_tickets t
+step_made s t history number change outcome now opened stepped =
+    let e : Entry = record { seat = 1; number = number; change = change; left = 0 } in
+    ap (λ (b : WholeBus). bus_after b (history ++ e ∷ [])) opened ∙ after_one (opened_as s) history e
+    ∙ ap (λ (b : WholeBus). (bus_step b 1 change).0) now ∙ ap (λ (r : WholeBus × Outcome). r.0) stepped
+
+range_more : (a n : ℕ) → range_with_len a (n + 1) ≡ range_with_len a n ++ (a + n) ∷ []
+range_more a zero = let same : a ≡ a + 0 = omega arith in ap (λ k. k ∷ []) same
+range_more a (suc n) =
+    let more : suc n + 1 ≡ suc (n + 1) = omega arith in
+    let last : a + 1 + n ≡ a + suc n = omega arith in
+    ap (range_with_len a) more ∙ ap (λ rest. a ∷ rest) (range_more (a + 1) n ∙ ap (λ k. range_with_len (a + 1) n ++ k ∷ []) last)
+
+all_more : (P : Entry → Type 0) (history : History) (e : Entry) → AllByRecursion P history → P e → AllByRecursion P (history ++ e ∷ [])
+all_more P [] e all h = (h, tt)
+all_more P (x ∷ history) e all h = (all.0, all_more P history e all.1 h)
+
+pub own_more : (history : History) (e : Entry) → AreOwnEntries history → e.seat ≡ 1 → e.number ≡ length history + 1 → e.left ≡ 0 → AreOwnEntries (history ++ e ∷ [])
+own_more history e own seat number left =
+    let place : e.number ≡ 1 + length history = omega (arith, number) in
+    record {
+      seats = all_more (λ x. x.seat ≡ 1) history e own.seats seat;
+      numbers = map-append (λ (x : Entry). x.number) history (e ∷ []) ∙ ap (λ front. front ++ e.number ∷ []) own.numbers
+          ∙ ap (λ n. range_with_len 1 (length history) ++ n ∷ []) place ∙ sym (range_more 1 (length history))
+          ∙ ap (range_with_len 1) (sym (length-append history (e ∷ [])));
+      alone = all_more (λ x. x.left ≡ 0) history e own.alone left;
+    }
+
+of_seat : (seat : ℕ) (b : Bool) (history : History) → (1 == seat) ≡ b → AllByRecursion (λ e. e.seat ≡ 1) history → filter (λ e. e.seat == seat) history ≡ cond b history []
+of_seat seat true [] test own = refl
+of_seat seat false [] test own = refl
+of_seat seat true (e ∷ history) test own = let same : (e.seat == seat) ≡ true = ap (λ s. s == seat) own.0 ∙ test in rw same (ap (λ rest. e ∷ rest) (of_seat seat true history test own.1))
+of_seat seat false (e ∷ history) test own = let same : (e.seat == seat) ≡ false = ap (λ s. s == seat) own.0 ∙ test in rw same (of_seat seat false history test own.1)
+
+whole : (history : History) → AllByRecursion (λ e. e.left ≡ 0) history → has_whole_publications history ≡ true
+whole [] alone = refl
+whole (e ∷ []) alone = rw alone.0 refl
+whole (e ∷ next ∷ history) alone = rw alone.0 (whole (next ∷ history) alone.1)
+
+count_numbers : (history : History) → length (map (λ (x : Entry). x.number) history) ≡ length history
+count_numbers [] = refl
+count_numbers (e ∷ history) = ap suc (count_numbers history)
+
+pub own_legal : (history : History) → AreOwnEntries history → IsLegal history
+own_legal history own = record {
+  numbered = λ seat. by_test seat (1 == seat) refl;
+  whole = whole history own.alone;
+}
+  where
+    by_test : (seat : ℕ) (b : Bool) → (1 == seat) ≡ b → numbers_of seat history ≡ range_with_len 1 (length (numbers_of seat history))
+    by_test seat true e =
+        let all = of_seat seat true history e own.seats in
+        let numbers : numbers_of seat history ≡ map (λ (x : Entry). x.number) history = ap (map (λ (x : Entry). x.number)) all in
+        numbers ∙ own.numbers ∙ ap (range_with_len 1) (sym (ap length numbers ∙ count_numbers history))
+    by_test seat false e =
+        let none : numbers_of seat history ≡ [] = ap (map (λ (x : Entry). x.number)) (of_seat seat false history e own.seats) in
+        none ∙ ap (λ (numbers : List ℕ). range_with_len 1 (length numbers)) (sym none)

@@ -1,0 +1,45 @@
+-- A bus that one thread uses: how it was opened, and every change that it has made since.
+use Rattle.std.specs.Prelude.{◌≡◌, ◌+◌, [], ◌∷◌, ◌++◌, length, map}
+use Rattle.std.specs.List.{range_with_len, AllByRecursion}
+use Rattle.seq_bus.specs.declared.TheConstants.{SEAT}
+use Rattle.seq_bus_core.specs.BusState.{BusState}
+use Rattle.seq_bus_core.specs.Histories.{History}
+use Rattle.seq_bus_core.specs.Tickets.{WholeBus, bus_step, bus_after}
+use Rattle.seq_bus_core.specs.declared.change.Change.{Change}
+use Rattle.seq_bus_core.specs.declared.entry.Entry.{Entry}
+use Rattle.seq_bus_core.specs.declared.outcome.Outcome.{Outcome}
+
+pub record PlainBus : Type 0 where
+  pub opening : WholeBus
+  pub seen : History
+
+-- the bus as it is now
+abbrev pub bus_now : PlainBus → WholeBus
+bus_now bus = bus_after bus.opening bus.seen
+
+-- the entry of the next change: its one seat makes them all, each a publication of its own
+abbrev pub next_entry : PlainBus → Change → Entry
+next_entry bus change = record { seat = SEAT; number = length bus.seen + 1; change = change; left = 0 }
+
+-- A change was made: it was told what the step of the bus says, and stands in the history.
+pub record IsMade (before after : PlainBus) (change : Change) (outcome : Outcome) : Type 0 where
+  pub told : outcome ≡ (bus_step (bus_now before) SEAT change).1
+  pub published : after ≡ record before { seen = before.seen ++ next_entry before change ∷ [] }
+
+-- a bus without tickets that wait
+abbrev pub without_tickets : BusState → WholeBus
+without_tickets s = record { state = s; waiting = [] }
+
+-- the bus as it was opened: with its profile, its routers and its services, and nothing else
+abbrev pub opened_as : BusState → WholeBus
+opened_as s = without_tickets (record s { connections = []; names = []; rules = []; starts = []; next_number = 1; next_ticket = 1; next_start = 1 })
+
+-- the entries of a bus with one seat, each a publication of its own
+pub record AreOwnEntries (history : History) : Type 0 where
+  pub seats : AllByRecursion (λ e. e.seat ≡ SEAT) history
+  pub numbers : map (λ e. e.number) history ≡ range_with_len 1 (length history)
+  pub alone : AllByRecursion (λ e. e.left ≡ 0) history
+
+-- what a change does where no ticket waits before it or after it
+abbrev pub IsStepped : BusState → BusState → Change → Outcome → Type 0
+IsStepped before after change outcome = bus_step (without_tickets before) SEAT change ≡ (without_tickets after, outcome)

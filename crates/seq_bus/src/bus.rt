@@ -1,0 +1,129 @@
+//! The plain bus.
+
+ghost use Rattle.std.specs.Prelude.{◌≡◌, [], is_some, IfOk, OnErr, IfErr};
+ghost use Rattle.seq_bus_core.specs.BusState.{connection_of};
+ghost use Rattle.seq_bus_core.specs.Answers.{answer};
+ghost use Rattle.seq_bus_core.specs.Histories.{CanOpen, IsLegal};
+ghost use Rattle.seq_bus_core.specs.Tickets.{opening_bus};
+ghost use Rattle.seq_bus.specs.Bodies.{Answers};
+ghost use Rattle.seq_bus.specs.PlainBus.{bus_now, IsMade};
+ghost use Rattle.seq_bus.specs.Served.{IsServedChange, IsServedQuery};
+ghost use Rattle.seq_bus.specs.declared.refusal.Cause.TheVariants.{NoMemory};
+ghost use Rattle.seq_bus.specs.declared.answer.AskFault.TheVariants.{NoMemory as AskNoMemory};
+
+use crate::SEAT;
+use crate::answer::{AskFault, Asked};
+use crate::refusal::Refused;
+use crate::state::State;
+use names::WellKnown;
+use owner_queues::Profile;
+use seq_bus_core::{Change, Entry, Outcome, Query};
+use std::alloc::{AllocError, Global};
+use std::marker::Model;
+
+/// A bus for one thread. It keeps the whole list of its changes.
+///
+/// Contracts see how it was opened and what it has `seen`: every change that it made, each by its one seat, numbered
+/// 1, 2, 3 and so on. What it answers is what the definitions say of the bus after these changes.
+#[derive(Drop)]
+pub struct SeqBus {
+    state: State,
+    seen: Vec<Entry>,
+}
+
+impl Model for SeqBus {
+    ghost use Rattle.std.specs.Prelude.{◌≡◌};
+    ghost use Rattle.seq_bus_core.specs.Tickets.{bus_after};
+    ghost use Rattle.seq_bus.specs.PlainBus.{PlainBus, opened_as, without_tickets, AreOwnEntries};
+
+    ghost Value = { PlainBus };
+
+    ghost view = { λ b. record { opening = opened_as b.state; seen = b.seen.items } };
+
+    ghost invariant = { λ b. (bus_after (opened_as b.state) b.seen.items ≡ without_tickets b.state) × AreOwnEntries b.seen.items };
+}
+
+impl SeqBus {
+    /// A bus with these services and so many routers, on which nothing has happened.
+    ///
+    /// The services are names that programs can be started for. Whether the bus can be opened with them is said by
+    /// [`can_open`](crate::can_open).
+    pub fn new(
+        alloc: Global,
+        services: &[WellKnown],
+        routers: u8,
+        profile: Profile,
+    ) -> Result<SeqBus, AllocError>
+        requires { CanOpen routers services.now }
+        ensures { IfOk result (λ bus. bus ≡ record { opening = opening_bus profile routers services.now; seen = [] }) }
+    {
+        let state = State::new(alloc, services, routers, profile)?;
+        Ok(SeqBus {
+            state,
+            seen: Vec::new(alloc),
+        })
+    }
+
+    /// Makes a change, and says what it is told.
+    ///
+    /// A change that is refused is handed back, and the bus is as it was. Today a Hello and a Leave are served.
+    pub fn change(&mut self, change: Change) -> Result<Outcome, Refused>
+        requires { IsServedChange change }
+        ensures made { IfOk result (λ outcome. IsMade self.old self.new change outcome) }
+        ensures handed_back { IfErr result (λ refused. refused ≡ record { change = change; cause = NoMemory }) }
+        ensures unchanged { OnErr result (self.new ≡ self.old) }
+    {
+        if self.seen.reserve(1).is_err() {
+            return Err(Refused::no_memory(change));
+        }
+        match self.state.step(&change) {
+            Ok(outcome) => {
+                let number = self.seen.len() as u64 + 1;
+                self.seen
+                    .push(Entry {
+                        seat: SEAT,
+                        number,
+                        change,
+                        left: 0,
+                    })
+                    .unwrap();
+                Ok(outcome)
+            }
+            Err(_) => Err(Refused::no_memory(change)),
+        }
+    }
+
+    /// Answers a query: appends the body of the reply, in little-endian order as from offset 0 on, or says that the
+    /// name has no owner. After a fault nothing is appended. Today GetNameOwner and NameHasOwner are served.
+    pub fn ask(&mut self, query: &Query, body: &mut Vec<u8>) -> Result<Asked, AskFault>
+        requires { IsServedQuery query.now }
+        ensures answered { IfOk result (λ asked. Answers asked (answer (bus_now self.old).state query.now) body.old.items body.new.items) }
+        ensures fault { IfErr result (λ fault. fault ≡ AskNoMemory) }
+        ensures unanswered { OnErr result (body.new.items ≡ body.old.items) }
+        ensures unchanged { self.new ≡ self.old }
+    {
+        self.state.answer(query, body)
+    }
+
+    /// The changes that were made, in order. They are a legal history.
+    pub fn history(&self) -> &[Entry]
+        ensures value { result.now ≡ self.now.seen }
+        ensures legal { IsLegal self.now.seen }
+    {
+        self.seen.as_slice()
+    }
+
+    /// Whether there is a connection of this number.
+    pub fn present(&self, number: u64) -> bool
+        ensures { result ≡ is_some (connection_of (bus_now self.now).state number) }
+    {
+        self.state.has(number)
+    }
+
+    /// The number of the bus's one seat.
+    pub fn seat(&self) -> u8
+        ensures { result ≡ SEAT }
+    {
+        SEAT
+    }
+}

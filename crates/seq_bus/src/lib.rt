@@ -1,0 +1,23 @@
+//! The plain bus: one thread, no tables but a list of connections, and the whole list of its changes.
+//!
+//! [`SeqBus`] is what the definitions of `seq_bus_core` say, made to run: [`SeqBus::change`] makes one change and
+//! [`SeqBus::ask`] answers one query. What contracts see of it is how it was opened and which changes it has made.
+//! Whether a bus can be opened with given services is said by [`can_open`].
+#![tactic(auto)]
+
+mod answer;
+mod bodies;
+mod bus;
+mod client;
+mod opening;
+mod outcomes;
+mod refusal;
+mod state;
+
+pub use answer::{AskFault, Asked};
+pub use bus::SeqBus;
+pub use opening::can_open;
+pub use refusal::{Cause, Refused};
+
+/// The one seat of a plain bus: that of its one router which makes changes.
+pub const SEAT: u8 = 1;
