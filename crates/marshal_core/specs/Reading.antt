@@ -205,3 +205,7 @@ value_at (suc depth) order = layer (Some (value_at depth order)) order
 -- The values of the types, and how many bytes they take. Padding depends on the remainder of the offset by 8 alone.
 abbrev pub decode_at : Order → Tys → ℕ → List ℕ → Result (Vals × ℕ) MarshalFault
 decode_at order ts offset bytes = fields_at (value_at max_container_depth order) Truncated ts (offset % 8) bytes >>= λ x. Ok (x.0, x.1 - offset % 8)
+
+-- these values, in so many bytes
+abbrev pub decoded : Vals → ℕ → Result (Vals × ℕ) MarshalFault
+decoded vs used = Ok (vs, used)
