@@ -3,3 +3,10 @@ pub mod Loops
 pub mod Layers
 pub mod ValueViews
 pub mod Numbers
+pub mod BasicAgain
+pub mod ValuesAgain
+pub mod BasicTaken
+pub mod ValuesTaken
+pub mod Once
+pub mod Moves
+pub mod Decoded

@@ -1,11 +1,11 @@
 //! Reading values.
 
-ghost use Rattle.std.specs.Prelude.{◌≡◌, ◌+◌, ◌<◌, ◌≤◌, ◌^◌, ℕ, List, ◌++◌, length, map, take, Ok, IfOk};
+ghost use Rattle.std.specs.Prelude.{◌≡◌, ◌+◌, ◌<◌, ◌≤◌, ◌^◌, ℕ, List, ◌++◌, length, map, take, IfOk};
 ghost use Rattle.marshal_core.specs.Types.{Tys, entry, ty_of, types_of};
 ghost use Rattle.marshal_core.specs.Values.{Vals, a_basic, entry_of, val_of, values, values_of};
-ghost use Rattle.marshal_core.specs.Spelling.{SpellFields, Spells};
+ghost use Rattle.marshal_core.specs.Spelling.{Spells};
 ghost use Rattle.marshal_core.specs.Faults.{Gives, Tells};
-ghost use Rattle.marshal_core.specs.Reading.{array_at, as_a, basic_at, decode_at, elements_at, entry_at, fields_at, inside_at, sized_at, struct_at, struct_fields_at, value_at, variant_at};
+ghost use Rattle.marshal_core.specs.Reading.{array_at, as_a, basic_at, decode_at, decoded, elements_at, entry_at, fields_at, inside_at, sized_at, struct_at, struct_fields_at, value_at, variant_at};
 
 use crate::basic::basic;
 use crate::fixed::{gap, number32, padding};
@@ -375,6 +375,28 @@ fn fields<'a>(
     Ok((items, place, rest))
 }
 
+fn all_values(
+    alloc: Global,
+    order: Order,
+    offset: usize,
+    of: &[DataType],
+    bytes: &[u8],
+) -> Result<(Vec<Value>, usize), MarshalFault>
+    ensures { Gives (λ x. (values_of x.0.items, x.1)) result (decode_at order (types_of of.now) offset bytes.now) }
+{
+    let at = offset % 8;
+    let (items, end, _rest) = fields(
+        alloc,
+        MAX_CONTAINER_DEPTH,
+        order,
+        MarshalFault::Truncated,
+        of,
+        at,
+        bytes,
+    )?;
+    Ok((items, end - at))
+}
+
 /// The values of the signature's types that the bytes begin with, where the first byte stands at
 /// this offset of the message, and how many bytes they take; or the first fault from the left
 /// ("Marshaling (Wire Format)" of the D-Bus Specification). What follows them is not looked at.
@@ -385,17 +407,25 @@ pub fn decode(
     signature: &Signature,
     bytes: &[u8],
 ) -> Result<(Vec<Value>, usize), MarshalFault>
+    // What is read is spelled by the bytes that it takes.
+    ensures found { IfOk result (λ x. (x.1 ≤ length bytes.now) × Spells order offset (types_of signature.now.types.items) (values_of x.0.items) (take x.1 bytes.now)) }
+    // Where the bytes begin with a spelling of any values of these types, they are read, unless memory runs out.
+    ensures only { (vs : Vals) (front rest : List ℕ) → bytes.now ≡ front ++ rest → Spells order offset (types_of signature.now.types.items) vs front
+        → Gives (λ x. (values_of x.0.items, x.1)) result (decoded vs (length front)) }
+    // Which fault it is.
     ensures exact { Gives (λ x. (values_of x.0.items, x.1)) result (decode_at order (types_of signature.now.types.items) offset bytes.now) }
 {
-    let at = offset % 8;
-    let (items, end, _rest) = fields(
-        alloc,
-        MAX_CONTAINER_DEPTH,
-        order,
-        MarshalFault::Truncated,
-        &signature.types,
-        at,
-        bytes,
-    )?;
-    Ok((items, end - at))
+    all_values(alloc, order, offset, &signature.types, bytes)
 }
+
+/// No spelling under given types, order and offset begins another: what was written is read again,
+/// whatever follows.
+pub fn one_spelling()
+    ensures { (vs ws : Vals) (order : Order) (offset : ℕ) (ts : Tys) (a b x y : List ℕ) → Spells order offset ts vs a → Spells order offset ts ws b
+        → a ++ x ≡ b ++ y → (a ≡ b) × (vs ≡ ws) }
+{}
+
+/// Values have one spelling under given types, order and offset.
+pub fn one_text()
+    ensures { (vs : Vals) (order : Order) (offset : ℕ) (ts : Tys) (a b : List ℕ) → Spells order offset ts vs a → Spells order offset ts vs b → a ≡ b }
+{}

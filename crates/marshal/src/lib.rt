@@ -9,5 +9,5 @@ mod decoding;
 mod fixed;
 mod text;
 
-pub use decoding::decode;
+pub use decoding::{decode, one_spelling, one_text};
 pub use marshal_core::{BasicType, BasicValue, DataType, MarshalFault, Order, Signature, Value};
