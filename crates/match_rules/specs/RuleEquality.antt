@@ -8,13 +8,13 @@ use Rattle.names.specs.Texts.{text_eq}
 use Rattle.match_rules.specs.Keys.{key_place, same_key}
 use Rattle.match_rules.specs.Rules.{Rule, same_rule}
 
--- Rules that a third compares alike.
 same_rule_refl : (a : Rule) → same_rule a a ≡ true
 same_rule_refl [] = refl
 same_rule_refl (x ∷ a) =
     and_from (same_key x.0 x.0 && text_eq x.1 x.1) (same_rule a a)
     (and_from (same_key x.0 x.0) (text_eq x.1 x.1) (eq-eqb (key_place x.0) (key_place x.0) refl) ((bytes_eq-Decides x.1 x.1).1 refl)) (same_rule_refl a)
 
+-- Of two rules that are the same, each is compared with a third alike.
 same_rule_alike : (a b c : Rule) → same_rule a b ≡ true → same_rule a c ≡ same_rule b c
 same_rule_alike [] [] c h = refl
 same_rule_alike [] (y ∷ b) c h = absurd cc
