@@ -38,7 +38,7 @@ pub enum Reply {
 }
 
 /// What a change is told, its tickets by number alone.
-#[derive(Drop)]
+#[derive(Debug, Drop)]
 pub struct NumberedOutcome {
     pub reply: Reply,
     /// The signals of the bus, in order.
@@ -50,7 +50,7 @@ pub struct NumberedOutcome {
 }
 
 /// What a change is told.
-#[derive(Drop)]
+#[derive(Debug, Drop)]
 pub struct Outcome {
     pub reply: Reply,
     /// The signals of the bus, in order.

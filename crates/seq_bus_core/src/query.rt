@@ -3,7 +3,7 @@
 use names::BusName;
 
 /// A question that changes nothing.
-#[derive(Clone, Copy)]
+#[derive(Clone, Copy, Debug, PartialEq, Eq)]
 pub enum Query {
     GetNameOwner(BusName),
     NameHasOwner(BusName),

@@ -6,7 +6,7 @@ use std::marker::Model;
 use std::sync::Arc;
 
 /// The bytes of a message that is relayed, shared by all who get it.
-#[derive(Drop)]
+#[derive(Debug, Drop)]
 pub struct Relayed {
     bytes: Arc<Vec<u8>>,
 }

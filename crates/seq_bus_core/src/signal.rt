@@ -9,7 +9,7 @@ use std::marker::Model;
 
 /// A signal of the bus itself. Connections are named by their numbers.
 /// (D-Bus Specification: "Message Bus Messages".)
-#[derive(Clone, Copy)]
+#[derive(Clone, Copy, Debug, PartialEq, Eq)]
 pub enum BusSignal {
     /// A name has another owner than before, or none.
     NameOwnerChanged {
@@ -30,7 +30,7 @@ pub enum BusSignal {
 }
 
 /// A signal of the bus, and who gets it.
-#[derive(Drop)]
+#[derive(Debug, Drop)]
 pub struct AddressedSignal {
     pub signal: BusSignal,
     /// Its recipients, by rising number.
@@ -40,7 +40,7 @@ pub struct AddressedSignal {
 }
 
 /// The signals of a change, in order.
-#[derive(Drop)]
+#[derive(Debug, Drop)]
 pub struct Signals {
     signals: Vec<AddressedSignal>,
 }

@@ -7,7 +7,7 @@ use std::alloc::{AllocError, Global};
 use std::marker::Model;
 
 /// A call that waits for a name to get an owner.
-#[derive(Drop)]
+#[derive(Debug, Drop)]
 pub struct Ticket {
     /// Its number among all tickets of the bus, from 1.
     pub number: u64,
@@ -28,14 +28,14 @@ pub enum Fate {
 }
 
 /// A ticket that waits no longer.
-#[derive(Drop)]
+#[derive(Debug, Drop)]
 pub struct SettledTicket {
     pub fate: Fate,
     pub ticket: Ticket,
 }
 
 /// The tickets that a change settled, in order of arrival.
-#[derive(Drop)]
+#[derive(Debug, Drop)]
 pub struct Tickets {
     tickets: Vec<SettledTicket>,
 }

@@ -18,7 +18,7 @@ pub enum VerdictKind {
 }
 
 /// Where a message goes, and which monitors are shown it.
-#[derive(Drop)]
+#[derive(Debug, Drop)]
 pub struct Verdict {
     pub kind: VerdictKind,
     /// Its recipients, by rising number.
