@@ -4,3 +4,5 @@ pub mod RoutingRows
 pub mod ServiceRows
 pub mod MonitorRows
 pub mod RouterRows
+pub mod NameRows
+pub mod LimitRows

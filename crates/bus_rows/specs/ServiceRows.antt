@@ -1,18 +1,20 @@
 -- Calls that wait for a service. (D-Bus Specification: "Message Bus Starting Services (Activation)".)
-use Rattle.std.specs.Prelude.{ℕ, Some, None, List, [], ◌∷◌, ◌++◌, map, codes}
+use Rattle.std.specs.Prelude.{ℕ, true, Some, None, List, [], ◌∷◌, ◌++◌, map, codes}
 use Rattle.names.specs.Texts.{Text}
+use Rattle.names.specs.UniqueName.{unique_text}
 use Rattle.owner_queues.specs.declared.request.Profile.TheVariants.{One}
 use Rattle.owner_queues.specs.declared.reply.Reply.TheVariants.{PrimaryOwner}
 use Rattle.seq_bus_core.specs.BusState.{BusState}
 use Rattle.seq_bus_core.specs.Histories.{opening}
-use Rattle.seq_bus_core.specs.declared.change.Change.TheVariants.{Request, Start, Hold, ChildEnded, StartTimedOut}
+use Rattle.seq_bus_core.specs.declared.change.Change.TheVariants.{Hello, Leave, Request, BecomeMonitor, Start, Hold, ChildEnded, StartTimedOut}
 use Rattle.seq_bus_core.specs.declared.change.Ending.TheVariants.{Exit}
 use Rattle.seq_bus_core.specs.declared.outcome.NumberedOutcome.{NumberedOutcome}
-use Rattle.seq_bus_core.specs.declared.outcome.Reply.TheVariants.{Done, OfQueue, Held, Pass, Ignored}
+use Rattle.seq_bus_core.specs.declared.outcome.Reply.TheVariants.{Done, Welcome, OfQueue, Held, Pass, Ignored}
+use Rattle.seq_bus_core.specs.declared.signal.AddressedSignal.{AddressedSignal}
 use Rattle.seq_bus_core.specs.declared.ticket.Fate.{Fate}
 use Rattle.seq_bus_core.specs.declared.ticket.Fate.TheVariants.{Served, Failed}
 use Rattle.seq_bus_core.specs.declared.verdict.VerdictKind.TheVariants.{Start as ToBeStarted}
-use Rattle.bus_rows.specs.Runs.{Line, IsRun, makes, sends, at, told, goes, changed, acquires, plain_request, a_call, call_to}
+use Rattle.bus_rows.specs.Runs.{Line, IsRun, makes, sends, at, told, goes, changed, loses, acquires, plain_request, a_call, call_to}
 use Rattle.bus_rows.specs.QueueRows.{says_hello}
 
 abbrev pub service : Text
@@ -54,4 +56,22 @@ ServiceFails = IsRun bus_with_service (three_wait ++
     ∷ makes (StartTimedOut service 1) (told Ignored [])
     ∷ makes (StartTimedOut (codes "com.example.T") 2) (told Ignored [])
     ∷ makes (StartTimedOut service 2) (settles Failed (4 ∷ []) (told Done []))
+    ∷ [])
+
+-- connection 3, which has the slot that connection 1 had
+abbrev pub to_3 : AddressedSignal → AddressedSignal
+to_3 signal = record signal { to = record { number = 3; slot = 0; router = 1 } ∷ [] }
+
+-- connection 2 is a monitor
+abbrev pub shown_to_2 : AddressedSignal → AddressedSignal
+shown_to_2 signal = record signal { monitors = at 2 ∷ [] }
+
+-- The connection that called leaves, another one calls and becomes a monitor. Their tickets wait on and are served.
+abbrev pub TicketsOutliveTheirCallers : Type 0
+TicketsOutliveTheirCallers = IsRun bus_with_service (three_wait ++
+    makes (Leave 1) (told Done (changed (unique_text 1) (Some 1) None ∷ []))
+    ∷ makes (Hold 2 service a_call []) (told (Held 4) [])
+    ∷ makes (BecomeMonitor 2 []) (told Done (loses 2 (unique_text 2) ∷ shown_to_2 (changed (unique_text 2) (Some 2) None) ∷ []))
+    ∷ makes (Hello true) (told (Welcome (record { number = 3; slot = 0; router = 1 })) (shown_to_2 (changed (unique_text 3) None (Some 3)) ∷ shown_to_2 (to_3 (acquires 3 (unique_text 3))) ∷ []))
+    ∷ makes (Request 3 service plain_request) (settles Served (1 ∷ 2 ∷ 3 ∷ 4 ∷ []) (told (OfQueue PrimaryOwner) (shown_to_2 (changed service None (Some 3)) ∷ shown_to_2 (to_3 (acquires 3 service)) ∷ [])))
     ∷ [])

@@ -2,6 +2,7 @@
 //! ensures is the run.
 #![tactic(auto)]
 
+pub mod limits;
 pub mod monitors;
 pub mod queues;
 pub mod routers;

@@ -1,5 +1,6 @@
 //! Who owns a name and who waits for it.
 
+ghost use Rattle.bus_rows.specs.NameRows.{LeavingGivesUpNames, ReservedNames};
 ghost use Rattle.bus_rows.specs.QueueRows.{OwnsItsUniqueName, ReplacedOwnerLeavesAndReleasesFollow, ReplacedOwnerWaitsNext, ReplacersWaitLast, ReplacersWaitNext};
 ghost use Rattle.owner_queues.specs.declared.request.Profile.{Profile};
 
@@ -26,4 +27,14 @@ pub fn replacers_wait_last()
 /// By the second profile, it waits before the others.
 pub fn replacers_wait_next()
     ensures { ReplacersWaitNext }
+{}
+
+/// The names of the bus and of connections can't be requested or released, and have their owners.
+pub fn reserved_names_stay()
+    ensures { ReservedNames }
+{}
+
+/// A connection that leaves gives up its names to those who wait.
+pub fn leaving_gives_up_names()
+    ensures { LeavingGivesUpNames }
 {}
