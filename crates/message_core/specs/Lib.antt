@@ -2,7 +2,10 @@ pub mod Kinds
 pub mod FaultCodes
 pub mod Announcements
 pub mod HeaderFields
+pub mod BasicFields
 pub mod Messages
 pub mod Streams
 pub mod Said
 pub mod Headers
+pub mod Places
+pub mod Whole

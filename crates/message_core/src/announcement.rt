@@ -1,6 +1,7 @@
 //! What the first bytes of a message announce.
 
-ghost use Rattle.std.specs.Prelude.{◌≡◌, ◌≤◌, ◌+◌, length, IfOk};
+ghost use Rattle.std.specs.Prelude.{◌≡◌, ◌≢◌, ◌<◌, ◌≤◌, ◌+◌, ◌^◌, length, IfOk, IfErr};
+ghost use Rattle.message_core.specs.declared.fault.FrameFault.TheVariants.{NoMemory};
 ghost use Rattle.message_core.specs.Announcements.{announced, announced_in, number as number_at, whole_length as length_of};
 
 use crate::fault::FrameFault;
@@ -21,7 +22,8 @@ const MAXIMUM_FIELDS: usize = 67_108_864;
 /// The number in the four bytes at a place.
 pub fn number(order: Order, place: usize, bytes: &[u8]) -> u32
     requires { place + 4 ≤ length bytes.now }
-    ensures { result ≡ number_at order place bytes.now }
+    ensures value { result ≡ number_at order place bytes.now }
+    ensures fits { result < 2 ^ 32 }
 {
     let four = [
         bytes[place],
@@ -46,7 +48,8 @@ fn whole_length(order: Order, bytes: &[u8]) -> usize
 
 fn announced_in_order(limit: usize, order: Order, bytes: &[u8]) -> Result<usize, FrameFault>
     requires { 16 ≤ length bytes.now }
-    ensures { result ≡ announced_in limit order bytes.now }
+    ensures announced { result ≡ announced_in limit order bytes.now }
+    ensures memory { IfErr result (λ f. f ≢ NoMemory) }
 {
     if bytes[1] == 0 {
         return Err(FrameFault::Kind);
@@ -75,6 +78,7 @@ pub fn announced_length(limit: usize, bytes: &[u8]) -> Result<usize, FrameFault>
     requires { 16 ≤ length bytes.now }
     ensures announced { result ≡ announced limit bytes.now }
     ensures fixed { IfOk result (λ length. 16 ≤ length) }
+    ensures memory { IfErr result (λ f. f ≢ NoMemory) }
 {
     match bytes[0] {
         b'l' => announced_in_order(limit, Order::Little, bytes),

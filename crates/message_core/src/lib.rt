@@ -5,11 +5,18 @@
 #![tactic(auto)]
 
 mod announcement;
+mod basic_field;
 mod fault;
+mod field_place;
 mod header;
 mod header_field;
+mod header_fields;
+mod message;
+mod reading;
 
 pub use announcement::{FIXED_LENGTH, MAXIMUM_LENGTH, MESSAGE_LIMIT, announced_length};
 pub use fault::{FaultCode, FrameFault};
+pub use field_place::FieldPlace;
 pub use header::{ALLOW_INTERACTIVE_AUTHORIZATION, Header, NO_AUTO_START, NO_REPLY_EXPECTED};
 pub use header_field::HeaderField;
+pub use message::Message;

@@ -1,0 +1,41 @@
+use Rattle.std.proofs.Common.{ℕ, ◌≡◌, ◌+◌, ◌-◌, ◌%◌, List, Ok, None, true, drop, arith, subst, sym, ap, ◌∙◌, get_or, length}
+use Rattle.std.proofs.lemmas.List.{take_all, length-drop}
+use Rattle.marshal_core.specs.declared.order.Order.{Order}
+use Rattle.marshal_core.specs.Types.{Tys}
+use Rattle.marshal_core.specs.Signatures.{signature_of}
+use Rattle.match_rules.specs.declared.kind.MessageKind.{MessageKind}
+use Rattle.match_rules.specs.Kinds.{kind_of}
+use Rattle.message_core.specs.declared.field_place.FieldPlace.{FieldPlace}
+use Rattle.message_core.specs.Announcements.{number}
+use Rattle.message_core.specs.Kinds.{required}
+use Rattle.message_core.specs.HeaderFields.{by_code}
+use Rattle.message_core.specs.Places.{part, all_zero, HaveFields}
+use Rattle.message_core.specs.Said.{order_of}
+use Rattle.message_core.specs.Whole.{unplaced, IsBody, signature_part, place_of, body_begin, fields_end}
+use Rattle.message_core.proofs.Wholes.{whole, signature_room}
+use Rattle.message_core.proofs.reading.check.Goals as goal
+
+pub signature_text-requires : goal.signature_text-requires
+signature_text-requires c =
+    let have = c.in_ok-places.ensures in
+    rw c.deref-2.ensures.value (signature_room c.order_of-order.result c.args.bytes.now c.in_ok-places.places.items (by_code have.sent) have.placed)
+
+pub returns : goal.returns
+returns c =
+    let bytes = c.args.bytes.now in
+    let ps : List FieldPlace = c.in_ok-places.places.items in
+    let len : ℕ = c.number-length.result in
+    let order : c.order_of-order.result ≡ order_of bytes = c.order_of-order.ensures in
+    let n : len ≡ number (order_of bytes) 12 bytes = c.number-length.ensures.value ∙ ap (λ (o : Order). number o 12 bytes) order in
+    let end : 16 + len ≡ fields_end bytes = ap (λ (k : ℕ). 16 + k) n in
+    let begin : 16 + len + (8 - len % 8) % 8 ≡ body_begin bytes = ap (λ (k : ℕ). 16 + k + (8 - k % 8) % 8) n ∙ omega arith in
+    let have : HaveFields (order_of bytes) bytes (fields_end bytes) ps =
+    subst (λ (k : ℕ). HaveFields (order_of bytes) bytes k ps) end (subst (λ (o : Order). HaveFields o bytes (16 + len) ps) order c.in_ok-places.ensures) in
+    let gap : all_zero (part (fields_end bytes) (body_begin bytes) bytes) ≡ true =
+    ap (λ (k : ℕ). all_zero (part k (body_begin bytes) bytes)) (sym end) ∙ ap (λ (k : ℕ). all_zero (part (16 + len) k bytes)) (sym begin) ∙ sym c.is_zero.ensures ∙ c.if-not-is_zero.false in
+    let complete : unplaced (required (kind_of (get_or bytes 1 0))) ps ≡ None =
+    ap (λ (k : MessageKind). unplaced (required k) ps) (sym c.from.ensures) ∙ ap (unplaced (required c.from.result)) (sym c.deref.ensures.value) ∙ c.in_ok-check_required.ensures in
+    let text : c.signature_text.result.now ≡ signature_part (place_of 8 ps) bytes = c.signature_text.ensures ∙ ap (λ (x : List FieldPlace). signature_part (place_of 8 x) bytes) c.deref-2.ensures.value in
+    let body : (types : Tys) → signature_of (signature_part (place_of 8 ps) bytes) ≡ Ok types → IsBody (order_of bytes) types (drop (body_begin bytes) bytes) =
+    λ types e. subst (λ (k : ℕ). IsBody (order_of bytes) types (drop k bytes)) begin (subst (λ (o : Order). IsBody o types (drop (16 + len + (8 - len % 8) % 8) bytes)) order (subst (IsBody c.order_of-order.result types) (take_all (length bytes - (16 + len + (8 - len % 8) % 8)) (drop (16 + len + (8 - len % 8) % 8) bytes) (omega (arith, length-drop (16 + len + (8 - len % 8) % 8) bytes))) (c.in_ok-check_body.ensures types (ap signature_of text ∙ e)))) in
+    whole bytes ps c.requires.fixed (λ i. omega (arith, c.type_inv.bytes i)) 134217728 (omega arith) c.requires.whole have gap complete body

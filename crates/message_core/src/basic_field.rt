@@ -1,0 +1,203 @@
+//! Header fields that the standard names: all of them have basic values.
+
+ghost use Rattle.std.specs.Prelude.{◌≡◌, ◌<◌, ◌≤◌, ◌+◌, ◌++◌, ◌↔◌, ℕ, List, IsTrue, length, take, slice_index, IfOk, IfSome, is_ok};
+ghost use Rattle.std.specs.Int.{w32};
+ghost use Rattle.marshal_core.specs.declared.data_type.BasicType.{BasicType};
+ghost use Rattle.marshal_core.specs.declared.data_type.BasicType.TheVariants as of_type;
+ghost use Rattle.names.specs.ObjectPath.{IsObjectPath};
+ghost use Rattle.marshal_core.specs.Signatures.{basic_code, signature_of};
+ghost use Rattle.marshal_core.specs.Spelling.{IsString, ended, number_bytes};
+ghost use Rattle.message_core.specs.Kinds.{code_of};
+ghost use Rattle.message_core.specs.HeaderFields.{IsStringOf, IsNumberOf};
+ghost use Rattle.message_core.specs.BasicFields.{BeginsValue, BeginsBasic};
+
+use crate::announcement::number;
+use crate::header_field::HeaderField;
+use marshal_core::{MarshalFault, Order, Signature};
+use names::{BusName, ErrorName, Interface, Member, ObjectPath};
+use std::alloc::{AllocError, Global};
+
+/// The string that begins here.
+fn string(order: Order, bytes: &[u8]) -> Option<&str>
+    ensures { IfSome result (λ text. IsString text.now × (rest : List ℕ) × (bytes.now ≡ number_bytes order w32 (length text.now) ++ (ended text.now ++ rest))) }
+{
+    if bytes.len() < 4 {
+        return None;
+    }
+    let length = number(order, 0, bytes) as usize;
+    let (_, rest) = bytes.split_at(4);
+    if rest.len() <= length {
+        return None;
+    }
+    let (text, end) = rest.split_at(length);
+    if end[0] != 0 {
+        return None;
+    }
+    if text.contains(&0) {
+        return None;
+    }
+    match std::str::from_utf8(text) {
+        Ok(text) => Some(text),
+        Err(_) => None,
+    }
+}
+
+/// Whether the field takes this string.
+fn takes_string(field: HeaderField, text: &str) -> bool
+    ensures { IsTrue result ↔ IsStringOf field text.now }
+{
+    match field {
+        HeaderField::Interface => Interface::parse(text).is_ok(),
+        HeaderField::Member => Member::parse(text).is_ok(),
+        HeaderField::ErrorName => ErrorName::parse(text).is_ok(),
+        HeaderField::Destination => BusName::parse(text).is_ok(),
+        HeaderField::Sender => BusName::parse(text).is_ok(),
+        _ => false,
+    }
+}
+
+/// Whether the text is an object path.
+fn is_path(text: &str) -> bool
+    ensures { IsTrue result ↔ IsObjectPath text.now }
+{
+    ObjectPath::parse(text).is_ok()
+}
+
+/// Whether the field takes this number.
+fn takes_number(field: HeaderField, number: u32) -> bool
+    ensures { IsTrue result ↔ IsNumberOf field number }
+{
+    match field {
+        HeaderField::ReplySerial => number != 0,
+        HeaderField::UnixFds => number == 0,
+        _ => false,
+    }
+}
+
+/// How many bytes the string takes that begins here, if the field takes it.
+fn string_value(order: Order, field: HeaderField, bytes: &[u8]) -> Option<usize>
+    ensures { IfSome result (BeginsValue order field of_type.String bytes.now) }
+{
+    let text = string(order, bytes)?;
+    if takes_string(field, text) {
+        return Some(5 + text.len());
+    }
+    None
+}
+
+/// How many bytes the object path takes that begins here, if the field takes one.
+fn path_value(order: Order, field: HeaderField, bytes: &[u8]) -> Option<usize>
+    ensures { IfSome result (BeginsValue order field of_type.ObjectPath bytes.now) }
+{
+    let HeaderField::Path = field else {
+        return None;
+    };
+    let text = string(order, bytes)?;
+    if is_path(text) {
+        return Some(5 + text.len());
+    }
+    None
+}
+
+/// How many bytes the number takes that begins here, if the field takes it.
+fn number_value(order: Order, field: HeaderField, bytes: &[u8]) -> Option<usize>
+    ensures { IfSome result (BeginsValue order field of_type.Uint32 bytes.now) }
+{
+    if bytes.len() < 4 {
+        return None;
+    }
+    if takes_number(field, number(order, 0, bytes)) {
+        return Some(4);
+    }
+    None
+}
+
+/// Whether the text is a signature.
+fn is_signature(alloc: Global, text: &[u8]) -> Result<bool, AllocError>
+    ensures { IfOk result (λ answer. answer ≡ is_ok (signature_of text.now)) }
+{
+    match Signature::from_bytes(alloc, text) {
+        Ok(_) => Ok(true),
+        Err(MarshalFault::NoMemory) => Err(AllocError),
+        Err(_) => Ok(false),
+    }
+}
+
+/// How many bytes the signature takes that begins here, if the field takes one.
+fn signature_value(
+    alloc: Global,
+    order: Order,
+    field: HeaderField,
+    bytes: &[u8],
+) -> Result<Option<usize>, AllocError>
+    ensures { IfOk result (λ found. IfSome found (BeginsValue order field of_type.Signature bytes.now)) }
+{
+    let _ = order;
+    let HeaderField::Signature = field else {
+        return Ok(None);
+    };
+    let Some((first, rest)) = bytes.split_first() else {
+        return Ok(None);
+    };
+    let length = *first as usize;
+    if rest.len() <= length {
+        return Ok(None);
+    }
+    let (text, end) = rest.split_at(length);
+    if end[0] != 0 {
+        return Ok(None);
+    }
+    if is_signature(alloc, text)? {
+        return Ok(Some(2 + length));
+    }
+    Ok(None)
+}
+
+fn value(
+    alloc: Global,
+    order: Order,
+    field: HeaderField,
+    code: u8,
+    bytes: &[u8],
+) -> Result<Option<usize>, AllocError>
+    ensures { IfOk result (λ found. IfSome found (λ n. (b : BasicType) × (code ≡ basic_code b) × BeginsValue order field b bytes.now n)) }
+{
+    if code == b's' {
+        return Ok(string_value(order, field, bytes));
+    }
+    if code == b'o' {
+        return Ok(path_value(order, field, bytes));
+    }
+    if code == b'u' {
+        return Ok(number_value(order, field, bytes));
+    }
+    if code == b'g' {
+        return signature_value(alloc, order, field, bytes);
+    }
+    Ok(None)
+}
+
+/// How many bytes the field takes that begins here with its code.
+pub fn basic_field(
+    alloc: Global,
+    order: Order,
+    field: HeaderField,
+    bytes: &[u8],
+) -> Result<Option<usize>, AllocError>
+    requires begins { 0 < length bytes.now }
+    requires code { slice_index bytes.now 0 ≡ code_of field }
+    ensures { IfOk result (λ found. IfSome found (BeginsBasic order field bytes.now)) }
+{
+    if bytes.len() < 4 {
+        return Ok(None);
+    }
+    if bytes[1] != 1 || bytes[3] != 0 {
+        return Ok(None);
+    }
+    let code = bytes[2];
+    let (_, rest) = bytes.split_at(4);
+    match value(alloc, order, field, code, rest)? {
+        Some(length) => Ok(Some(4 + length)),
+        None => Ok(None),
+    }
+}
