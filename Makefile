@@ -4,9 +4,12 @@ SAMPLE = examples/hello-get-name-owner.stream
 
 .PHONY: run test
 
-# The main job: the sample stream through `busd run`, the replies shown as bytes and text.
+# The main job: the sample stream through `busd run`, the replies shown as bytes and text. The first time it proves
+# and builds the program.
 run:
-	@cd crates/busd && rt run -- run < ../../$(SAMPLE) 2> out/run.log | od -A d -t x1z -v
+	@mkdir -p crates/busd/out
+	@cd crates/busd && rt run -- run < ../../$(SAMPLE) > out/replies 2> out/run.log || { cat out/run.log; exit 1; }
+	@od -A d -t x1z -v crates/busd/out/replies
 
 # The gate: every proof from nothing, the edits that must fail, the tests, the program as two compilers build it.
 test:
