@@ -13,6 +13,8 @@ mod opening;
 mod outcomes;
 mod refusal;
 mod state;
+#[cfg(test)]
+mod tests;
 
 pub use answer::{AskFault, Asked};
 pub use bus::SeqBus;

@@ -1,0 +1,194 @@
+//! Runs of the bus whose outcomes are worked out by hand. Each holds too where any one allocation fails: what was refused
+//! is tried once more, as if it had not been tried.
+
+ghost use Rattle.seq_bus.specs.Served.{IsServedChange, IsServedQuery};
+
+use super::{Asked, SEAT, SeqBus, can_open};
+use names::{BusName, UniqueName, WellKnown};
+use owner_queues::Profile;
+use seq_bus_core::{BusSignal, Change, Conn, Outcome, Query, Reply};
+use std::alloc::Global;
+use std::process::Abort;
+
+fn open(rt: &impl Abort, alloc: Global, services: &[WellKnown], routers: u8) -> SeqBus {
+    assert!(rt; can_open(services, routers));
+    match SeqBus::new(alloc, services, routers, Profile::One) {
+        Ok(bus) => bus,
+        Err(_) => SeqBus::new(alloc, services, routers, Profile::One).expect(
+            rt,
+            "one allocation fails",
+        ),
+    }
+}
+
+fn make(rt: &impl Abort, bus: &mut SeqBus, change: Change) -> Outcome
+    requires { IsServedChange change }
+{
+    let count = bus.history().len();
+    match bus.change(change) {
+        Ok(outcome) => outcome,
+        Err(refused) => {
+            assert_eq!(rt; refused.cause.code(), 60);
+            assert_eq!(rt; bus.history().len(), count);
+            bus.change(refused.change)
+                .ok()
+                .expect(rt, "one allocation fails")
+        }
+    }
+}
+
+fn ask(rt: &impl Abort, bus: &mut SeqBus, query: &Query, body: &mut Vec<u8>) -> Asked
+    requires { IsServedQuery query.now }
+{
+    let length = body.len();
+    match bus.ask(query, body) {
+        Ok(asked) => asked,
+        Err(_) => {
+            assert_eq!(rt; body.len(), length);
+            bus.ask(query, body).ok().expect(rt, "one allocation fails")
+        }
+    }
+}
+
+fn hello() -> Change
+    ensures { IsServedChange result }
+{
+    Change::Hello { privileged: false }
+}
+
+#[test]
+fn first_connection_and_its_name(rt: HostRuntime) {
+    let mut bus = open(&rt, rt.alloc(), &[], 1);
+    let outcome = make(&rt, &mut bus, hello());
+    let conn = Conn {
+        number: 1,
+        slot: 0,
+        router: 1,
+    };
+    assert_eq!(rt; outcome.reply, Reply::Welcome(conn));
+    let [announced, acquired] = outcome.signals.as_slice() else {
+        panic!(rt; "a Hello has two signals");
+    };
+    assert!(rt; matches!(&announced.signal, BusSignal::NameOwnerChanged { .. }));
+    assert!(rt; announced.to.as_slice().is_empty());
+    assert!(rt; matches!(&acquired.signal, BusSignal::NameAcquired { .. }));
+    assert_eq!(rt; acquired.to.as_slice(), [conn].as_slice());
+    assert!(rt; bus.present(1) && !bus.present(2));
+    assert_eq!(rt; bus.seat(), SEAT);
+
+    let name = BusName::from(UniqueName::of(1));
+    let mut body = Vec::new(rt.alloc());
+    assert_eq!(rt;
+        ask(&rt, &mut bus, &Query::GetNameOwner(name), &mut body),
+        Asked::Body
+    );
+    assert_eq!(rt; body.as_slice(), b"\x04\0\0\0:1.1\0".as_slice());
+    body.clear();
+    assert_eq!(rt;
+        ask(
+            &rt,
+            &mut bus,
+            &Query::GetNameOwner(BusName::bus()),
+            &mut body
+        ),
+        Asked::Body
+    );
+    assert_eq!(rt;
+        body.as_slice(),
+        b"\x14\0\0\0org.freedesktop.DBus\0".as_slice()
+    );
+    body.clear();
+    assert_eq!(rt;
+        ask(&rt, &mut bus, &Query::NameHasOwner(name), &mut body),
+        Asked::Body
+    );
+    assert_eq!(rt; body.as_slice(), b"\x01\0\0\0".as_slice());
+}
+
+#[test]
+fn names_without_owner(rt: HostRuntime) {
+    let mut bus = open(&rt, rt.alloc(), &[], 1);
+    make(&rt, &mut bus, hello());
+    for text in [
+        ":1.2",
+        ":1.01",
+        ":2.1",
+        "com.example",
+        "org.freedesktop.DBusy",
+    ] {
+        let name = BusName::parse(text)
+            .ok()
+            .expect(&rt, "the text is a bus name");
+        let mut body = Vec::new(rt.alloc());
+        let asked = ask(&rt, &mut bus, &Query::GetNameOwner(name), &mut body);
+        assert_eq!(rt; asked, Asked::NameHasNoOwner, "at {text}");
+        assert!(rt; body.is_empty(), "at {text}");
+        assert_eq!(rt;
+            ask(&rt, &mut bus, &Query::NameHasOwner(name), &mut body),
+            Asked::Body
+        );
+        assert_eq!(rt; body.as_slice(), b"\0\0\0\0".as_slice(), "at {text}");
+    }
+}
+
+#[test]
+fn slots_of_the_first_router(rt: HostRuntime) {
+    for (routers, slots) in [(1, 256), (8, 32), (3, 85)] {
+        let mut bus = open(&rt, rt.alloc(), &[], routers);
+        for slot in 0..slots {
+            let conn = Conn {
+                number: u64::from(slot) + 1,
+                slot,
+                router: 1,
+            };
+            assert_eq!(rt; make(&rt, &mut bus, hello()).reply, Reply::Welcome(conn));
+        }
+        assert_eq!(rt;
+            make(&rt, &mut bus, hello()).reply,
+            Reply::LimitsExceeded,
+            "of {routers} routers"
+        );
+    }
+}
+
+#[test]
+fn slots_are_given_again_and_numbers_are_not(rt: HostRuntime) {
+    let mut bus = open(&rt, rt.alloc(), &[], 1);
+    make(&rt, &mut bus, hello());
+    make(&rt, &mut bus, hello());
+    let leave = make(&rt, &mut bus, Change::Leave { connection: 1 });
+    assert_eq!(rt; leave.reply, Reply::Done);
+    assert_eq!(rt; leave.signals.as_slice().len(), 1);
+    assert_eq!(rt;
+        make(&rt, &mut bus, Change::Leave { connection: 1 }).reply,
+        Reply::Gone
+    );
+    let conn = Conn {
+        number: 3,
+        slot: 0,
+        router: 1,
+    };
+    assert_eq!(rt; make(&rt, &mut bus, hello()).reply, Reply::Welcome(conn));
+    for (place, entry) in bus.history().iter().enumerate() {
+        assert_eq!(rt; entry.number, place as u64 + 1);
+    }
+    assert_eq!(rt; bus.history().len(), 5);
+}
+
+#[test]
+fn what_a_bus_can_be_opened_with(rt: HostRuntime) {
+    let first = WellKnown::parse("com.example")
+        .ok()
+        .expect(&rt, "a well-known name");
+    let second = WellKnown::parse("com.example.Other")
+        .ok()
+        .expect(&rt, "a well-known name");
+    let bus = WellKnown::parse("org.freedesktop.DBus")
+        .ok()
+        .expect(&rt, "a well-known name");
+    assert!(rt; !can_open(&[], 0) && !can_open(&[], 9));
+    assert!(rt; !can_open(&[first, second, first], 1));
+    assert!(rt; !can_open(&[first, bus], 1));
+    let opened = open(&rt, rt.alloc(), &[second, first], 8);
+    assert!(rt; opened.history().is_empty());
+}
