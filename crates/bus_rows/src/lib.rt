@@ -8,3 +8,5 @@ pub mod queues;
 pub mod routers;
 pub mod routing;
 pub mod services;
+#[cfg(test)]
+mod tests;
