@@ -1,7 +1,8 @@
 -- Every step leaves a consistent state consistent.
-use Rattle.std.proofs.Common.{◌≡◌, ◌≢◌, ℕ, ◌+◌, ◌<◌, nat_eq, Bool, true, false, not, Some, None, List, [], ◌∷◌, ◌++◌, map, refl, sym, ap, ◌∙◌, subst, arith}
-use Rattle.std.specs.List.{AllByRecursion as Each, filter, list_all}
-use Rattle.std.proofs.lemmas.Bool.{cond_both, not-true, eqb-false, false_from_ne_true, and_from}
+use Rattle.std.proofs.Common.{◌≡◌, ◌≢◌, ℕ, ◌+◌, ◌<◌, nat_eq, Bool, true, false, not, ◌||◌, Some, None, List, [], ◌∷◌, ◌++◌, map, refl, sym, ap, ◌∙◌, subst, arith}
+use Rattle.std.specs.List.{AllByRecursion as Each, filter, list_all, list_any}
+use Rattle.std.proofs.lemmas.Bool.{and_from, cond_both, eqb-false, false_from_ne_true, ne_eqb, not-true, or_from, true≢false}
+use Rattle.std.proofs.lemmas.List.Folds.{list_any-append}
 use Rattle.names.specs.Texts.{Text, text_eq}
 use Rattle.match_rules.specs.Rules.{Rule}
 use Rattle.owner_queues.specs.Queues.{Queue, IsQueue, requested, released}
@@ -12,9 +13,9 @@ use Rattle.owner_queues.proofs.QueueLaws.{requests_keep, requests_add, releases_
 use Rattle.seq_bus_core.specs.BusState.{BusState, Connection, OwnedName, AddedRule, RunningStart, is_client, queue_of, with_queue, start_of}
 use Rattle.seq_bus_core.specs.Steps.{is_reserved, is_taken, with_connection, without_connection, rules_without, with_owned, without_first, monitor_if, with_monitor, waiting_if, wait_with_start, step}
 use Rattle.seq_bus_core.specs.Histories.{History, opening, after}
-use Rattle.seq_bus_core.specs.Consistency.{IsGiven, IsOwned, IsRunning, IsConsistent}
+use Rattle.seq_bus_core.specs.Consistency.{IsGiven, IsOwned, IsRunning, ShareNoTicket, IsConsistent}
 use Rattle.seq_bus_core.specs.Laws.{StepsKeepConsistency, BusesAreConsistent}
-use Rattle.seq_bus_core.proofs.Lists.{each_weaker, each_push, each_filter, each_passing, each_map, pairs_filter, pairs_push, pairs_map, any_none, find_none, all_weaker}
+use Rattle.seq_bus_core.proofs.Lists.{each_both, pairs_with, pairs_both, each_weaker, each_push, each_filter, each_passing, each_map, pairs_filter, pairs_push, pairs_map, any_none, find_none, all_weaker}
 use Rattle.seq_bus_core.proofs.TextLemmas.{text_eq-true, text_eq-swapped}
 use Rattle.seq_bus_core.proofs.NameLemmas.{each_kept, each_with_queue, with_queue_rises, each_without, names_without_rises, owned_without}
 use Rattle.seq_bus_core.proofs.ClientLemmas.{client_after_hello, client_after_leave, client_after_monitor}
@@ -48,6 +49,7 @@ after_hello s h c numbered free = record {
   starts_running = h.starts_running;
   starts_rise = h.starts_rise;
   start_names_differ = h.start_names_differ;
+  tickets_differ = h.tickets_differ;
 }
 
 -- what a connection gives up when it leaves or becomes a monitor
@@ -78,6 +80,7 @@ after_leave s h c = record {
   starts_running = starts_of_others s h c;
   starts_rise = h.starts_rise;
   start_names_differ = h.start_names_differ;
+  tickets_differ = h.tickets_differ;
 }
 
 -- a monitor keeps its number and its slot
@@ -102,6 +105,7 @@ after_monitor s h c rules = record {
   starts_running = starts_of_others s h c;
   starts_rise = h.starts_rise;
   start_names_differ = h.start_names_differ;
+  tickets_differ = h.tickets_differ;
 }
 
 -- ## Names
@@ -149,6 +153,7 @@ after_request s h c name flags client free =
           }) s.starts h.starts_running;
       starts_rise = pairs_filter (λ a b. a.number < b.number) (λ r. not (text_eq r.name name)) s.starts h.starts_rise;
       start_names_differ = pairs_filter (λ a b. text_eq a.name b.name ≡ false) (λ r. not (text_eq r.name name)) s.starts h.start_names_differ;
+      tickets_differ = pairs_filter ShareNoTicket (λ r. not (text_eq r.name name)) s.starts h.tickets_differ;
     }
 
 -- a name that nobody owns has no owner after a release
@@ -186,6 +191,7 @@ after_release s h c name free =
           }) s.starts h.starts_running;
       starts_rise = h.starts_rise;
       start_names_differ = h.start_names_differ;
+      tickets_differ = h.tickets_differ;
     }
 
 -- ## Rules
@@ -206,9 +212,39 @@ with_rules s h rules clients = record {
   starts_running = h.starts_running;
   starts_rise = h.starts_rise;
   start_names_differ = h.start_names_differ;
+  tickets_differ = h.tickets_differ;
 }
 
 -- ## Starts
+
+-- a number that was given is not the next one
+not_lower : (t next : ℕ) → t < next → nat_eq next t ≡ false
+not_lower t next lower = ne_eqb next t (λ same. above_itself same)
+  where
+    above_itself : next ≡ t → ⊥
+    above_itself same = omega arith
+
+none_of_later : (next : ℕ) (tickets : List ℕ) → Each (λ t. t < next) tickets → list_any (λ u. nat_eq u next) tickets ≡ false
+none_of_later next [] h = refl
+none_of_later next (t ∷ ts) h = or_from (nat_eq t next) (list_any (λ u. nat_eq u next) ts) (ne_eqb t next (λ same. absurd (omega (arith, h.0, same)))) (none_of_later next ts h.1)
+
+-- Two starts of which at most one gets the next ticket share none.
+still_apart :
+    (name : Text) (next : ℕ) (a b : RunningStart) → text_eq a.name b.name ≡ false → Each (λ t. t < next) a.tickets → Each (λ t. t < next) b.tickets → ShareNoTicket a b →
+    ShareNoTicket (waiting_if name next a) (waiting_if name next b)
+still_apart name next a b differ below lower apart =
+    cond_both (text_eq a.name name) (record a { tickets = a.tickets ++ next ∷ [] }) a (λ c. ShareNoTicket c (waiting_if name next b))
+    (λ gets.
+    let e : a.name ≡ name = text_eq-true a.name name gets in
+    let other : text_eq b.name name ≡ false = text_eq-swapped name b.name (ap (λ t. text_eq t b.name) (sym e) ∙ differ) in
+    cond_both (text_eq b.name name) (record b { tickets = b.tickets ++ next ∷ [] }) b (λ d. Each (λ t. list_any (λ u. nat_eq u t) d.tickets ≡ false) (a.tickets ++ next ∷ []))
+    (λ both. absurd (true≢false (sym both ∙ other)))
+    (λ _. each_push (λ t. list_any (λ u. nat_eq u t) b.tickets ≡ false) a.tickets next apart (none_of_later next b.tickets lower)))
+    (λ _.
+    cond_both (text_eq b.name name) (record b { tickets = b.tickets ++ next ∷ [] }) b (λ d. Each (λ t. list_any (λ u. nat_eq u t) d.tickets ≡ false) a.tickets)
+    (λ _. each_both (λ t. t < next) (λ t. list_any (λ u. nat_eq u t) b.tickets ≡ false) (λ t. list_any (λ u. nat_eq u t) (b.tickets ++ next ∷ []) ≡ false)
+    (λ t low absent. list_any-append (λ u. nat_eq u t) b.tickets (next ∷ []) ∙ or_from (list_any (λ u. nat_eq u t) b.tickets) (nat_eq next t || false) absent (or_from (nat_eq next t) false (not_lower t next low) refl)) a.tickets below apart)
+    (λ _. apart))
 
 first_ticket : (s : BusState) → IsConsistent s → (name : Text) → Each (λ n. text_eq n.name name ≡ false) s.names → start_of s name ≡ None → IsConsistent (wait_with_start s name None).0
 first_ticket s h name unowned none =
@@ -234,6 +270,10 @@ first_ticket s h name unowned none =
       starts_rise =
           pairs_push (λ a b. a.number < b.number) s.starts new h.starts_rise (each_weaker (IsRunning s.names s.next_start s.next_ticket) (λ r. r.number < s.next_start) (λ r g. g.given) s.starts h.starts_running);
       start_names_differ = pairs_push (λ a b. text_eq a.name b.name ≡ false) s.starts new h.start_names_differ (find_none (λ r. text_eq r.name name) s.starts none);
+      tickets_differ =
+          pairs_push ShareNoTicket s.starts new h.tickets_differ
+          (each_weaker (IsRunning s.names s.next_start s.next_ticket) (λ r. ShareNoTicket r new)
+          (λ r g. each_weaker (λ t. t < s.next_ticket) (λ t. list_any (λ u. nat_eq u t) (s.next_ticket ∷ []) ≡ false) (λ t lower. or_from (nat_eq s.next_ticket t) false (not_lower t s.next_ticket lower) refl) r.tickets g.tickets_given) s.starts h.starts_running);
     }
 
 -- a ticket more leaves a start its name and its number
@@ -270,6 +310,11 @@ later_ticket s h name =
       start_names_differ =
           pairs_map (λ a b. text_eq a.name b.name ≡ false) (λ a b. text_eq a.name b.name ≡ false) f
           (λ a b differ. waiting_keeps (λ t _. text_eq t (f b).name ≡ false) name s.next_ticket a (waiting_keeps (λ t _. text_eq a.name t ≡ false) name s.next_ticket b differ)) s.starts h.start_names_differ;
+      tickets_differ =
+          pairs_map (λ a b. ShareNoTicket (f a) (f b)) ShareNoTicket f (λ a b apart. apart) s.starts
+          (pairs_with (IsRunning s.names s.next_start s.next_ticket) (λ a b. (text_eq a.name b.name ≡ false) × ShareNoTicket a b) (λ a b. ShareNoTicket (f a) (f b))
+          (λ a b g k both. still_apart name s.next_ticket a b both.0 g.tickets_given k.tickets_given both.1) s.starts h.starts_running
+          (pairs_both (λ a b. text_eq a.name b.name ≡ false) ShareNoTicket s.starts h.start_names_differ h.tickets_differ));
     }
 
 failed_start : (s : BusState) → IsConsistent s → (test : RunningStart → Bool) → IsConsistent (record s { starts = filter test s.starts })
@@ -284,6 +329,7 @@ failed_start s h test = record {
   starts_running = each_filter (IsRunning s.names s.next_start s.next_ticket) test s.starts h.starts_running;
   starts_rise = pairs_filter (λ a b. a.number < b.number) test s.starts h.starts_rise;
   start_names_differ = pairs_filter (λ a b. text_eq a.name b.name ≡ false) test s.starts h.start_names_differ;
+  tickets_differ = pairs_filter ShareNoTicket test s.starts h.tickets_differ;
 }
 
 -- ## Steps
@@ -323,4 +369,5 @@ buses_are_consistent profile routers services history =
       starts_running = tt;
       starts_rise = tt;
       start_names_differ = tt;
+      tickets_differ = tt;
     })

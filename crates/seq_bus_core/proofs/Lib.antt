@@ -11,3 +11,4 @@ pub mod RecipientLaws
 pub mod MonitorLaws
 pub mod Counts
 pub mod LimitLaws
+pub mod TicketLaws

@@ -125,3 +125,27 @@ found_any test other (y ∷ ys) x e passes =
 pub found_having : {X : Type 0} (P : X → Type 0) (test : X → Bool) (xs : List X) (x : X) → find test xs ≡ Some x → Each P xs → P x
 found_having P test [] x e h = cc
 found_having P test (y ∷ ys) x e h = cond_both (test y) (Some y) (find test ys) (λ o. o ≡ Some x → P x) (λ _ found. let same : y ≡ x = cc in subst P same h.0) (λ _ found. found_having P test ys x found h.1) e
+
+-- a pair of which each element has a property
+pub pairs_with : {X : Type 0} (P : X → Type 0) (R S : X → X → Type 0) → ((a b : X) → P a → P b → R a b → S a b) → (xs : List X) → Each P xs → Pairwise R xs → Pairwise S xs
+pairs_with P R S gives [] h pairs = tt
+pairs_with P R S gives (x ∷ xs) h pairs = (each_both P (R x) (S x) (λ y p r. gives x y h.0 p r) xs h.1 pairs.0, pairs_with P R S gives xs h.1 pairs.1)
+
+pub pairs_both : {X : Type 0} (R S : X → X → Type 0) (xs : List X) → Pairwise R xs → Pairwise S xs → Pairwise (λ a b. R a b × S a b) xs
+pairs_both R S [] h k = tt
+pairs_both R S (x ∷ xs) h k = (each_both (R x) (S x) (λ y. R x y × S x y) (λ y r s. (r, s)) xs h.0 k.0, pairs_both R S xs h.1 k.1)
+
+pub each_swap : {X Y : Type 0} (R : X → Y → Type 0) (xs : List X) (ys : List Y) → Each (λ x. Each (R x) ys) xs → Each (λ y. Each (λ x. R x y) xs) ys
+each_swap R xs [] h = tt
+each_swap R xs (y ∷ ys) h = (each_weaker (λ x. Each (R x) (y ∷ ys)) (λ x. R x y) (λ x r. r.0) xs h, each_swap R xs ys (each_weaker (λ x. Each (R x) (y ∷ ys)) (λ x. Each (R x) ys) (λ x r. r.1) xs h))
+
+pub any_append_right : {X : Type 0} (test : X → Bool) (xs ys : List X) → list_any test ys ≡ true → list_any test (xs ++ ys) ≡ true
+any_append_right test [] ys h = h
+any_append_right test (x ∷ xs) ys h = or_right (test x) (list_any test (xs ++ ys)) (any_append_right test xs ys h)
+
+-- a search for what some element passes finds one
+pub any_finds : {X : Type 0} (test : X → Bool) (xs : List X) → list_any test xs ≡ true → (x : X) × (find test xs ≡ Some x)
+any_finds test [] h = absurd (true≢false (sym h))
+any_finds {X} test (x ∷ xs) h =
+    cond_both (test x) (Some x) (find test xs) (λ o. (y : X) × (o ≡ Some y)) (λ _. (x, refl))
+    (λ fails. elim (or_cases (test x) (list_any test xs) h) [ inl passes ↦ absurd (true≢false (sym passes ∙ fails)) | inr later ↦ any_finds test xs later ])

@@ -36,7 +36,7 @@ owned_head connections (n ∷ ns) name h any =
     (λ same. (ap is_reserved (sym (text_eq-true n.name name same)) ∙ h.0.ownable, owner_is_client connections n.queue h.0.owned h.0.clients))
     (λ other. elim (or_cases (text_eq n.name name) (list_any (λ m. text_eq m.name name) ns) any) [ inl same ↦ absurd (true≢false (sym same ∙ other)) | inr later ↦ owned_head connections ns name h.1 later ])
 
-client_is_connection : (connections : List Connection) (number : ℕ) → is_client connections number ≡ true → (c : Connection) × (find (λ d. nat_eq d.number number) connections ≡ Some c)
+pub client_is_connection : (connections : List Connection) (number : ℕ) → is_client connections number ≡ true → (c : Connection) × (find (λ d. nat_eq d.number number) connections ≡ Some c)
 client_is_connection [] number h = absurd (true≢false (sym h))
 client_is_connection (c ∷ cs) number h =
     cond_both (nat_eq c.number number) (Some c) (find (λ d. nat_eq d.number number) cs) (λ o. (d : Connection) × (o ≡ Some d)) (λ _. (c, refl))

@@ -1,6 +1,6 @@
 -- What holds of the state of every bus.
-use Rattle.std.specs.Prelude.{◌≡◌, ◌≢◌, ℕ, ◌+◌, ◌<◌, ◌≤◌, true, false, IsSome, List, [], ◌∷◌, length}
-use Rattle.std.specs.List.{AllByRecursion as Each, list_all}
+use Rattle.std.specs.Prelude.{◌≡◌, ◌≢◌, ℕ, ◌+◌, ◌<◌, ◌≤◌, true, false, ◌==◌, IsSome, List, [], ◌∷◌, length}
+use Rattle.std.specs.List.{AllByRecursion as Each, list_all, list_any}
 use Rattle.names.specs.Texts.{text_eq, text_lt}
 use Rattle.owner_queues.specs.Queues.{IsQueue, queue_head}
 use Rattle.seq_bus_core.specs.BusState.{BusState, Connection, OwnedName, RunningStart, is_client, max_connections, max_names, max_queued, max_names_of_one, max_rules, max_rules_of_one, max_tickets, max_number, queued_in, names_of, rules_of, tickets_in}
@@ -30,6 +30,10 @@ pub record IsRunning (names : List OwnedName) (next_start next_ticket : ℕ) (r 
   pub tickets_given : Each (λ t. t < next_ticket) r.tickets
   pub tickets_rise : Pairwise (λ t u. t < u) r.tickets
 
+-- No ticket waits for two starts.
+abbrev pub ShareNoTicket : RunningStart → RunningStart → Type 0
+ShareNoTicket a b = Each (λ t. list_any (λ u. u == t) b.tickets ≡ false) a.tickets
+
 pub record IsConsistent (s : BusState) : Type 0 where
   pub next_not_bus : 0 < s.next_number
   pub connections_given : Each (IsGiven s.next_number) s.connections
@@ -41,6 +45,7 @@ pub record IsConsistent (s : BusState) : Type 0 where
   pub starts_running : Each (IsRunning s.names s.next_start s.next_ticket) s.starts
   pub starts_rise : Pairwise (λ a b. a.number < b.number) s.starts
   pub start_names_differ : Pairwise (λ a b. text_eq a.name b.name ≡ false) s.starts
+  pub tickets_differ : Pairwise ShareNoTicket s.starts
 
 -- The limits of the bus hold, and no number above the last was given.
 pub record IsWithinLimits (s : BusState) : Type 0 where

@@ -1,6 +1,6 @@
 -- What holds of every bus, whatever is asked of it.
-use Rattle.std.specs.Prelude.{◌≡◌, ℕ, ◌≤◌, ◌<◌, true, false, List}
-use Rattle.std.specs.List.{AllByRecursion as Each}
+use Rattle.std.specs.Prelude.{◌≡◌, ℕ, ◌≤◌, ◌<◌, true, false, List, Bool, ◌==◌, map}
+use Rattle.std.specs.List.{AllByRecursion as Each, list_any}
 use Rattle.names.specs.Texts.{Text}
 use Rattle.match_rules.specs.Facts.{Facts}
 use Rattle.owner_queues.specs.declared.request.Profile.{Profile}
@@ -8,10 +8,12 @@ use Rattle.seq_bus_core.specs.BusState.{BusState}
 use Rattle.seq_bus_core.specs.Steps.{step, addressed, is_among}
 use Rattle.seq_bus_core.specs.Recipients.{recipients}
 use Rattle.seq_bus_core.specs.Histories.{History, opening, after, IsLegal, Begins, ends_publication}
+use Rattle.seq_bus_core.specs.Tickets.{WholeBus, opening_bus, bus_step, bus_after}
 use Rattle.seq_bus_core.specs.Consistency.{Pairwise, IsConsistent, IsWithinLimits}
 use Rattle.seq_bus_core.specs.declared.change.Change.{Change}
 use Rattle.seq_bus_core.specs.declared.connection.Conn.{Conn}
 use Rattle.seq_bus_core.specs.declared.signal.BusSignal.{BusSignal}
+use Rattle.seq_bus_core.specs.declared.ticket.Ticket.{Ticket}
 
 -- A change leaves a consistent state consistent.
 abbrev pub StepsKeepConsistency : Type 0
@@ -59,3 +61,20 @@ SignalsGoToEachOnce = (s : BusState) (signal : BusSignal) → IsConsistent s →
 -- A monitor is shown no message that goes to it.
 abbrev pub NobodyGetsAMessageTwice : Type 0
 NobodyGetsAMessageTwice = (s : BusState) (from : ℕ) (facts : Facts) → IsConsistent s → Each (λ m. is_among (recipients s from facts).to m ≡ false) (recipients s from facts).monitors
+
+abbrev pub is_waiting : List Ticket → ℕ → Bool
+is_waiting waiting number = list_any (λ t. t.number == number) waiting
+
+-- each ticket of a start is there with what it carries
+pub record IsWhole (b : WholeBus) : Type 0 where
+  pub consistent : IsConsistent b.state
+  pub carried : Each (λ r. Each (λ t. is_waiting b.waiting t ≡ true) r.tickets) b.state.starts
+
+-- Whatever was changed since it was opened, a bus has what its tickets carry.
+abbrev pub BusesAreWhole : Type 0
+BusesAreWhole = (profile : Profile) (routers : ℕ) (services : List Text) (history : History) → IsWhole (bus_after (opening_bus profile routers services) history)
+
+-- A change is told each ticket that it settles, in order, and no other.
+abbrev pub SettledTicketsAreTold : Type 0
+SettledTicketsAreTold = (b : WholeBus) (seat : ℕ) (change : Change) → IsWhole b →
+    map (λ t. record { fate = t.fate; number = t.ticket.number }) (bus_step b seat change).1.tickets ≡ (step b.state seat change).1.tickets

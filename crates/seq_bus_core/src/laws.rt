@@ -1,6 +1,6 @@
 //! The laws of the bus. Each function does nothing: what it ensures is the law.
 
-ghost use Rattle.seq_bus_core.specs.Laws.{BeginningsAreLegal, BusesAreConsistent, BusesAreWithinLimits, NobodyGetsAMessageTwice, NumbersOnlyRise, RecipientsAreNamedOnce, SignalsGoToEachOnce, StepsKeepConsistency, StepsKeepLimits};
+ghost use Rattle.seq_bus_core.specs.Laws.{BeginningsAreLegal, BusesAreConsistent, BusesAreWhole, BusesAreWithinLimits, NobodyGetsAMessageTwice, NumbersOnlyRise, RecipientsAreNamedOnce, SettledTicketsAreTold, SignalsGoToEachOnce, StepsKeepConsistency, StepsKeepLimits};
 
 /// A change leaves a consistent state consistent.
 pub fn steps_keep_consistency()
@@ -45,4 +45,14 @@ pub fn steps_keep_limits()
 /// Whatever was changed since it was opened, the limits of a bus hold.
 pub fn buses_are_within_limits()
     ensures { BusesAreWithinLimits }
+{}
+
+/// A bus has what each of its tickets carries, until the ticket is settled.
+pub fn buses_are_whole()
+    ensures { BusesAreWhole }
+{}
+
+/// A change is told each ticket that it settles, in order, and no other.
+pub fn settled_tickets_are_told()
+    ensures { SettledTicketsAreTold }
 {}
