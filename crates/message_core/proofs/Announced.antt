@@ -32,7 +32,7 @@ not_good f n e = absurd cc
 good_is : (m n : ℕ) → good m ≡ good n → m ≡ n
 good_is m n e = cc
 
-not_zero : (n : ℕ) → (n == 0) ≡ false → 0 < n
+pub not_zero : (n : ℕ) → (n == 0) ≡ false → 0 < n
 not_zero n e = at n refl e where
   at : (m : ℕ) → n ≡ m → (n == 0) ≡ false → 0 < n
   at zero f g = absurd (let h : true ≡ false = ap (λ (k : ℕ). k == 0) (sym f) ∙ g in cc)

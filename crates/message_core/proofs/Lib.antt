@@ -8,3 +8,5 @@ pub mod Said
 pub mod Announced
 mod Wholes
 mod Lending
+mod Putting
+mod Own

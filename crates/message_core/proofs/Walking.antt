@@ -14,7 +14,7 @@ use Rattle.message_core.specs.Places.{part, SpellField, field_depth, IsPlaced, A
 use Rattle.message_core.proofs.FieldReading.{part_join, length_part}
 use Rattle.message_core.proofs.Sorting.{placed_last, none_placed, value_by_code}
 
-elements_last : (order : Order) (at : ℕ) (fs : List Field) (f : Field) (a b : List ℕ) → SpellElements (values (map field_value fs)) field_depth order at field_type a → SpellField order (at + length a) f b
+pub elements_last : (order : Order) (at : ℕ) (fs : List Field) (f : Field) (a b : List ℕ) → SpellElements (values (map field_value fs)) field_depth order at field_type a → SpellField order (at + length a) f b
     → SpellElements (values (map field_value (fs ++ f ∷ []))) field_depth order at field_type (a ++ b)
 elements_last order at [] f a b h k =
     (b, [], subst (λ (n : ℕ). SpellField order n f b) (ap (λ (x : List ℕ). at + length x) h ∙ omega arith) k, refl, ap (λ (x : List ℕ). x ++ b) h ∙ sym (append-nil b))

@@ -1,14 +1,19 @@
 -- The message of a header and a body.
-use Rattle.std.specs.Prelude.{List, [], ◌∷◌, ◌++◌, Option, Some, None}
+use Rattle.std.specs.Prelude.{◌≡◌, ℕ, ◌+◌, ◌<◌, ◌^◌, List, [], ◌∷◌, ◌++◌, length, map, Option, Some, None}
+use Rattle.std.specs.Int.{w32}
+use Rattle.marshal_core.specs.declared.order.Order.{Order}
 use Rattle.marshal_core.specs.Types.{Tys, no_types, more_types}
-use Rattle.marshal_core.specs.Values.{BasicVal, a_string, an_object_path, a_uint32, a_signature, a_basic, Vals}
+use Rattle.marshal_core.specs.Values.{BasicVal, a_string, an_object_path, a_uint32, a_signature, a_basic, values, Vals}
+use Rattle.marshal_core.specs.Spelling.{number_bytes, pads, SpellElements}
 use Rattle.match_rules.specs.Kinds.{kind_number}
 use Rattle.message_core.specs.declared.header.Header.{Header}
 use Rattle.message_core.specs.declared.header_field.HeaderField.{HeaderField}
 use Rattle.message_core.specs.declared.header_field.HeaderField.TheVariants as field
 use Rattle.message_core.specs.Kinds.{code_of}
-use Rattle.message_core.specs.HeaderFields.{Field}
+use Rattle.message_core.specs.HeaderFields.{Field, field_type, field_value}
 use Rattle.message_core.specs.Messages.{Message}
+use Rattle.message_core.specs.Announcements.{fixed_length, order_byte, protocol_version}
+use Rattle.message_core.specs.Places.{field_depth}
 
 abbrev pub known_field : HeaderField → BasicVal → Field
 known_field k v = record { code = code_of k; value = a_basic v }
@@ -45,3 +50,20 @@ message_of header types body = record {
   types = types;
   body = body;
 }
+
+-- ---- putting fields one after the other
+
+-- the bytes of an array spell these fields
+abbrev pub AreWritten : Order → List Field → List ℕ → Type 0
+AreWritten order sent bytes = SpellElements (values (map field_value sent)) field_depth order fixed_length field_type bytes
+
+-- ---- putting a message together
+
+-- The bytes are these parts of a message one after the other, each number in its order.
+pub record IsLaidOut (m : Message) (array body bytes : List ℕ) : Type 0 where
+  pub array_fits : length array < 2 ^ 32
+  pub body_fits : length body < 2 ^ 32
+  pub serial_fits : m.serial < 2 ^ 32
+  pub whole : bytes ≡ (order_byte m.order ∷ m.kind ∷ m.flags ∷ protocol_version ∷ [])
+      ++ (number_bytes m.order w32 (length body) ++ (number_bytes m.order w32 m.serial
+      ++ ((number_bytes m.order w32 (length array) ++ array) ++ (pads 8 (fixed_length + length array) ++ body))))

@@ -13,6 +13,7 @@ mod header_field;
 mod header_fields;
 mod message;
 mod reading;
+mod writing;
 
 pub use announcement::{FIXED_LENGTH, MAXIMUM_LENGTH, MESSAGE_LIMIT, announced_length};
 pub use fault::{FaultCode, FrameFault};

@@ -3,19 +3,24 @@
 ghost use Rattle.std.specs.Prelude.{◌≡◌, ◌≤◌, Ok, IfOk, length, true};
 ghost use Rattle.marshal_core.specs.Signatures.{codes};
 ghost use Rattle.marshal_core.specs.Spelling.{Spells};
+ghost use Rattle.marshal_core.specs.Types.{Tys};
+ghost use Rattle.marshal_core.specs.Values.{Vals};
 ghost use Rattle.match_rules.specs.Kinds.{kind_of};
 ghost use Rattle.message_core.specs.declared.header_field.HeaderField.TheVariants as field_of;
 ghost use Rattle.message_core.specs.Announcements.{announced};
 ghost use Rattle.message_core.specs.HeaderFields.{text_field, number_field};
-ghost use Rattle.message_core.specs.Messages.{IsMessage};
+ghost use Rattle.message_core.specs.Messages.{IsMessage, IsWritten};
+ghost use Rattle.message_core.specs.Headers.{message_of};
 ghost use Rattle.message_core.specs.Said.{said};
 ghost use Rattle.message_core.specs.Whole.{is_text, Lends};
 
-use crate::announcement::{FIXED_LENGTH, MAXIMUM_LENGTH, number};
+use crate::announcement::{FIXED_LENGTH, MAXIMUM_LENGTH, announced_length, number};
 use crate::fault::FrameFault;
 use crate::field_place::FieldPlace;
+use crate::header::Header;
 use crate::header_field::HeaderField;
 use crate::reading::{check, number_at, order_of, place_of, signature_text, text_at};
+use crate::writing::{lay_out, put_fields};
 use marshal_core::Order;
 use match_rules::MessageKind;
 use std::alloc::Global;
@@ -51,6 +56,24 @@ impl Message {
     {
         let fields = check(alloc, &bytes)?;
         Ok(Message { bytes, fields })
+    }
+
+    /// A message of one's own: a header, the signature of the body as text, and the body's bytes in the
+    /// header's byte order. Its fields stand by rising code. `Field(8)` where the signature is none, and the
+    /// other faults where the header or the body is none of a message.
+    pub fn with_body(
+        alloc: Global,
+        header: &Header<'_>,
+        signature: &str,
+        body: &[u8],
+    ) -> Result<Message, FrameFault>
+        ensures { (types : Tys) (values : Vals) → signature.now ≡ codes types → Spells header.now.order 0 types values body.now → IfOk result (λ m. IsWritten m (message_of header.now types values)) }
+    {
+        let mut fields = Vec::new(alloc);
+        put_fields(&mut fields, header, signature.as_bytes())?;
+        let bytes = lay_out(alloc, header, &fields, body)?;
+        announced_length(MAXIMUM_LENGTH, &bytes)?;
+        Message::read(alloc, bytes)
     }
 
     /// The bytes of the message.

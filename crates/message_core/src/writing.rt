@@ -1,0 +1,233 @@
+//! Putting messages of one's own together.
+
+ghost use Rattle.std.specs.Prelude.{◌≡◌, ◌++◌, ◌∷◌, [], ℕ, List, length, OnOk, IfOk};
+ghost use Rattle.std.specs.Int.{w32};
+ghost use Rattle.marshal_core.specs.Types.{Tys};
+ghost use Rattle.marshal_core.specs.Values.{Vals, a_string, an_object_path, a_uint32};
+ghost use Rattle.marshal_core.specs.Signatures.{codes, IsSignature};
+ghost use Rattle.marshal_core.specs.Spelling.{IsString, ended, number_bytes, pads};
+ghost use Rattle.message_core.specs.declared.header_field.HeaderField.TheVariants as field_of;
+ghost use Rattle.message_core.specs.HeaderFields.{Field};
+ghost use Rattle.message_core.specs.Headers.{AreWritten, IsLaidOut, optional_field, signature_field, fields_of, message_of};
+ghost use Rattle.message_core.specs.Announcements.{order_byte as order_byte_of};
+ghost use Rattle.marshal_core.specs.declared.order.Order.{Order};
+ghost use Rattle.message_core.specs.Kinds.{code_of};
+
+use crate::fault::FrameFault;
+use crate::header::Header;
+use crate::header_field::HeaderField;
+use marshal_core::Order;
+use names::{BusName, ErrorName, Interface, Member, ObjectPath};
+use std::alloc::{AllocError, Global};
+
+/// A name that a header field of a string holds.
+trait Name {
+    ghost text: { Self → List ℕ };
+
+    fn as_text(&self) -> &str
+        ensures { result.now ≡ text self.now };
+}
+
+impl Name for Interface {
+    ghost text = { λ name. name };
+
+    fn as_text(&self) -> &str {
+        self.as_str()
+    }
+}
+
+impl Name for Member {
+    ghost text = { λ name. name };
+
+    fn as_text(&self) -> &str {
+        self.as_str()
+    }
+}
+
+impl Name for ErrorName {
+    ghost text = { λ name. name };
+
+    fn as_text(&self) -> &str {
+        self.as_str()
+    }
+}
+
+impl Name for BusName {
+    ghost text = { λ name. name };
+
+    fn as_text(&self) -> &str {
+        self.as_str()
+    }
+}
+
+/// Puts a number.
+fn put_number(output: &mut Vec<u8>, order: Order, number: u32) -> Result<(), AllocError>
+    ensures { OnOk result (output.new.items ≡ output.old.items ++ number_bytes order w32 number) }
+{
+    match order {
+        Order::Little => output.extend_from_slice(&number.to_le_bytes()),
+        Order::Big => output.extend_from_slice(&number.to_be_bytes()),
+    }
+}
+
+/// Puts the padding to the next multiple of eight.
+fn put_padding(output: &mut Vec<u8>) -> Result<(), AllocError>
+    ensures { OnOk result (output.new.items ≡ output.old.items ++ pads 8 (length output.old.items)) }
+{
+    let zeros = [0u8; 8];
+    let gap = (8 - output.len() % 8) % 8;
+    output.extend_from_slice(&zeros[..gap])
+}
+
+/// Puts what comes before the value of a field of a basic type: the padding, its code, its signature.
+fn put_start(output: &mut Vec<u8>, field: HeaderField, letter: u8) -> Result<(), AllocError>
+    ensures { OnOk result (output.new.items ≡ output.old.items ++ (pads 8 (length output.old.items) ++ (code_of field ∷ 1 ∷ letter ∷ 0 ∷ []))) }
+{
+    put_padding(output)?;
+    let start = [field.code(), 1, letter, 0];
+    output.extend_from_slice(&start)
+}
+
+/// Puts a field of a text. A text with a zero byte within it is no string.
+fn put_text(
+    output: &mut Vec<u8>,
+    order: Order,
+    field: HeaderField,
+    letter: u8,
+    text: &str,
+) -> Result<(), FrameFault>
+    ensures put { OnOk result (output.new.items ≡ output.old.items ++ (pads 8 (length output.old.items) ++ (code_of field ∷ 1 ∷ letter ∷ 0 ∷ []) ++ (number_bytes order w32 (length text.now) ++ ended text.now))) }
+    ensures string { OnOk result (IsString text.now) }
+{
+    let Ok(length) = u32::try_from(text.len()) else {
+        return Err(FrameFault::TooLong);
+    };
+    if text.as_bytes().contains(&0) {
+        return Err(FrameFault::Field(field.code()));
+    }
+    put_start(output, field, letter)?;
+    put_number(output, order, length)?;
+    output.extend_from_slice(text.as_bytes())?;
+    output.push(0)?;
+    Ok(())
+}
+
+/// Puts the field of a name, where there is one.
+fn put_name<N: Name>(
+    output: &mut Vec<u8>,
+    order: Order,
+    field: HeaderField,
+    name: &Option<N>,
+) -> Result<(), FrameFault>
+    ensures { (sent : List Field) → AreWritten order sent output.old.items → OnOk result (AreWritten order (sent ++ optional_field field (λ n. a_string (N.text n)) name.now) output.new.items) }
+{
+    match name {
+        Some(name) => put_text(output, order, field, b's', name.as_text()),
+        None => Ok(()),
+    }
+}
+
+/// Puts PATH, where there is one.
+fn put_path(
+    output: &mut Vec<u8>,
+    order: Order,
+    path: &Option<ObjectPath<'_>>,
+) -> Result<(), FrameFault>
+    ensures { (sent : List Field) → AreWritten order sent output.old.items → OnOk result (AreWritten order (sent ++ optional_field field_of.Path an_object_path path.now) output.new.items) }
+{
+    match path {
+        Some(path) => put_text(output, order, HeaderField::Path, b'o', path.as_str()),
+        None => Ok(()),
+    }
+}
+
+/// Puts REPLY_SERIAL, where there is one.
+fn put_reply_serial(
+    output: &mut Vec<u8>,
+    order: Order,
+    serial: Option<u32>,
+) -> Result<(), FrameFault>
+    ensures { (sent : List Field) → AreWritten order sent output.old.items → OnOk result (AreWritten order (sent ++ optional_field field_of.ReplySerial a_uint32 serial) output.new.items) }
+{
+    match serial {
+        Some(serial) => {
+            put_start(output, HeaderField::ReplySerial, b'u')?;
+            put_number(output, order, serial)?;
+            Ok(())
+        }
+        None => Ok(()),
+    }
+}
+
+/// Puts SIGNATURE, where the body has values.
+fn put_signature(output: &mut Vec<u8>, signature: &[u8]) -> Result<(), FrameFault>
+    ensures { (order : Order) (types : Tys) (sent : List Field) → signature.now ≡ codes types → IsSignature types → AreWritten order sent output.old.items → OnOk result (AreWritten order (sent ++ signature_field types) output.new.items) }
+{
+    if signature.is_empty() {
+        return Ok(());
+    }
+    let Ok(length) = u8::try_from(signature.len()) else {
+        return Err(FrameFault::Field(8));
+    };
+    put_start(output, HeaderField::Signature, b'g')?;
+    output.push(length)?;
+    output.extend_from_slice(signature)?;
+    output.push(0)?;
+    Ok(())
+}
+
+/// Puts the fields of a header by rising code.
+pub fn put_fields(
+    output: &mut Vec<u8>,
+    header: &Header<'_>,
+    signature: &[u8],
+) -> Result<(), FrameFault>
+    ensures { (types : Tys) → signature.now ≡ codes types → IsSignature types → output.old.items ≡ [] → OnOk result (AreWritten header.now.order (fields_of header.now types) output.new.items) }
+{
+    let order = header.order;
+    put_path(output, order, &header.path)?;
+    put_name(output, order, HeaderField::Interface, &header.interface)?;
+    put_name(output, order, HeaderField::Member, &header.member)?;
+    put_name(output, order, HeaderField::ErrorName, &header.error_name)?;
+    put_reply_serial(output, order, header.reply_serial)?;
+    put_name(output, order, HeaderField::Destination, &header.destination)?;
+    put_name(output, order, HeaderField::Sender, &header.sender)?;
+    put_signature(output, signature)
+}
+
+fn order_byte(order: Order) -> u8
+    ensures { result ≡ order_byte_of order }
+{
+    match order {
+        Order::Little => b'l',
+        Order::Big => b'B',
+    }
+}
+
+/// Lays a message out: the fixed part, the fields, the padding, the body.
+pub fn lay_out(
+    alloc: Global,
+    header: &Header<'_>,
+    fields: &[u8],
+    body: &[u8],
+) -> Result<Vec<u8>, FrameFault>
+    ensures { IfOk result (λ bytes. (types : Tys) (values : Vals) → IsLaidOut (message_of header.now types values) fields.now body.now bytes.items) }
+{
+    let (Ok(fields_length), Ok(body_length)) = (
+        u32::try_from(fields.len()),
+        u32::try_from(body.len()),
+    ) else {
+        return Err(FrameFault::TooLong);
+    };
+    let order = header.order;
+    let mut bytes = Vec::new(alloc);
+    let start = [order_byte(order), header.kind.number(), header.flags, 1];
+    bytes.extend_from_slice(&start)?;
+    put_number(&mut bytes, order, body_length)?;
+    put_number(&mut bytes, order, header.serial)?;
+    put_number(&mut bytes, order, fields_length)?;
+    bytes.extend_from_slice(fields)?;
+    put_padding(&mut bytes)?;
+    bytes.extend_from_slice(body)?;
+    Ok(bytes)
+}
