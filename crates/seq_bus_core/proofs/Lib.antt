@@ -12,3 +12,4 @@ pub mod MonitorLaws
 pub mod Counts
 pub mod LimitLaws
 pub mod TicketLaws
+pub mod ServiceLaws

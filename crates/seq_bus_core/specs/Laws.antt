@@ -1,13 +1,13 @@
 -- What holds of every bus, whatever is asked of it.
 use Rattle.std.specs.Prelude.{◌≡◌, ℕ, ◌≤◌, ◌<◌, true, false, List, Bool, ◌==◌, map}
-use Rattle.std.specs.List.{AllByRecursion as Each, list_any}
-use Rattle.names.specs.Texts.{Text}
+use Rattle.std.specs.List.{AllByRecursion as Each, IsDistinct, list_any}
+use Rattle.names.specs.Texts.{Text, text_eq, text_lt}
 use Rattle.match_rules.specs.Facts.{Facts}
 use Rattle.owner_queues.specs.declared.request.Profile.{Profile}
 use Rattle.seq_bus_core.specs.BusState.{BusState}
 use Rattle.seq_bus_core.specs.Steps.{step, addressed, is_among}
 use Rattle.seq_bus_core.specs.Recipients.{recipients}
-use Rattle.seq_bus_core.specs.Histories.{History, opening, after, IsLegal, Begins, ends_publication}
+use Rattle.seq_bus_core.specs.Histories.{History, sorted, opening, after, IsLegal, Begins, ends_publication}
 use Rattle.seq_bus_core.specs.Tickets.{WholeBus, opening_bus, bus_step, bus_after}
 use Rattle.seq_bus_core.specs.Consistency.{Pairwise, IsConsistent, IsWithinLimits}
 use Rattle.seq_bus_core.specs.declared.change.Change.{Change}
@@ -30,6 +30,11 @@ StepsKeepLimits = (s : BusState) (seat : ℕ) (change : Change) → IsConsistent
 -- Whatever was changed since it was opened, the limits of a bus hold.
 abbrev pub BusesAreWithinLimits : Type 0
 BusesAreWithinLimits = (profile : Profile) (routers : ℕ) (services : List Text) (history : History) → IsWithinLimits (after (opening profile routers services) history)
+
+-- The services of a bus are those that it was opened with, by rising bytes.
+abbrev pub ServicesRise : Type 0
+ServicesRise = (services : List Text) → IsDistinct text_eq services →
+    Pairwise (λ a b. text_lt a b ≡ true) (sorted services) × ((name : Text) → list_any (text_eq name) (sorted services) ≡ list_any (text_eq name) services)
 
 -- the numbers that were given stay given
 pub record GivesOn (s next : BusState) : Type 0 where

@@ -1,6 +1,6 @@
 //! The laws of the bus. Each function does nothing: what it ensures is the law.
 
-ghost use Rattle.seq_bus_core.specs.Laws.{BeginningsAreLegal, BusesAreConsistent, BusesAreWhole, BusesAreWithinLimits, NobodyGetsAMessageTwice, NumbersOnlyRise, RecipientsAreNamedOnce, SettledTicketsAreTold, SignalsGoToEachOnce, StepsKeepConsistency, StepsKeepLimits};
+ghost use Rattle.seq_bus_core.specs.Laws.{BeginningsAreLegal, BusesAreConsistent, BusesAreWhole, BusesAreWithinLimits, NobodyGetsAMessageTwice, NumbersOnlyRise, RecipientsAreNamedOnce, ServicesRise, SettledTicketsAreTold, SignalsGoToEachOnce, StepsKeepConsistency, StepsKeepLimits};
 
 /// A change leaves a consistent state consistent.
 pub fn steps_keep_consistency()
@@ -55,4 +55,9 @@ pub fn buses_are_whole()
 /// A change is told each ticket that it settles, in order, and no other.
 pub fn settled_tickets_are_told()
     ensures { SettledTicketsAreTold }
+{}
+
+/// The services of a bus are those that it was opened with, by rising bytes.
+pub fn services_rise()
+    ensures { ServicesRise }
 {}
