@@ -1,7 +1,8 @@
 -- Lemmas on the keys of rules.
-use Rattle.std.proofs.Common.{◌≡◌, ℕ, ◌+◌, ◌<◌, List, [], ◌∷◌, ◌++◌, map, length, get_or, refl, sym, ap, ◌∙◌, arith}
+use Rattle.std.proofs.Common.{◌≡◌, ℕ, ◌+◌, ◌<◌, ◌≤◌, inl, inr, List, [], ◌∷◌, ◌++◌, map, length, get_or, refl, sym, ap, ◌∙◌, arith}
 use Rattle.std.specs.List.{range_with_len}
-use Rattle.std.proofs.lemmas.List.{get_or_append_left, get_or-append-add, length-append}
+use Rattle.std.proofs.lemmas.Bool.{cases_lt}
+use Rattle.std.proofs.lemmas.List.{get_or_past, get_or_append_left, get_or-append-add, length-append}
 use Rattle.std.proofs.lemmas.List.FromFn.{get_or-map-range_with_len, length-map-range_with_len}
 use Rattle.match_rules.specs.declared.key.Key.{Key}
 use Rattle.match_rules.specs.declared.key.Key.TheVariants.{«Type» as MessageType, Sender, Interface, Member, Path, PathNamespace, Destination, Argument, ArgumentPath, Argument0Namespace, Eavesdrop}
@@ -43,6 +44,13 @@ key_again (Argument n) h =
 key_again (ArgumentPath n) h = between (plain_keys ++ argument_keys) ArgumentPath max_arguments last_keys Eavesdrop n h
 key_again Argument0Namespace h = refl
 key_again Eavesdrop h = refl
+
+pub key_past : (place : ℕ) → length all_keys ≤ place + 1 → get_or all_keys place Eavesdrop ≡ Eavesdrop
+key_past place h =
+    elim (cases_lt place (length all_keys)) [
+      | inl last ↦ let e : place ≡ key_place Eavesdrop = omega (arith, h, last) in ap (λ p. get_or all_keys p Eavesdrop) e
+      | inr past ↦ get_or_past all_keys place Eavesdrop past
+    ]
 
 -- Keys with one place are one key.
 pub key_by_place : (a b : Key) → IsKey a → IsKey b → key_place a ≡ key_place b → a ≡ b

@@ -7,3 +7,5 @@ pub mod KeyTexts
 pub mod Items
 pub mod RuleOrder
 pub mod RuleTextLaws
+pub mod EntryLemmas
+pub mod NameBytes

@@ -1,3 +1,4 @@
+pub mod EntryView
 pub mod Facts
 pub mod FactsView
 pub mod Fitting

@@ -1,6 +1,6 @@
 //! The types of messages.
 
-ghost use Rattle.std.specs.Prelude.{◌≡◌};
+ghost use Rattle.std.specs.Prelude.{◌≡◌, option_map};
 
 use std::fmt;
 
@@ -16,7 +16,7 @@ pub enum MessageKind {
 }
 
 impl MessageKind {
-    ghost use Rattle.match_rules.specs.Kinds.{kind_number};
+    ghost use Rattle.match_rules.specs.Kinds.{kind_number, kind_word};
 
     /// The number that stands in a message's header.
     pub fn number(self) -> u8
@@ -28,6 +28,19 @@ impl MessageKind {
             MessageKind::Error => 3,
             MessageKind::Signal => 4,
             MessageKind::Unknown(number) => number,
+        }
+    }
+
+    /// The word for the type in a match rule, if there is one. (D-Bus Specification: "Match Rules".)
+    pub fn word(self) -> Option<&'static str>
+        ensures { option_map (λ word. word.now) result ≡ kind_word self }
+    {
+        match self {
+            MessageKind::MethodCall => Some("method_call"),
+            MessageKind::MethodReturn => Some("method_return"),
+            MessageKind::Error => Some("error"),
+            MessageKind::Signal => Some("signal"),
+            MessageKind::Unknown(_) => None,
         }
     }
 }

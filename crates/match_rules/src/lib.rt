@@ -6,8 +6,10 @@
 //! (D-Bus Specification: "Match Rules".)
 #![tactic(auto)]
 
+mod entries;
 mod facts;
 mod fault;
+mod fitting;
 mod key;
 mod kind;
 pub mod laws;
@@ -15,6 +17,7 @@ mod rule;
 
 pub use facts::{Argument, Facts};
 pub use fault::RuleFault;
+pub use fitting::Owners;
 pub use key::Key;
 pub use kind::MessageKind;
 pub use rule::{MAX_RULE_LENGTH, Rule};

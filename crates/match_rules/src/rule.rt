@@ -1,5 +1,6 @@
 //! A match rule.
 
+use crate::entries::Entries;
 use arrayvec::ArrayVec;
 use std::marker::Model;
 
@@ -24,6 +25,18 @@ impl Model for Rule {
     ghost view = { λ rule. rule_in rule.entries.items };
 
     ghost invariant = { λ rule. ∥ IsRule (rule_in rule.entries.items) ∥₁ × (rule.entries.items ≡ rule_bytes (rule_in rule.entries.items)) };
+}
+
+impl Rule {
+    ghost use Rattle.std.specs.Prelude.{◌≡◌, true};
+    ghost use Rattle.match_rules.specs.EntryView.{all_taken, entries_left};
+
+    pub(crate) fn entries(&self) -> Entries<'_>
+        ensures value { entries_left result ≡ self.now }
+        ensures taken { all_taken self.now ≡ true }
+    {
+        Entries::new(self.entries.as_slice())
+    }
 }
 
 impl PartialEq for Rule {
