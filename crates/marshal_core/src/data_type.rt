@@ -9,6 +9,7 @@ ghost use Rattle.marshal_core.specs.Faults.{Gives};
 use crate::fault::MarshalFault;
 use crate::parsing::variant_type;
 use std::alloc::{AllocError, Global};
+use std::fmt;
 
 /// A basic type ("Basic Types" of the D-Bus Specification), but for UNIX_FD: file descriptors are
 /// not passed.
@@ -144,6 +145,31 @@ impl DataType {
                     copies.push(field.try_clone(alloc)?)?;
                 }
                 Ok(DataType::Struct(copies))
+            }
+        }
+    }
+}
+
+/// The type as it stands in a signature.
+impl fmt::Display for DataType {
+    fn fmt<W: fmt::Write>(&self, f: &mut fmt::Formatter<W>) -> fmt::Result {
+        match self {
+            DataType::Basic(basic) => {
+                let code = char::from(basic.code());
+                write!(f, "{code}")
+            }
+            DataType::Variant => write!(f, "v"),
+            DataType::Array(element) => write!(f, "a{element}"),
+            DataType::Dictionary(key, value) => {
+                let key = char::from(key.code());
+                write!(f, "a{{{key}{value}}}")
+            }
+            DataType::Struct(fields) => {
+                write!(f, "(")?;
+                for field in fields {
+                    write!(f, "{field}")?;
+                }
+                write!(f, ")")
             }
         }
     }

@@ -7,10 +7,11 @@ use crate::data_type::DataType;
 use crate::fault::MarshalFault;
 use crate::parsing::signature_types;
 use std::alloc::Global;
+use std::fmt;
 
 /// Zero or more single complete types, as "Valid Signatures" of the D-Bus Specification allows
 /// them: at most 255 bytes as text, 32 arrays and 32 structs about one another, no empty struct.
-#[derive(Debug, Drop)]
+#[derive(Debug, Drop, PartialEq)]
 pub struct Signature {
     pub types: Vec<DataType>,
     pub ghost valid: { IsSignature (types_of types.items) },
@@ -35,5 +36,65 @@ impl Signature {
         ensures { Gives (λ x. types_of x.types.items) result (signature_of text.now) }
     {
         Signature::from_bytes(alloc, text.as_bytes())
+    }
+}
+
+/// The text of the signature.
+impl fmt::Display for Signature {
+    fn fmt<W: fmt::Write>(&self, f: &mut fmt::Formatter<W>) -> fmt::Result {
+        for one in &self.types {
+            write!(f, "{one}")?;
+        }
+        Ok(())
+    }
+}
+
+#[cfg(test)]
+mod tests {
+    use super::*;
+    use std::test::Fail;
+
+    #[test]
+    fn prints_what_it_parsed(rt: HostRuntime) -> Result<(), Fail> {
+        for text in ["", "ybnqiuxtdsog", "a{s(ua{yv})}(v)aay"] {
+            let signature = Signature::parse(rt.alloc(), text)?;
+            assert_eq!(rt; format!(in rt.alloc(); "{signature}")?.as_str(), text);
+        }
+        Ok(())
+    }
+
+    #[test]
+    fn tells_faults(rt: HostRuntime) -> Result<(), Fail> {
+        for (text, want) in [
+            ("a", MarshalFault::Signature),
+            ("()", MarshalFault::Signature),
+            ("(y", MarshalFault::Signature),
+            ("y)", MarshalFault::Signature),
+            ("{yv}", MarshalFault::Signature),
+            ("a{vy}", MarshalFault::Signature),
+            ("a{y}", MarshalFault::Signature),
+            ("a{yyy}", MarshalFault::Signature),
+            ("z", MarshalFault::Signature),
+            ("h", MarshalFault::Descriptor),
+            ("a{hy}", MarshalFault::Descriptor),
+            ("a{yh}", MarshalFault::Descriptor),
+            ("zh", MarshalFault::Signature),
+        ] {
+            assert_eq!(rt;
+                Signature::parse(rt.alloc(), text).err(),
+                Some(want),
+                "{text}"
+            );
+        }
+        let long = [b'y'; 256];
+        assert_eq!(rt;
+            Signature::from_bytes(rt.alloc(), &long[..255])?.types.len(),
+            255
+        );
+        assert_eq!(rt;
+            Signature::from_bytes(rt.alloc(), &long).err(),
+            Some(MarshalFault::Signature)
+        );
+        Ok(())
     }
 }

@@ -4,7 +4,7 @@ use crate::data_type::{BasicType, DataType};
 use crate::signature::Signature;
 
 /// A value of a basic type.
-#[derive(Debug, Drop)]
+#[derive(Debug, Drop, PartialEq)]
 pub enum BasicValue {
     Byte(u8),
     Boolean(bool),
@@ -23,7 +23,7 @@ pub enum BasicValue {
 
 /// A value of a single complete type. An array keeps the type of its elements, a dictionary those
 /// of its keys and values, so that an empty one has a type too.
-#[derive(Debug, Drop)]
+#[derive(Debug, Drop, PartialEq)]
 pub enum Value {
     Basic(BasicValue),
     Variant(Box<Value>),
