@@ -11,3 +11,6 @@ mod text;
 
 pub use decoding::{decode, one_spelling, one_text};
 pub use marshal_core::{BasicType, BasicValue, DataType, MarshalFault, Order, Signature, Value};
+
+#[cfg(test)]
+mod tests;
