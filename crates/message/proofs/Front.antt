@@ -1,0 +1,48 @@
+-- Taking a message off the front.
+use Rattle.std.proofs.Common.{◌≡◌, ◌≢◌, ℕ, ◌+◌, ◌-◌, ◌≤◌, List, ◌∷◌, ◌++◌, length, take, drop, Option, Some, None, Result, Ok, refl, sym, ap, ◌∙◌, arith}
+use Rattle.std.proofs.lemmas.List.{take-append-drop, length-take-le, length-drop, drop-drop, take_all}
+use Rattle.message_core.specs.declared.fault.FrameFault.{FrameFault}
+use Rattle.message_core.specs.declared.fault.FrameFault.TheVariants as fault
+use Rattle.message_core.specs.Announcements.{announced}
+use Rattle.message.specs.Framing.{Unread, IsKept, FaultIs}
+
+abbrev ok : ℕ → Result ℕ FrameFault
+ok n = Ok n
+
+pub announced_append : (limit : ℕ) (front more : List ℕ) → 16 ≤ length front → announced limit (front ++ more) ≡ announced limit front
+unfolding announced
+announced_append limit (a ∷ b ∷ c ∷ d ∷ e ∷ f ∷ g ∷ h ∷ i ∷ j ∷ k ∷ l ∷ m ∷ n ∷ o ∷ p ∷ front) more long = refl
+announced_append limit front more long = absurd (omega arith)
+
+pub none_of : (o : Option FrameFault) → ((x : FrameFault) → o ≡ Some x → ⊥) → o ≡ None
+none_of None h = refl
+none_of (Some x) h = absurd (h x refl)
+
+pub kept : (limit : ℕ) (f : FrameFault) (old new : Unread) → f ≢ fault.NoMemory → IsKept limit f old new → FaultIs limit f old new
+kept limit fault.NoMemory old new ne h = absurd (ne refl)
+kept limit fault.Order old new ne h = h
+kept limit fault.Version old new ne h = h
+kept limit fault.Kind old new ne h = h
+kept limit fault.Serial old new ne h = h
+kept limit (fault.Field c) old new ne h = h
+kept limit (fault.Missing c) old new ne h = h
+kept limit fault.TooLong old new ne h = h
+kept limit fault.BodyLength old new ne h = h
+kept limit (fault.Body g) old new ne h = h
+
+pub record Taken (limit : ℕ) (items whole : List ℕ) (from len : ℕ) : Type 0 where
+  pub announced_whole : announced limit whole ≡ Ok (length whole)
+  pub split : drop from items ≡ whole ++ drop (from + len) items
+  pub size : length whole ≡ len
+
+pub taken : (limit : ℕ) (items whole unread : List ℕ) (from len : ℕ) → from ≤ length items → unread ≡ take (length items - from) (drop from items) → whole ≡ take len unread → announced limit unread ≡ Ok len → 16 ≤ len → len ≤ length unread
+    → Taken limit items whole from len
+taken limit items whole unread from len within u w a enough long =
+    let all : unread ≡ drop from items = u ∙ take_all (length items - from) (drop from items) (omega (arith, length-drop from items)) in
+    let size : length whole ≡ len = ap length w ∙ length-take-le len unread long in
+    let split : unread ≡ whole ++ drop len unread = sym (take-append-drop len unread) ∙ ap (λ (x : List ℕ). x ++ drop len unread) (sym w) in
+    record {
+      announced_whole = sym (announced_append limit whole (drop len unread) (omega (arith, size))) ∙ ap (announced limit) (sym split) ∙ a ∙ ap (λ (n : ℕ). ok n) (sym size);
+      split = sym all ∙ split ∙ ap (λ (x : List ℕ). whole ++ drop len x) all ∙ ap (λ (x : List ℕ). whole ++ x) (drop-drop len from items);
+      size = size;
+    }

@@ -1,0 +1,123 @@
+//! Whole messages out of a stream that comes in pieces.
+
+ghost use Rattle.std.specs.Prelude.{◌≡◌, ◌≢◌, ◌≤◌, ◌++◌, ℕ, List, [], Ok, Some, None, length, take, drop, OnOk, OnErr, IfOk, IfErr, IfSome, IfNone};
+ghost use Rattle.message_core.specs.declared.fault.FrameFault.TheVariants.{NoMemory};
+ghost use Rattle.message_core.specs.Announcements.{announced};
+ghost use Rattle.message_core.specs.Messages.{Message as Record, IsMessage};
+ghost use Rattle.message_core.specs.Said.{said};
+ghost use Rattle.message_core.specs.Streams.{IsStream};
+ghost use Rattle.message.specs.Framing.{Unread, IsWaiting, IsTaken, IsJudged, FaultIs};
+
+use message_core::{FIXED_LENGTH, FrameFault, MESSAGE_LIMIT, Message, announced_length};
+use std::alloc::{AllocError, Global};
+use std::marker::Model;
+
+/// Cuts a stream into messages, in whatever pieces it comes.
+#[derive(Drop)]
+pub struct Framer {
+    alloc: Global,
+    buffer: Vec<u8>,
+    from: usize,
+    fault: Option<FrameFault>,
+}
+
+impl Model for Framer {
+    ghost use Rattle.std.specs.Prelude.{◌≤◌, drop, length};
+    ghost use Rattle.message.specs.Framing.{Unread};
+
+    ghost Value = { Unread };
+
+    ghost view = { λ f. record { bytes = drop f.from f.buffer.items; fault = f.fault } };
+
+    ghost invariant = { λ f. f.from ≤ length f.buffer.items };
+}
+
+/// The length of the message that the bytes begin with, if it is there as a whole.
+fn whole_length(bytes: &[u8]) -> Result<Option<usize>, FrameFault>
+    ensures some { IfOk result (λ found. IfSome found (λ n. (16 ≤ n) × (n ≤ length bytes.now) × (announced MESSAGE_LIMIT bytes.now ≡ Ok n))) }
+    ensures none { IfOk result (λ found. IfNone found (IsWaiting MESSAGE_LIMIT bytes.now)) }
+    ensures fault { IfErr result (λ f. IsJudged MESSAGE_LIMIT f bytes.now) }
+    ensures memory { IfErr result (λ f. f ≢ NoMemory) }
+{
+    if bytes.len() < FIXED_LENGTH {
+        return Ok(None);
+    }
+    let length = announced_length(MESSAGE_LIMIT, bytes)?;
+    if bytes.len() < length {
+        return Ok(None);
+    }
+    Ok(Some(length))
+}
+
+impl Framer {
+    /// A framer that holds nothing.
+    pub fn new(alloc: Global) -> Framer
+        ensures { result ≡ record { bytes = []; fault = None } }
+    {
+        Framer {
+            alloc,
+            buffer: Vec::new(alloc),
+            from: 0,
+            fault: None,
+        }
+    }
+
+    /// Takes a piece of the stream. After a fault it takes nothing; without memory it stays as it was.
+    pub fn feed(&mut self, piece: &[u8]) -> Result<(), AllocError>
+        ensures good { IfNone self.old.fault (OnOk result (self.new ≡ record self.old { bytes = self.old.bytes ++ piece.now })) }
+        ensures spent { IfSome self.old.fault (λ _. self.new ≡ self.old) }
+        ensures err { OnErr result (self.new ≡ self.old) }
+    {
+        if self.fault.is_some() {
+            return Ok(());
+        }
+        if self.from == 0 || self.from < self.buffer.len() / 2 {
+            self.buffer.extend_from_slice(piece)?;
+            return Ok(());
+        }
+        // What was given out is at least half: the rest is moved to the front.
+        let mut fresh = Vec::from_slice(self.alloc, &self.buffer[self.from..])?;
+        fresh.extend_from_slice(piece)?;
+        self.buffer = fresh;
+        self.from = 0;
+        Ok(())
+    }
+
+    /// The next whole message; `None` where bytes are missing. The first fault is answered for good,
+    /// want of memory changes nothing.
+    pub fn next(&mut self) -> Result<Option<Message>, FrameFault>
+        ensures some { IfOk result (λ found. IfSome found (λ message. IsTaken MESSAGE_LIMIT message self.old self.new)) }
+        ensures none { IfOk result (λ found. IfNone found ((self.old.fault ≡ None) × IsWaiting MESSAGE_LIMIT self.old.bytes × (self.new ≡ self.old))) }
+        ensures fault { IfErr result (λ f. FaultIs MESSAGE_LIMIT f self.old self.new) }
+    {
+        if let Some(fault) = self.fault {
+            return Err(fault);
+        }
+        let unread = &self.buffer[self.from..];
+        let length = match whole_length(unread) {
+            Ok(Some(length)) => length,
+            Ok(None) => return Ok(None),
+            Err(fault) => {
+                self.fault = Some(fault);
+                return Err(fault);
+            }
+        };
+        let whole = Vec::from_slice(self.alloc, &unread[..length])?;
+        match Message::read(self.alloc, whole) {
+            Ok(message) => {
+                self.from += length;
+                Ok(Some(message))
+            }
+            Err(FrameFault::NoMemory) => Err(FrameFault::NoMemory),
+            Err(fault) => {
+                self.fault = Some(fault);
+                Err(fault)
+            }
+        }
+    }
+}
+
+/// A stream is cut into messages in one way, whatever pieces it comes in.
+pub fn one_stream()
+    ensures { (limit : ℕ) (bytes : List ℕ) (messages others : List Record) (rest left : List ℕ) → IsStream limit bytes messages rest → IsStream limit bytes others left → (messages ≡ others) × (rest ≡ left) }
+{}
