@@ -10,3 +10,4 @@ mod Wholes
 mod Lending
 mod Putting
 mod Own
+mod Arguments

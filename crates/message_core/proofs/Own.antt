@@ -3,9 +3,10 @@ use Rattle.std.proofs.Common.{◌≡◌, ℕ, ◌+◌, ◌-◌, ◌%◌, ◌≤�
 use Rattle.std.specs.Prelude.{◌==◌, if◌then◌else◌}
 use Rattle.std.specs.Int.{w32}
 use Rattle.marshal_core.specs.declared.order.Order.{Order}
-use Rattle.marshal_core.specs.Types.{Tys, no_types, more_types}
-use Rattle.marshal_core.specs.Values.{BasicVal, a_string, an_object_path, a_uint32, Val, Vals}
-use Rattle.marshal_core.specs.Spelling.{number_bytes, pads, Spells}
+use Rattle.marshal_core.specs.Types.{Tys, no_types, more_types, array as array_of, one_type}
+use Rattle.marshal_core.specs.Values.{BasicVal, a_string, an_object_path, a_uint32, Val, Vals, no_values, more_values}
+use Rattle.marshal_core.specs.Spelling.{number_bytes, pads, max_container_depth, SpellValue, Spells}
+use Rattle.marshal.proofs.Once.{one_fields}
 use Rattle.marshal_core.proofs.Results.{leb_true}
 use Rattle.message_core.specs.declared.fault.FrameFault.{FrameFault}
 use Rattle.message_core.specs.declared.header.Header.{Header}
@@ -13,14 +14,14 @@ use Rattle.message_core.specs.declared.header_field.HeaderField.{HeaderField}
 use Rattle.message_core.specs.declared.header_field.HeaderField.TheVariants as field
 use Rattle.message_core.specs.Announcements.{announced, number, whole_length, fields_place, body_length_place, max_fields_length, order_byte, protocol_version}
 use Rattle.message_core.specs.Kinds.{code_of}
-use Rattle.message_core.specs.HeaderFields.{Field, value_of, by_code, insert_field, body_types, types_in}
-use Rattle.message_core.specs.Messages.{Message, IsSent, IsMessage, IsWritten}
+use Rattle.message_core.specs.HeaderFields.{Field, value_of, by_code, insert_field, body_types, types_in, field_type}
+use Rattle.message_core.specs.Messages.{Message, IsSent, IsMessage, IsWritten, field_array}
 use Rattle.message_core.specs.Said.{order_of, said}
 use Rattle.message_core.specs.Headers.{AreWritten, IsLaidOut, optional_field, signature_field, fields_of, message_of}
 use Rattle.message_core.proofs.Strings.{length-number}
 use Rattle.message_core.proofs.Announced.{announced_facts}
 use Rattle.message_core.proofs.Said.{Parts, parts_of, sent_back, sent_of, said_of}
-use Rattle.std.proofs.lemmas.List.{length-append}
+use Rattle.std.proofs.lemmas.List.{length-append, append-nil}
 use Rattle.std.proofs.lemmas.Bool.{ne_eqb}
 
 -- ---- the fields of a header stand by rising code
@@ -148,3 +149,19 @@ own_written header types values array body bytes limit laid written spelled e is
 pub own_ok : (r : Result (List ℕ) FrameFault) (bytes : List ℕ) (m : Message) → IfOk r (λ x. x ≡ bytes) → IfOk r (λ x. IsMessage x (said x)) → (IsMessage bytes (said bytes) → IsWritten bytes m) → IfOk r (λ x. IsWritten x m)
 own_ok (Ok x) bytes m e is f = subst (λ (b : List ℕ). IsWritten b m) (sym e) (f (subst (λ (b : List ℕ). IsMessage b (said b)) e is))
 own_ok (Err x) bytes m e is f = tt
+
+-- ---- a message is written in one way
+
+one_array : (m : Message) (a b : List ℕ) → (fs : List Field) → SpellValue (field_array fs) max_container_depth m.order fields_place (array_of field_type) a → SpellValue (field_array fs) max_container_depth m.order fields_place (array_of field_type) b → a ≡ b
+one_array m a b fs h k =
+    one_fields (more_values (field_array fs) no_values) max_container_depth m.order fields_place (one_type (array_of field_type)) a b (a, [], h, refl, sym (append-nil a)) (b, [], k, refl, sym (append-nil b))
+
+pub one_writing : (m : Message) (a b : List ℕ) → IsWritten a m → IsWritten b m → a ≡ b
+one_writing m a b h k =
+    let arrays : h.is_sent.array_bytes ≡ k.is_sent.array_bytes = one_array m h.is_sent.array_bytes k.is_sent.array_bytes m.fields h.is_sent.array_spelled k.is_sent.array_spelled in
+    let bodies : h.is_sent.body_bytes ≡ k.is_sent.body_bytes = one_fields m.body max_container_depth m.order 0 m.types h.is_sent.body_bytes k.is_sent.body_bytes h.is_sent.body_spelled.1 k.is_sent.body_spelled.1 in
+    let start : List ℕ = order_byte m.order ∷ m.kind ∷ m.flags ∷ protocol_version ∷ [] in
+    h.is_sent.whole
+    ∙ ap (λ (x : List ℕ). start ++ (number_bytes m.order w32 (length h.is_sent.body_bytes) ++ (number_bytes m.order w32 m.serial ++ (x ++ (pads 8 (fields_place + length x) ++ h.is_sent.body_bytes))))) arrays
+    ∙ ap (λ (x : List ℕ). start ++ (number_bytes m.order w32 (length x) ++ (number_bytes m.order w32 m.serial ++ (k.is_sent.array_bytes ++ (pads 8 (fields_place + length k.is_sent.array_bytes) ++ x))))) bodies
+    ∙ sym k.is_sent.whole

@@ -1,15 +1,16 @@
 //! Whole messages.
 
-ghost use Rattle.std.specs.Prelude.{◌≡◌, ◌≤◌, Ok, IfOk, length, true};
+ghost use Rattle.std.specs.Prelude.{◌≡◌, ◌≤◌, ℕ, List, Ok, IfOk, IfErr, length, true};
 ghost use Rattle.marshal_core.specs.Signatures.{codes};
+ghost use Rattle.marshal_core.specs.declared.fault.MarshalFault.TheVariants.{NoMemory};
 ghost use Rattle.marshal_core.specs.Spelling.{Spells};
 ghost use Rattle.marshal_core.specs.Types.{Tys};
-ghost use Rattle.marshal_core.specs.Values.{Vals};
+ghost use Rattle.marshal_core.specs.Values.{Vals, values_of};
 ghost use Rattle.match_rules.specs.Kinds.{kind_of};
 ghost use Rattle.message_core.specs.declared.header_field.HeaderField.TheVariants as field_of;
 ghost use Rattle.message_core.specs.Announcements.{announced};
 ghost use Rattle.message_core.specs.HeaderFields.{text_field, number_field};
-ghost use Rattle.message_core.specs.Messages.{IsMessage, IsWritten};
+ghost use Rattle.message_core.specs.Messages.{Message as Record, IsMessage, IsWritten};
 ghost use Rattle.message_core.specs.Headers.{message_of};
 ghost use Rattle.message_core.specs.Said.{said};
 ghost use Rattle.message_core.specs.Whole.{is_text, Lends};
@@ -21,7 +22,8 @@ use crate::header::Header;
 use crate::header_field::HeaderField;
 use crate::reading::{check, number_at, order_of, place_of, signature_text, text_at};
 use crate::writing::{lay_out, put_fields};
-use marshal_core::Order;
+use marshal::decode;
+use marshal_core::{MarshalFault, Order, Signature, Value};
 use match_rules::MessageKind;
 use std::alloc::Global;
 use std::marker::Model;
@@ -81,7 +83,7 @@ impl Message {
         ensures value { result.now ≡ self.now }
         ensures message { IsMessage self.now (said self.now) }
     {
-        &self.bytes
+        self.bytes.as_slice()
     }
 
     /// The byte order of all numbers of the message.
@@ -186,4 +188,30 @@ impl Message {
         let length = number(self.order(), 12, &self.bytes) as usize;
         &self.bytes[FIXED_LENGTH + (length + (8 - length % 8) % 8)..]
     }
+
+    /// The values of the body. Want of memory is the only fault.
+    pub fn arguments(&self, alloc: Global) -> Result<Vec<Value>, MarshalFault>
+        ensures values { IfOk result (λ arguments. values_of arguments.items ≡ (said self.now).body) }
+        ensures memory { IfErr result (λ fault. fault ≡ NoMemory) }
+    {
+        let body = self.body();
+        let signature = match Signature::from_bytes(alloc, self.signature()) {
+            Ok(signature) => signature,
+            Err(fault) => return Err(fault),
+        };
+        match decode(alloc, self.order(), 0, &signature, body) {
+            Ok((values, _)) => Ok(values),
+            Err(fault) => Err(fault),
+        }
+    }
 }
+
+/// A message is written in one way: the bytes of one's own message follow from its header and body.
+pub fn one_writing()
+    ensures { (m : Record) (a b : List ℕ) → IsWritten a m → IsWritten b m → a ≡ b }
+{}
+
+/// Bytes are one message at most, the one that they say.
+pub fn one_reading()
+    ensures { (bytes : List ℕ) (m : Record) → IsMessage bytes m → said bytes ≡ m }
+{}
