@@ -1,0 +1,7 @@
+-- Nothing was read yet.
+use Rattle.std.proofs.Common.{[]}
+use Rattle.std.specs.Io.KnownBytes.{Consumes}
+use Rattle.busd_core.proofs.transfer.read_piece.Given as goal
+
+abbrev pub invariant-loop : goal.invariant-loop
+invariant-loop g l = Consumes (g.R.Read.remaining l.initial.reader) (g.R.Read.remaining l.reader) []

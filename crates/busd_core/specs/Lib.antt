@@ -1,0 +1,8 @@
+pub mod OwnMessages
+pub mod Calls
+pub mod Serving
+pub mod Runs
+pub mod Transfers
+pub mod Sessions
+pub mod Stops
+pub mod Statuses

@@ -1,0 +1,115 @@
+//! Messages of a client and of the bus, put together from the wire format by hand.
+
+/// Hello, little-endian, serial 1.
+pub const HELLO: &[u8] =
+    b"l\x01\0\x01\0\0\0\0\x01\0\0\0m\0\0\0\x01\x01o\0\x15\0\0\0/org/freedesktop/DBus\0\0\0\x02\x01s\0\x14\0\0\0org.freedesktop.DBus\0\0\0\0\x03\x01s\0\x05\0\0\0Hello\0\0\0\x06\x01s\0\x14\0\0\0org.freedesktop.DBus\0\0\0\0";
+
+/// GetNameOwner of `:1.1`, big-endian, serial 2.
+pub const GET_NAME_OWNER: &[u8] =
+    b"B\x01\0\x01\0\0\0\x09\0\0\0\x02\0\0\0\x7f\x01\x01o\0\0\0\0\x15/org/freedesktop/DBus\0\0\0\x02\x01s\0\0\0\0\x14org.freedesktop.DBus\0\0\0\0\x03\x01s\0\0\0\0\x0cGetNameOwner\0\0\0\0\x06\x01s\0\0\0\0\x14org.freedesktop.DBus\0\0\0\0\x08\x01g\0\x01s\0\0\0\0\0\x04:1.1\0";
+
+/// The reply to `HELLO`: `:1.1`.
+pub const WELCOME: &[u8] =
+    b"l\x02\x01\x01\x09\0\0\0\x01\0\0\0?\0\0\0\x05\x01u\0\x01\0\0\0\x06\x01s\0\x04\0\0\0:1.1\0\0\0\0\x07\x01s\0\x14\0\0\0org.freedesktop.DBus\0\0\0\0\x08\x01g\0\x01s\0\0\x04\0\0\0:1.1\0";
+
+/// NameAcquired of `:1.1`, serial 2.
+pub const ACQUIRED: &[u8] =
+    b"l\x04\x01\x01\x09\0\0\0\x02\0\0\0\x8f\0\0\0\x01\x01o\0\x15\0\0\0/org/freedesktop/DBus\0\0\0\x02\x01s\0\x14\0\0\0org.freedesktop.DBus\0\0\0\0\x03\x01s\0\x0c\0\0\0NameAcquired\0\0\0\0\x06\x01s\0\x04\0\0\0:1.1\0\0\0\0\x07\x01s\0\x14\0\0\0org.freedesktop.DBus\0\0\0\0\x08\x01g\0\x01s\0\0\x04\0\0\0:1.1\0";
+
+/// The reply to `GET_NAME_OWNER`, serial 3.
+pub const OWNER: &[u8] =
+    b"l\x02\x01\x01\x09\0\0\0\x03\0\0\0?\0\0\0\x05\x01u\0\x02\0\0\0\x06\x01s\0\x04\0\0\0:1.1\0\0\0\0\x07\x01s\0\x14\0\0\0org.freedesktop.DBus\0\0\0\0\x08\x01g\0\x01s\0\0\x04\0\0\0:1.1\0";
+
+/// Hello with serial 2.
+pub const HELLO_AGAIN: &[u8] =
+    b"l\x01\0\x01\0\0\0\0\x02\0\0\0m\0\0\0\x01\x01o\0\x15\0\0\0/org/freedesktop/DBus\0\0\0\x02\x01s\0\x14\0\0\0org.freedesktop.DBus\0\0\0\0\x03\x01s\0\x05\0\0\0Hello\0\0\0\x06\x01s\0\x14\0\0\0org.freedesktop.DBus\0\0\0\0";
+
+/// The error that a second Hello gets.
+pub const FAILED: &[u8] =
+    b"l\x03\x01\x01\x16\0\0\0\x03\0\0\0o\0\0\0\x04\x01s\0!\0\0\0org.freedesktop.DBus.Error.Failed\0\0\0\0\0\0\0\x05\x01u\0\x02\0\0\0\x06\x01s\0\x04\0\0\0:1.1\0\0\0\0\x07\x01s\0\x14\0\0\0org.freedesktop.DBus\0\0\0\0\x08\x01g\0\x01s\0\0\x11\0\0\0Not possible here\0";
+
+/// A call of ListNames, which is not served yet.
+pub const LIST_NAMES: &[u8] =
+    b"l\x01\0\x01\0\0\0\0\x02\0\0\0u\0\0\0\x01\x01o\0\x15\0\0\0/org/freedesktop/DBus\0\0\0\x02\x01s\0\x14\0\0\0org.freedesktop.DBus\0\0\0\0\x03\x01s\0\x09\0\0\0ListNames\0\0\0\0\0\0\0\x06\x01s\0\x14\0\0\0org.freedesktop.DBus\0\0\0\0";
+
+/// A call without interface and destination.
+pub const OTHER_METHOD: &[u8] =
+    b"l\x01\0\x01\0\0\0\0\x02\0\0\0-\0\0\0\x01\x01o\0\x15\0\0\0/org/freedesktop/DBus\0\0\0\x03\x01s\0\x04\0\0\0Ping\0\0\0\0";
+
+/// A call of the monitors' interface.
+pub const MONITOR_METHOD: &[u8] =
+    b"l\x01\0\x01\0\0\0\0\x02\0\0\0}\0\0\0\x01\x01o\0\x15\0\0\0/org/freedesktop/DBus\0\0\0\x02\x01s\0\x1f\0\0\0org.freedesktop.DBus.Monitoring\0\x03\x01s\0\x0d\0\0\0BecomeMonitor\0\0\0\x06\x01s\0\x14\0\0\0org.freedesktop.DBus\0\0\0\0";
+
+pub const UNKNOWN_METHOD: &[u8] =
+    b"l\x03\x01\x01\x13\0\0\0\x03\0\0\0w\0\0\0\x04\x01s\0(\0\0\0org.freedesktop.DBus.Error.UnknownMethod\0\0\0\0\0\0\0\0\x05\x01u\0\x02\0\0\0\x06\x01s\0\x04\0\0\0:1.1\0\0\0\0\x07\x01s\0\x14\0\0\0org.freedesktop.DBus\0\0\0\0\x08\x01g\0\x01s\0\0\x0e\0\0\0No such method\0";
+
+/// A call of another interface.
+pub const OTHER_INTERFACE: &[u8] =
+    b"l\x01\0\x01\0\0\0\0\x02\0\0\0u\0\0\0\x01\x01o\0\x15\0\0\0/org/freedesktop/DBus\0\0\0\x02\x01s\0\x19\0\0\0org.freedesktop.DBus.Peer\0\0\0\0\0\0\0\x03\x01s\0\x04\0\0\0Ping\0\0\0\0\x06\x01s\0\x14\0\0\0org.freedesktop.DBus\0\0\0\0";
+
+pub const UNKNOWN_INTERFACE: &[u8] =
+    b"l\x03\x01\x01\x16\0\0\0\x03\0\0\0w\0\0\0\x04\x01s\0+\0\0\0org.freedesktop.DBus.Error.UnknownInterface\0\0\0\0\0\x05\x01u\0\x02\0\0\0\x06\x01s\0\x04\0\0\0:1.1\0\0\0\0\x07\x01s\0\x14\0\0\0org.freedesktop.DBus\0\0\0\0\x08\x01g\0\x01s\0\0\x11\0\0\0No such interface\0";
+
+/// GetNameOwner of nothing.
+pub const NO_ARGUMENT: &[u8] =
+    b"l\x01\0\x01\0\0\0\0\x02\0\0\0u\0\0\0\x01\x01o\0\x15\0\0\0/org/freedesktop/DBus\0\0\0\x02\x01s\0\x14\0\0\0org.freedesktop.DBus\0\0\0\0\x03\x01s\0\x0c\0\0\0GetNameOwner\0\0\0\0\x06\x01s\0\x14\0\0\0org.freedesktop.DBus\0\0\0\0";
+
+/// GetNameOwner of a text that is no bus name.
+pub const NO_NAME: &[u8] =
+    b"l\x01\0\x01\x0c\0\0\0\x02\0\0\0\x7f\0\0\0\x01\x01o\0\x15\0\0\0/org/freedesktop/DBus\0\0\0\x02\x01s\0\x14\0\0\0org.freedesktop.DBus\0\0\0\0\x03\x01s\0\x0c\0\0\0GetNameOwner\0\0\0\0\x06\x01s\0\x14\0\0\0org.freedesktop.DBus\0\0\0\0\x08\x01g\0\x01s\0\0\x07\0\0\0no_name\0";
+
+/// GetNameOwner of an object path.
+pub const OBJECT_PATH: &[u8] =
+    b"l\x01\0\x01\x07\0\0\0\x02\0\0\0\x7f\0\0\0\x01\x01o\0\x15\0\0\0/org/freedesktop/DBus\0\0\0\x02\x01s\0\x14\0\0\0org.freedesktop.DBus\0\0\0\0\x03\x01s\0\x0c\0\0\0GetNameOwner\0\0\0\0\x06\x01s\0\x14\0\0\0org.freedesktop.DBus\0\0\0\0\x08\x01g\0\x01o\0\0\x02\0\0\0/a\0";
+
+pub const INVALID_ARGS: &[u8] =
+    b"l\x03\x01\x01\x16\0\0\0\x03\0\0\0o\0\0\0\x04\x01s\0&\0\0\0org.freedesktop.DBus.Error.InvalidArgs\0\0\x05\x01u\0\x02\0\0\0\x06\x01s\0\x04\0\0\0:1.1\0\0\0\0\x07\x01s\0\x14\0\0\0org.freedesktop.DBus\0\0\0\0\x08\x01g\0\x01s\0\0\x11\0\0\0Invalid arguments\0";
+
+/// GetNameOwner of a name without owner.
+pub const OTHER_OWNER: &[u8] =
+    b"l\x01\0\x01\x12\0\0\0\x02\0\0\0\x7f\0\0\0\x01\x01o\0\x15\0\0\0/org/freedesktop/DBus\0\0\0\x02\x01s\0\x14\0\0\0org.freedesktop.DBus\0\0\0\0\x03\x01s\0\x0c\0\0\0GetNameOwner\0\0\0\0\x06\x01s\0\x14\0\0\0org.freedesktop.DBus\0\0\0\0\x08\x01g\0\x01s\0\0\x0d\0\0\0com.example.A\0";
+
+pub const NO_OWNER: &[u8] =
+    b"l\x03\x01\x01\x1a\0\0\0\x03\0\0\0w\0\0\0\x04\x01s\0)\0\0\0org.freedesktop.DBus.Error.NameHasNoOwner\0\0\0\0\0\0\0\x05\x01u\0\x02\0\0\0\x06\x01s\0\x04\0\0\0:1.1\0\0\0\0\x07\x01s\0\x14\0\0\0org.freedesktop.DBus\0\0\0\0\x08\x01g\0\x01s\0\0\x15\0\0\0The name has no owner\0";
+
+/// GetNameOwner of the bus.
+pub const BUS_OWNER: &[u8] =
+    b"l\x01\0\x01\x19\0\0\0\x02\0\0\0\x7f\0\0\0\x01\x01o\0\x15\0\0\0/org/freedesktop/DBus\0\0\0\x02\x01s\0\x14\0\0\0org.freedesktop.DBus\0\0\0\0\x03\x01s\0\x0c\0\0\0GetNameOwner\0\0\0\0\x06\x01s\0\x14\0\0\0org.freedesktop.DBus\0\0\0\0\x08\x01g\0\x01s\0\0\x14\0\0\0org.freedesktop.DBus\0";
+
+pub const BUS_REPLY: &[u8] =
+    b"l\x02\x01\x01\x19\0\0\0\x03\0\0\0?\0\0\0\x05\x01u\0\x02\0\0\0\x06\x01s\0\x04\0\0\0:1.1\0\0\0\0\x07\x01s\0\x14\0\0\0org.freedesktop.DBus\0\0\0\0\x08\x01g\0\x01s\0\0\x14\0\0\0org.freedesktop.DBus\0";
+
+/// GetNameOwner that expects no reply.
+pub const SILENT: &[u8] =
+    b"l\x01\x01\x01\x09\0\0\0\x02\0\0\0\x7f\0\0\0\x01\x01o\0\x15\0\0\0/org/freedesktop/DBus\0\0\0\x02\x01s\0\x14\0\0\0org.freedesktop.DBus\0\0\0\0\x03\x01s\0\x0c\0\0\0GetNameOwner\0\0\0\0\x06\x01s\0\x14\0\0\0org.freedesktop.DBus\0\0\0\0\x08\x01g\0\x01s\0\0\x04\0\0\0:1.1\0";
+
+/// Hello that expects no reply.
+pub const SILENT_HELLO: &[u8] =
+    b"l\x01\x01\x01\0\0\0\0\x01\0\0\0m\0\0\0\x01\x01o\0\x15\0\0\0/org/freedesktop/DBus\0\0\0\x02\x01s\0\x14\0\0\0org.freedesktop.DBus\0\0\0\0\x03\x01s\0\x05\0\0\0Hello\0\0\0\x06\x01s\0\x14\0\0\0org.freedesktop.DBus\0\0\0\0";
+
+/// NameAcquired of `:1.1`, serial 1.
+pub const ACQUIRED_FIRST: &[u8] =
+    b"l\x04\x01\x01\x09\0\0\0\x01\0\0\0\x8f\0\0\0\x01\x01o\0\x15\0\0\0/org/freedesktop/DBus\0\0\0\x02\x01s\0\x14\0\0\0org.freedesktop.DBus\0\0\0\0\x03\x01s\0\x0c\0\0\0NameAcquired\0\0\0\0\x06\x01s\0\x04\0\0\0:1.1\0\0\0\0\x07\x01s\0\x14\0\0\0org.freedesktop.DBus\0\0\0\0\x08\x01g\0\x01s\0\0\x04\0\0\0:1.1\0";
+
+/// A signal, which is for nobody.
+pub const SIGNAL: &[u8] =
+    b"l\x04\0\x01\0\0\0\0\x02\0\0\0*\0\0\0\x01\x01o\0\x02\0\0\0/a\0\0\0\0\0\0\x02\x01s\0\x03\0\0\0a.b\0\0\0\0\0\x03\x01s\0\x01\0\0\0C\0\0\0\0\0\0\0";
+
+/// A call to another name, which is for nobody.
+pub const ELSEWHERE: &[u8] =
+    b"l\x01\0\x01\0\0\0\0\x02\0\0\0f\0\0\0\x01\x01o\0\x15\0\0\0/org/freedesktop/DBus\0\0\0\x02\x01s\0\x14\0\0\0org.freedesktop.DBus\0\0\0\0\x03\x01s\0\x04\0\0\0Ping\0\0\0\0\x06\x01s\0\x0d\0\0\0com.example.A\0\0\0";
+
+/// A message of a type that the standard does not name.
+pub const UNKNOWN_KIND: &[u8] = b"l\x05\0\x01\0\0\0\0\x02\0\0\0\0\0\0\0";
+
+/// Hello with an argument.
+pub const HELLO_WITH_ARGUMENT: &[u8] =
+    b"l\x01\0\x01\x06\0\0\0\x01\0\0\0w\0\0\0\x01\x01o\0\x15\0\0\0/org/freedesktop/DBus\0\0\0\x02\x01s\0\x14\0\0\0org.freedesktop.DBus\0\0\0\0\x03\x01s\0\x05\0\0\0Hello\0\0\0\x06\x01s\0\x14\0\0\0org.freedesktop.DBus\0\0\0\0\x08\x01g\0\x01s\0\0\x01\0\0\0a\0";
+
+/// The error where a Hello found no memory.
+pub const MEMORY_AT_HELLO: &[u8] =
+    b"l\x03\x01\x01\x12\0\0\0\x01\0\0\0_\0\0\0\x04\x01s\0#\0\0\0org.freedesktop.DBus.Error.NoMemory\0\0\0\0\0\x05\x01u\0\x01\0\0\0\x07\x01s\0\x14\0\0\0org.freedesktop.DBus\0\0\0\0\x08\x01g\0\x01s\0\0\x0d\0\0\0Out of memory\0";
+
+/// The error where a GetNameOwner found no memory.
+pub const MEMORY_AT_OWNER: &[u8] =
+    b"l\x03\x01\x01\x12\0\0\0\x03\0\0\0o\0\0\0\x04\x01s\0#\0\0\0org.freedesktop.DBus.Error.NoMemory\0\0\0\0\0\x05\x01u\0\x02\0\0\0\x06\x01s\0\x04\0\0\0:1.1\0\0\0\0\x07\x01s\0\x14\0\0\0org.freedesktop.DBus\0\0\0\0\x08\x01g\0\x01s\0\0\x0d\0\0\0Out of memory\0";
