@@ -1,0 +1,57 @@
+//! The message bus as a program: `busd run` serves the message stream on standard input.
+#![tactic(auto)]
+
+use busd_core::{RunFault, run};
+use clap::{Command, Error};
+use std::alloc::{AllocError, Global};
+use std::process::ExitCode;
+use std::rt::Env;
+use std::{env, io};
+
+fn command_line<'a>(alloc: Global) -> Result<Command<'a>, AllocError> {
+    let stream = Command::new(alloc, "run").about(
+        "Serves one message stream, from standard input to standard output, without authentication",
+    );
+    Command::new(alloc, "busd")
+        .about("A D-Bus message bus")
+        .version("0.1.0")
+        .subcommand_required(true)
+        .subcommand(stream)
+}
+
+/// Tells what is wrong with the command line, or prints the help that it asks for.
+fn refuse<R: Print + Eprint>(rt: &R, error: &Error) -> ExitCode {
+    if error.print(rt).is_err() {
+        return ExitCode::from(RunFault::Output.status());
+    }
+    ExitCode::from(if error.use_stderr() { 2 } else { 0 })
+}
+
+fn fail<R: Eprint>(rt: &R, fault: RunFault) -> ExitCode {
+    let _ = eprintln!(rt; "busd: {fault}");
+    ExitCode::from(fault.status())
+}
+
+fn serve<R: Input + Print + Eprint + AllocGlobal>(rt: &R) -> ExitCode {
+    match run(rt.alloc(), &mut rt.reader(), &mut io::writer(rt)) {
+        Ok(()) => ExitCode::SUCCESS,
+        Err(fault) => fail(rt, fault),
+    }
+}
+
+fn words<R: Env + AllocGlobal>(rt: &R) -> io::Result<Vec<String>> {
+    Ok(env::args(rt)?.collect(rt.alloc())?)
+}
+
+fn main(rt: HostRuntime) -> ExitCode {
+    let Ok(words) = words(&rt) else {
+        return fail(&rt, RunFault::Memory);
+    };
+    let Ok(command) = command_line(rt.alloc()) else {
+        return fail(&rt, RunFault::Memory);
+    };
+    match command.try_get_matches_from(words.as_slice()) {
+        Ok(_) => serve(&rt),
+        Err(error) => refuse(&rt, &error),
+    }
+}
