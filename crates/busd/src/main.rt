@@ -2,6 +2,7 @@
 #![tactic(auto)]
 
 use busd_core::{RunFault, run};
+use clap::error::ErrorKind;
 use clap::{Command, Error};
 use std::alloc::{AllocError, Global};
 use std::process::ExitCode;
@@ -21,6 +22,9 @@ fn command_line<'a>(alloc: Global) -> Result<Command<'a>, AllocError> {
 
 /// Tells what is wrong with the command line, or prints the help that it asks for.
 fn refuse<R: Print + Eprint>(rt: &R, error: &Error) -> ExitCode {
+    if error.kind() == ErrorKind::OutOfMemory {
+        return fail(rt, RunFault::Memory);
+    }
     if error.print(rt).is_err() {
         return ExitCode::from(RunFault::Output.status());
     }
