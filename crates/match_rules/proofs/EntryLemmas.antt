@@ -1,17 +1,19 @@
 -- Lemmas on the reading of entries from bytes, and on what stands in the entries of a rule.
-use Rattle.std.proofs.Common.{◌≡◌, ◌⊎◌, ℕ, zero, suc, ◌+◌, ◌-◌, ◌*◌, ◌<◌, ◌≤◌, min, Bool, true, false, ◌&&◌, ◌==◌, [], ◌∷◌, ◌++◌, length, take, drop, get_or, refl, sym, ap, ◌∙◌, arith, length-drop, inl, inr}
+use Rattle.std.proofs.Common.{◌≡◌, ◌⊎◌, ℕ, zero, suc, ◌+◌, ◌-◌, ◌*◌, ◌<◌, ◌≤◌, min, Bool, true, false, ◌&&◌, ◌==◌, [], ◌∷◌, ◌++◌, length, take, drop, get_or, refl, sym, ap, ◌∙◌, arith, length-drop, inl, inr, List}
 use Rattle.std.specs.List.{AllByRecursion}
 use Rattle.std.proofs.Math.Seq.{take-length}
 use Rattle.std.proofs.lemmas.List.{take_min, drop_min}
-use Rattle.std.proofs.lemmas.Bool.{and_from, eq-eqb, ne_eqb}
+use Rattle.std.proofs.lemmas.Bool.{and_from, eq-eqb, ne_eqb, and_parts}
 use Rattle.names.specs.Texts.{Text}
+use Rattle.match_rules.specs.declared.key.Key.{Key}
 use Rattle.match_rules.specs.declared.key.Key.TheVariants.{Eavesdrop}
-use Rattle.match_rules.specs.Keys.{all_keys}
+use Rattle.match_rules.specs.Keys.{IsKey, all_keys}
 use Rattle.match_rules.specs.Rules.{Rule, IsEntry}
 use Rattle.match_rules.specs.RuleBytes.{entries_in, rule_in}
 use Rattle.match_rules.specs.EntryView.{all_taken}
+use Rattle.match_rules.specs.RuleFaults.{takes}
 use Rattle.match_rules.specs.Fitting.{begins}
-use Rattle.match_rules.proofs.KeyTexts.{takes_tested}
+use Rattle.match_rules.proofs.KeyTexts.{takes_tested, tested_takes, all_are_keys}
 
 entries_in-short : (more : ℕ) (bytes : Text) → length bytes < 3 → entries_in more bytes ≡ []
 entries_in-short zero bytes h = refl
@@ -78,3 +80,25 @@ begins-not [] b (y ∷ text) (inl h) = absurd (omega (arith, h))
 begins-not [] b (y ∷ text) (inr h) = rw (ne_eqb b y (λ e. h (sym e))) refl
 begins-not (x ∷ front) b (y ∷ text) (inl h) = both_false (x == y) (begins (front ++ b ∷ []) text) (begins-not front b text (inl (omega (arith, h))))
 begins-not (x ∷ front) b (y ∷ text) (inr h) = both_false (x == y) (begins (front ++ b ∷ []) text) (begins-not front b text (inr h))
+
+-- What is read from bytes has keys, whatever the bytes are.
+key_at : (keys : List Key) (place : ℕ) → AllByRecursion IsKey keys → IsKey (get_or keys place Eavesdrop)
+key_at [] place h = tt
+key_at (key ∷ keys) zero h = h.0
+key_at (key ∷ keys) (suc place) h = key_at keys place h.1
+
+entries_in-keys : (more : ℕ) (bytes : Text) → AllByRecursion (λ entry. IsKey entry.0) (entries_in more bytes)
+entries_in-keys zero bytes = tt
+entries_in-keys (suc more) [] = tt
+entries_in-keys (suc more) (a ∷ []) = tt
+entries_in-keys (suc more) (a ∷ b ∷ []) = tt
+entries_in-keys (suc more) (place ∷ low ∷ high ∷ bytes) = (key_at all_keys place all_are_keys, entries_in-keys more (drop (low + 256 * high) bytes))
+
+are_entries : (rule : Rule) → AllByRecursion (λ entry. IsKey entry.0) rule → all_taken rule ≡ true → AllByRecursion IsEntry rule
+are_entries [] keys taken = tt
+are_entries (entry ∷ rule) keys taken =
+    let both = and_parts (takes entry.0 entry.1) (all_taken rule) taken in
+    ((keys.0, tested_takes entry.0 entry.1 both.0), are_entries rule keys.1 both.1)
+
+pub rule_in-entries : (bytes : Text) → all_taken (rule_in bytes) ≡ true → AllByRecursion IsEntry (rule_in bytes)
+rule_in-entries bytes taken = are_entries (rule_in bytes) (entries_in-keys (length bytes) bytes) taken

@@ -72,7 +72,7 @@ value_none key (Some value) h = (value, refl, kept (takes key value) h)
     kept true e = refl
     kept false e = absurd cc
 
-key_none : (item : Text) (key : Key) → item_key item ≡ Some key → (list_any is_equals item ≡ true) × (found (before_first is_equals item) ≡ Some key)
+pub key_none : (item : Text) (key : Key) → item_key item ≡ Some key → (list_any is_equals item ≡ true) × (found (before_first is_equals item) ≡ Some key)
 key_none item key h = by (list_any is_equals item) (found (before_first is_equals item)) h
   where
     by : (b : Bool) (o : Option Key) → cond b o None ≡ Some key → (b ≡ true) × (o ≡ Some key)

@@ -26,11 +26,11 @@ use Rattle.match_rules.proofs.Quotes.{is_key_byte}
 abbrev pub found : Text → Option Key
 found text = find (λ key. text_eq (key_text key) text) all_keys
 
-abbrev place_of : Option Key → ℕ
+abbrev pub place_of : Option Key → ℕ
 place_of None = 999
 place_of (Some key) = key_place key
 
-abbrev IsFoundKey : Option Key → Type 0
+abbrev pub IsFoundKey : Option Key → Type 0
 IsFoundKey None = Unit {0}
 IsFoundKey (Some key) = IsKey key
 
@@ -57,7 +57,7 @@ all_append : (xs ys : List Key) → AllByRecursion IsKey xs → AllByRecursion I
 all_append [] ys hx hy = hy
 all_append (x ∷ xs) ys hx hy = (hx.0, all_append xs ys hx.1 hy)
 
-all_are_keys : AllByRecursion IsKey all_keys
+pub all_are_keys : AllByRecursion IsKey all_keys
 all_are_keys =
     let a = each_argument 0 max_arguments (omega arith) in
     all_append (MessageType ∷ Sender ∷ Interface ∷ Member ∷ Path ∷ PathNamespace ∷ Destination ∷ [] ++ map Argument (range_with_len 0 max_arguments) ++ map ArgumentPath (range_with_len 0 max_arguments))
@@ -74,11 +74,11 @@ paths_found : (n : ℕ) → n < max_arguments → (place_of (found (key_text (Ar
 unfolding digits
 paths_found n h = agree_below_at (λ n. place_of (found (key_text (ArgumentPath n))) == 7 + max_arguments + n) (λ n. true) max_arguments n refl h
 
-found_by_place : (o : Option Key) (key : Key) → IsFoundKey o → IsKey key → place_of o ≡ key_place key → key_place key < 999 → o ≡ Some key
+pub found_by_place : (o : Option Key) (key : Key) → IsFoundKey o → IsKey key → place_of o ≡ key_place key → key_place key < 999 → o ≡ Some key
 found_by_place None key ho hk same small = absurd (omega (arith, same, small))
 found_by_place (Some other) key ho hk same small = ap (λ k. Some k) (key_by_place other key ho hk same)
 
-small_place : (key : Key) → IsKey key → key_place key < 999
+pub small_place : (key : Key) → IsKey key → key_place key < 999
 small_place MessageType h = omega arith
 small_place Sender h = omega arith
 small_place Interface h = omega arith

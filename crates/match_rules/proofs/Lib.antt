@@ -9,3 +9,7 @@ pub mod RuleOrder
 pub mod RuleTextLaws
 pub mod EntryLemmas
 pub mod NameBytes
+pub mod KeyNames
+pub mod ItemPlaces
+pub mod ParseLemmas
+pub mod Putting

@@ -1,14 +1,15 @@
 -- The names that keys take are ASCII.
-use Rattle.std.proofs.Common.{◌≡◌, inl, inr, ℕ, ◌<◌, true, List, [], ◌∷◌, ◌++◌, sym, subst, arith}
+use Rattle.std.proofs.Common.{◌≡◌, inl, inr, ℕ, Bool, IsTrue, ◌↔◌, ◌<◌, true, List, [], ◌∷◌, ◌++◌, sym, subst, arith, false, refl}
 use Rattle.std.specs.List.{AllByRecursion, flat_map}
 use Rattle.std.specs.Str.{IsAscii, IsUtf8}
+use Rattle.std.proofs.lemmas.Bool.{cases_Bool, true≢false}
 use Rattle.std.proofs.lemmas.Bool.Decides.{nat_tests}
 use Rattle.std.proofs.lemmas.Str.{IsUtf8-from_ascii}
 use Rattle.std.proofs.lemmas.Str.Ascii.{IsAscii-nil, IsAscii-cons}
 use Rattle.names.specs.Texts.{Text}
 use Rattle.names.specs.Elements.{Style, dot, slash, is_element_byte, IsElement, joined, led_by, AreElements}
 use Rattle.names.specs.UniqueName.{unique_style}
-use Rattle.names.specs.WellKnown.{well_known_style}
+use Rattle.names.specs.WellKnown.{well_known_style, IsNamespace}
 use Rattle.names.specs.Interface.{interface_style}
 use Rattle.names.specs.Member.{member_style}
 use Rattle.names.specs.ObjectPath.{IsObjectPath, path_style}
@@ -16,7 +17,7 @@ use Rattle.match_rules.specs.declared.key.Key.{Key}
 use Rattle.match_rules.specs.declared.key.Key.TheVariants.{«Type» as MessageType, Sender, Interface, Member, Path, PathNamespace, Destination, Argument, ArgumentPath, Argument0Namespace, Eavesdrop}
 use Rattle.match_rules.specs.Keys.{Takes}
 use Rattle.match_rules.specs.RuleFaults.{takes}
-use Rattle.match_rules.proofs.KeyTexts.{tested_takes}
+use Rattle.match_rules.proofs.KeyTexts.{takes_tested, tested_takes}
 
 abbrev AreAscii : Text → Type 0
 AreAscii text = AllByRecursion (λ b. b < 128) text
@@ -82,3 +83,10 @@ names_ascii Eavesdrop value named h = absurd named
 
 pub names_utf8 : (key : Key) (value : Text) → TakesNames key → takes key value ≡ true → IsUtf8 value
 names_utf8 key value named h = ascii_utf8 value (names_ascii key value named (tested_takes key value h))
+
+pub names_not_taken : (key : Key) (value : Text) → TakesNames key → ¬ IsUtf8 value → false ≡ takes key value
+names_not_taken key value named other = elim (cases_Bool (takes key value)) [ inl taken ↦ absurd (other (names_utf8 key value named taken)) | inr not_taken ↦ sym not_taken ]
+
+pub namespace_taken : (b : Bool) (value : Text) → (IsTrue b ↔ IsNamespace value) → b ≡ takes Argument0Namespace value
+namespace_taken true value h = sym (takes_tested Argument0Namespace value (h.0 refl))
+namespace_taken false value h = elim (cases_Bool (takes Argument0Namespace value)) [ inl taken ↦ absurd (true≢false (sym (h.1 (tested_takes Argument0Namespace value taken)))) | inr not_taken ↦ sym not_taken ]

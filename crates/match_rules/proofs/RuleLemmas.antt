@@ -72,7 +72,7 @@ length-rule_bytes (x ∷ rule) =
     let more : sum_by (λ e. 3 + length e.1) (x ∷ rule) ≡ 3 + length x.1 + sum_by (λ e. 3 + length e.1) rule = sum_by-cons (λ e. 3 + length e.1) x rule in
     omega (arith, whole, rest, more)
 
-length-key_text : (key : Key) → 2 ≤ length (key_text key)
+pub length-key_text : (key : Key) → 2 ≤ length (key_text key)
 length-key_text MessageType = lit≤ tt
 length-key_text Sender = lit≤ tt
 length-key_text Interface = lit≤ tt

@@ -1,5 +1,5 @@
 -- Entries in the order of their keys.
-use Rattle.std.proofs.Common.{◌≡◌, ◌⊎◌, inl, inr, ℕ, zero, suc, ◌<◌, ◌≤◌, false, cond, nat_lt, List, [], ◌∷◌, map, length, get_or, refl, sym, ap, subst, ◌∙◌, arith}
+use Rattle.std.proofs.Common.{◌≡◌, ◌⊎◌, inl, inr, ℕ, zero, suc, ◌<◌, ◌≤◌, false, nat_lt, List, [], ◌∷◌, length, get_or, refl, sym, ap, subst, ◌∙◌, arith}
 use Rattle.std.specs.List.{AllByRecursion, IsDistinct, Contains}
 use Rattle.std.specs.List.Sorted.{IsPermutation}
 use Rattle.std.proofs.lemmas.Bool.{cases_Bool, eqb-true, eqb-false, eq-eqb, ne_eqb, cond_both, ltb-true, ltb-false}
@@ -10,9 +10,7 @@ use Rattle.names.specs.Texts.{Text}
 use Rattle.match_rules.specs.declared.key.Key.{Key}
 use Rattle.match_rules.specs.Keys.{key_place, same_key}
 use Rattle.match_rules.specs.Rules.{Rule, IsRising}
-
-abbrev pub keys_of : Rule → List Key
-keys_of entries = map (λ e. e.0) entries
+use Rattle.match_rules.specs.Reading.{keys_of, put}
 
 pub all_move : {X : Type 0} (P : X → Type 0) (xs ys : List X) → IsPermutation xs ys → AllByRecursion P xs → AllByRecursion P ys
 all_move P xs ys moves h = recursion_from_All P ys (All-permutation P xs ys moves (All-from_recursion P xs h))
@@ -51,16 +49,11 @@ pub rising_distinct : (rule : Rule) → IsRising rule → AreDistinct (keys_of r
 rising_distinct [] h = tt
 rising_distinct (entry ∷ rule) h = (above_differ entry.0 rule h.0, rising_distinct rule h.1)
 
--- An entry put where its key belongs.
-abbrev pub put : Key × Text → Rule → Rule
-put entry [] = entry ∷ []
-put entry (first ∷ rule) = cond (nat_lt (key_place entry.0) (key_place first.0)) (entry ∷ first ∷ rule) (first ∷ put entry rule)
-
 abbrev pub in_order : Rule → Rule
 in_order [] = []
 in_order (entry ∷ entries) = put entry (in_order entries)
 
-put_moves : (entry : Key × Text) (rule : Rule) → IsPermutation (entry ∷ rule) (put entry rule)
+pub put_moves : (entry : Key × Text) (rule : Rule) → IsPermutation (entry ∷ rule) (put entry rule)
 put_moves entry [] = IsPermutation-refl (entry ∷ [])
 put_moves entry (first ∷ rule) =
     cond_both (nat_lt (key_place entry.0) (key_place first.0)) (entry ∷ first ∷ rule) (first ∷ put entry rule) (λ r. IsPermutation (entry ∷ first ∷ rule) r)
@@ -81,7 +74,7 @@ put_above place entry (first ∷ rule) lower h =
     cond_both (nat_lt (key_place entry.0) (key_place first.0)) (entry ∷ first ∷ rule) (first ∷ put entry rule) (λ r. AllByRecursion (λ later. place < key_place later.0) r)
     (λ _. (lower, h)) (λ _. (h.0, put_above place entry rule lower h.1))
 
-put_rises : (entry : Key × Text) (rule : Rule) → IsRising rule → AllByRecursion (λ k. same_key entry.0 k ≡ false) (keys_of rule) → IsRising (put entry rule)
+pub put_rises : (entry : Key × Text) (rule : Rule) → IsRising rule → AllByRecursion (λ k. same_key entry.0 k ≡ false) (keys_of rule) → IsRising (put entry rule)
 put_rises entry [] rises new = (tt, tt)
 put_rises entry (first ∷ rule) rises new =
     cond_both (nat_lt (key_place entry.0) (key_place first.0)) (entry ∷ first ∷ rule) (first ∷ put entry rule) (λ r. IsRising r)

@@ -13,6 +13,7 @@ use Rattle.match_rules.specs.declared.key.Key.TheVariants.{«Type» as MessageTy
 use Rattle.match_rules.specs.declared.rule.TheConstants.{MAX_RULE_LENGTH}
 use Rattle.match_rules.specs.Keys.{IsKey, key_place, same_key}
 use Rattle.match_rules.specs.Rules.{Rule, IsRule, IsEntry, value_at}
+use Rattle.match_rules.specs.Reading.{keys_of}
 use Rattle.match_rules.specs.RuleTexts.{comma, AreParts, Item, item_text, entry_of, joined, IsRuleText}
 use Rattle.match_rules.specs.RuleFaults.{Outside, items_from, item_key, item_value, is_among, is_excluded, items_fault, rule_fault}
 use Rattle.match_rules.specs.Laws.{FaultsAreExact, TextsHaveOneRule}
@@ -20,7 +21,7 @@ use Rattle.match_rules.proofs.Quotes.{split_items}
 use Rattle.match_rules.proofs.KeyTexts.{takes_tested, tested_takes}
 use Rattle.match_rules.proofs.KeyLemmas.{key_by_place}
 use Rattle.match_rules.proofs.RuleLemmas.{length-item}
-use Rattle.match_rules.proofs.RuleOrder.{keys_of, AreDistinct, all_move, distinct_move, rising_distinct, in_order, in_order_moves, in_order_rises, one_order}
+use Rattle.match_rules.proofs.RuleOrder.{AreDistinct, all_move, distinct_move, rising_distinct, in_order, in_order_moves, in_order_rises, one_order}
 use Rattle.match_rules.proofs.Items.{IsGood, value_of, joined_is_read, item_key_read, item_value_read, AreApart, good_items, texts_read}
 
 abbrev item_keys : List Item → List Key
@@ -143,14 +144,14 @@ good_from_rule (item ∷ items) parts entries = ((entries.0.0, parts.0, takes_te
 abbrev IsWritten : Text → Rule → List Item → Type 0
 IsWritten text rule items = AllByRecursion (λ item. AreParts item.parts) items × IsPermutation (map entry_of items) rule × (text ≡ joined items)
 
-written_good : (text : Text) (rule : Rule) (items : List Item) → IsRule rule → IsWritten text rule items → AllByRecursion IsGood items
+pub written_good : (text : Text) (rule : Rule) (items : List Item) → IsRule rule → IsWritten text rule items → AllByRecursion IsGood items
 written_good text rule items h w = good_from_rule items w.0 (all_move IsEntry rule (map entry_of items) (IsPermutation-sym (map entry_of items) rule w.1) h.1)
 
 all_new : (keys : List Key) → AreNew [] keys
 all_new [] = tt
 all_new (key ∷ keys) = (refl, all_new keys)
 
-written_apart : (text : Text) (rule : Rule) (items : List Item) → IsRule rule → IsWritten text rule items → AreApart [] items
+pub written_apart : (text : Text) (rule : Rule) (items : List Item) → IsRule rule → IsWritten text rule items → AreApart [] items
 written_apart text rule items h w =
     let back : IsPermutation rule (map entry_of items) = IsPermutation-sym (map entry_of items) rule w.1 in
     to_apart [] items (distinct_move rule (map entry_of items) back (rising_distinct rule h.0)) (all_new (item_keys items))

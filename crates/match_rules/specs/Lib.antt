@@ -5,6 +5,7 @@ pub mod Fitting
 pub mod Keys
 pub mod Kinds
 pub mod Laws
+pub mod Reading
 pub mod RuleBytes
 pub mod RuleEquality
 pub mod RuleFaults

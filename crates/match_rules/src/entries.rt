@@ -8,7 +8,7 @@ ghost use Rattle.match_rules.specs.RuleBytes.{rule_in};
 use crate::Key;
 
 /// The bytes of an entry before its value.
-const HEAD_LENGTH: usize = 3;
+pub const HEAD_LENGTH: usize = 3;
 
 /// A key of a rule, and its value.
 #[derive(Clone, Copy)]

@@ -23,7 +23,8 @@ pub enum Key {
 
 impl Key {
     ghost use Rattle.std.specs.List.{slice_index_or};
-    ghost use Rattle.match_rules.specs.Keys.{IsKey, all_keys, key_place};
+    ghost use Rattle.match_rules.specs.Keys.{all_keys, key_place};
+    ghost use Rattle.match_rules.specs.Reading.{key_named};
     ghost use Rattle.match_rules.specs.declared.key.Key.TheVariants.{Eavesdrop};
 
     /// The key at a place in the order of keys.
@@ -44,4 +45,109 @@ impl Key {
             _ => Key::Eavesdrop,
         }
     }
+
+    /// The place of the key in the order of keys.
+    pub(crate) fn place(self) -> u16
+        ensures { result ≡ key_place self }
+    {
+        match self {
+            Key::Type => 0,
+            Key::Sender => 1,
+            Key::Interface => 2,
+            Key::Member => 3,
+            Key::Path => 4,
+            Key::PathNamespace => 5,
+            Key::Destination => 6,
+            Key::Argument(number) => 7 + number as u16,
+            Key::ArgumentPath(number) => 71 + number as u16,
+            Key::Argument0Namespace => 135,
+            Key::Eavesdrop => 136,
+        }
+    }
+
+    /// The key that is written so, if there is one.
+    pub(crate) fn named(text: &[u8]) -> Option<Self>
+        ensures { result ≡ key_named text.now }
+    {
+        if text == b"type".as_slice() {
+            return Some(Key::Type);
+        }
+        if text == b"sender".as_slice() {
+            return Some(Key::Sender);
+        }
+        if text == b"interface".as_slice() {
+            return Some(Key::Interface);
+        }
+        if text == b"member".as_slice() {
+            return Some(Key::Member);
+        }
+        if text == b"path".as_slice() {
+            return Some(Key::Path);
+        }
+        if text == b"path_namespace".as_slice() {
+            return Some(Key::PathNamespace);
+        }
+        if text == b"destination".as_slice() {
+            return Some(Key::Destination);
+        }
+        if text == b"eavesdrop".as_slice() {
+            return Some(Key::Eavesdrop);
+        }
+        if text.starts_with(b"arg") {
+            return argument_named(&text[3..]);
+        }
+        None
+    }
+}
+
+ghost use Rattle.std.specs.Prelude.{◌<◌};
+ghost use Rattle.match_rules.specs.Reading.{argument_named, number_named, numbered};
+
+/// The number below which the numbers of arguments are.
+const MAX_ARGUMENTS: u8 = 64;
+
+/// The key of an argument, by what stands behind `arg`.
+fn argument_named(text: &[u8]) -> Option<Key>
+    ensures { result ≡ argument_named text.now }
+{
+    let Some((first, rest)) = text.split_first() else {
+        return None;
+    };
+    if !first.is_ascii_digit() {
+        return None;
+    }
+    number_named(*first - b'0', rest)
+}
+
+/// The key of an argument, by the first digit of its number and what stands behind it. No number begins with a zero but 0.
+fn number_named(first: u8, text: &[u8]) -> Option<Key>
+    requires { first < 10 }
+    ensures { result ≡ number_named first text.now }
+{
+    let Some((second, rest)) = text.split_first() else {
+        return numbered(first, text);
+    };
+    if second.is_ascii_digit() {
+        let number = 10 * first + (*second - b'0');
+        if 0 < first && number < MAX_ARGUMENTS {
+            return numbered(number, rest);
+        }
+    }
+    numbered(first, text)
+}
+
+/// The key of an argument, by its number and what stands behind it.
+fn numbered(number: u8, text: &[u8]) -> Option<Key>
+    ensures { result ≡ numbered number text.now }
+{
+    if text.is_empty() {
+        return Some(Key::Argument(number));
+    }
+    if text == b"path".as_slice() {
+        return Some(Key::ArgumentPath(number));
+    }
+    if number == 0 && text == b"namespace".as_slice() {
+        return Some(Key::Argument0Namespace);
+    }
+    None
 }

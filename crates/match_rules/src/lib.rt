@@ -13,6 +13,8 @@ mod fitting;
 mod key;
 mod kind;
 pub mod laws;
+mod quoting;
+mod reading;
 mod rule;
 
 pub use facts::{Argument, Facts};

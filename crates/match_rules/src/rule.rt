@@ -1,6 +1,7 @@
 //! A match rule.
 
-use crate::entries::Entries;
+use crate::Key;
+use crate::entries::{Entries, HEAD_LENGTH};
 use arrayvec::ArrayVec;
 use std::marker::Model;
 
@@ -28,15 +29,95 @@ impl Model for Rule {
 }
 
 impl Rule {
-    ghost use Rattle.std.specs.Prelude.{◌≡◌, true};
+    ghost use Rattle.std.specs.Prelude.{◌≡◌, ◌≤◌, ◌+◌, length, true, false, []};
     ghost use Rattle.match_rules.specs.EntryView.{all_taken, entries_left};
+    ghost use Rattle.match_rules.specs.Keys.{IsKey};
+    ghost use Rattle.match_rules.specs.Reading.{bytes_before, keys_of, put};
+    ghost use Rattle.match_rules.specs.RuleBytes.{rule_bytes};
+    ghost use Rattle.match_rules.specs.RuleFaults.{is_among, is_excluded, takes};
+
+    pub(crate) fn empty() -> Self
+        ensures { result ≡ [] }
+    {
+        Rule {
+            entries: ArrayVec::new(),
+        }
+    }
 
     pub(crate) fn entries(&self) -> Entries<'_>
         ensures value { entries_left result ≡ self.now }
         ensures taken { all_taken self.now ≡ true }
+        ensures room { length (rule_bytes self.now) ≤ MAX_RULE_LENGTH }
     {
         Entries::new(self.entries.as_slice())
     }
+
+    pub(crate) fn has(&self, key: Key) -> bool
+        ensures { result ≡ is_among key (keys_of self.now) }
+    {
+        for entry in self.entries() {
+            if entry.key.place() == key.place() {
+                return true;
+            }
+        }
+        false
+    }
+
+    /// Whether the key may not stand beside a key of the rule.
+    pub(crate) fn excludes(&self, key: Key) -> bool
+        ensures { result ≡ is_excluded key (keys_of self.now) }
+    {
+        match key {
+            Key::Path => self.has(Key::PathNamespace),
+            Key::PathNamespace => self.has(Key::Path),
+            _ => false,
+        }
+    }
+
+    fn bytes_before(&self, place: u16) -> usize
+        ensures { result ≡ bytes_before place self.now }
+    {
+        let mut before = 0;
+        for entry in self.entries() {
+            if place < entry.key.place() {
+                return before;
+            }
+            before += HEAD_LENGTH + entry.value.len();
+        }
+        before
+    }
+
+    /// Puts a key with its value where the key belongs.
+    pub(crate) fn put(&mut self, key: Key, value: &[u8])
+        requires is_key { IsKey key }
+        requires taken { takes key value.now ≡ true }
+        requires new { is_among key (keys_of self.old) ≡ false }
+        requires not_excluded { is_excluded key (keys_of self.old) ≡ false }
+        requires room { length (rule_bytes self.old) + 3 + length value.now ≤ MAX_RULE_LENGTH }
+        ensures { self.new ≡ put (key, value.now) self.old }
+    {
+        let place = key.place();
+        let at = self.bytes_before(place);
+        self.entries = with_entry(self.entries.as_slice(), at, place as u8, value);
+    }
+}
+
+ghost use Rattle.std.specs.Prelude.{◌≡◌, ◌≤◌, ◌+◌, ◌/◌, ◌%◌, ◌++◌, ◌∷◌, length, take, drop};
+
+/// The bytes of a rule with one more entry at a place.
+fn with_entry(entries: &[u8], at: usize, place: u8, value: &[u8]) -> ArrayVec<u8, MAX_RULE_LENGTH>
+    requires within { at ≤ length entries.now }
+    requires room { length entries.now + 3 + length value.now ≤ MAX_RULE_LENGTH }
+    ensures { result.items ≡ take at entries.now ++ (place ∷ length value.now % 256 ∷ length value.now / 256 ∷ value.now) ++ drop at entries.now }
+{
+    let mut whole = ArrayVec::new();
+    let _ = whole.try_extend_from_slice(&entries[..at]);
+    whole.push(place);
+    whole.push((value.len() % 256) as u8);
+    whole.push((value.len() / 256) as u8);
+    let _ = whole.try_extend_from_slice(value);
+    let _ = whole.try_extend_from_slice(&entries[at..]);
+    whole
 }
 
 impl PartialEq for Rule {
