@@ -23,3 +23,6 @@ pub use fitting::Owners;
 pub use key::Key;
 pub use kind::MessageKind;
 pub use rule::{MAX_RULE_LENGTH, Rule};
+
+#[cfg(test)]
+mod tests;
