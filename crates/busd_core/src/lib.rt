@@ -1,4 +1,7 @@
 //! Serves the message stream of one connection that needs no authentication, over a bus of its own.
+//!
+//! [`run`] is the whole of it: `specs/Serving` says what the bus does for one message, and `specs/Runs` what it writes
+//! for a stream.
 #![tactic(auto)]
 
 mod call;

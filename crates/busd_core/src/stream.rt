@@ -11,7 +11,14 @@ use std::io::{Read, Write};
 /// The most bytes that are read at once.
 const PIECE: usize = 4096;
 
-/// Serves the stream.
+/// Serves the message stream of one connection over a bus of its own, which has one router and no services. The
+/// connection needs no authentication, and counts as the bus's own user ("Message Bus Messages" of the D-Bus
+/// Specification).
+///
+/// However the reader cuts the stream, what is written is the answer to what was read, message after message. At the
+/// end of the input the connection leaves, and a rest that is no whole message is ignored. The run ends earlier where
+/// the bus closes the connection, with all replies up to there written; where the reader or the writer fails; and
+/// where there is not enough memory to go on. A Hello or a GetNameOwner that finds no memory is answered NoMemory.
 pub fn run<R: Read, W: Write>(alloc: Global, reader: &mut R, writer: &mut W) -> Result<(), RunFault>
     ensures { Runs (R.remaining reader.old) (R.remaining reader.new) (W.contents writer.old) (W.contents writer.new) result }
 {
