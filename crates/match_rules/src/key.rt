@@ -1,6 +1,7 @@
 //! The keys of match rules.
 
-ghost use Rattle.std.specs.Prelude.{◌≡◌};
+ghost use Rattle.std.specs.Prelude.{◌≡◌, ◌<◌};
+ghost use Rattle.match_rules.specs.Reading.{argument_named, number_named, numbered};
 
 /// A key of a match rule, in the order of the standard's table. An argument's number is at most 63.
 /// (D-Bus Specification: "Match Rules".)
@@ -99,9 +100,6 @@ impl Key {
         None
     }
 }
-
-ghost use Rattle.std.specs.Prelude.{◌<◌};
-ghost use Rattle.match_rules.specs.Reading.{argument_named, number_named, numbered};
 
 /// The number below which the numbers of arguments are.
 const MAX_ARGUMENTS: u8 = 64;

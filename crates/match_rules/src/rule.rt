@@ -1,5 +1,7 @@
 //! A match rule.
 
+ghost use Rattle.std.specs.Prelude.{◌≡◌, ◌≤◌, ◌+◌, ◌/◌, ◌%◌, ◌++◌, ◌∷◌, length, take, drop};
+
 use crate::Key;
 use crate::entries::{Entries, HEAD_LENGTH};
 use arrayvec::ArrayVec;
@@ -101,8 +103,6 @@ impl Rule {
         self.entries = with_entry(self.entries.as_slice(), at, place as u8, value);
     }
 }
-
-ghost use Rattle.std.specs.Prelude.{◌≡◌, ◌≤◌, ◌+◌, ◌/◌, ◌%◌, ◌++◌, ◌∷◌, length, take, drop};
 
 /// The bytes of a rule with one more entry at a place.
 fn with_entry(entries: &[u8], at: usize, place: u8, value: &[u8]) -> ArrayVec<u8, MAX_RULE_LENGTH>
