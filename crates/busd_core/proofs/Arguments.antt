@@ -1,5 +1,5 @@
 -- Arguments that are not one string.
-use Rattle.std.proofs.Common.{◌≡◌, ℕ, List, [], ◌∷◌, length, ◌==◌, true, false, Some, None, refl}
+use Rattle.std.proofs.Common.{◌≡◌, List, [], ◌∷◌, length, ◌==◌, true, false, None, refl}
 use Rattle.marshal_core.specs.declared.value.Value.{Value}
 use Rattle.marshal_core.specs.Values.{values_of}
 use Rattle.busd_core.specs.Calls.{only_text}

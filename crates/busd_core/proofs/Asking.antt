@@ -1,5 +1,5 @@
 -- What becomes of a call that asks for the owner of a name.
-use Rattle.std.proofs.Common.{◌≡◌, ◌⊎◌, inl, inr, ℕ, Bool, true, false, List, [], ◌∷◌, ◌++◌, Option, Some, None, option_map, Result, Ok, Err, refl, sym, ap, ◌∙◌, subst}
+use Rattle.std.proofs.Common.{◌≡◌, inl, inr, ℕ, Bool, true, false, List, [], Option, Some, None, option_map, Result, Ok, Err, sym, subst}
 use Rattle.names.specs.Texts.{Text}
 use Rattle.marshal_core.specs.declared.order.Order.TheVariants.{Little}
 use Rattle.marshal_core.specs.Spelling.{Spells}
@@ -11,14 +11,13 @@ use Rattle.seq_bus.specs.declared.answer.Asked.{Asked}
 use Rattle.seq_bus.specs.declared.answer.Asked.TheVariants.{Body}
 use Rattle.seq_bus.specs.PlainBus.{PlainBus}
 use Rattle.message_core.specs.Messages.{Message}
-use Rattle.busd_core.specs.declared.call.Method.{Method}
 use Rattle.busd_core.specs.declared.call.Method.TheVariants.{GetNameOwner}
 use Rattle.busd_core.specs.declared.own_message.OwnMessage.TheVariants.{Reply}
 use Rattle.busd_core.specs.declared.session.Session.{Session}
 use Rattle.busd_core.specs.declared.session.Stop.{Stop}
 use Rattle.busd_core.specs.OwnMessages.{one_string, string_body}
 use Rattle.busd_core.specs.Calls.{is_call_to_bus, method_of, name_in, NamesOrWants}
-use Rattle.busd_core.specs.Serving.{quiet, replying, refusing, telling, asking, serve_call, serve_named}
+use Rattle.busd_core.specs.Serving.{quiet, replying, refusing, telling, asking, serve_named}
 use Rattle.busd_core.specs.Sessions.{standing_of, Does, TellsOrWants}
 
 -- the reply is the owner that the bus knows

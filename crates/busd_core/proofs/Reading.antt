@@ -1,11 +1,11 @@
 -- What stops the reading of messages.
-use Rattle.std.proofs.Common.{◌≡◌, ◌⊎◌, inl, inr, Option, Some, None, refl, sym, ap, ◌∙◌}
+use Rattle.std.proofs.Common.{◌≡◌, inl, inr, Some, None, refl, sym, ap, ◌∙◌}
 use Rattle.message_core.specs.declared.fault.FrameFault.{FrameFault}
-use Rattle.message_core.specs.declared.fault.FrameFault.TheVariants.{Order, Version, Kind, Serial, Field, Missing, TooLong, BodyLength, Body, NoMemory}
+use Rattle.message_core.specs.declared.fault.FrameFault.TheVariants.{NoMemory}
 use Rattle.message.specs.Framing.{Unread, IsJudged, IsKept, FaultIs}
 use Rattle.busd_core.specs.declared.session.Session.{Session}
 use Rattle.busd_core.specs.Runs.{limit}
-use Rattle.busd_core.specs.Sessions.{standing_of, StopsReading}
+use Rattle.busd_core.specs.Sessions.{StopsReading}
 use Rattle.busd_core.specs.Stops.{stop_of}
 
 fault_told : (f : FrameFault) (old new : Unread) → old.fault ≡ None → IsKept limit f old new → IsJudged limit f old.bytes × (new.bytes ≡ old.bytes)

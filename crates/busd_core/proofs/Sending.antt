@@ -8,13 +8,11 @@ use Rattle.marshal_core.specs.Spelling.{Spells}
 use Rattle.busd_core.specs.declared.own_message.OwnMessage.{OwnMessage}
 use Rattle.busd_core.specs.declared.own_message.OwnMessage.TheVariants.{Reply, Error, NameAcquired}
 use Rattle.names.specs.UniqueName.{unique_text}
-use Rattle.seq_bus_core.specs.Tickets.{bus_step}
 use Rattle.seq_bus_core.specs.declared.outcome.Outcome.{Outcome}
-use Rattle.seq_bus.specs.declared.TheConstants.{SEAT}
-use Rattle.seq_bus.specs.PlainBus.{PlainBus, bus_now, IsMade}
+use Rattle.seq_bus.specs.PlainBus.{PlainBus, IsMade}
 use Rattle.seq_bus_core.specs.declared.connection.Conn.{Conn}
 use Rattle.seq_bus_core.specs.declared.outcome.Reply.{Reply as ChangeReply}
-use Rattle.seq_bus_core.specs.declared.outcome.Reply.TheVariants.{Welcome, Gone, LimitsExceeded as OverLimit, Done, OfQueue, InvalidName, RuleNotFound, AccessDenied, AlreadyRunning, Held, ServiceUnknown, Pass, Ignored}
+use Rattle.seq_bus_core.specs.declared.outcome.Reply.TheVariants.{Welcome}
 use Rattle.busd_core.specs.declared.fault.Cause.{Cause}
 use Rattle.busd_core.specs.declared.fault.Cause.TheVariants.{NotHello, LimitsExceeded}
 use Rattle.busd_core.specs.declared.stage.Stage.{Stage}
@@ -28,7 +26,7 @@ use Rattle.busd_core.specs.OwnMessages.{header_of, one_string, string_body, own_
 use Rattle.busd_core.specs.Serving.{Standing, Served, quiet, next_serial, sending, replying, closing, naming, turning_away, greeting, hello, hello_change, with_change}
 use Rattle.busd_core.specs.Calls.{expects_reply}
 use Rattle.busd_core.specs.Runs.{AreWritten, IsOpen}
-use Rattle.busd_core.specs.Sessions.{standing_of, Grows, Shows, Appends, Does, Ends}
+use Rattle.busd_core.specs.Sessions.{standing_of, Shows, Appends, Does, Ends}
 
 pub one_written : (m : Message) (bytes : List ℕ) → IsWritten bytes m → AreWritten (m ∷ []) bytes
 one_written m bytes w = (bytes, [], w, refl, sym (append-nil bytes))

@@ -1,9 +1,8 @@
 -- The types of a call that was signed as its method is.
 use Rattle.std.proofs.Common.{◌≡◌, ℕ, Bool, true, false, List, [], ◌∷◌, ◌++◌, Result, Ok, Err, refl, sym, ap, ◌∙◌, subst, arith, ◌<◌, lit<, append-nil, length, if◌then◌else◌}
 use Rattle.names.specs.Texts.{Text, text_eq}
-use Rattle.marshal_core.specs.declared.data_type.BasicType.{BasicType}
 use Rattle.marshal_core.specs.declared.data_type.BasicType.TheVariants as of_type
-use Rattle.marshal_core.specs.Types.{Ty, basic, variant, array, entry, struct, Tys, no_types, more_types}
+use Rattle.marshal_core.specs.Types.{basic, variant, array, entry, struct, Tys, no_types, more_types}
 use Rattle.marshal_core.specs.Signatures.{basic_code, code, codes}
 use Rattle.marshal_core.specs.declared.fault.MarshalFault.{MarshalFault}
 use Rattle.marshal_core.specs.declared.order.Order.{Order}
@@ -17,7 +16,7 @@ use Rattle.message_core.specs.declared.header_field.HeaderField.TheVariants as f
 use Rattle.message_core.specs.HeaderFields.{text_field}
 use Rattle.message_core.specs.Messages.{Message}
 use Rattle.busd_core.specs.declared.call.Method.{Method}
-use Rattle.busd_core.specs.declared.call.Method.TheVariants.{Hello, GetNameOwner}
+use Rattle.busd_core.specs.declared.call.Method.TheVariants.{GetNameOwner}
 use Rattle.busd_core.specs.OwnMessages.{one_string}
 use Rattle.busd_core.specs.Calls.{signature_of, if_signed, method_in, method_of}
 

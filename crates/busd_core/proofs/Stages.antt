@@ -1,5 +1,5 @@
 -- A connection that has a name keeps it.
-use Rattle.std.proofs.Common.{◌≡◌, ℕ, Bool, true, false, List, [], Option, Some, None, Result, Ok, Err, refl, sym, ap, ◌∙◌, if◌then◌else◌}
+use Rattle.std.proofs.Common.{◌≡◌, ℕ, Bool, List, Option, Some, None, Result, Ok, Err, refl}
 use Rattle.names.specs.Texts.{Text}
 use Rattle.seq_bus_core.specs.Answers.{Answer, OneName, HasOwner, NameList}
 use Rattle.seq_bus_core.specs.declared.error_kind.ErrorKind.{ErrorKind}
@@ -8,12 +8,12 @@ use Rattle.message_core.specs.Messages.{Message}
 use Rattle.busd_core.specs.declared.call.Method.{Method}
 use Rattle.busd_core.specs.declared.call.Method.TheVariants.{Hello, GetNameOwner}
 use Rattle.busd_core.specs.declared.own_message.OwnMessage.TheVariants.{Reply, Error}
-use Rattle.busd_core.specs.declared.stage.Stage.TheVariants.{Unnamed, Named, Closed}
+use Rattle.busd_core.specs.declared.stage.Stage.TheVariants.{Unnamed, Named}
 use Rattle.busd_core.specs.declared.session.Session.{Session}
 use Rattle.busd_core.specs.declared.session.Stop.{Stop}
 use Rattle.seq_bus_core.specs.Errors.{error_text}
 use Rattle.busd_core.specs.Calls.{is_call_to_bus, method_of, name_in}
-use Rattle.busd_core.specs.Serving.{Standing, Served, quiet, refusing, telling, asking, serve_call, serve_named, serve_unnamed, serve}
+use Rattle.busd_core.specs.Serving.{Standing, quiet, refusing, telling, asking, serve_call, serve_named, serve_unnamed, serve}
 use Rattle.busd_core.specs.Runs.{IsOpen}
 use Rattle.busd_core.specs.Sessions.{standing_of, Does, Ends}
 use Rattle.busd_core.proofs.Sending.{stage_of_either, stage_replied, ends_open}

@@ -1,8 +1,7 @@
 -- One more message of a piece.
-use Rattle.std.proofs.Common.{◌≡◌, ℕ, Bool, List, [], ◌∷◌, ◌++◌, Err, refl, sym, ap, ◌∙◌, subst, append_assoc}
+use Rattle.std.proofs.Common.{◌≡◌, ℕ, Bool, List, ◌++◌, Err, refl, sym, ap, ◌∙◌, subst, append_assoc}
 use Rattle.message.specs.Framing.{Unread}
 use Rattle.message_core.specs.Said.{said}
-use Rattle.message_core.specs.declared.fault.FrameFault.{FrameFault}
 use Rattle.busd_core.specs.declared.session.Session.{Session}
 use Rattle.busd_core.specs.declared.session.Stop.{Stop}
 use Rattle.busd_core.specs.declared.session.Stop.TheVariants.{Closed, Memory}

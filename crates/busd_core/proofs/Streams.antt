@@ -1,9 +1,9 @@
 -- A stream, piece after piece.
-use Rattle.std.proofs.Common.{◌≡◌, ℕ, Option, List, [], ◌∷◌, ◌++◌, Ok, Err, refl, sym, ap, ◌∙◌, subst, append_assoc, append-nil, length, take, arith, Result, inl}
+use Rattle.std.proofs.Common.{◌≡◌, ℕ, Option, List, [], ◌++◌, Ok, Err, sym, ap, ◌∙◌, subst, append_assoc, append-nil, take, arith, Result, inl}
 use Rattle.message.specs.Framing.{Unread, IsWaiting}
 use Rattle.busd_core.specs.declared.fault.Cause.{Cause}
 use Rattle.busd_core.specs.declared.stage.Stage.TheVariants.{Unnamed, Closed as StageClosed}
-use Rattle.std.specs.Io.KnownBytes.{Consumes, Appends, IsAtEnd}
+use Rattle.std.specs.Io.KnownBytes.{Consumes, Appends}
 use Rattle.std.proofs.KnownBytes.{Consumes-nil, Appends-nil, Consumes-trans, Appends-trans}
 use Rattle.busd_core.specs.declared.session.Session.{Session}
 use Rattle.busd_core.specs.declared.session.Stop.{Stop}
@@ -11,7 +11,7 @@ use Rattle.busd_core.specs.declared.session.Stop.TheVariants.{Closed as StopClos
 use Rattle.busd_core.specs.declared.fault.RunFault.TheVariants.{Input, Output, Memory}
 use Rattle.busd_core.specs.Stops.{fault_of}
 use Rattle.busd_core.specs.Serving.{Standing, opening}
-use Rattle.busd_core.specs.Runs.{limit, Serves, IsOpen, Answers, Runs}
+use Rattle.busd_core.specs.Runs.{limit, Serves, IsOpen, Runs}
 use Rattle.busd_core.specs.Sessions.{standing_of, IsAtRest, IsFresh, IsReady, Receives}
 use Rattle.busd_core.proofs.Served.{serves_nothing, serves_also, serves_on}
 

@@ -1,5 +1,5 @@
 -- The texts of the bus are strings.
-use Rattle.std.proofs.Common.{◌≡◌, ℕ, ◌<◌, ◌^◌, length, refl, sym, subst, lit<, append-nil, List, [], ◌∷◌, ◌++◌, append_assoc, ap, ◌∙◌, inl}
+use Rattle.std.proofs.Common.{◌≡◌, ℕ, refl, sym, subst, lit<, append-nil, List, [], ◌∷◌, ◌++◌, append_assoc, ap, ◌∙◌, inl}
 use Rattle.std.specs.Prelude.{IsUtf8}
 use Rattle.names.specs.Texts.{Text}
 use Rattle.names.specs.UniqueName.{IsUniqueName}

@@ -1,7 +1,7 @@
 -- Calls of the methods of the bus. (D-Bus Specification: "Message Bus Messages")
-use Rattle.std.specs.Prelude.{◌≡◌, ◌⊎◌, ℕ, Bool, true, false, ◌&&◌, ◌==◌, bit_and, Option, Some, None, is_none, Result, Ok, Err, codes, if◌then◌else◌}
+use Rattle.std.specs.Prelude.{◌≡◌, ◌⊎◌, Bool, true, false, ◌&&◌, ◌==◌, bit_and, Option, Some, None, is_none, Result, Ok, Err, codes, if◌then◌else◌}
 use Rattle.names.specs.Texts.{Text, text_eq}
-use Rattle.names.specs.BusName.{bus_text, is_bus, bus_name_fault}
+use Rattle.names.specs.BusName.{is_bus, bus_name_fault}
 use Rattle.marshal_core.specs.Signatures.{codes as signature_text}
 use Rattle.marshal_core.specs.Values.{a_string, Val, a_basic, Vals, no_values, more_values}
 use Rattle.match_rules.specs.declared.kind.MessageKind.TheVariants.{MethodCall}

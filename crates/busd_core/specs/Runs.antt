@@ -2,12 +2,11 @@
 use Rattle.std.specs.Prelude.{◌≡◌, ℕ, ◌≤◌, Bool, List, [], ◌∷◌, ◌++◌, length, Option, Result, Ok, Err}
 use Rattle.std.specs.List.{flat_map, AllByRecursion}
 use Rattle.std.specs.Io.KnownBytes.{Consumes, Appends}
-use Rattle.message_core.specs.declared.fault.FrameFault.{FrameFault}
 use Rattle.message_core.specs.Messages.{Message, IsMessage, IsWritten}
 use Rattle.message_core.specs.Said.{said}
 use Rattle.message.specs.Framing.{IsWaiting, IsJudged}
 use Rattle.busd_core.specs.declared.fault.Cause.{Cause}
-use Rattle.busd_core.specs.declared.fault.Cause.TheVariants.{NotHello, LimitsExceeded, Faulty}
+use Rattle.busd_core.specs.declared.fault.Cause.TheVariants.{Faulty}
 use Rattle.busd_core.specs.declared.fault.RunFault.{RunFault}
 use Rattle.busd_core.specs.declared.fault.RunFault.TheVariants as fault
 use Rattle.busd_core.specs.declared.stage.Stage.TheVariants.{Closed}

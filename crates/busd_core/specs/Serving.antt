@@ -1,9 +1,9 @@
 -- What the bus does for one message of a connection. (D-Bus Specification: "Message Bus Messages")
-use Rattle.std.specs.Prelude.{ℕ, ◌+◌, Bool, true, false, not, ◌==◌, Option, Some, None, Result, Ok, Err, List, [], ◌∷◌, ◌++◌, if◌then◌else◌}
+use Rattle.std.specs.Prelude.{ℕ, ◌+◌, Bool, true, ◌==◌, Option, Some, None, Result, Ok, Err, List, [], ◌∷◌, ◌++◌, if◌then◌else◌}
 use Rattle.names.specs.Texts.{Text}
 use Rattle.names.specs.UniqueName.{unique_text}
 use Rattle.owner_queues.specs.declared.request.Profile.TheVariants.{Two}
-use Rattle.seq_bus_core.specs.Answers.{Answer, OneName, HasOwner, NameList, answer}
+use Rattle.seq_bus_core.specs.Answers.{Answer, OneName, answer}
 use Rattle.seq_bus_core.specs.Errors.{error_text}
 use Rattle.seq_bus_core.specs.declared.change.Change.{Change}
 use Rattle.seq_bus_core.specs.declared.change.Change.TheVariants.{Hello as SaysHello}

@@ -1,5 +1,5 @@
 -- What the parts of a session do.
-use Rattle.std.specs.Prelude.{◌≡◌, ◌⊎◌, ℕ, ◌≤◌, Bool, true, List, [], ◌++◌, length, Option, Some, None, Result, Ok, Err}
+use Rattle.std.specs.Prelude.{◌≡◌, ◌⊎◌, ℕ, Bool, List, [], ◌++◌, Some, None, Result, Ok, Err}
 use Rattle.names.specs.Texts.{Text}
 use Rattle.seq_bus_core.specs.Answers.{answer}
 use Rattle.seq_bus_core.specs.declared.change.Change.TheVariants.{Leave}
@@ -10,14 +10,14 @@ use Rattle.message_core.specs.Messages.{Message}
 use Rattle.message_core.specs.Said.{said}
 use Rattle.message.specs.Framing.{IsWaiting, IsTaken, IsJudged}
 use Rattle.busd_core.specs.declared.fault.Cause.{Cause}
-use Rattle.busd_core.specs.declared.fault.Cause.TheVariants.{NotHello, LimitsExceeded, Faulty}
+use Rattle.busd_core.specs.declared.fault.Cause.TheVariants.{Faulty}
 use Rattle.busd_core.specs.declared.stage.Stage.{Stage}
 use Rattle.busd_core.specs.declared.stage.Stage.TheVariants.{Named, Closed}
 use Rattle.busd_core.specs.declared.session.Stop.{Stop}
 use Rattle.busd_core.specs.declared.session.Stop.TheVariants.{Closed as StopClosed, Memory}
 use Rattle.busd_core.specs.declared.session.Session.{Session}
 use Rattle.busd_core.specs.Serving.{Standing, Served, opening, next_serial, with_change, telling, refusing, serve}
-use Rattle.busd_core.specs.Runs.{limit, IsWhole, Serves, IsOpen, ClosesFor, AreWritten}
+use Rattle.busd_core.specs.Runs.{limit, Serves, IsOpen, ClosesFor, AreWritten}
 
 abbrev pub standing_of : Session → Standing
 standing_of s = record { stage = s.stage; serial = s.serial; bus = s.bus }

@@ -1,6 +1,6 @@
 -- What is known of a reader's and a writer's bytes, after a failure too.
-use Rattle.std.specs.Prelude.{◌≡◌, ℕ, ◌<◌, ◌≤◌, List, [], ◌++◌, length, take, Option, Some, None, Result, MatchResult}
-use Rattle.std.specs.Io.KnownBytes.{Consumes, Appends, Keeps, IsAtEnd}
+use Rattle.std.specs.Prelude.{◌≡◌, ℕ, ◌≤◌, List, [], ◌++◌, length, take, Option, Result, MatchResult}
+use Rattle.std.specs.Io.KnownBytes.{Consumes, Appends, IsAtEnd}
 
 module _ {E : Type 0} where
   -- all the bytes were written, or at an error a front of them

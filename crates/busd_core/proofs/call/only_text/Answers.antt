@@ -1,4 +1,4 @@
-use Rattle.std.proofs.Common.{◌≡◌, sym}
+use Rattle.std.proofs.Common.{sym}
 use Rattle.busd_core.proofs.Arguments.{no_text_of_more}
 use Rattle.busd_core.proofs.call.only_text.Goals as goal
 

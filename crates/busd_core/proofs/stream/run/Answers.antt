@@ -1,4 +1,4 @@
-use Rattle.std.proofs.Common.{◌≡◌, ℕ, List, [], ◌++◌, length, take, Ok, Err, refl, sym, ap, ◌∙◌, subst}
+use Rattle.std.proofs.Common.{take, Ok, Err, refl}
 use Rattle.std.proofs.lemmas.Result.{err_from_is_err_and}
 use Rattle.busd_core.proofs.Streams.{begins, refused, ends, fails_to_read, goes_on, stops, fails_to_write, received}
 use Rattle.busd_core.proofs.stream.run.Goals as goal

@@ -1,5 +1,5 @@
 -- What was read is served, and its answer is written.
-use Rattle.std.proofs.Common.{◌≡◌, ℕ, List, [], length}
+use Rattle.std.proofs.Common.{◌≡◌, []}
 use Rattle.busd_core.proofs.Streams.{IsUnderWay}
 use Rattle.busd_core.proofs.stream.run.Given as goal
 

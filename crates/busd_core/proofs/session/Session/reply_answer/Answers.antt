@@ -1,4 +1,4 @@
-use Rattle.std.proofs.Common.{sym, Some, subst}
+use Rattle.std.proofs.Common.{sym, Some}
 use Rattle.message_core.specs.Said.{said}
 use Rattle.busd_core.specs.declared.own_message.OwnMessage.TheVariants.{Reply}
 use Rattle.busd_core.proofs.Sending.{no_reply, reply_sent}

@@ -1,4 +1,4 @@
-use Rattle.std.proofs.Common.{inl, ap, Ok, subst}
+use Rattle.std.proofs.Common.{inl}
 use Rattle.message_core.specs.Said.{said}
 use Rattle.seq_bus_core.specs.Answers.{owner_name}
 use Rattle.seq_bus.specs.PlainBus.{bus_now}
