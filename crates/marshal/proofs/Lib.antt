@@ -10,3 +10,9 @@ pub mod ValuesTaken
 pub mod Once
 pub mod Moves
 pub mod Decoded
+pub mod TypeCodes
+pub mod WrittenBasics
+pub mod WrittenLaws
+pub mod WrittenSteps
+pub mod WrittenAgain
+pub mod Encoded

@@ -14,16 +14,16 @@ use marshal_core::{BasicType, BasicValue, DataType, MarshalFault, Order, Signatu
 use std::alloc::Global;
 
 /// The most bytes that the elements of an array have.
-const MAX_ARRAY_LENGTH: usize = 67_108_864;
+pub const MAX_ARRAY_LENGTH: usize = 67_108_864;
 
 /// The most containers about one another.
-const MAX_CONTAINER_DEPTH: u8 = 64;
+pub const MAX_CONTAINER_DEPTH: u8 = 64;
 
 /// What dict entries are aligned to.
-const ENTRY_ALIGNMENT: usize = 8;
+pub const ENTRY_ALIGNMENT: usize = 8;
 
 /// What structs are aligned to.
-const STRUCT_ALIGNMENT: usize = 8;
+pub const STRUCT_ALIGNMENT: usize = 8;
 
 /// The bytes of an array of known length: the place of the first element, the bytes of all, the
 /// place after them and the bytes there.

@@ -1,15 +1,18 @@
-//! Reading values of the D-Bus wire format from bytes.
+//! Reading values of the D-Bus wire format from bytes, and writing them.
 //!
 //! The definitions stand in `marshal_core`: what bytes spell which values (`Spelling`), and which
-//! fault is told of bytes that spell none (`Reading`).
+//! fault is told of bytes that spell none (`Reading`); which fault is told of values that have no
+//! bytes stands in `Writing`.
 #![tactic(auto)]
 
 mod basic;
 mod decoding;
+mod encoding;
 mod fixed;
 mod text;
 
 pub use decoding::{decode, one_spelling, one_text};
+pub use encoding::encode;
 pub use marshal_core::{BasicType, BasicValue, DataType, MarshalFault, Order, Signature, Value};
 
 #[cfg(test)]

@@ -284,3 +284,36 @@ fn counts_containers(rt: HostRuntime) -> Result<(), Fail> {
     );
     Ok(())
 }
+
+#[test]
+fn writes_after_what_stands_there(rt: HostRuntime) -> Result<(), Fail> {
+    let alloc = rt.alloc();
+    let mut values = Vec::new(alloc);
+    values.push(Value::Basic(BasicValue::Byte(7)))?;
+    values.push(Value::Array(DataType::Basic(BasicType::Uint64), Vec::new(alloc)))?;
+    values.push(Value::Variant(Box::new(
+        alloc,
+        Value::Basic(BasicValue::String(String::from_str(alloc, "hi")?)),
+    )?))?;
+    let mut output = Vec::new(alloc);
+    output.push(255)?;
+    encode(alloc, Order::Big, 3, &values, &mut output)?;
+    assert_eq!(rt;
+        output.as_slice(),
+        b"\xff\x07\0\0\0\0\x01s\0\0\0\0\0\x02hi\0".as_slice()
+    );
+    Ok(())
+}
+
+#[test]
+fn refuses_an_empty_struct(rt: HostRuntime) -> Result<(), Fail> {
+    let alloc = rt.alloc();
+    let mut values = Vec::new(alloc);
+    values.push(Value::Struct(Vec::new(alloc)))?;
+    let mut output = Vec::new(alloc);
+    assert_eq!(rt;
+        encode(alloc, Order::Little, 0, &values, &mut output).err(),
+        Some(MarshalFault::Signature)
+    );
+    Ok(())
+}

@@ -12,7 +12,7 @@ use marshal_core::{DataType, MarshalFault, Order, Signature};
 use names::ObjectPath;
 use std::alloc::Global;
 
-fn any_zero(bytes: &[u8]) -> bool
+pub fn any_zero(bytes: &[u8]) -> bool
     ensures { result ≡ has_zero bytes.now }
 {
     for b in bytes {
