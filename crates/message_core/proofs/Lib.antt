@@ -1,13 +1,13 @@
-mod Strings
-mod Shape
-mod FieldReading
-mod Sorting
-mod Walking
-mod Contents
+pub mod Strings
+pub mod Shape
+pub mod FieldReading
+pub mod Sorting
+pub mod Walking
+pub mod Contents
 pub mod Said
 pub mod Announced
-mod Wholes
-mod Lending
-mod Putting
-mod Own
-mod Arguments
+pub mod Wholes
+pub mod Lending
+pub mod Putting
+pub mod Own
+pub mod Arguments

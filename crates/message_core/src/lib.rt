@@ -17,6 +17,7 @@ mod writing;
 
 pub use announcement::{FIXED_LENGTH, MAXIMUM_LENGTH, MESSAGE_LIMIT, announced_length};
 pub use fault::{FaultCode, FrameFault};
+pub use field_place::FieldPlace;
 pub use header::{ALLOW_INTERACTIVE_AUTHORIZATION, Header, NO_AUTO_START, NO_REPLY_EXPECTED};
 pub use header_field::HeaderField;
 pub use message::{Message, one_reading, one_writing};

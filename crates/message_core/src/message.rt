@@ -12,6 +12,7 @@ ghost use Rattle.message_core.specs.Announcements.{announced};
 ghost use Rattle.message_core.specs.HeaderFields.{text_field, number_field};
 ghost use Rattle.message_core.specs.Messages.{Message as Record, IsMessage, IsWritten};
 ghost use Rattle.message_core.specs.Headers.{message_of};
+ghost use Rattle.message_core.specs.Places.{ArePlaced};
 ghost use Rattle.message_core.specs.Said.{said};
 ghost use Rattle.message_core.specs.Whole.{is_text, Lends};
 
@@ -84,6 +85,13 @@ impl Message {
         ensures message { IsMessage self.now (said self.now) }
     {
         self.bytes.as_slice()
+    }
+
+    /// The places of the header fields, by rising code, equal codes in the order in which they stand.
+    pub fn fields(&self) -> &[FieldPlace]
+        ensures { ArePlaced (said self.now).order self.now result.now (said self.now).fields }
+    {
+        self.fields.as_slice()
     }
 
     /// The byte order of all numbers of the message.
