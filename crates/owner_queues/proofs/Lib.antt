@@ -1,3 +1,4 @@
-pub mod QueueLemmas
+pub mod PlaceLemmas
 pub mod QueueLaws
+pub mod QueueLemmas
 pub mod WorkedQueues

@@ -1,17 +1,14 @@
 -- The laws of a queue.
-use Rattle.std.proofs.Common.{◌≡◌, ℕ, ◌+◌, ◌≤◌, Bool, true, false, not, ◌&&◌, ◌||◌, ◌==◌, ◌↔◌, cond, Option, Some, None, List, [], ◌∷◌, ◌++◌, map, length, refl, sym, ap, subst, ◌∙◌, arith, IsSome, ◌≢◌, is_some}
-use Rattle.std.specs.List.{list_all, filter}
-use Rattle.std.proofs.lemmas.List.{length-append}
-use Rattle.std.proofs.lemmas.Bool.{true≢false, eqb-true, eqb-false, eq-eqb, ne_eqb, not-true, cond_both, or_parts, or_from, or_left, or_right, and_parts, and_from, cases_Bool}
-use Rattle.std.proofs.lemmas.List.Folds.{list_all-append}
+use Rattle.std.proofs.Common.{◌≡◌, ℕ, ◌+◌, ◌≤◌, Bool, true, false, ◌==◌, ◌↔◌, Some, [], ◌∷◌, ◌++◌, length, refl, sym, ap, ◌∙◌, arith, IsSome, ◌≢◌}
+use Rattle.std.specs.List.{list_all}
+use Rattle.std.proofs.lemmas.Bool.{true≢false, eqb-true, eqb-false, eq-eqb, cond_both, or_from, or_left, or_right, and_parts, and_from}
 use Rattle.owner_queues.specs.declared.owner.QueuedOwner.{QueuedOwner}
 use Rattle.owner_queues.specs.declared.request.RequestFlags.{RequestFlags}
 use Rattle.owner_queues.specs.declared.request.Profile.{Profile}
-use Rattle.owner_queues.specs.declared.request.Profile.TheVariants.{One, Two}
 use Rattle.owner_queues.specs.declared.reply.Reply.{Reply}
-use Rattle.owner_queues.specs.declared.reply.Reply.TheVariants.{PrimaryOwner, InQueue, Exists, AlreadyOwner, Released, NonExistent, NotOwner}
-use Rattle.owner_queues.specs.Queues.{Queue, IsQueue, queue_head, is_in, is_free, without, entry_of, renewed, demoted, joined, joined_to_replace, requested, released}
-use Rattle.owner_queues.specs.Laws.{RequestsKeepQueues, RequestsAreToldTheOwner, HoldsBy, RequestsAddOneEntry, ReleasesTakeOut, ProfilesAgree}
+use Rattle.owner_queues.specs.declared.reply.Reply.TheVariants.{Released, NonExistent, NotOwner}
+use Rattle.owner_queues.specs.Queues.{Queue, IsQueue, queue_head, is_in, is_free, without, entry_of, renewed, requested}
+use Rattle.owner_queues.specs.Laws.{RequestsKeepQueues, RequestsAreToldTheOwner, HoldsBy, ReleasesTakeOut, ProfilesAgree}
 use Rattle.owner_queues.proofs.QueueLemmas.{differ-swapped, is_in-without, absent-without, queue-without, without-absent, length-without, all-without, is_in-renewed, queue-renewed, length-renewed, all-renewed, absent-last, queue-last, is_in-last, length-last, all-last, requested_cases}
 
 pub requests_keep : RequestsKeepQueues

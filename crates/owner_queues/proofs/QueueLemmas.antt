@@ -1,13 +1,13 @@
 -- Lemmas on the queue of a name.
-use Rattle.std.proofs.Common.{◌≡◌, ℕ, ◌+◌, ◌≤◌, Bool, true, false, not, ◌&&◌, ◌||◌, ◌==◌, cond, List, [], ◌∷◌, ◌++◌, map, length, refl, sym, ap, subst, ◌∙◌, arith}
-use Rattle.std.specs.List.{list_all, filter}
-use Rattle.std.proofs.lemmas.Bool.{true≢false, eqb-true, eqb-false, eq-eqb, ne_eqb, not-true, not-false, cond_both, or_parts, or_from, or_left, or_right, or_cases, and_parts, and_from, cases_Bool}
+use Rattle.std.proofs.Common.{◌≡◌, ℕ, ◌+◌, ◌≤◌, Bool, true, false, not, ◌&&◌, ◌||◌, ◌==◌, cond, [], ◌∷◌, ◌++◌, length, refl, sym, ap, ◌∙◌, arith}
+use Rattle.std.specs.List.{list_all}
+use Rattle.std.proofs.lemmas.Bool.{eqb-true, eqb-false, eq-eqb, ne_eqb, not-true, cond_both, or_parts, or_from, or_left, or_right, and_parts, and_from}
 use Rattle.owner_queues.specs.declared.owner.QueuedOwner.{QueuedOwner}
 use Rattle.owner_queues.specs.declared.request.RequestFlags.{RequestFlags}
 use Rattle.owner_queues.specs.declared.request.Profile.{Profile}
 use Rattle.owner_queues.specs.declared.request.Profile.TheVariants.{One, Two}
 use Rattle.owner_queues.specs.declared.reply.Reply.{Reply}
-use Rattle.owner_queues.specs.declared.reply.Reply.TheVariants.{PrimaryOwner, InQueue, Exists, AlreadyOwner, Released, NonExistent, NotOwner}
+use Rattle.owner_queues.specs.declared.reply.Reply.TheVariants.{PrimaryOwner, InQueue, Exists, AlreadyOwner}
 use Rattle.owner_queues.specs.Queues.{Queue, IsQueue, is_in, without, entry_of, renewed, demoted, joined, joined_to_replace, requested}
 
 pub differ-swapped : (a b : ℕ) → (a == b) ≡ false → (b == a) ≡ false

@@ -1,5 +1,5 @@
 -- Runs of requests and releases, computed from the definitions.
-use Rattle.std.proofs.Common.{◌≡◌, ℕ, Bool, true, false, List, [], ◌∷◌, refl, map}
+use Rattle.std.proofs.Common.{◌≡◌, ℕ, List, [], ◌∷◌, refl, map}
 use Rattle.owner_queues.specs.declared.request.Profile.{Profile}
 use Rattle.owner_queues.specs.declared.request.Profile.TheVariants.{One, Two}
 use Rattle.owner_queues.specs.declared.reply.Reply.{Reply}

@@ -1,5 +1,5 @@
 -- What holds of queues, whatever is requested, released and left.
-use Rattle.std.specs.Prelude.{◌≡◌, ◌≢◌, ℕ, ◌+◌, ◌≤◌, Bool, true, false, ◌==◌, ◌↔◌, Option, Some, None, IsSome, List, [], ◌∷◌, length, ◌⊎◌}
+use Rattle.std.specs.Prelude.{◌≡◌, ◌≢◌, ℕ, ◌+◌, ◌≤◌, Bool, true, false, ◌↔◌, Some, IsSome, [], ◌∷◌, length}
 use Rattle.std.specs.List.{list_all}
 use Rattle.owner_queues.specs.declared.owner.QueuedOwner.{QueuedOwner}
 use Rattle.owner_queues.specs.declared.request.RequestFlags.{RequestFlags}
@@ -7,7 +7,7 @@ use Rattle.owner_queues.specs.declared.request.Profile.{Profile}
 use Rattle.owner_queues.specs.declared.request.Profile.TheVariants.{One, Two}
 use Rattle.owner_queues.specs.declared.reply.Reply.{Reply}
 use Rattle.owner_queues.specs.declared.reply.Reply.TheVariants.{PrimaryOwner, InQueue, Exists, AlreadyOwner, Released, NonExistent, NotOwner}
-use Rattle.owner_queues.specs.Queues.{Queue, IsQueue, queue_head, is_in, without, entry_of, requested, released, left}
+use Rattle.owner_queues.specs.Queues.{Queue, IsQueue, queue_head, is_in, without, entry_of, requested, released}
 
 -- a fact about every request: of its connection, its flags, the queue before, the queue after, and the reply
 abbrev pub OfEachRequest : (ℕ → RequestFlags → Queue → Queue → Reply → Type 0) → Type 0

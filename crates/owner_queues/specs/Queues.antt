@@ -1,6 +1,6 @@
 -- The queue of a name: the owner first, then those who wait, in order.
 -- (D-Bus Specification: "org.freedesktop.DBus.RequestName", "org.freedesktop.DBus.ReleaseName")
-use Rattle.std.specs.Prelude.{◌≡◌, ℕ, Bool, true, false, not, ◌&&◌, ◌==◌, Option, Some, None, List, [], ◌∷◌, ◌++◌, map, filter, if◌then◌else◌}
+use Rattle.std.specs.Prelude.{◌≡◌, ◌<◌, ℕ, Bool, true, false, not, ◌&&◌, ◌==◌, Option, Some, None, List, [], ◌∷◌, ◌++◌, length, map, filter, if◌then◌else◌}
 use Rattle.std.specs.List.{list_any}
 use Rattle.owner_queues.specs.declared.owner.QueuedOwner.{QueuedOwner}
 use Rattle.owner_queues.specs.declared.request.RequestFlags.{RequestFlags}
@@ -24,6 +24,14 @@ is_in connection queue = list_any (λ o. o.connection == connection) queue
 abbrev pub IsQueue : Queue → Type 0
 IsQueue [] = Unit {0}
 IsQueue (entry ∷ behind) = (is_in entry.connection behind ≡ false) × IsQueue behind
+
+-- the most places of one queue
+abbrev pub max_places : ℕ
+max_places = 256
+
+-- A connection that is in the queue needs no other place; any other does.
+abbrev pub HasRoom : ℕ → Queue → Type 0
+HasRoom connection queue = is_in connection queue ≡ false → length queue < max_places
 
 -- the queue without a connection, the others in order
 abbrev pub without : ℕ → Queue → Queue
