@@ -1,0 +1,5 @@
+pub mod Acts
+pub mod Hellos
+pub mod Members
+pub mod PreparedChanges
+pub mod Served

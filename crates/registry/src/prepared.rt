@@ -1,0 +1,52 @@
+//! Changes that are prepared.
+
+ghost use Rattle.std.specs.Prelude.{◌≡◌};
+
+use crate::outcomes::replied;
+use seq_bus_core::{Change, NumberedOutcome, Reply};
+use std::alloc::Global;
+use std::marker::Model;
+use std::mem::replace;
+
+/// A change by what its step looks at.
+#[derive(Drop)]
+pub enum Act {
+    Hello { privileged: bool },
+}
+
+/// A change that a seat makes, with all that it needs of memory. It can be made on any registry.
+///
+/// Contracts see the seat, the change by what its step looks at, and the outcome.
+#[derive(Drop)]
+pub struct Prepared {
+    pub(crate) seat: u8,
+    pub(crate) act: Act,
+    pub(crate) outcome: NumberedOutcome,
+}
+
+impl Model for Prepared {
+    ghost use Rattle.registry.specs.PreparedChanges.{PreparedChange};
+    ghost use Rattle.registry.specs.Acts.{change_of};
+
+    ghost Value = { PreparedChange };
+
+    ghost view = { λ p. record { seat = p.seat; change = change_of p.act; outcome = p.outcome } };
+}
+
+impl Prepared {
+    /// What the change is told, where it was prepared.
+    pub fn outcome(&self) -> &NumberedOutcome
+        ensures { result.now ≡ self.now.outcome }
+    {
+        &self.outcome
+    }
+
+    /// Takes the outcome out. What is left of it is its reply.
+    pub fn take_outcome(&mut self, alloc: Global) -> NumberedOutcome
+        ensures taken { result ≡ self.old.outcome }
+        ensures kept { self.new ≡ record self.old { outcome = self.new.outcome } }
+    {
+        let reply = self.outcome.reply;
+        replace(&mut self.outcome, replied(alloc, reply))
+    }
+}
