@@ -94,6 +94,9 @@ entries_in-keys (suc more) (a ∷ []) = tt
 entries_in-keys (suc more) (a ∷ b ∷ []) = tt
 entries_in-keys (suc more) (place ∷ low ∷ high ∷ bytes) = (key_at all_keys place all_are_keys, entries_in-keys more (drop (low + 256 * high) bytes))
 
+pub rule_in-keys : (bytes : Text) → AllByRecursion (λ entry. IsKey entry.0) (rule_in bytes)
+rule_in-keys bytes = entries_in-keys (length bytes) bytes
+
 are_entries : (rule : Rule) → AllByRecursion (λ entry. IsKey entry.0) rule → all_taken rule ≡ true → AllByRecursion IsEntry rule
 are_entries [] keys taken = tt
 are_entries (entry ∷ rule) keys taken =

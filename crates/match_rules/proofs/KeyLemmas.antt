@@ -20,7 +20,7 @@ between front f count back d n h =
     ∙ get_or-map-range_with_len f 0 count n n d h (omega arith)
 
 abbrev plain_keys : List Key
-plain_keys = MessageType ∷ Sender ∷ Interface ∷ Member ∷ Path ∷ PathNamespace ∷ Destination ∷ []
+plain_keys = MessageType ∷ Member ∷ Interface ∷ Path ∷ PathNamespace ∷ Sender ∷ Destination ∷ []
 
 abbrev argument_keys : List Key
 argument_keys = map Argument (range_with_len 0 max_arguments)

@@ -60,10 +60,10 @@ all_append (x ∷ xs) ys hx hy = (hx.0, all_append xs ys hx.1 hy)
 pub all_are_keys : AllByRecursion IsKey all_keys
 all_are_keys =
     let a = each_argument 0 max_arguments (omega arith) in
-    all_append (MessageType ∷ Sender ∷ Interface ∷ Member ∷ Path ∷ PathNamespace ∷ Destination ∷ [] ++ map Argument (range_with_len 0 max_arguments) ++ map ArgumentPath (range_with_len 0 max_arguments))
+    all_append (MessageType ∷ Member ∷ Interface ∷ Path ∷ PathNamespace ∷ Sender ∷ Destination ∷ [] ++ map Argument (range_with_len 0 max_arguments) ++ map ArgumentPath (range_with_len 0 max_arguments))
     (Argument0Namespace ∷ Eavesdrop ∷ [])
-    (all_append (MessageType ∷ Sender ∷ Interface ∷ Member ∷ Path ∷ PathNamespace ∷ Destination ∷ [] ++ map Argument (range_with_len 0 max_arguments)) (map ArgumentPath (range_with_len 0 max_arguments))
-    (all_append (MessageType ∷ Sender ∷ Interface ∷ Member ∷ Path ∷ PathNamespace ∷ Destination ∷ []) (map Argument (range_with_len 0 max_arguments)) (tt, (tt, (tt, (tt, (tt, (tt, (tt, tt))))))) a.0) a.1)
+    (all_append (MessageType ∷ Member ∷ Interface ∷ Path ∷ PathNamespace ∷ Sender ∷ Destination ∷ [] ++ map Argument (range_with_len 0 max_arguments)) (map ArgumentPath (range_with_len 0 max_arguments))
+    (all_append (MessageType ∷ Member ∷ Interface ∷ Path ∷ PathNamespace ∷ Sender ∷ Destination ∷ []) (map Argument (range_with_len 0 max_arguments)) (tt, (tt, (tt, (tt, (tt, (tt, (tt, tt))))))) a.0) a.1)
     (tt, (tt, tt))
 
 arguments_found : (n : ℕ) → n < max_arguments → (place_of (found (key_text (Argument n))) == 7 + n) ≡ true

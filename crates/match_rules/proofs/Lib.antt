@@ -13,3 +13,6 @@ pub mod KeyNames
 pub mod ItemPlaces
 pub mod ParseLemmas
 pub mod Putting
+pub mod RoomLemmas
+pub mod ValueLemmas
+pub mod DecimalLemmas

@@ -15,7 +15,7 @@ use Rattle.names.specs.Member.{member_style}
 use Rattle.names.specs.ObjectPath.{IsObjectPath, path_style}
 use Rattle.match_rules.specs.declared.key.Key.{Key}
 use Rattle.match_rules.specs.declared.key.Key.TheVariants.{«Type» as MessageType, Sender, Interface, Member, Path, PathNamespace, Destination, Argument, ArgumentPath, Argument0Namespace, Eavesdrop}
-use Rattle.match_rules.specs.Keys.{Takes}
+use Rattle.match_rules.specs.Keys.{Takes, TakesNames}
 use Rattle.match_rules.specs.RuleFaults.{takes}
 use Rattle.match_rules.proofs.KeyTexts.{takes_tested, tested_takes}
 
@@ -54,14 +54,6 @@ ascii_utf8 text h = IsUtf8-from_ascii text (ascii text h)
     ascii : (text : Text) → AreAscii text → IsAscii text
     ascii [] h = IsAscii-nil
     ascii (b ∷ text) h = IsAscii-cons b text h.0 (ascii text h.1)
-
--- Keys whose values are names.
-abbrev pub TakesNames : Key → Type 0
-TakesNames MessageType = ⊥
-TakesNames (Argument number) = ⊥
-TakesNames (ArgumentPath number) = ⊥
-TakesNames Eavesdrop = ⊥
-TakesNames key = Unit {0}
 
 path_ascii : (value : Text) → IsObjectPath value → AreAscii value
 path_ascii value h =

@@ -11,7 +11,7 @@ use Rattle.match_rules.specs.declared.fault.RuleFault.{RuleFault}
 use Rattle.match_rules.specs.declared.fault.RuleFault.TheVariants.{Twice, Both, Quote, TooLong}
 use Rattle.match_rules.specs.declared.key.Key.{Key}
 use Rattle.match_rules.specs.declared.key.Key.TheVariants.{«Type» as MessageType, Sender, Interface, Member, Path, PathNamespace, Destination, Argument, ArgumentPath, Argument0Namespace, Eavesdrop}
-use Rattle.match_rules.specs.declared.rule.TheConstants.{MAX_RULE_LENGTH}
+use Rattle.match_rules.specs.declared.room.TheConstants.{MAX_RULE_LENGTH}
 use Rattle.match_rules.specs.Keys.{same_key}
 use Rattle.match_rules.specs.Rules.{Rule, IsRising}
 use Rattle.match_rules.specs.RuleTexts.{AreParts, Item, item_text, entry_of, joined, IsRuleText}

@@ -1,7 +1,8 @@
 -- Entries that are put where their keys belong, in rules and in their bytes.
-use Rattle.std.proofs.Common.{◌≡◌, inl, inr, ℕ, ◌+◌, ◌≤◌, Bool, true, false, ◌||◌, cond, nat_lt, Some, None, List, [], ◌∷◌, ◌++◌, length, take, drop, refl, sym, ap, subst, ◌∙◌, arith, append_assoc, length-append}
+use Rattle.std.proofs.Common.{◌≡◌, inl, inr, ℕ, ◌+◌, ◌-◌, ◌/◌, ◌%◌, ◌≤◌, Bool, true, false, ◌||◌, cond, nat_lt, Some, None, Result, Ok, Err, List, [], ◌∷◌, ◌++◌, length, take, drop, refl, sym, ap, subst, ◌∙◌, arith, append_assoc, length-append, length-drop}
 use Rattle.std.specs.List.{AllByRecursion}
-use Rattle.std.proofs.Math.Seq.{take-append-add, drop-append-add}
+use Rattle.std.specs.Result.{OnOk}
+use Rattle.std.proofs.Math.Seq.{take-append-add, drop-append-add, take-append_seam, drop-append_seam, take-append-le, drop-append-le}
 use Rattle.std.proofs.lemmas.Bool.{le-ltb, cases_Bool, cond_both, or_parts, eqb-true}
 use Rattle.std.proofs.lemmas.List.Sums.{sum_by-cons}
 use Rattle.std.proofs.lemmas.List.Sorted.{sum_by-IsPermutation}
@@ -137,3 +138,25 @@ put_kept items new old entry view is_rule kept key taken new_key apart bytes =
     let old_rule : ∥ IsRule old ∥₁ = subst (λ r. ∥ IsRule r ∥₁) view is_rule in
     let new_rule : ∥ IsRule (put entry old) ∥₁ = ∥∥₁_elim old_rule (hlevel props) (λ h. merely (rule-put entry old key taken new_key apart h)) in
     (subst (λ r. ∥ IsRule r ∥₁) (sym again) new_rule, stored ∙ ap (λ r. rule_bytes r) (sym again), again)
+
+-- Bytes that are added behind the others and moved to a place before them.
+pub moved_in :
+    (items head both new value : Text) (at : ℕ) (entry : Key × Text) → at ≤ length items → value ≡ entry.1 → head ≡ items ++ (key_place entry.0 ∷ length entry.1 % 256 ∷ length entry.1 / 256 ∷ []) → both ≡ head ++ value →
+    new ≡ take at both ++ (drop (length both - (3 + length value)) both ++ take (length both - (3 + length value) - at) (drop at both)) →
+    new ≡ take at items ++ entry_bytes entry ++ drop at items
+moved_in items head both new value at entry within same headed whole moved =
+    let all : both ≡ items ++ entry_bytes entry = whole ∙ ap (λ h. h ++ value) headed ∙ ap (λ v. (items ++ (key_place entry.0 ∷ length entry.1 % 256 ∷ length entry.1 / 256 ∷ [])) ++ v) same ∙ append_assoc items (key_place entry.0 ∷ length entry.1 % 256 ∷ length entry.1 / 256 ∷ []) entry.1 in
+    let long : length both - (3 + length value) ≡ length items = omega (arith, ap (λ t. length t) all, length-append items (entry_bytes entry), ap (λ t. length t) same) in
+    let last : drop (length both - (3 + length value)) both ≡ entry_bytes entry = ap (λ n. drop n both) long ∙ ap (λ t. drop (length items) t) all ∙ drop-append_seam items (entry_bytes entry) in
+    let front : take at both ≡ take at items = ap (λ t. take at t) all ∙ take-append-le at items (entry_bytes entry) within in
+    let behind : drop at both ≡ drop at items ++ entry_bytes entry = ap (λ t. drop at t) all ∙ drop-append-le at items (entry_bytes entry) within in
+    let left : length both - (3 + length value) - at ≡ length (drop at items) = omega (arith, long, length-drop at items) in
+    let rest : take (length both - (3 + length value) - at) (drop at both) ≡ drop at items = ap (λ n. take n (drop at both)) left ∙ ap (λ t. take (length (drop at items)) t) behind ∙ take-append_seam (drop at items) (entry_bytes entry) in
+    moved ∙ ap (λ t. t ++ (drop (length both - (3 + length value)) both ++ take (length both - (3 + length value) - at) (drop at both))) front
+    ∙ ap (λ t. take at items ++ (t ++ take (length both - (3 + length value) - at) (drop at both))) last ∙ ap (λ t. take at items ++ (entry_bytes entry ++ t)) rest
+    ∙ sym (append_assoc (take at items) (entry_bytes entry) (drop at items))
+
+pub room_after :
+    {E : Type 0} (r : Result (Unit {0}) E) (old new : Rule) (entry : Key × Text) (n : ℕ) → OnOk r (new ≡ put entry old) → 3 + length entry.1 ≤ n → OnOk r (length (rule_bytes new) ≤ length (rule_bytes old) + n)
+room_after {E} (Ok done) old new entry n h fits = omega (arith, fits, ap (λ rule. length (rule_bytes rule)) h, length-put entry old)
+room_after {E} (Err fault) old new entry n h fits = tt

@@ -1,9 +1,11 @@
 -- How items and values are read through quotes.
-use Rattle.std.proofs.Common.{◌≡◌, ◌≢◌, inl, inr, ℕ, suc, ◌+◌, Bool, true, false, not, ◌||◌, ◌==◌, Option, Some, None, option_map, List, [], ◌∷◌, ◌++◌, refl, sym, ap, subst, ◌∙◌, arith, take, drop, length}
+use Rattle.std.proofs.Common.{◌≡◌, ◌≢◌, inl, inr, ℕ, suc, ◌+◌, ◌-◌, Bool, true, false, not, ◌||◌, ◌==◌, Option, Some, None, option_map, List, [], ◌∷◌, ◌++◌, refl, sym, ap, subst, ◌∙◌, arith, take, drop, length}
 use Rattle.std.specs.List.{AllByRecursion, flat_map, onto_first, list_all, list_any, before_first, after_first, position_or_len}
 use Rattle.std.proofs.lemmas.Bool.{cases_Bool, true≢false, eqb-true, eqb-false, ne_eqb, not-true, or_parts, or_right, and_parts}
 use Rattle.std.proofs.Math.Seq.{take-append_seam, drop-append-add}
-use Rattle.names.specs.Texts.{Text}
+use Rattle.std.proofs.lemmas.List.{take-append-drop}
+use Rattle.std.proofs.lemmas.Slice.Eq.{bytes_eq-Decides}
+use Rattle.names.specs.Texts.{Text, text_eq}
 use Rattle.match_rules.specs.RuleTexts.{apostrophe, comma, equals, backslash, Part, Quoted, Escaped, Plain, part_text, part_value, AreParts, BeginsWithApostrophe}
 use Rattle.match_rules.specs.RuleFaults.{Quoting, Outside, AfterBackslash, Inside, next, ends_item, items_from, meant, value_from, is_equals}
 
@@ -277,3 +279,23 @@ at_equals (b ∷ item) h =
       | inl same ↦ rw same (ap (λ x. x ∷ item) (eqb-true b equals same))
       | inr other ↦ rw (other, one, two) (ap (λ t. b ∷ t) (at_equals item (subst (λ x. (x || list_any is_equals item) ≡ true) other h)))
     ]
+
+-- A value between two apostrophes that has none itself.
+inside_read : (value : Text) → list_any (λ b. b == apostrophe) value ≡ false → value_from Inside (value ++ apostrophe ∷ []) ≡ Some value
+inside_read [] h = refl
+inside_read (b ∷ value) h =
+    let parts = or_parts (b == apostrophe) (list_any (λ b. b == apostrophe) value) h in
+    rw (parts.0, inside_read value parts.1) refl
+
+pub between_read : (value : Text) → list_any (λ b. b == apostrophe) value ≡ false → value_from Outside (apostrophe ∷ value ++ apostrophe ∷ []) ≡ Some value
+between_read value h = ap (λ o. option_map (λ later. later) o) (inside_read value h)
+
+pub plain_value_read :
+    (text front value : Text) → text_eq (take 1 text) (apostrophe ∷ []) ≡ true → front ≡ drop 1 text → text_eq (drop (length front - 1) front) (apostrophe ∷ []) ≡ true →
+    value ≡ take (length front - 1) front → list_any (λ b. b == apostrophe) value ≡ false → value_from Outside text ≡ Some value
+plain_value_read text front value opened behind closed before none =
+    let whole : text ≡ apostrophe ∷ front = sym (take-append-drop 1 text) ∙ ap (λ t. t ++ drop 1 text) ((bytes_eq-Decides (take 1 text) (apostrophe ∷ [])).0 opened) ∙ ap (λ t. apostrophe ∷ t) (sym behind) in
+    let rest : front ≡ value ++ apostrophe ∷ [] =
+    sym (take-append-drop (length front - 1) front) ∙ ap (λ t. t ++ drop (length front - 1) front) (sym before) ∙ ap (λ t. value ++ t) ((bytes_eq-Decides (drop (length front - 1) front) (apostrophe ∷ [])).0 closed)
+    in
+    ap (λ t. value_from Outside t) (whole ∙ ap (λ t. apostrophe ∷ t) rest) ∙ between_read value none

@@ -10,7 +10,7 @@ use Rattle.match_rules.specs.declared.fault.RuleFault.{RuleFault}
 use Rattle.match_rules.specs.declared.fault.RuleFault.TheVariants.{TooLong}
 use Rattle.match_rules.specs.declared.key.Key.{Key}
 use Rattle.match_rules.specs.declared.key.Key.TheVariants.{«Type» as MessageType, Sender, Interface, Member, Path, PathNamespace, Destination, Argument, ArgumentPath, Argument0Namespace, Eavesdrop}
-use Rattle.match_rules.specs.declared.rule.TheConstants.{MAX_RULE_LENGTH}
+use Rattle.match_rules.specs.declared.room.TheConstants.{MAX_RULE_LENGTH}
 use Rattle.match_rules.specs.Keys.{IsKey, key_place, same_key}
 use Rattle.match_rules.specs.Rules.{Rule, IsRule, IsEntry, value_at}
 use Rattle.match_rules.specs.Reading.{keys_of}

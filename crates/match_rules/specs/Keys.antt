@@ -36,14 +36,14 @@ key_text (ArgumentPath number) = codes "arg" ++ decimal number ++ codes "path"
 key_text Argument0Namespace = codes "arg0namespace"
 key_text Eavesdrop = codes "eavesdrop"
 
--- the place of a key in the order of keys, which is that of the standard's table
+-- the place of a key in the order of keys, in which what costs least to look at comes first
 abbrev pub key_place : Key → ℕ
 key_place MessageType = 0
-key_place Sender = 1
+key_place Member = 1
 key_place Interface = 2
-key_place Member = 3
-key_place Path = 4
-key_place PathNamespace = 5
+key_place Path = 3
+key_place PathNamespace = 4
+key_place Sender = 5
 key_place Destination = 6
 key_place (Argument number) = 7 + number
 key_place (ArgumentPath number) = 7 + max_arguments + number
@@ -56,7 +56,7 @@ same_key a b = key_place a == key_place b
 -- every key, in order
 abbrev pub all_keys : List Key
 all_keys =
-    MessageType ∷ Sender ∷ Interface ∷ Member ∷ Path ∷ PathNamespace ∷ Destination ∷ []
+    MessageType ∷ Member ∷ Interface ∷ Path ∷ PathNamespace ∷ Sender ∷ Destination ∷ []
     ++ map Argument (range_with_len 0 max_arguments)
     ++ map ArgumentPath (range_with_len 0 max_arguments)
     ++ Argument0Namespace ∷ Eavesdrop ∷ []
@@ -74,3 +74,11 @@ Takes (Argument number) value = Unit {0}
 Takes (ArgumentPath number) value = Unit {0}
 Takes Argument0Namespace value = IsNamespace value
 Takes Eavesdrop value = (value ≡ codes "true") ⊎ (value ≡ codes "false")
+
+-- keys whose values are names or paths
+abbrev pub TakesNames : Key → Type 0
+TakesNames MessageType = ⊥
+TakesNames (Argument number) = ⊥
+TakesNames (ArgumentPath number) = ⊥
+TakesNames Eavesdrop = ⊥
+TakesNames key = Unit {0}

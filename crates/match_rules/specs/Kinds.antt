@@ -1,6 +1,6 @@
 -- The types of messages. (D-Bus Specification: "Message Types")
 use Rattle.std.specs.Prelude.{ℕ, ◌==◌, Option, Some, None, codes, if◌then◌else◌}
-use Rattle.names.specs.Texts.{Text}
+use Rattle.names.specs.Texts.{Text, text_eq}
 use Rattle.match_rules.specs.declared.kind.MessageKind.{MessageKind}
 use Rattle.match_rules.specs.declared.kind.MessageKind.TheVariants.{MethodCall, MethodReturn, Error, Signal, Unknown}
 
@@ -27,3 +27,12 @@ kind_word MethodReturn = Some (codes "method_return")
 kind_word Error = Some (codes "error")
 kind_word Signal = Some (codes "signal")
 kind_word (Unknown number) = None
+
+-- the type that a word names
+abbrev pub kind_named : Text → Option MessageKind
+kind_named word =
+    if text_eq word (codes "method_call") then Some MethodCall
+    else if text_eq word (codes "method_return") then Some MethodReturn
+    else if text_eq word (codes "error") then Some Error
+    else if text_eq word (codes "signal") then Some Signal
+    else None

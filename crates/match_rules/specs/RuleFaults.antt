@@ -13,7 +13,7 @@ use Rattle.match_rules.specs.declared.fault.RuleFault.{RuleFault}
 use Rattle.match_rules.specs.declared.fault.RuleFault.TheVariants.{Key as KeyFault, Twice, Both, Quote, Value, TooLong}
 use Rattle.match_rules.specs.declared.key.Key.{Key}
 use Rattle.match_rules.specs.declared.key.Key.TheVariants.{«Type» as MessageType, Sender, Interface, Member, Path, PathNamespace, Destination, Argument, ArgumentPath, Argument0Namespace, Eavesdrop}
-use Rattle.match_rules.specs.declared.rule.TheConstants.{MAX_RULE_LENGTH}
+use Rattle.match_rules.specs.declared.room.TheConstants.{MAX_RULE_LENGTH}
 use Rattle.match_rules.specs.Keys.{key_text, same_key, all_keys}
 use Rattle.match_rules.specs.RuleTexts.{apostrophe, comma, equals, backslash}
 

@@ -4,7 +4,7 @@ use Rattle.std.specs.List.{flat_map, AllByRecursion}
 use Rattle.std.specs.List.Sorted.{IsPermutation}
 use Rattle.names.specs.Texts.{Text}
 use Rattle.match_rules.specs.declared.key.Key.{Key}
-use Rattle.match_rules.specs.declared.rule.TheConstants.{MAX_RULE_LENGTH}
+use Rattle.match_rules.specs.declared.room.TheConstants.{MAX_RULE_LENGTH}
 use Rattle.match_rules.specs.Keys.{key_text}
 use Rattle.match_rules.specs.Rules.{Rule, IsRule}
 
@@ -68,3 +68,7 @@ abbrev pub IsRuleText : Text → Rule → Type 0
 IsRuleText text rule =
     IsRule rule × (length text ≤ MAX_RULE_LENGTH)
     × ((items : List Item) × AllByRecursion (λ item. AreParts item.parts) items × IsPermutation (map entry_of items) rule × (text ≡ joined items))
+
+-- The rule has a text.
+abbrev pub HasText : Rule → Type 0
+HasText rule = (text : Text) × IsRuleText text rule

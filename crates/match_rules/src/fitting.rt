@@ -1,13 +1,14 @@
 //! Which rules fit a message.
 
-ghost use Rattle.std.specs.Prelude.{◌≡◌, ◌++◌, ◌∷◌, [], true, option_map, slice_get};
+ghost use Rattle.std.specs.Prelude.{◌≡◌, ◌++◌, ◌∷◌, [], true, decimal, option_map, slice_get};
+ghost use Rattle.names.specs.Texts.{text_eq};
+ghost use Rattle.names.specs.UniqueName.{unique_text};
 ghost use Rattle.match_rules.specs.FactsView.{argument_of};
 ghost use Rattle.match_rules.specs.RuleFaults.{takes};
 ghost use Rattle.match_rules.specs.Fitting.{Heads, begins, are_one_head, are_paths_alike, ends_in_slash, fits, holds, is_destination, is_number, is_path_argument, is_sender, is_string_argument, is_text, is_within_namespace, is_within_path};
 
 use crate::entries::Entry;
 use crate::{Argument, Facts, Key, Rule};
-use names::UniqueName;
 use std::str;
 
 /// The name of the bus itself.
@@ -27,7 +28,7 @@ impl Rule {
     pub fn fits<O: Owners>(&self, facts: &Facts<'_>, owners: &O) -> bool
         ensures { result ≡ fits (O.heads owners.now) self.now facts.now }
     {
-        for entry in self.entries() {
+        for entry in self.entries.entries() {
             if !entry.holds(facts, owners) {
                 return false;
             }
@@ -91,9 +92,35 @@ fn is_sender<O: Owners>(name: &str, sender: u64, owners: &O) -> bool
         return false;
     }
     if name.as_bytes().first() == Some(&b':') {
-        return name == UniqueName::of(sender).as_str();
+        return is_name_of(name.as_bytes(), sender);
     }
     is_number(sender, owners.head(name))
+}
+
+/// Whether the name is the one that the bus gives to the connection of a number.
+fn is_name_of(name: &[u8], number: u64) -> bool
+    ensures { result ≡ text_eq name.now (unique_text number) }
+{
+    match name.strip_prefix(b":1.") {
+        Some(digits) => is_decimal(digits, number),
+        None => false,
+    }
+}
+
+/// Whether these are the decimal digits of a number.
+fn is_decimal(digits: &[u8], number: u64) -> bool
+    ensures { result ≡ text_eq digits.now (decimal number) }
+{
+    let Some((last, front)) = digits.split_last() else {
+        return false;
+    };
+    if *last != b'0' + (number % 10) as u8 {
+        return false;
+    }
+    if number < 10 {
+        return front.is_empty();
+    }
+    is_decimal(front, number / 10)
 }
 
 fn is_number(number: u64, head: Option<u64>) -> bool

@@ -3,16 +3,16 @@
 ghost use Rattle.std.specs.Prelude.{◌≡◌, ◌<◌};
 ghost use Rattle.match_rules.specs.Reading.{argument_named, number_named, numbered};
 
-/// A key of a match rule, in the order of the standard's table. An argument's number is at most 63.
+/// A key of a match rule, in the order in which they are looked at: what costs least comes first. An argument's number is at most 63.
 /// (D-Bus Specification: "Match Rules".)
 #[derive(Clone, Copy, Debug, PartialEq, Eq)]
 pub enum Key {
     Type,
-    Sender,
-    Interface,
     Member,
+    Interface,
     Path,
     PathNamespace,
+    Sender,
     Destination,
     /// `arg0` to `arg63`.
     Argument(u8),
@@ -34,11 +34,11 @@ impl Key {
     {
         match place {
             0 => Key::Type,
-            1 => Key::Sender,
+            1 => Key::Member,
             2 => Key::Interface,
-            3 => Key::Member,
-            4 => Key::Path,
-            5 => Key::PathNamespace,
+            3 => Key::Path,
+            4 => Key::PathNamespace,
+            5 => Key::Sender,
             6 => Key::Destination,
             7..=70 => Key::Argument(place - 7),
             71..=134 => Key::ArgumentPath(place - 71),
@@ -53,11 +53,11 @@ impl Key {
     {
         match self {
             Key::Type => 0,
-            Key::Sender => 1,
+            Key::Member => 1,
             Key::Interface => 2,
-            Key::Member => 3,
-            Key::Path => 4,
-            Key::PathNamespace => 5,
+            Key::Path => 3,
+            Key::PathNamespace => 4,
+            Key::Sender => 5,
             Key::Destination => 6,
             Key::Argument(number) => 7 + number as u16,
             Key::ArgumentPath(number) => 71 + number as u16,

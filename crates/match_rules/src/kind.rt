@@ -16,7 +16,7 @@ pub enum MessageKind {
 }
 
 impl MessageKind {
-    ghost use Rattle.match_rules.specs.Kinds.{kind_number, kind_word};
+    ghost use Rattle.match_rules.specs.Kinds.{kind_named, kind_number, kind_word};
 
     /// The number that stands in a message's header.
     pub fn number(self) -> u8
@@ -42,6 +42,25 @@ impl MessageKind {
             MessageKind::Signal => Some("signal"),
             MessageKind::Unknown(_) => None,
         }
+    }
+
+    /// The type that a word of match rules names.
+    pub(crate) fn named(word: &[u8]) -> Option<Self>
+        ensures { result ≡ kind_named word.now }
+    {
+        if word == b"method_call".as_slice() {
+            return Some(MessageKind::MethodCall);
+        }
+        if word == b"method_return".as_slice() {
+            return Some(MessageKind::MethodReturn);
+        }
+        if word == b"error".as_slice() {
+            return Some(MessageKind::Error);
+        }
+        if word == b"signal".as_slice() {
+            return Some(MessageKind::Signal);
+        }
+        None
     }
 }
 

@@ -7,6 +7,7 @@
 #![tactic(auto)]
 
 mod entries;
+mod entry_map;
 mod facts;
 mod fault;
 mod fitting;
@@ -15,6 +16,7 @@ mod kind;
 pub mod laws;
 mod quoting;
 mod reading;
+mod room;
 mod rule;
 
 pub use facts::{Argument, Facts};
@@ -22,7 +24,8 @@ pub use fault::RuleFault;
 pub use fitting::Owners;
 pub use key::Key;
 pub use kind::MessageKind;
-pub use rule::{MAX_RULE_LENGTH, Rule};
+pub use room::MAX_RULE_LENGTH;
+pub use rule::Rule;
 
 #[cfg(test)]
 mod tests;

@@ -1,6 +1,6 @@
 //! How values are quoted in the text of a rule, and where its items end.
 
-ghost use Rattle.std.specs.Prelude.{◌≡◌, ◌+◌, ◌≤◌, ◌<◌, ◌++◌, length, drop, option_map, IfSome};
+ghost use Rattle.std.specs.Prelude.{◌≡◌, ◌+◌, ◌≤◌, ◌<◌, ◌++◌, length, drop, Some, option_map, IfSome};
 ghost use Rattle.arrayvec.specs.ArrayVec.{array_vec_len};
 ghost use Rattle.match_rules.specs.Reading.{quoting_of, item_length, held_back};
 ghost use Rattle.match_rules.specs.RuleFaults.{Outside, next, ends_item, meant, value_from};
@@ -115,6 +115,19 @@ pub fn behind_item(text: &[u8], end: usize) -> &[u8]
     ensures { result.now ≡ drop (end + 1) text.now }
 {
     &text[end + 1..]
+}
+
+/// The value of a text that is a value between two apostrophes; none where the text is written in another way.
+pub fn plain_value(text: &[u8]) -> Option<&[u8]>
+    ensures value { IfSome result (λ value. value_from Outside text.now ≡ Some value.now) }
+    ensures short { IfSome result (λ value. length value.now ≤ length text.now) }
+{
+    let value = text.strip_prefix(b"'")?.strip_suffix(b"'")?;
+    if value.contains(&b'\'') {
+        None
+    } else {
+        Some(value)
+    }
 }
 
 /// The value that is written in a text; none where an apostrophe is open at its end.

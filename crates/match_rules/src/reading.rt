@@ -1,12 +1,14 @@
 //! Reading the texts of rules.
 
-ghost use Rattle.std.specs.Prelude.{◌≡◌, ◌≤◌, ◌+◌, ◌<◌, length, drop, Some, None, OnOk, MatchResult, MatchOption, position};
+ghost use Rattle.std.specs.Prelude.{◌≡◌, ◌≤◌, ◌+◌, ◌<◌, length, drop, true, false, Some, None, OnOk, MatchResult, MatchOption, position};
 ghost use Rattle.match_rules.specs.RuleBytes.{rule_bytes};
 ghost use Rattle.match_rules.specs.RuleTexts.{IsRuleText};
-ghost use Rattle.match_rules.specs.RuleFaults.{Outside, is_equals, item_fault, item_key, item_value, rule_fault, takes, value_from};
-ghost use Rattle.match_rules.specs.Reading.{keys_of, with_item};
+ghost use Rattle.match_rules.specs.Keys.{IsKey};
+ghost use Rattle.match_rules.specs.RuleFaults.{Outside, is_among, is_equals, is_excluded, item_fault, item_key, item_value, rule_fault, takes, value_from};
+ghost use Rattle.match_rules.specs.Reading.{keys_of, put, with_item};
 
-use crate::quoting::{behind_item, item_length, value_of};
+use crate::entry_map::EntryMap;
+use crate::quoting::{behind_item, item_length, plain_value, value_of};
 use crate::{Key, MAX_RULE_LENGTH, Rule, RuleFault};
 use names::{BusName, Interface, Member, ObjectPath, UniqueName, WellKnown};
 use std::str;
@@ -24,22 +26,24 @@ impl Rule {
         if rest.len() > MAX_RULE_LENGTH {
             return Err(RuleFault::TooLong);
         }
-        let mut rule = Rule::empty();
+        let mut entries = EntryMap::new();
         if rest.is_empty() {
-            return Ok(rule);
+            return Ok(Rule { entries });
         }
         'items: loop {
             let length = item_length(rest);
-            if let Err(fault) = rule.read_item(&rest[..length]) {
+            if let Err(fault) = entries.read_item(&rest[..length]) {
                 return Err(fault);
             }
             if length == rest.len() {
-                return Ok(rule);
+                return Ok(Rule { entries });
             }
             rest = behind_item(rest, length);
         }
     }
+}
 
+impl EntryMap {
     /// Adds an item's key and value.
     fn read_item(&mut self, item: &[u8]) -> Result<(), RuleFault>
         requires { length (rule_bytes self.old) + length item.now ≤ MAX_RULE_LENGTH }
@@ -56,13 +60,29 @@ impl Rule {
         if self.excludes(key) {
             return Err(RuleFault::Both);
         }
-        let Some(value) = value_of(&item[at + 1..]) else {
-            return Err(RuleFault::Quote);
-        };
-        if !takes(key, value.as_slice()) {
+        let written = &item[at + 1..];
+        if let Some(value) = plain_value(written) {
+            return self.put_taken(key, value);
+        }
+        match value_of(written) {
+            Some(value) => self.put_taken(key, value.as_slice()),
+            None => Err(RuleFault::Quote),
+        }
+    }
+
+    /// Adds a key and its value, where the key takes the value.
+    fn put_taken(&mut self, key: Key, value: &[u8]) -> Result<(), RuleFault>
+        requires is_key { IsKey key }
+        requires new { is_among key (keys_of self.old) ≡ false }
+        requires not_excluded { is_excluded key (keys_of self.old) ≡ false }
+        requires room { length (rule_bytes self.old) + 3 + length value.now ≤ MAX_RULE_LENGTH }
+        ensures fault { MatchResult result (λ _. takes key value.now ≡ true) (λ fault. (takes key value.now ≡ false) × (fault ≡ RuleFault.Value)) }
+        ensures rule { OnOk result (self.new ≡ put (key, value.now) self.old) }
+    {
+        if !takes(key, value) {
             return Err(RuleFault::Value);
         }
-        self.put(key, value.as_slice());
+        self.put(key, value);
         Ok(())
     }
 }

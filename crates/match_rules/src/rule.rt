@@ -1,123 +1,92 @@
 //! A match rule.
 
-ghost use Rattle.std.specs.Prelude.{◌≡◌, ◌≤◌, ◌+◌, ◌/◌, ◌%◌, ◌++◌, ◌∷◌, length, take, drop};
+ghost use Rattle.std.specs.Prelude.{◌≡◌, [], option_map};
 
-use crate::Key;
-use crate::entries::{Entries, HEAD_LENGTH};
-use arrayvec::ArrayVec;
+use crate::entry_map::EntryMap;
+use crate::{Key, MessageKind};
+use std::default::Default;
 use std::marker::Model;
+use std::str;
 
-/// The longest text of a rule, in bytes.
-pub const MAX_RULE_LENGTH: usize = 1024;
-
-/// A match rule: keys, each with a value that it takes.
+/// A match rule: keys, each with a value that it takes. It lies in fixed room, and has a text of at most 1,024 bytes.
 /// (D-Bus Specification: "Match Rules".)
-#[derive(Drop)]
+#[derive(Clone, Copy)]
 pub struct Rule {
-    /// The keys in their order: a byte for the key, two for the length of its value, the lower first, and the value.
-    entries: ArrayVec<u8, MAX_RULE_LENGTH>,
+    pub(crate) entries: EntryMap,
 }
 
 impl Model for Rule {
-    ghost use Rattle.std.specs.Prelude.{◌≡◌};
-    ghost use Rattle.match_rules.specs.Rules.{Rule as Entries, IsRule};
-    ghost use Rattle.match_rules.specs.RuleBytes.{rule_bytes, rule_in};
+    ghost use Rattle.match_rules.specs.Rules.{Rule as Entries};
+    ghost use Rattle.match_rules.specs.RuleTexts.{HasText};
 
     ghost Value = { Entries };
 
-    ghost view = { λ rule. rule_in rule.entries.items };
+    ghost view = { λ rule. rule.entries };
 
-    ghost invariant = { λ rule. ∥ IsRule (rule_in rule.entries.items) ∥₁ × (rule.entries.items ≡ rule_bytes (rule_in rule.entries.items)) };
+    ghost invariant = { λ rule. ∥ HasText rule.entries ∥₁ };
+
+    ghost inverse = { λ entries. record { entries = entries } };
 }
 
+/// What an index may part rules by. No method looks at more than six keys of the rule, however long the rule is.
 impl Rule {
-    ghost use Rattle.std.specs.Prelude.{◌≡◌, ◌≤◌, ◌+◌, length, true, false, []};
-    ghost use Rattle.match_rules.specs.EntryView.{all_taken, entries_left};
-    ghost use Rattle.match_rules.specs.Keys.{IsKey};
-    ghost use Rattle.match_rules.specs.Reading.{bytes_before, keys_of, put};
-    ghost use Rattle.match_rules.specs.RuleBytes.{rule_bytes};
-    ghost use Rattle.match_rules.specs.RuleFaults.{is_among, is_excluded, takes};
+    ghost use Rattle.std.specs.Option.{option_and_then};
+    ghost use Rattle.match_rules.specs.Kinds.{kind_named};
+    ghost use Rattle.match_rules.specs.Rules.{value_at};
+    ghost use Rattle.match_rules.specs.declared.key.Key.TheVariants.{«Type» as MessageType, Member, Interface, Sender};
 
-    pub(crate) fn empty() -> Self
-        ensures { result ≡ [] }
+    /// The type of the messages that the rule asks for, where it names one.
+    pub fn kind(&self) -> Option<MessageKind>
+        ensures { result ≡ option_and_then kind_named (value_at MessageType self.now) }
     {
-        Rule {
-            entries: ArrayVec::new(),
-        }
+        MessageKind::named(self.entries.value(Key::Type)?)
     }
 
-    pub(crate) fn entries(&self) -> Entries<'_>
-        ensures value { entries_left result ≡ self.now }
-        ensures taken { all_taken self.now ≡ true }
-        ensures room { length (rule_bytes self.now) ≤ MAX_RULE_LENGTH }
+    /// The member that the rule names, if any.
+    pub fn member(&self) -> Option<&str>
+        ensures { option_map (λ name. name.now) result ≡ value_at Member self.now }
     {
-        Entries::new(self.entries.as_slice())
+        self.entries.name(Key::Member)
     }
 
-    pub(crate) fn has(&self, key: Key) -> bool
-        ensures { result ≡ is_among key (keys_of self.now) }
+    /// The interface that the rule names, if any.
+    pub fn interface(&self) -> Option<&str>
+        ensures { option_map (λ name. name.now) result ≡ value_at Interface self.now }
     {
-        for entry in self.entries() {
-            if entry.key.place() == key.place() {
-                return true;
-            }
-        }
-        false
+        self.entries.name(Key::Interface)
     }
 
-    /// Whether the key may not stand beside a key of the rule.
-    pub(crate) fn excludes(&self, key: Key) -> bool
-        ensures { result ≡ is_excluded key (keys_of self.now) }
+    /// The bus name of the sender that the rule names, if any.
+    pub fn sender(&self) -> Option<&str>
+        ensures { option_map (λ name. name.now) result ≡ value_at Sender self.now }
     {
-        match key {
-            Key::Path => self.has(Key::PathNamespace),
-            Key::PathNamespace => self.has(Key::Path),
-            _ => false,
-        }
-    }
-
-    fn bytes_before(&self, place: u16) -> usize
-        ensures { result ≡ bytes_before place self.now }
-    {
-        let mut before = 0;
-        for entry in self.entries() {
-            if place < entry.key.place() {
-                return before;
-            }
-            before += HEAD_LENGTH + entry.value.len();
-        }
-        before
-    }
-
-    /// Puts a key with its value where the key belongs.
-    pub(crate) fn put(&mut self, key: Key, value: &[u8])
-        requires is_key { IsKey key }
-        requires taken { takes key value.now ≡ true }
-        requires new { is_among key (keys_of self.old) ≡ false }
-        requires not_excluded { is_excluded key (keys_of self.old) ≡ false }
-        requires room { length (rule_bytes self.old) + 3 + length value.now ≤ MAX_RULE_LENGTH }
-        ensures { self.new ≡ put (key, value.now) self.old }
-    {
-        let place = key.place();
-        let at = self.bytes_before(place);
-        self.entries = with_entry(self.entries.as_slice(), at, place as u8, value);
+        self.entries.name(Key::Sender)
     }
 }
 
-/// The bytes of a rule with one more entry at a place.
-fn with_entry(entries: &[u8], at: usize, place: u8, value: &[u8]) -> ArrayVec<u8, MAX_RULE_LENGTH>
-    requires within { at ≤ length entries.now }
-    requires room { length entries.now + 3 + length value.now ≤ MAX_RULE_LENGTH }
-    ensures { result.items ≡ take at entries.now ++ (place ∷ length value.now % 256 ∷ length value.now / 256 ∷ value.now) ++ drop at entries.now }
-{
-    let mut whole = ArrayVec::new();
-    let _ = whole.try_extend_from_slice(&entries[..at]);
-    whole.push(place);
-    whole.push((value.len() % 256) as u8);
-    whole.push((value.len() / 256) as u8);
-    let _ = whole.try_extend_from_slice(value);
-    let _ = whole.try_extend_from_slice(&entries[at..]);
-    whole
+impl EntryMap {
+    ghost use Rattle.match_rules.specs.Keys.{TakesNames};
+    ghost use Rattle.match_rules.specs.Rules.{value_at};
+
+    /// The name that a key has as its value.
+    fn name(&self, key: Key) -> Option<&str>
+        requires { TakesNames key }
+        ensures { option_map (λ name. name.now) result ≡ value_at key self.now }
+    {
+        let name = self.value(key)?;
+        Some(unsafe { str::from_utf8_unchecked(name) })
+    }
+}
+
+impl Default for Rule {
+    ghost is_default = { λ rule. rule ≡ [] };
+
+    /// The rule without keys, which fits every message.
+    fn default() -> Self {
+        Rule {
+            entries: EntryMap::new(),
+        }
+    }
 }
 
 impl PartialEq for Rule {
@@ -129,7 +98,7 @@ impl PartialEq for Rule {
     ghost laws = { same_rule_partial };
 
     fn eq(&self, other: &Self) -> bool {
-        self.entries == other.entries
+        self.entries.is_same(&other.entries)
     }
 }
 
@@ -139,4 +108,4 @@ impl Eq for Rule {
     ghost laws = { same_rule_equivalence };
 }
 
-const _: () = prove!(size_of::<Rule>() <= 1040);
+const _: () = prove!(size_of::<Rule>() <= 1026);

@@ -72,6 +72,22 @@ fn keys_in_any_order(rt: HostRuntime) {
 }
 
 #[test]
+fn what_an_index_parts_rules_by(rt: HostRuntime) {
+    let text = "path='/a',member='M',sender=':1.7',interface='a.b',type='error'";
+    let rule = Rule::parse(text).expect(&rt, "it is a rule");
+    assert_eq!(rt; rule.kind(), Some(MessageKind::Error));
+    assert_eq!(rt; rule.member(), Some("M"));
+    assert_eq!(rt; rule.interface(), Some("a.b"));
+    assert_eq!(rt; rule.sender(), Some(":1.7"));
+    let empty = Rule::default();
+    assert_eq!(rt; empty.kind(), None);
+    assert_eq!(rt; empty.member(), None);
+    assert_eq!(rt; empty.interface(), None);
+    assert_eq!(rt; empty.sender(), None);
+    assert!(rt; !(empty == rule));
+}
+
+#[test]
 fn faults(rt: HostRuntime) {
     let cases = [
         ("", None),

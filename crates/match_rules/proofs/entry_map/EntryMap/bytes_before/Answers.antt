@@ -2,7 +2,7 @@ use Rattle.std.proofs.Common.{ap, arith}
 use Rattle.match_rules.specs.EntryView.{pair_of, entries_left}
 use Rattle.match_rules.specs.Reading.{bytes_before}
 use Rattle.match_rules.proofs.Putting.{bytes_before-within, bytes_before-behind}
-use Rattle.match_rules.proofs.rule.Rule.bytes_before.Goals as goal
+use Rattle.match_rules.proofs.entry_map.EntryMap.bytes_before.Goals as goal
 
 pub overflow_add-before-in-loop-entry : goal.overflow_add-before-in-loop-entry
 overflow_add-before-in-loop-entry c =
