@@ -19,10 +19,10 @@ use Rattle.marshal.proofs.ValuesTaken.{fields_taken}
 use Rattle.marshal.proofs.Moves.{fields_move}
 use Rattle.marshal.proofs.Once.{one_fields}
 
-abbrev Found : Order → Tys → ℕ → List ℕ → Vals × ℕ → Type 0
+abbrev pub Found : Order → Tys → ℕ → List ℕ → Vals × ℕ → Type 0
 Found order ts offset bytes y = (y.1 ≤ length bytes) × Spells order offset ts y.0 (take y.1 bytes)
 
-is_found : (order : Order) (ts : Tys) (offset : ℕ) (bytes : List ℕ) (y : Vals × ℕ) → IsSignature ts → AllBytes bytes → decode_at order ts offset bytes ≡ Ok y → Found order ts offset bytes y
+pub is_found : (order : Order) (ts : Tys) (offset : ℕ) (bytes : List ℕ) (y : Vals × ℕ) → IsSignature ts → AllBytes bytes → decode_at order ts offset bytes ≡ Ok y → Found order ts offset bytes y
 is_found order ts offset bytes y valid fits e =
     let a = bind_ok (fields_at (value_at 64 order) Truncated ts (offset % 8) bytes) (λ x. Ok (x.0, x.1 - offset % 8)) y e in
     let f = fields_taken 64 order Truncated ts (offset % 8) bytes a.0 fits a.1 in

@@ -56,7 +56,7 @@ fn sized(
 
 /// The same, with the length before it.
 #[tactic(auto, unfolding(marshal_core::specs::Reading::inside_at))]
-fn inside(
+pub fn array_bytes(
     order: Order,
     short: MarshalFault,
     align: usize,
@@ -173,7 +173,7 @@ fn array<'a>(
     ensures place { IfOk result (λ x. x.1 + length x.2.now ≡ at + length bytes.now) }
     ensures shorter { IfOk result (λ x. length x.2.now < length bytes.now) }
 {
-    let (place, inside, at, rest) = inside(order, short, of.alignment(), at, bytes)?;
+    let (place, inside, at, rest) = array_bytes(order, short, of.alignment(), at, bytes)?;
     let items = elements(alloc, depth, order, of, place, inside)?;
     let of = of.try_clone(alloc)?;
     Ok((Value::Array(of, items), at, rest))
@@ -196,7 +196,7 @@ fn dictionary<'a>(
     ensures place { IfOk result (λ x. x.1 + length x.2.now ≡ at + length bytes.now) }
     ensures shorter { IfOk result (λ x. length x.2.now < length bytes.now) }
 {
-    let (place, inside, at, rest) = inside(order, short, ENTRY_ALIGNMENT, at, bytes)?;
+    let (place, inside, at, rest) = array_bytes(order, short, ENTRY_ALIGNMENT, at, bytes)?;
     let items = entries(alloc, depth, order, key, of, place, inside)?;
     let of = of.try_clone(alloc)?;
     Ok((Value::Dictionary(key, of, items), at, rest))

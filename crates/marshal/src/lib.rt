@@ -9,6 +9,7 @@ mod basic;
 mod decoding;
 mod encoding;
 mod fixed;
+pub mod parts;
 mod text;
 
 pub use decoding::{decode, one_spelling, one_text};

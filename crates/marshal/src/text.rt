@@ -12,15 +12,17 @@ use marshal_core::{DataType, MarshalFault, Order, Signature};
 use names::ObjectPath;
 use std::alloc::Global;
 
+/// Whether a byte is zero. The loop has one end, so that it is done many bytes at a time.
 pub fn any_zero(bytes: &[u8]) -> bool
     ensures { result ≡ has_zero bytes.now }
 {
+    let mut zero = false;
     for b in bytes {
         if *b == 0 {
-            return true;
+            zero = true;
         }
     }
-    false
+    zero
 }
 
 /// A text of known length, and the zero byte that ends it.
@@ -92,8 +94,9 @@ pub fn path(
     }
 }
 
+/// The text of a signature as it lies there, which may be none.
 #[tactic(auto, unfolding(marshal_core::specs::Reading::short_text_at))]
-fn short_text(
+pub fn short_text(
     short: MarshalFault,
     at: usize,
     bytes: &[u8],
