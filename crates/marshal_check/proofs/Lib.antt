@@ -1,0 +1,5 @@
+pub mod TypeTexts
+pub mod Recognized
+pub mod Skipping
+pub mod FreeElements
+pub mod Checked

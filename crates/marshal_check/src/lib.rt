@@ -1,0 +1,17 @@
+//! Checking where they lie the bytes of the D-Bus wire format.
+//!
+//! `check` says of bytes what `marshal::decode` says of them, and takes no memory, since it builds
+//! no values. The types are given as `Types`, a signature that borrows its text.
+#![tactic(auto)]
+
+mod basic;
+mod checking;
+mod letters;
+mod recognizing;
+mod signature_text;
+
+pub use checking::check;
+pub use signature_text::Types;
+
+#[cfg(test)]
+mod tests;

@@ -1,0 +1,40 @@
+//! Signatures that borrow their text.
+
+ghost use Rattle.std.specs.Prelude.{◌≡◌, true};
+ghost use Rattle.marshal_check.specs.SignatureTexts.{is_signature_text};
+
+use crate::recognizing::is_signature;
+use marshal_core::MarshalFault;
+
+/// Zero or more single complete types, as "Valid Signatures" of the D-Bus Specification allows
+/// them, by their text.
+#[derive(Clone, Copy, Debug, PartialEq, Eq)]
+pub struct Types<'a> {
+    pub text: &'a [u8],
+    pub ghost valid: { is_signature_text text.now ≡ true },
+}
+
+impl<'a> Types<'a> {
+    ghost use Rattle.std.specs.Prelude.{◌≡◌, IfOk};
+    ghost use Rattle.marshal_core.specs.Signatures.{signature_of};
+    ghost use Rattle.marshal_core.specs.Faults.{Tells};
+    ghost use Rattle.marshal_check.specs.SignatureTexts.{types_in};
+
+    /// The types of a text, or the first fault from the left: `Signature`, and `Descriptor` at an
+    /// `h`. A text of more than 255 bytes is no signature, whatever stands in it.
+    pub fn from_bytes(text: &'a [u8]) -> Result<Types<'a>, MarshalFault>
+        ensures reads { Tells (λ x. types_in x.text.now) result (signature_of text.now) }
+        ensures text { IfOk result (λ x. x.text.now ≡ text.now) }
+    {
+        is_signature(text)?;
+        Ok(Types { text })
+    }
+
+    /// The same of a `str`.
+    pub fn parse(text: &'a str) -> Result<Types<'a>, MarshalFault>
+        ensures reads { Tells (λ x. types_in x.text.now) result (signature_of text.now) }
+        ensures text { IfOk result (λ x. x.text.now ≡ text.now) }
+    {
+        Types::from_bytes(text.as_bytes())
+    }
+}
