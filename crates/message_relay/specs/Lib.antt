@@ -1,0 +1,5 @@
+pub mod FaultCodes
+pub mod MessageBytes
+pub mod Senders
+pub mod Layout
+pub mod Parts

@@ -1,0 +1,17 @@
+//! Messages that the bus relays: writing a checked message again, with its sender's name, and what
+//! rules and routing look at in it.
+//!
+//! `specs/` says which bytes a message is written as, and what setting its sender is, after "Message
+//! Format" and "Header Fields" of the D-Bus Specification.
+#![tactic(auto)]
+
+mod fault;
+mod layout;
+mod parts;
+mod putting;
+mod relaying;
+#[cfg(test)]
+mod tests;
+
+pub use fault::RelayFault;
+pub use relaying::{relayed_length, with_sender, write};
