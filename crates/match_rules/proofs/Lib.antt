@@ -16,3 +16,4 @@ pub mod Putting
 pub mod RoomLemmas
 pub mod ValueLemmas
 pub mod DecimalLemmas
+pub mod CanonicalTextLaws

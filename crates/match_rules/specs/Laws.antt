@@ -5,6 +5,7 @@ use Rattle.names.specs.UniqueName.{unique_text}
 use Rattle.match_rules.specs.declared.key.Key.TheVariants.{Sender}
 use Rattle.match_rules.specs.Rules.{Rule, IsRule, same_rule}
 use Rattle.match_rules.specs.RuleTexts.{IsRuleText}
+use Rattle.match_rules.specs.CanonicalTexts.{rule_text}
 use Rattle.match_rules.specs.RuleFaults.{rule_fault}
 use Rattle.match_rules.specs.RuleBytes.{rule_bytes, rule_in}
 use Rattle.match_rules.specs.Facts.{Facts}
@@ -29,3 +30,11 @@ FaultsAreExact = (text : Text) → (rule_fault text ≡ None) ↔ ((rule : Rule)
 -- and of no other rule.
 abbrev pub TextsHaveOneRule : Type 0
 TextsHaveOneRule = (text : Text) (a b : Rule) → IsRuleText text a → IsRuleText text b → a ≡ b
+
+-- The canonical text of a rule that has a text is a text of that rule,
+abbrev pub CanonicalTextsAreTexts : Type 0
+CanonicalTextsAreTexts = (text : Text) (rule : Rule) → IsRuleText text rule → IsRuleText (rule_text rule) rule
+
+-- and none of its texts is shorter.
+abbrev pub CanonicalTextsAreShortest : Type 0
+CanonicalTextsAreShortest = (text : Text) (rule : Rule) → IsRuleText text rule → length (rule_text rule) ≤ length text

@@ -11,3 +11,4 @@ pub mod RuleEquality
 pub mod RuleFaults
 pub mod Rules
 pub mod RuleTexts
+pub mod CanonicalTexts

@@ -6,6 +6,7 @@
 //! (D-Bus Specification: "Match Rules".)
 #![tactic(auto)]
 
+mod canonical;
 mod entries;
 mod entry_map;
 mod facts;

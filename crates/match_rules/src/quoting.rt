@@ -109,12 +109,12 @@ pub fn item_length(text: &[u8]) -> usize
     text.len()
 }
 
-/// What stands behind the comma that ends the first item of a text.
-pub fn behind_item(text: &[u8], end: usize) -> &[u8]
-    requires { end < length text.now }
-    ensures { result.now ≡ drop (end + 1) text.now }
+/// What stands behind a byte of a text.
+pub fn behind(text: &[u8], place: usize) -> &[u8]
+    requires { place < length text.now }
+    ensures { result.now ≡ drop (place + 1) text.now }
 {
-    &text[end + 1..]
+    &text[place + 1..]
 }
 
 /// The value of a text that is a value between two apostrophes; none where the text is written in another way.

@@ -8,7 +8,7 @@ ghost use Rattle.match_rules.specs.RuleFaults.{Outside, is_among, is_equals, is_
 ghost use Rattle.match_rules.specs.Reading.{keys_of, put, with_item};
 
 use crate::entry_map::EntryMap;
-use crate::quoting::{behind_item, item_length, plain_value, value_of};
+use crate::quoting::{behind, item_length, plain_value, value_of};
 use crate::{Key, MAX_RULE_LENGTH, Rule, RuleFault};
 use names::{BusName, Interface, Member, ObjectPath, UniqueName, WellKnown};
 use std::str;
@@ -38,7 +38,7 @@ impl Rule {
             if length == rest.len() {
                 return Ok(Rule { entries });
             }
-            rest = behind_item(rest, length);
+            rest = behind(rest, length);
         }
     }
 }

@@ -5,6 +5,7 @@ ghost use Rattle.std.specs.Prelude.{◌≡◌, ℕ, Some, None, if◌then◌else
 
 use super::{Argument, Facts, MessageKind, Owners, Rule, RuleFault};
 use arrayvec::ArrayVec;
+use std::test::Fail;
 
 /// Holds `com.example.A` by one connection, and the unique names of connections 1 and 2.
 #[derive(Clone, Copy)]
@@ -85,6 +86,33 @@ fn what_an_index_parts_rules_by(rt: HostRuntime) {
     assert_eq!(rt; empty.interface(), None);
     assert_eq!(rt; empty.sender(), None);
     assert!(rt; !(empty == rule));
+}
+
+#[test]
+fn rules_are_shown_as_texts_that_are_read_again(rt: HostRuntime) -> Result<(), Fail> {
+    let cases = [
+        ("", ""),
+        (
+            "arg10='a,b',sender=':1.7',member='M',interface='a.b',type='signal'",
+            "type=signal,member=M,interface=a.b,sender=:1.7,arg10='a,b'",
+        ),
+        (
+            "path_namespace='/a',arg0=''\\'',''\\,\\\\',arg63path='é',destination=:1.2",
+            "path_namespace=/a,destination=:1.2,arg0=\\'',\\,\\\\',arg63path=é",
+        ),
+        (
+            "eavesdrop=true,arg0namespace='com',path='/'",
+            "path=/,arg0namespace=com,eavesdrop=true",
+        ),
+    ];
+    for (text, shown) in cases {
+        let rule = Rule::parse(text).expect(&rt, "it is a rule");
+        let canonical = rule.to_string(rt.alloc())?;
+        assert_eq!(rt; canonical.as_str(), shown);
+        let again = Rule::parse(canonical.as_str()).expect(&rt, "it is a rule");
+        assert!(rt; again == rule, "at {text}");
+    }
+    Ok(())
 }
 
 #[test]

@@ -24,9 +24,9 @@ pub items-preserved : goal.items-preserved
 items-preserved c =
     let less : c.item_length-length.result < length c.items.rest.now = omega (arith, c.item_length-length.ensures.within, c.if-length-rest.false) in
     let on = reads_on c.args.text.now c.items.rest.now c.items.entries c.read_item.new.self c.item_length-length.result c.items.invariant.read c.item_length-length.ensures.value less c.in_default.ensures.fault c.in_default.ensures.rule in
-    let behind = ap (λ bytes. length bytes) c.behind_item-rest.ensures in
+    let behind = ap (λ bytes. length bytes) c.behind-rest.ensures in
     record {
-      read = subst (λ bytes. IsReadTo c.args.text.now bytes c.read_item.new.self) (sym c.behind_item-rest.ensures) on;
+      read = subst (λ bytes. IsReadTo c.args.text.now bytes c.read_item.new.self) (sym c.behind-rest.ensures) on;
       room = omega (arith, c.items.invariant.room, c.in_default.ensures.room, behind, length-take c.item_length-length.result c.items.rest.now, length-drop (c.item_length-length.result + 1) c.items.rest.now, less);
     }
 
