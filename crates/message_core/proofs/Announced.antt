@@ -102,3 +102,11 @@ announced_wider old limit bytes n le e = at (order_of bytes) (announced_facts ol
   at : (order : Order) → IsAnnounced old order bytes n → announced limit bytes ≡ Ok n
   at Little a = rw a.first (again_in limit Little bytes n (omega (arith, a.within)) old a)
   at Big a = rw a.first (again_in limit Big bytes n (omega (arith, a.within)) old a)
+
+-- what is announced follows from these facts
+pub announced_from : (limit : ℕ) (bytes : List ℕ) (n : ℕ) → IsAnnounced limit (order_of bytes) bytes n → announced limit bytes ≡ Ok n
+unfolding announced
+announced_from limit bytes n e = at (order_of bytes) e where
+  at : (order : Order) → IsAnnounced limit order bytes n → announced limit bytes ≡ Ok n
+  at Little a = rw a.first (again_in limit Little bytes n (omega (arith, a.within)) limit a)
+  at Big a = rw a.first (again_in limit Big bytes n (omega (arith, a.within)) limit a)

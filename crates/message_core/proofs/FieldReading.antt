@@ -74,7 +74,7 @@ known_begins order k code at n bytes e positive fits aligned b = record {
   is_field = (positive, λ j f. subst (λ (x : HeaderField). IsBasicOf x b.value) (same_field k j (sym e ∙ f)) b.takes.taken);
 }
 
-wrapped_types : (ts : Tys) → signature_of (codes wrapped) ≡ Ok ts → ts ≡ wrapped
+pub wrapped_types : (ts : Tys) → signature_of (codes wrapped) ≡ Ok ts → ts ≡ wrapped
 wrapped_types ts e = ok_is ts wrapped (sym e ∙ signature_again wrapped refl)
 
 pub other_begins : (order : Order) (code at n : ℕ) (bytes : List ℕ) (ts : Tys) (vs : Vals) → 0 < code → ((k : HeaderField) → code ≢ code_of k) → at % 8 ≡ 0 → get_or bytes 0 0 ≡ code → signature_of (codes wrapped) ≡ Ok ts

@@ -1,12 +1,16 @@
 pub mod Strings
+pub mod Absent
 pub mod Shape
 pub mod FieldReading
 pub mod Sorting
+pub mod Unread
 pub mod Walking
 pub mod Contents
 pub mod Said
 pub mod Announced
 pub mod Wholes
+pub mod Refused
+pub mod NoMessages
 pub mod Lending
 pub mod Putting
 pub mod Own

@@ -62,14 +62,14 @@ basic_spelled order at code v aligned fits is =
       ap (λ (x : List ℕ). x ++ basic_field order code v) (sym (no_pads at aligned)),
     )
 
-abbrev parts : Field → Vals
-parts f = more_values (a_basic (a_byte f.code)) (more_values (a_variant f.value) no_values)
+abbrev pub field_parts : Field → Vals
+field_parts f = more_values (a_basic (a_byte f.code)) (more_values (a_variant f.value) no_values)
 
-abbrev part_types : Tys
-part_types = more_types (basic of_type.Byte) (one_type variant)
+abbrev pub field_part_types : Tys
+field_part_types = more_types (basic of_type.Byte) (one_type variant)
 
 abbrev FieldInside : Order → Field → List ℕ → ℕ → Type 0
-FieldInside order f inside n = SpellFields (parts f) 62 order n part_types inside
+FieldInside order f inside n = SpellFields (field_parts f) 62 order n field_part_types inside
 
 basic_inside : (v : BasicVal) (t : Ty) (d : ℕ) (order : Order) (at : ℕ) (bytes : List ℕ) → SpellValue (a_basic v) d order at t bytes → (t ≡ basic (basic_type v)) × IsBasicValue v × (bytes ≡ basic_spelling order at v)
 basic_inside v (basic b) d order at bytes h = (sym (ap basic h.0), h.1, h.2)
@@ -126,7 +126,7 @@ byte_of (a_string n) e = absurd cc
 byte_of (an_object_path n) e = absurd cc
 byte_of (a_signature n) e = absurd cc
 
-two_parts : (vs : Vals) (d : ℕ) (order : Order) (at : ℕ) (bytes : List ℕ) → SpellFields vs d order at part_types bytes → (f : Field) × (vs ≡ parts f)
+two_parts : (vs : Vals) (d : ℕ) (order : Order) (at : ℕ) (bytes : List ℕ) → SpellFields vs d order at field_part_types bytes → (f : Field) × (vs ≡ field_parts f)
 two_parts no_values d order at bytes h = absurd h
 two_parts (more_values (a_variant x) vs) d order at bytes h = absurd h.2
 two_parts (more_values (an_array t x) vs) d order at bytes h = absurd h.2
@@ -145,7 +145,7 @@ two_parts (more_values (a_basic b) (more_values (a_variant w) no_values)) d orde
 field_from : (v : Val) (order : Order) (at : ℕ) (bytes : List ℕ) → SpellValue v field_depth order at field_type bytes → (f : Field) × SpellField order at f bytes
 field_from (a_struct vs) order at bytes h =
     let two = two_parts vs 62 order (at + pad_len 8 at) h.2 h.3 in
-    (two.0, (h.0, h.1, h.2, subst (λ (x : Vals). SpellFields x 62 order (at + pad_len 8 at) part_types h.2) two.1 h.3, h.4))
+    (two.0, (h.0, h.1, h.2, subst (λ (x : Vals). SpellFields x 62 order (at + pad_len 8 at) field_part_types h.2) two.1 h.3, h.4))
 field_from (a_basic b) order at bytes h = absurd h
 field_from (a_variant v) order at bytes h = absurd h
 field_from (an_array t vs) order at bytes h = absurd h

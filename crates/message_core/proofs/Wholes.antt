@@ -1,6 +1,6 @@
 -- A message that was checked part by part.
 use Rattle.std.proofs.Common.{◌≡◌, ℕ, zero, suc, ◌+◌, ◌-◌, ◌≤◌, ◌<◌, ◌^◌, Bool, true, false, List, [], ◌∷◌, ◌++◌, length, get_or, take, drop, Option, Some, None, Result, Ok, refl, sym, ap, subst, ◌∙◌, append_assoc, arith, lit<}
-use Rattle.std.specs.Prelude.{replicate, is_some, ◌==◌, ◌||◌, if◌then◌else◌}
+use Rattle.std.specs.Prelude.{replicate, is_some, ◌||◌, if◌then◌else◌}
 use Rattle.std.specs.Int.{w32}
 use Rattle.std.proofs.lemmas.List.{length-append, length-drop, drop-drop, take-append-drop}
 use Rattle.marshal_core.specs.declared.fault.MarshalFault.{MarshalFault}
@@ -24,7 +24,7 @@ use Rattle.message_core.specs.Places.{part, all_zero, ArePlaced, HaveFields, has
 use Rattle.message_core.specs.Whole.{place_of, signature_part, HasRoom, unplaced, IsBody, IsWhole, fields_end, body_begin}
 use Rattle.message_core.proofs.Strings.{AreBytes, take_byte, number_spelled, length-number}
 use Rattle.message_core.proofs.FieldReading.{zeros, length_part}
-use Rattle.message_core.proofs.Sorting.{value_by_code}
+use Rattle.message_core.proofs.Sorting.{value_by_code, is_placed}
 use Rattle.message_core.proofs.Contents.{found, not_found, signature_stands}
 use Rattle.message_core.proofs.Announced.{announced_facts}
 use Rattle.message_core.proofs.Said.{said_is, number_at}
@@ -61,16 +61,7 @@ or_true : (a b : Bool) → a ≡ true → (a || b) ≡ true
 or_true true b e = refl
 or_true false b e = absurd cc
 
-is_placed : (order : Order) (bytes : List ℕ) (k : HeaderField) (ps : List FieldPlace) (fs : List Field) → ArePlaced order bytes ps fs → is_some (value_of k fs) ≡ has_code (code_of k) ps
-is_placed order bytes k [] [] h = refl
-is_placed order bytes k [] (g ∷ gs) h = absurd h
-is_placed order bytes k (q ∷ ps) [] h = absurd h
-is_placed order bytes k (q ∷ ps) (g ∷ gs) h = at (q.code == code_of k) refl (is_placed order bytes k ps gs h.1) where
-  at : (b : Bool) → (q.code == code_of k) ≡ b → is_some (value_of k gs) ≡ has_code (code_of k) ps → is_some (value_of k (g ∷ gs)) ≡ has_code (code_of k) (q ∷ ps)
-  at true e ih = rw (ap (λ (n : ℕ). n == code_of k) (sym h.0.code) ∙ e, e) refl
-  at false e ih = rw (ap (λ (n : ℕ). n == code_of k) (sym h.0.code) ∙ e, e) ih
-
-missing_is : (order : Order) (bytes : List ℕ) (ks : List HeaderField) (ps : List FieldPlace) (sent : List Field) → ArePlaced order bytes ps (by_code sent) → missing ks sent ≡ unplaced ks ps
+pub missing_is : (order : Order) (bytes : List ℕ) (ks : List HeaderField) (ps : List FieldPlace) (sent : List Field) → ArePlaced order bytes ps (by_code sent) → missing ks sent ≡ unplaced ks ps
 missing_is order bytes [] ps sent h = refl
 missing_is order bytes (k ∷ ks) ps sent h =
     let e : is_some (value_of k sent) ≡ has_code (code_of k) ps = ap is_some (sym (value_by_code k sent)) ∙ is_placed order bytes k ps (by_code sent) h in

@@ -1,10 +1,12 @@
 -- Header fields of basic values, byte by byte.
 use Rattle.std.specs.Prelude.{◌≡◌, ℕ, ◌≤◌, List, [], ◌∷◌, ◌++◌, length, take}
+use Rattle.std.specs.Int.{w32}
+use Rattle.names.specs.Texts.{Text}
 use Rattle.marshal_core.specs.declared.data_type.BasicType.{BasicType}
 use Rattle.marshal_core.specs.declared.order.Order.{Order}
 use Rattle.marshal_core.specs.Signatures.{basic_code}
 use Rattle.marshal_core.specs.Values.{BasicVal, basic_type}
-use Rattle.marshal_core.specs.Spelling.{basic_spelling, IsBasicValue}
+use Rattle.marshal_core.specs.Spelling.{basic_spelling, ended, number_bytes, IsBasicValue, IsString}
 use Rattle.message_core.specs.declared.header_field.HeaderField.{HeaderField}
 use Rattle.message_core.specs.Kinds.{code_of}
 use Rattle.message_core.specs.HeaderFields.{IsBasicOf}
@@ -12,6 +14,10 @@ use Rattle.message_core.specs.HeaderFields.{IsBasicOf}
 -- the value of a field stands behind its code and a signature, at a multiple of four
 abbrev pub value_place : ℕ
 value_place = 4
+
+-- the first bytes are no string
+abbrev pub BeginsNoString : Order → List ℕ → Type 0
+BeginsNoString order bytes = (text : Text) (rest : List ℕ) → IsString text → bytes ≡ number_bytes order w32 (length text) ++ (ended text ++ rest) → ⊥
 
 -- a basic value that the field takes
 pub record TakesBasic (k : HeaderField) (v : BasicVal) : Type 0 where

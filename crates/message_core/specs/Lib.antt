@@ -9,3 +9,4 @@ pub mod Said
 pub mod Headers
 pub mod Places
 pub mod Whole
+pub mod Refusals

@@ -3,7 +3,11 @@ use Rattle.std.specs.Prelude.{◌≡◌, ℕ, ◌-◌, ◌%◌, ◌<◌, ◌≤�
 use Rattle.marshal_core.specs.declared.order.Order.{Order}
 use Rattle.marshal_core.specs.Values.{Val, values}
 use Rattle.marshal_core.specs.Spelling.{pad_len, max_container_depth, SpellValue, SpellElements}
+use Rattle.message_core.specs.declared.fault.FrameFault.{FrameFault}
+use Rattle.message_core.specs.declared.fault.FrameFault.TheVariants as fault
 use Rattle.message_core.specs.declared.field_place.FieldPlace.{FieldPlace}
+use Rattle.message_core.specs.declared.header_field.HeaderField.{HeaderField}
+use Rattle.message_core.specs.Kinds.{code_of}
 use Rattle.message_core.specs.HeaderFields.{Field, field_type, field_value, IsField, MayFollow, AreFields, by_code}
 use Rattle.message_core.specs.Announcements.{fixed_length}
 
@@ -65,6 +69,16 @@ pub record FaultyFields (order : Order) (bytes : List ℕ) (end code : ℕ) : Ty
   pub none : BeginsNoFollower order sent at (part at end bytes)
   pub told : code ≡ code_at at (part at end bytes)
 
+-- the fault is that of the field array
+abbrev pub IsFieldFault : Order → List ℕ → ℕ → FrameFault → Type 0
+IsFieldFault order bytes end (fault.Field code) = FaultyFields order bytes end code
+IsFieldFault order bytes end f = ⊥
+
+-- no field begins from a place on to the end, and the fault tells the code that stands there
+abbrev pub IsUnread : Order → List ℕ → ℕ → ℕ → FrameFault → Type 0
+IsUnread order bytes at end (fault.Field code) = (code ≡ code_at at (part at end bytes)) × BeginsNoField order at (part at end bytes)
+IsUnread order bytes at end f = ⊥
+
 -- The bytes begin with a field, which takes so many of them.
 pub record BeginsField (order : Order) (at code : ℕ) (bytes : List ℕ) (n : ℕ) : Type 0 where
   pub value : Val
@@ -88,6 +102,11 @@ rank code (p ∷ ps) = if nat_lt code p.code then 0 else suc (rank code ps)
 abbrev pub has_code : ℕ → List FieldPlace → Bool
 has_code code [] = false
 has_code code (p ∷ ps) = (p.code == code) || has_code code ps
+
+-- the fault is that a known field of this code has a place already
+abbrev pub IsTwice : List FieldPlace → ℕ → FrameFault → Type 0
+IsTwice places code (fault.Field told) = (told ≡ code) × (k : HeaderField) × (code ≡ code_of k) × (has_code code places ≡ true)
+IsTwice places code f = ⊥
 
 -- The bytes from the first field to a place spell fields, which stand at these places by rising code.
 pub record HaveFields (order : Order) (bytes : List ℕ) (to : ℕ) (places : List FieldPlace) : Type 0 where

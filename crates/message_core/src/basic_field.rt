@@ -1,6 +1,6 @@
 //! Header fields that the standard names: all of them have basic values.
 
-ghost use Rattle.std.specs.Prelude.{◌≡◌, ◌<◌, ◌≤◌, ◌+◌, ◌++◌, ◌↔◌, ℕ, List, IsTrue, length, take, slice_index, IfOk, IfSome, is_ok};
+ghost use Rattle.std.specs.Prelude.{◌≡◌, ◌<◌, ◌≤◌, ◌+◌, ◌++◌, ◌↔◌, ℕ, List, IsTrue, length, take, slice_index, IfOk, IfSome, IfNone, is_ok};
 ghost use Rattle.std.specs.Int.{w32};
 ghost use Rattle.marshal_core.specs.declared.data_type.BasicType.{BasicType};
 ghost use Rattle.marshal_core.specs.declared.data_type.BasicType.TheVariants as of_type;
@@ -9,7 +9,7 @@ ghost use Rattle.marshal_core.specs.Signatures.{basic_code, signature_of};
 ghost use Rattle.marshal_core.specs.Spelling.{IsString, ended, number_bytes};
 ghost use Rattle.message_core.specs.Kinds.{code_of};
 ghost use Rattle.message_core.specs.HeaderFields.{IsStringOf, IsNumberOf};
-ghost use Rattle.message_core.specs.BasicFields.{BeginsValue, BeginsBasic};
+ghost use Rattle.message_core.specs.BasicFields.{BeginsNoString, BeginsValue, BeginsNoValue, BeginsBasic, BeginsNoBasic};
 
 use crate::announcement::number;
 use crate::header_field::HeaderField;
@@ -19,7 +19,8 @@ use std::alloc::{AllocError, Global};
 
 /// The string that begins here.
 fn string(order: Order, bytes: &[u8]) -> Option<&str>
-    ensures { IfSome result (λ text. IsString text.now × (rest : List ℕ) × (bytes.now ≡ number_bytes order w32 (length text.now) ++ (ended text.now ++ rest))) }
+    ensures some { IfSome result (λ text. IsString text.now × (rest : List ℕ) × (bytes.now ≡ number_bytes order w32 (length text.now) ++ (ended text.now ++ rest))) }
+    ensures none { IfNone result (BeginsNoString order bytes.now) }
 {
     if bytes.len() < 4 {
         return None;
@@ -76,7 +77,8 @@ fn takes_number(field: HeaderField, number: u32) -> bool
 
 /// How many bytes the string takes that begins here, if the field takes it.
 fn string_value(order: Order, field: HeaderField, bytes: &[u8]) -> Option<usize>
-    ensures { IfSome result (BeginsValue order field of_type.String bytes.now) }
+    ensures some { IfSome result (BeginsValue order field of_type.String bytes.now) }
+    ensures none { IfNone result (BeginsNoValue order field of_type.String bytes.now) }
 {
     let text = string(order, bytes)?;
     if takes_string(field, text) {
@@ -87,7 +89,8 @@ fn string_value(order: Order, field: HeaderField, bytes: &[u8]) -> Option<usize>
 
 /// How many bytes the object path takes that begins here, if the field takes one.
 fn path_value(order: Order, field: HeaderField, bytes: &[u8]) -> Option<usize>
-    ensures { IfSome result (BeginsValue order field of_type.ObjectPath bytes.now) }
+    ensures some { IfSome result (BeginsValue order field of_type.ObjectPath bytes.now) }
+    ensures none { IfNone result (BeginsNoValue order field of_type.ObjectPath bytes.now) }
 {
     let HeaderField::Path = field else {
         return None;
@@ -101,7 +104,8 @@ fn path_value(order: Order, field: HeaderField, bytes: &[u8]) -> Option<usize>
 
 /// How many bytes the number takes that begins here, if the field takes it.
 fn number_value(order: Order, field: HeaderField, bytes: &[u8]) -> Option<usize>
-    ensures { IfSome result (BeginsValue order field of_type.Uint32 bytes.now) }
+    ensures some { IfSome result (BeginsValue order field of_type.Uint32 bytes.now) }
+    ensures none { IfNone result (BeginsNoValue order field of_type.Uint32 bytes.now) }
 {
     if bytes.len() < 4 {
         return None;
@@ -130,7 +134,8 @@ fn signature_value(
     field: HeaderField,
     bytes: &[u8],
 ) -> Result<Option<usize>, AllocError>
-    ensures { IfOk result (λ found. IfSome found (BeginsValue order field of_type.Signature bytes.now)) }
+    ensures some { IfOk result (λ found. IfSome found (BeginsValue order field of_type.Signature bytes.now)) }
+    ensures none { IfOk result (λ found. IfNone found (BeginsNoValue order field of_type.Signature bytes.now)) }
 {
     let _ = order;
     let HeaderField::Signature = field else {
@@ -160,7 +165,8 @@ fn value(
     code: u8,
     bytes: &[u8],
 ) -> Result<Option<usize>, AllocError>
-    ensures { IfOk result (λ found. IfSome found (λ n. (b : BasicType) × (code ≡ basic_code b) × BeginsValue order field b bytes.now n)) }
+    ensures some { IfOk result (λ found. IfSome found (λ n. (b : BasicType) × (code ≡ basic_code b) × BeginsValue order field b bytes.now n)) }
+    ensures none { IfOk result (λ found. IfNone found ((b : BasicType) → code ≡ basic_code b → BeginsNoValue order field b bytes.now)) }
 {
     if code == b's' {
         return Ok(string_value(order, field, bytes));
@@ -186,7 +192,8 @@ pub fn basic_field(
 ) -> Result<Option<usize>, AllocError>
     requires begins { 0 < length bytes.now }
     requires code { slice_index bytes.now 0 ≡ code_of field }
-    ensures { IfOk result (λ found. IfSome found (BeginsBasic order field bytes.now)) }
+    ensures some { IfOk result (λ found. IfSome found (BeginsBasic order field bytes.now)) }
+    ensures none { IfOk result (λ found. IfNone found (BeginsNoBasic order field bytes.now)) }
 {
     if bytes.len() < 4 {
         return Ok(None);

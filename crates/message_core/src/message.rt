@@ -1,18 +1,20 @@
 //! Whole messages.
 
-ghost use Rattle.std.specs.Prelude.{◌≡◌, ◌≤◌, ℕ, List, Ok, IfOk, IfErr, length, true};
+ghost use Rattle.std.specs.Prelude.{◌≡◌, ◌≢◌, ◌≤◌, ℕ, List, Ok, IfOk, IfErr, length, true};
 ghost use Rattle.marshal_core.specs.Signatures.{codes};
 ghost use Rattle.marshal_core.specs.declared.fault.MarshalFault.TheVariants.{NoMemory};
 ghost use Rattle.marshal_core.specs.Spelling.{Spells};
 ghost use Rattle.marshal_core.specs.Types.{Tys};
 ghost use Rattle.marshal_core.specs.Values.{Vals, values_of};
 ghost use Rattle.match_rules.specs.Kinds.{kind_of};
+ghost use Rattle.message_core.specs.declared.fault.FrameFault.TheVariants.{NoMemory as WithoutMemory};
 ghost use Rattle.message_core.specs.declared.header_field.HeaderField.TheVariants as field_of;
 ghost use Rattle.message_core.specs.Announcements.{announced};
 ghost use Rattle.message_core.specs.HeaderFields.{text_field, number_field};
 ghost use Rattle.message_core.specs.Messages.{Message as Record, IsMessage, IsWritten};
 ghost use Rattle.message_core.specs.Headers.{message_of};
 ghost use Rattle.message_core.specs.Places.{ArePlaced};
+ghost use Rattle.message_core.specs.Refusals.{IsRefused, IsNoMessage};
 ghost use Rattle.message_core.specs.Said.{said};
 ghost use Rattle.message_core.specs.Whole.{is_text, Lends};
 
@@ -56,6 +58,8 @@ impl Message {
         requires whole { announced MAXIMUM_LENGTH bytes.items ≡ Ok (length bytes.items) }
         ensures bytes { IfOk result (λ m. m ≡ bytes.items) }
         ensures message { IfOk result (λ m. IsMessage m (said m)) }
+        ensures fault { IfErr result (λ f. f ≢ WithoutMemory → IsRefused bytes.items f) }
+        ensures none { IfErr result (λ f. f ≢ WithoutMemory → IsNoMessage bytes.items) }
     {
         let fields = check(alloc, &bytes)?;
         Ok(Message { bytes, fields })

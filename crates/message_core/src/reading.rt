@@ -1,10 +1,14 @@
 //! Reading one whole message.
 
-ghost use Rattle.std.specs.Prelude.{◌≡◌, ◌≤◌, ◌+◌, ◌∷◌, [], Ok, None, IfOk, OnOk, length};
+ghost use Rattle.std.specs.Prelude.{◌≡◌, ◌≢◌, ◌≤◌, ◌+◌, ◌∷◌, [], Ok, Some, None, IfOk, OnOk, IfErr, length};
+ghost use Rattle.marshal_core.specs.declared.fault.MarshalFault.TheVariants.{NoMemory as WithoutMemory};
 ghost use Rattle.marshal_core.specs.Signatures.{signature_of};
 ghost use Rattle.marshal_core.specs.Types.{Tys};
+ghost use Rattle.message_core.specs.declared.fault.FrameFault.TheVariants.{NoMemory, Missing, Body};
+ghost use Rattle.message_core.specs.declared.header_field.HeaderField.{HeaderField};
 ghost use Rattle.message_core.specs.Announcements.{whole_length, announced};
-ghost use Rattle.message_core.specs.Kinds.{required as required_of};
+ghost use Rattle.message_core.specs.Kinds.{code_of, required as required_of};
+ghost use Rattle.message_core.specs.Refusals.{IsBodyFault, IsRefused};
 ghost use Rattle.message_core.specs.Said.{order_of as order_in};
 ghost use Rattle.message_core.specs.Whole.{place_of as place_in, signature_part, text_part, number_part, unplaced, HasRoom, IsUtf8Part, Lends, IsBody, IsWhole};
 
@@ -61,7 +65,8 @@ fn required(kind: MessageKind) -> &'static [HeaderField]
 
 /// Looks for the first required field that isn't there.
 fn check_required(kind: MessageKind, places: &[FieldPlace]) -> Result<(), FrameFault>
-    ensures { OnOk result (unplaced (required_of kind) places.now ≡ None) }
+    ensures complete { OnOk result (unplaced (required_of kind) places.now ≡ None) }
+    ensures missing { IfErr result (λ f. (k : HeaderField) × (f ≡ Missing (code_of k)) × (unplaced (required_of kind) places.now ≡ Some k)) }
 {
     for field in required(kind) {
         if !has_code(places, field.code()) {
@@ -71,20 +76,29 @@ fn check_required(kind: MessageKind, places: &[FieldPlace]) -> Result<(), FrameF
     Ok(())
 }
 
+fn body_fault(fault: MarshalFault) -> FrameFault
+    ensures memory { fault ≡ WithoutMemory → result ≡ NoMemory }
+    ensures other { fault ≢ WithoutMemory → result ≡ Body fault }
+{
+    match fault {
+        MarshalFault::NoMemory => FrameFault::NoMemory,
+        _ => FrameFault::Body(fault),
+    }
+}
+
 /// Checks that the body has the values that its signature says, and no byte more.
 fn check_body(alloc: Global, order: Order, signature: &[u8], body: &[u8]) -> Result<(), FrameFault>
-    ensures { OnOk result ((types : Tys) → signature_of signature.now ≡ Ok types → IsBody order types body.now) }
+    ensures body { OnOk result ((types : Tys) → signature_of signature.now ≡ Ok types → IsBody order types body.now) }
+    ensures fault { IfErr result (λ f. f ≢ NoMemory → (types : Tys) → signature_of signature.now ≡ Ok types → IsBodyFault order types body.now f) }
 {
     let signature = match Signature::from_bytes(alloc, signature) {
         Ok(signature) => signature,
-        Err(MarshalFault::NoMemory) => return Err(FrameFault::NoMemory),
-        Err(_) => return Err(FrameFault::Field(8)),
+        Err(fault) => return Err(body_fault(fault)),
     };
     match decode(alloc, order, 0, &signature, body) {
-        Ok((_, length)) if length == body.len() => Ok(()),
-        Ok(_) => Err(FrameFault::BodyLength),
-        Err(MarshalFault::NoMemory) => Err(FrameFault::NoMemory),
-        Err(fault) => Err(FrameFault::Body(fault)),
+        Ok((_, length)) if length < body.len() => Err(FrameFault::BodyLength),
+        Ok(_) => Ok(()),
+        Err(fault) => Err(body_fault(fault)),
     }
 }
 
@@ -105,7 +119,8 @@ pub fn check(alloc: Global, bytes: &[u8]) -> Result<Vec<FieldPlace>, FrameFault>
     requires small { length bytes.now ≤ MAXIMUM_LENGTH }
     requires whole { announced MAXIMUM_LENGTH bytes.now ≡ Ok (length bytes.now) }
     requires long { whole_length (order_in bytes.now) bytes.now ≡ length bytes.now }
-    ensures { IfOk result (λ places. IsWhole bytes.now places.items) }
+    ensures whole { IfOk result (λ places. IsWhole bytes.now places.items) }
+    ensures fault { IfErr result (λ f. f ≢ NoMemory → IsRefused bytes.now f) }
 {
     let order = order_of(bytes);
     let length = number(order, 12, bytes) as usize;

@@ -5,8 +5,8 @@ use Rattle.marshal_core.specs.Spelling.{number_bytes}
 use Rattle.message_core.proofs.Strings.{number_spelled}
 use Rattle.message_core.proofs.basic_field.number_value.Goals as goal
 
-pub returns-then-takes_number : goal.returns-then-takes_number
-returns-then-takes_number c = record {
+pub returns-then-takes_number-clause-some : goal.returns-then-takes_number-clause-some
+returns-then-takes_number-clause-some c = record {
   value = a_uint32 c.number.result;
   typed = refl;
   takes = record { is_value = c.number.ensures.fits; taken = c.takes_number.ensures.0 c.if-takes_number.true };

@@ -1,11 +1,12 @@
-use Rattle.std.proofs.Common.{refl, ap, ◌∙◌, ◌∷◌, length, List, ℕ}
+use Rattle.std.proofs.Common.{refl, sym, ap, ◌∙◌, ◌∷◌, length, List, ℕ}
 use Rattle.marshal_core.specs.Values.{a_signature}
 use Rattle.marshal_core.specs.Spelling.{ended}
+use Rattle.message_core.proofs.Absent.{no_signature_taken}
 use Rattle.message_core.proofs.Strings.{signature_taken, signature_is}
 use Rattle.message_core.proofs.basic_field.signature_value.Goals as goal
 
-pub returns-then-branch : goal.returns-then-branch
-returns-then-branch c =
+pub returns-then-branch-clause-some : goal.returns-then-branch-clause-some
+returns-then-branch-clause-some c =
     let text = c.split_at.result.0.now in
     let is = signature_is text c.in_ok-is_signature.field-0 c.in_ok-is_signature.ensures c.if-branch.true in
     let taken = signature_taken c.args.bytes.now c.in-Some.rest.now text c.split_at.result.1.now c.in-Some.first.now c.in-Some.ensures.cases.0 c.if-rest-length.false c.split_at.ensures.front c.split_at.ensures.back c.if-end-ne0.false in
@@ -16,3 +17,8 @@ returns-then-branch c =
       within = taken.0;
       spelled = taken.1 ∙ ap (λ (x : List ℕ). length x ∷ ended x) is.2;
     }
+
+pub returns-clause-none : goal.returns-clause-none
+returns-clause-none c =
+    no_signature_taken c.args.order c.args.field c.args.bytes.now c.in-Some.rest.now c.split_at.result.0.now c.in-Some.first.now c.in-Some.ensures.cases.0 c.split_at.ensures.front
+    (sym c.in_ok-is_signature.ensures ∙ c.if-branch.false)

@@ -1,4 +1,7 @@
-use Rattle.std.proofs.Common.{sym}
+use Rattle.std.proofs.Common.{sym, subst}
+use Rattle.std.proofs.lemmas.Result.{err_from_is_err_and}
+use Rattle.message_core.specs.Refusals.{IsNoMessage}
+use Rattle.message_core.proofs.NoMessages.{refused_none}
 use Rattle.message_core.proofs.Announced.{announced_facts}
 use Rattle.message_core.proofs.message.Message.read.Goals as goal
 
@@ -11,3 +14,8 @@ pub check-requires-clause-long : goal.check-requires-clause-long
 check-requires-clause-long c =
     let a = announced_facts 134217728 c.args.bytes.items _ c.requires.whole in
     rw c.deref.ensures.value (sym a.length)
+
+pub returns-in_err-fields-clause-none : goal.returns-in_err-fields-clause-none
+returns-in_err-fields-clause-none c =
+    let p = err_from_is_err_and c.from_residual.result c.from_residual.ensures.1 in
+    rw (p.1, p.2) (λ other. subst IsNoMessage c.deref.ensures.value (refused_none c.deref.result.now c.in_err-fields.field-0.0 (c.in_err-fields.ensures.fault other)))
