@@ -6,7 +6,7 @@ ghost use Rattle.message_core.specs.Announcements.{announced};
 ghost use Rattle.message_core.specs.Messages.{Message as Record, IsMessage};
 ghost use Rattle.message_core.specs.Said.{said};
 ghost use Rattle.message_core.specs.Streams.{IsStream};
-ghost use Rattle.message.specs.Framing.{Unread, IsWaiting, IsTaken, IsJudged, FaultIs};
+ghost use Rattle.message.specs.Framing.{Unread, IsWaiting, IsTaken, IsNoFront, FaultIs};
 
 use message_core::{FIXED_LENGTH, FrameFault, MESSAGE_LIMIT, Message, announced_length};
 use std::alloc::{AllocError, Global};
@@ -36,7 +36,7 @@ impl Model for Framer {
 fn whole_length(bytes: &[u8]) -> Result<Option<usize>, FrameFault>
     ensures some { IfOk result (λ found. IfSome found (λ n. (16 ≤ n) × (n ≤ length bytes.now) × (announced MESSAGE_LIMIT bytes.now ≡ Ok n))) }
     ensures none { IfOk result (λ found. IfNone found (IsWaiting MESSAGE_LIMIT bytes.now)) }
-    ensures fault { IfErr result (λ f. IsJudged MESSAGE_LIMIT f bytes.now) }
+    ensures fault { IfErr result (λ f. (FIXED_LENGTH ≤ length bytes.now) × (announced MESSAGE_LIMIT bytes.now ≡ Err f)) }
     ensures memory { IfErr result (λ f. f ≢ NoMemory) }
 {
     if bytes.len() < FIXED_LENGTH {
@@ -89,6 +89,7 @@ impl Framer {
         ensures some { IfOk result (λ found. IfSome found (λ message. IsTaken MESSAGE_LIMIT message self.old self.new)) }
         ensures none { IfOk result (λ found. IfNone found ((self.old.fault ≡ None) × IsWaiting MESSAGE_LIMIT self.old.bytes × (self.new ≡ self.old))) }
         ensures fault { IfErr result (λ f. FaultIs MESSAGE_LIMIT f self.old self.new) }
+        ensures no_message { IfErr result (λ f. f ≢ NoMemory → IsNoFront MESSAGE_LIMIT self.old) }
     {
         if let Some(fault) = self.fault {
             return Err(fault);
@@ -108,11 +109,13 @@ impl Framer {
                 self.from += length;
                 Ok(Some(message))
             }
-            Err(FrameFault::NoMemory) => Err(FrameFault::NoMemory),
-            Err(fault) => {
-                self.fault = Some(fault);
-                Err(fault)
-            }
+            Err(fault) => match fault {
+                FrameFault::NoMemory => Err(fault),
+                _ => {
+                    self.fault = Some(fault);
+                    Err(fault)
+                }
+            },
         }
     }
 }
