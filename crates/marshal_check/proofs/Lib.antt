@@ -3,3 +3,5 @@ pub mod Recognized
 pub mod Skipping
 pub mod FreeElements
 pub mod Checked
+pub mod Splits
+pub mod Shown

@@ -1,2 +1,4 @@
 pub mod Checking
 pub mod SignatureTexts
+pub mod Arguments
+pub mod ArgumentViews

@@ -1,9 +1,9 @@
 -- The types that the text of a signature spells, after "Valid Signatures" of the D-Bus Specification.
-use Rattle.std.specs.Prelude.{ℕ, Bool, List, Option, Some, None, Result, Ok, Err, is_ok}
+use Rattle.std.specs.Prelude.{◌≡◌, ℕ, Bool, List, Option, Some, None, Result, Ok, Err, is_ok}
 use Rattle.marshal_core.specs.declared.data_type.BasicType.{BasicType}
 use Rattle.marshal_core.specs.declared.data_type.BasicType.TheVariants.{Byte, Boolean, Int16, Uint16, Int32, Uint32, Int64, Uint64, Double, String, ObjectPath, Signature}
 use Rattle.marshal_core.specs.declared.fault.MarshalFault.{MarshalFault}
-use Rattle.marshal_core.specs.Types.{Ty, basic, variant, array, entry, struct, Tys, no_types}
+use Rattle.marshal_core.specs.Types.{Ty, basic, variant, array, entry, struct, Tys, no_types, more_types, one_type}
 use Rattle.marshal_core.specs.Signatures.{signature_of}
 
 -- The text is a signature.
@@ -17,6 +17,10 @@ types_or_none (Err e) = no_types
 -- its types
 abbrev pub types_in : List ℕ → Tys
 types_in text = types_or_none (signature_of text)
+
+-- the first of them, alone, and the others
+abbrev pub BeginsWith : Tys → Tys → Tys → Type 0
+BeginsWith ts first others = (t : Ty) × (first ≡ one_type t) × (ts ≡ more_types t others)
 
 -- how many bytes a value of a basic type has, where any bytes so many are one
 abbrev pub free_size : BasicType → Option ℕ

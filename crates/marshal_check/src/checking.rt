@@ -17,7 +17,7 @@ use marshal::parts::{array_bytes, padding};
 use marshal_core::{BasicType, MarshalFault, Order};
 
 /// The most containers about one another.
-const MAX_CONTAINER_DEPTH: u8 = 64;
+pub const MAX_CONTAINER_DEPTH: u8 = 64;
 
 /// What dict entries and structs are aligned to.
 const CONTAINER_ALIGNMENT: usize = 8;
@@ -25,7 +25,7 @@ const CONTAINER_ALIGNMENT: usize = 8;
 /// A value of the type that a text begins with, where so many containers may still stand in one
 /// another: the place after it, and the bytes there.
 #[cycle(values)]
-fn value<'a>(
+pub fn value<'a>(
     depth: u8,
     order: Order,
     short: MarshalFault,

@@ -5,11 +5,14 @@
 #![tactic(auto)]
 
 mod basic;
+mod body_arguments;
 mod checking;
 mod letters;
+mod one_argument;
 mod recognizing;
 mod signature_text;
 
+pub use body_arguments::{Argument, Arguments};
 pub use checking::check;
 pub use signature_text::Types;
 

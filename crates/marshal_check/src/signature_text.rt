@@ -3,6 +3,7 @@
 ghost use Rattle.std.specs.Prelude.{◌≡◌, true};
 ghost use Rattle.marshal_check.specs.SignatureTexts.{is_signature_text};
 
+use crate::letters::skip_type;
 use crate::recognizing::is_signature;
 use marshal_core::MarshalFault;
 
@@ -15,10 +16,11 @@ pub struct Types<'a> {
 }
 
 impl<'a> Types<'a> {
-    ghost use Rattle.std.specs.Prelude.{◌≡◌, IfOk};
+    ghost use Rattle.std.specs.Prelude.{◌≡◌, IfOk, MatchOption};
+    ghost use Rattle.marshal_core.specs.Types.{no_types};
     ghost use Rattle.marshal_core.specs.Signatures.{signature_of};
     ghost use Rattle.marshal_core.specs.Faults.{Tells};
-    ghost use Rattle.marshal_check.specs.SignatureTexts.{types_in};
+    ghost use Rattle.marshal_check.specs.SignatureTexts.{BeginsWith, types_in};
 
     /// The types of a text, or the first fault from the left: `Signature`, and `Descriptor` at an
     /// `h`. A text of more than 255 bytes is no signature, whatever stands in it.
@@ -28,6 +30,19 @@ impl<'a> Types<'a> {
     {
         is_signature(text)?;
         Ok(Types { text })
+    }
+
+    /// The first complete type, as a signature of one type, and the others; `None` where there is
+    /// none.
+    pub fn split_first(self) -> Option<(Types<'a>, Types<'a>)>
+        ensures { MatchOption result (types_in self.entry.text.now ≡ no_types) (λ x. BeginsWith (types_in self.entry.text.now) (types_in x.0.text.now) (types_in x.1.text.now)) }
+    {
+        if self.text.is_empty() {
+            return None;
+        }
+        let others = skip_type(self.text);
+        let (first, _) = self.text.split_at(self.text.len() - others.len());
+        Some((Types { text: first }, Types { text: others }))
     }
 
     /// The same of a `str`.

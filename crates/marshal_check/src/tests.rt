@@ -288,3 +288,24 @@ fn counts_containers(rt: HostRuntime) -> Result<(), Fail> {
     );
     Ok(())
 }
+
+#[test]
+fn lends_arguments(rt: HostRuntime) -> Result<(), Fail> {
+    let types = Types::parse("soays")?;
+    let body = b"\x02\0\0\0hi\0\0\x01\0\0\0/\0\0\0\x01\0\0\0\x07\0\0\0\0\0\0\0\0";
+    let mut arguments = Vec::new(rt.alloc());
+    for argument in Arguments::new(Order::Little, 0, types, body) {
+        arguments.push(argument)?;
+    }
+    assert_eq!(rt;
+        arguments.as_slice(),
+        [
+            Argument::String("hi"),
+            Argument::ObjectPath("/"),
+            Argument::Other,
+            Argument::String("")
+        ]
+        .as_slice()
+    );
+    Ok(())
+}
