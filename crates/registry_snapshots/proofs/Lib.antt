@@ -1,0 +1,5 @@
+pub mod Fronts
+pub mod Adding
+pub mod Legal
+pub mod Idle
+pub mod Changes

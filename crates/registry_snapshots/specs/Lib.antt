@@ -1,0 +1,6 @@
+pub mod Seats
+pub mod Publications
+pub mod Copies
+pub mod Pending
+pub mod Served
+pub mod Refusals

@@ -1,0 +1,54 @@
+-- What a seat of a registry knows, and what a change, a read and a note do to it.
+use Rattle.std.specs.Prelude.{◌≡◌, ℕ, zero, suc, ◌+◌, ltb, if◌then◌else◌, List, [], ◌∷◌, ◌++◌, length, Option, Some, None}
+use Rattle.std.specs.List.{range_with_len}
+use Rattle.seq_bus_core.specs.Histories.{History, IsLegal, Begins, numbers_of}
+use Rattle.seq_bus_core.specs.Tickets.{WholeBus, bus_step, bus_after}
+use Rattle.seq_bus_core.specs.declared.change.Change.{Change}
+use Rattle.seq_bus_core.specs.declared.entry.Entry.{Entry}
+use Rattle.seq_bus_core.specs.declared.outcome.Outcome.{Outcome}
+
+-- The seat's number; the beginning of the history that it has seen; how many changes it made; and the longest beginning that
+-- a note tells which it made or took.
+pub record SeatView : Type 0 where
+  pub number : ℕ
+  pub seen : History
+  pub made : ℕ
+  pub held : Option History
+
+abbrev pub fresh : ℕ → SeatView
+fresh number = record { number = number; seen = []; made = 0; held = None }
+
+-- the seats below a number, before anything was seen
+abbrev pub fresh_to : ℕ → List SeatView
+fresh_to zero = []
+fresh_to (suc n) = fresh_to n ++ fresh n ∷ []
+
+-- the history has of a seat's changes just the first `made`, each once and in order
+abbrev pub HasJust : ℕ → ℕ → History → Type 0
+HasJust seat made history = numbers_of seat history ≡ range_with_len 1 made
+
+-- the entry of a change that is a publication of its own
+abbrev pub entry_alone : ℕ → ℕ → Change → Entry
+entry_alone seat number change = record { seat = seat; number = number; change = change; left = 0 }
+
+-- A change of a seat that made so many before. What it is told is what the bus says at one point of the history, which begins
+-- with all that the seat had seen. There the change was added, and the seat has seen the history up to it.
+pub record IsChanged (opening : WholeBus) (seen : History) (seat made : ℕ) (change : Change) (outcome : Outcome) (now : History) : Type 0 where
+  pub point : History
+  pub begun : Begins seen point
+  pub told : outcome ≡ (bus_step (bus_after opening point) seat change).1
+  pub added : now ≡ point ++ entry_alone seat (made + 1) change ∷ []
+  pub legal : IsLegal now
+  pub own : HasJust seat (made + 1) now
+
+-- A read finds the bus at one point of the history, which begins with all that the seat had seen, and has of its changes just
+-- those that it made.
+pub record IsRead (seen : History) (seat made : ℕ) (now : History) : Type 0 where
+  pub begun : Begins seen now
+  pub legal : IsLegal now
+  pub own : HasJust seat made now
+
+-- of what is held and what is told, the longer
+abbrev pub longer : Option History → History → History
+longer None told = told
+longer (Some held) told = if ltb (length held) (length told) then told else held

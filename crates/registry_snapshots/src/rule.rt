@@ -1,0 +1,30 @@
+//! The rule of the copies that readers take.
+
+use crate::naming::Naming;
+use crate::snap::Snap;
+use crossbeam_utils::rule::{Outcome, Protocol};
+use std::marker::PhantomData;
+
+/// The published copy stands for a beginning of this registry's history.
+pub struct Kept<J> {
+    of: PhantomData<J>,
+}
+
+impl<J: Naming> Protocol<Snap, ()> for Kept<J> {
+    ghost use Rattle.registry_snapshots.specs.Copies.{IsSnapOf};
+
+    ghost holds = { λ s _. IsSnapOf J.book J.opening s };
+
+    ghost first = { tt };
+}
+
+/// The copy that is found or shown keeps the rule.
+pub struct Finds<J> {
+    of: PhantomData<J>,
+}
+
+impl<J: Naming> Outcome<Snap, ()> for Finds<J> {
+    ghost use Rattle.registry_snapshots.specs.Copies.{IsSnapOf};
+
+    ghost then = { λ v before after w. IsSnapOf J.book J.opening after };
+}

@@ -1,0 +1,190 @@
+//! The seats of a registry, one a router.
+
+ghost use Rattle.std.specs.Prelude.{◌≡◌, ◌⊎◌, ◌+◌, [], Some, is_some, OnOk, OnErr, IfOk, IfErr};
+ghost use Rattle.std.specs.Fn.{FnOnceReturnsAt};
+ghost use Rattle.seq_bus_core.specs.BusState.{connection_of};
+ghost use Rattle.seq_bus_core.specs.Histories.{IsLegal, Begins};
+ghost use Rattle.seq_bus_core.specs.Tickets.{bus_after};
+ghost use Rattle.registry.specs.Served.{IsServedChange};
+ghost use Rattle.registry_snapshots.specs.Copies.{SnapView};
+ghost use Rattle.registry_snapshots.specs.Seats.{fresh, longer, IsChanged, IsRead};
+
+use crate::history::Front;
+use crate::naming::Naming;
+use crate::note::Note;
+use crate::refusal::{Gone, Refused};
+use crate::registrar::SnapReader;
+use crate::rule::{Finds, Kept};
+use crate::shared::Shared;
+use crate::snap::Snap;
+use left_right::reader::Reading;
+use seq_bus_core::{Change, Outcome};
+use std::marker::Model;
+use std::sync::Wait;
+
+/// What one router reads the bus with, and makes changes.
+///
+/// Contracts see its number, the beginning of the history that it has `seen`, how many changes it `made`, and the longest
+/// beginning that a note tells which it `held`.
+#[derive(Drop)]
+pub struct Seat<J: Naming> {
+    number: u8,
+    made: u64,
+    // Gone while it reads.
+    reader: Option<SnapReader<J>>,
+    front: Front,
+    held: Option<Note<J>>,
+}
+
+impl<J: Naming> Model for Seat<J> {
+    ghost use Rattle.std.specs.Prelude.{◌≡◌, Some};
+    ghost use Rattle.seq_bus_core.specs.Histories.{History, Begins};
+    ghost use Rattle.registry_snapshots.specs.Seats.{SeatView};
+
+    ghost Value = { SeatView };
+
+    ghost view = { λ s. record { number = s.number; seen = s.front.log; made = s.made; held = s.held } };
+
+    ghost invariant = { λ s. (s.front.book ≡ J.book) × ((held : History) → s.held ≡ Some held → Begins held s.front.log) };
+}
+
+type SnapReading<J> = Reading<Snap, (), Kept<J>>;
+
+// Enters the published copy, where it is no less than was seen and has the seat's changes.
+fn enter<J: Naming>(
+    reader: SnapReader<J>,
+    number: u8,
+    made: u64,
+    seen: &Front,
+) -> Result<(SnapReading<J>, Front), SnapReader<J>>
+    requires { seen.now.book ≡ J.book }
+    ensures front { IfOk result (λ r. (r.1.book ≡ J.book) × IsRead seen.now.log number made r.1.log) }
+    ensures copy { IfOk result (λ r. r.0.part.value.bus ≡ (bus_after J.opening r.1.log).state) }
+{
+    let reading = reader.enter_as::<Finds<J>>()?;
+    let snap = reading.get();
+    let front = snap.front().again();
+    if snap.made(number) != Some(made) || !seen.begins(&front) {
+        return Err(reading.leave());
+    }
+    let _legal = front.len();
+    Ok((reading, front))
+}
+
+impl<J: Naming> Seat<J> {
+    /// The seat of this number, which has seen nothing.
+    pub(crate) fn new(number: u8, reader: SnapReader<J>, front: Front) -> Seat<J>
+        requires { (front.book ≡ J.book) × (front.log ≡ []) }
+        ensures { result ≡ fresh number }
+    {
+        Seat {
+            number,
+            made: 0,
+            reader: Some(reader),
+            front,
+            held: None,
+        }
+    }
+
+    /// Its number: 0 for the main thread's, else the number of a router.
+    pub fn number(&self) -> u8
+        ensures { result ≡ self.now.number }
+    {
+        self.number
+    }
+
+    /// Calls `f` once on the published copy and gives its answer. It waits for no lock and takes no memory.
+    ///
+    /// What `f` is lent stays as it is until `f` returns. `Gone` where the registry has ended; then `f` isn't called.
+    pub fn open<R, F: FnOnce(&Snap) -> R + Drop>(&mut self, f: F) -> Result<R, Gone>
+        requires { F.IsAlwaysCallable f }
+        ensures answer { IfOk result (λ r. (copy : SnapView) × (copy.bus ≡ (bus_after J.opening self.new.seen).state) × FnOnceReturnsAt F.FnOnce f copy r) }
+        ensures read { OnOk result (IsRead self.old.seen self.old.number self.old.made self.new.seen) }
+        ensures kept { (self.new.number ≡ self.old.number) × (self.new.made ≡ self.old.made) × (self.new.held ≡ self.old.held) }
+        ensures gone { OnErr result (self.new.seen ≡ self.old.seen) }
+    {
+        let Some(reader) = self.reader.take() else {
+            return Err(Gone);
+        };
+        match enter(reader, self.number, self.made, &self.front) {
+            Ok((reading, front)) => {
+                let answer = f(reading.get());
+                self.reader = Some(reading.leave());
+                self.front = front;
+                Ok(answer)
+            }
+            Err(reader) => {
+                self.reader = Some(reader);
+                Err(Gone)
+            }
+        }
+    }
+
+    /// Whether there is a connection of this number.
+    ///
+    /// It waits for no lock and takes no memory. `Gone` where the registry has ended.
+    pub fn present(&mut self, number: u64) -> Result<bool, Gone>
+        ensures present { IfOk result (λ present. present ≡ is_some (connection_of (bus_after J.opening self.new.seen).state number)) }
+        ensures read { OnOk result (IsRead self.old.seen self.old.number self.old.made self.new.seen) }
+        ensures kept { (self.new.number ≡ self.old.number) × (self.new.made ≡ self.old.made) × (self.new.held ≡ self.old.held) }
+        ensures gone { OnErr result (self.new.seen ≡ self.old.seen) }
+    {
+        self.open(|snap| snap.present(number))
+    }
+
+    /// Makes a change, and tells of it in a note.
+    ///
+    /// It waits for the lock of the registry, and for readers of the copy that it brings up. A change that is refused is
+    /// handed back, and is not made, then or later. Today the changes that the registry serves are made.
+    pub fn change<R: Wait>(
+        &mut self,
+        rt: &R,
+        shared: &Shared<J>,
+        change: Change,
+    ) -> Result<(Outcome, Note<J>), Refused>
+        requires { IsServedChange change }
+        ensures changed { IfOk result (λ r. IsChanged J.opening self.old.seen self.old.number self.old.made change r.0 self.new.seen) }
+        ensures note { IfOk result (λ r. (r.1 ≡ self.new.seen) × (self.new.held ≡ Some self.new.seen)) }
+        ensures made { OnOk result (self.new.made ≡ self.old.made + 1) }
+        ensures number { self.new.number ≡ self.old.number }
+        ensures refused { IfErr result (λ e. e.change ≡ change) }
+        ensures unchanged { OnErr result (self.new ≡ self.old) }
+    {
+        let (outcome, front) = shared.change(rt, self.number, self.made, &self.front, change)?;
+        let note = Note::of(&front);
+        self.made += 1;
+        self.front = front;
+        self.held = Some(note.again());
+        Ok((outcome, note))
+    }
+
+    /// Takes in what a seat of this registry told: from now on this one sees no less. It takes no memory.
+    pub fn take_note(&mut self, note: &Note<J>)
+        ensures seen { Begins self.old.seen self.new.seen }
+        ensures told { Begins note.now self.new.seen }
+        ensures one { (self.new.seen ≡ self.old.seen) ⊎ (self.new.seen ≡ note.now) }
+        ensures legal { IsLegal self.new.seen }
+        ensures held { self.new.held ≡ Some (longer self.old.held note.now) }
+        ensures kept { (self.new.number ≡ self.old.number) × (self.new.made ≡ self.old.made) }
+    {
+        let held = match &self.held {
+            Some(held) => held.or_longer(note),
+            None => note.again(),
+        };
+        if !note.front().begins(&self.front) {
+            self.front = note.front().again();
+        }
+        let _legal = self.front.len();
+        self.held = Some(held);
+    }
+
+    /// The longest note that it made or took; none where it made and took none.
+    pub fn note(&self) -> Option<Note<J>>
+        ensures { result ≡ self.now.held }
+    {
+        match &self.held {
+            Some(held) => Some(held.again()),
+            None => None,
+        }
+    }
+}

@@ -1,0 +1,147 @@
+//! What the seats of a registry share.
+
+ghost use Rattle.std.specs.Prelude.{◌≡◌, ◌+◌, ◌<◌, ◌≤◌, ◌^◌, [], ◌∷◌, ◌++◌, length, OnOk, OnErr, IfOk, IfErr};
+ghost use Rattle.seq_bus_core.specs.Histories.{CanOpen, max_routers};
+ghost use Rattle.seq_bus_core.specs.Tickets.{opening_bus};
+ghost use Rattle.registry.specs.Served.{IsServedChange};
+ghost use Rattle.registry_snapshots.specs.Seats.{fresh, fresh_to, IsChanged};
+ghost use Rattle.registry_snapshots.specs.declared.refusal.StartFault.TheVariants.{Routers, Services};
+
+use crate::history::{Front, Opened};
+use crate::naming::Naming;
+use crate::refusal::{Refused, StartFault};
+use crate::registrar::Registrar;
+use crate::seat::Seat;
+use names::WellKnown;
+use owner_queues::Profile;
+use seq_bus::can_open;
+use seq_bus_core::{Change, Outcome};
+use std::alloc::{AllocError, Global};
+use std::sync::{Mutex, MutexGuard, Wait};
+
+/// The most routers of a bus.
+const MAX_ROUTERS: u8 = 8;
+
+/// What the seats of a registry share to make changes.
+pub struct Shared<J: Naming> {
+    alloc: Global,
+    registrar: Mutex<Registrar<J>>,
+}
+
+// One seat more, with the next number.
+fn add_seat<J: Naming>(
+    seats: &mut Vec<Seat<J>>,
+    registrar: &Registrar<J>,
+    number: u8,
+    front: &Front,
+) -> Result<(), AllocError>
+    requires { (front.now.book ≡ J.book) × (front.now.log ≡ []) }
+    ensures { OnOk result (seats.new.items ≡ seats.old.items ++ fresh number ∷ []) }
+{
+    let seat = Seat::new(number, registrar.reader()?, front.again());
+    match seats.push(seat) {
+        Ok(()) => Ok(()),
+        Err(_) => Err(AllocError),
+    }
+}
+
+// So many seats, numbered from 0.
+fn new_seats<J: Naming>(
+    alloc: Global,
+    registrar: &Registrar<J>,
+    front: &Front,
+    count: u8,
+) -> Result<Vec<Seat<J>>, AllocError>
+    requires { (front.now.book ≡ J.book) × (front.now.log ≡ []) }
+    ensures { IfOk result (λ seats. seats.items ≡ fresh_to count) }
+{
+    let mut seats = Vec::new(alloc);
+    for number in 0..count {
+        add_seat(&mut seats, registrar, number, front)?;
+    }
+    Ok(seats)
+}
+
+impl<J: Naming> Shared<J> {
+    /// A registry with these services and so many routers, and a seat for each router behind seat 0, which has no places for
+    /// connections.
+    ///
+    /// `NoMemory` comes also where the copies have no place for one more reader.
+    pub fn new<R: Wait>(
+        rt: &R,
+        alloc: Global,
+        opened: Opened,
+        services: &[WellKnown],
+        routers: u8,
+        profile: Profile,
+    ) -> Result<(Shared<J>, Vec<Seat<J>>), StartFault>
+        requires { (opened ≡ J.book) × (J.opening ≡ opening_bus profile routers services.now) }
+        ensures seats { IfOk result (λ r. r.1.items ≡ fresh_to (routers + 1)) }
+        ensures opened { OnOk result (CanOpen routers services.now) }
+        ensures routers { IfErr result (λ e. e ≡ Routers → (1 ≤ routers) × (routers ≤ max_routers) → ⊥) }
+        ensures services { IfErr result (λ e. e ≡ Services → (1 ≤ routers) × (routers ≤ max_routers) × (CanOpen routers services.now → ⊥)) }
+    {
+        if routers == 0 || routers > MAX_ROUTERS {
+            return Err(StartFault::Routers);
+        }
+        if !can_open(services, routers) {
+            return Err(StartFault::Services);
+        }
+        let (head, front) = opened.parts();
+        let Ok(registrar) = Registrar::new(
+            rt,
+            alloc,
+            services,
+            routers,
+            profile,
+            usize::from(routers) + 1,
+            head,
+            &front,
+        ) else {
+            return Err(StartFault::NoMemory);
+        };
+        match new_seats(alloc, &registrar, &front, routers + 1) {
+            Ok(seats) => {
+                let shared = Shared {
+                    alloc,
+                    registrar: Mutex::new(registrar),
+                };
+                Ok((shared, seats))
+            }
+            Err(_) => {
+                registrar.end(rt);
+                Err(StartFault::NoMemory)
+            }
+        }
+    }
+
+    // Makes a change of a seat that knows this much and made so many changes, or refuses it.
+    pub(crate) fn change<R: Wait>(
+        &self,
+        rt: &R,
+        seat: u8,
+        made: u64,
+        known: &Front,
+        change: Change,
+    ) -> Result<(Outcome, Front), Refused>
+        requires book { known.now.book ≡ J.book }
+        requires served { IsServedChange change }
+        ensures made { IfOk result (λ r. IsChanged J.opening known.now.log seat made change r.0 r.1.log) }
+        ensures next { IfOk result (λ r. (r.1.book ≡ J.book) × (made < 2 ^ 63)) }
+        ensures refused { IfErr result (λ e. e.change ≡ change) }
+    {
+        let mut registrar = self.registrar.lock(rt);
+        let made = registrar.change(rt, self.alloc, seat, made, known, change);
+        MutexGuard::unlock(registrar);
+        made
+    }
+
+    /// Ends the registry. From then on its seats are `Gone`.
+    pub fn end<R: Wait>(self, rt: &R) {
+        let Shared {
+            alloc: _,
+            registrar,
+        } = self;
+        registrar.into_inner().end(rt);
+    }
+}
