@@ -1,0 +1,21 @@
+use Rattle.std.proofs.Common.{◌≡◌, sym, ap, ◌∙◌, ◌++◌, append_assoc, List, ℕ, length, [], ◌∷◌}
+use Rattle.marshal_core.specs.declared.order.Order.TheVariants.{Little}
+use Rattle.marshal_core.specs.Spelling.{pads}
+use Rattle.marshal_core.proofs.Results.{eqb-yes}
+use Rattle.message_core.proofs.Announced.{not_zero}
+use Rattle.message_core.proofs.Putting.{no_signature, one_signature}
+use Rattle.driver.proofs.fields.put_signature.Goals as goal
+
+pub returns-then-is_empty-clause-put : goal.returns-then-is_empty-clause-put
+returns-then-is_empty-clause-put c = λ types sent e valid h.
+    no_signature Little types sent c.args.signature.now c.args.fields.now.items (eqb-yes (length c.args.signature.now) 0 (sym c.is_empty.ensures ∙ c.if-is_empty.true)) e valid h
+
+pub returns-clause-put : goal.returns-clause-put
+returns-clause-put c = λ types sent e valid h.
+    let text : List ℕ = c.args.signature.now in
+    let old : List ℕ = c.args.fields.now.items in
+    let start : List ℕ = 8 ∷ 1 ∷ 103 ∷ 0 ∷ [] in
+    let before : c.push.new.self.items ≡ (old ++ (pads 8 (length old) ++ start)) ++ length text ∷ [] = c.push.ensures.items ∙ ap (λ (x : List ℕ). x ++ length text ∷ []) c.put_start.ensures in
+    let put : c.put_ended.new.fields.items ≡ (((old ++ (pads 8 (length old) ++ start)) ++ length text ∷ []) ++ text) ++ 0 ∷ [] =
+    c.put_ended.ensures ∙ sym (append_assoc c.push.new.self.items text (0 ∷ [])) ∙ ap (λ (x : List ℕ). (x ++ text) ++ 0 ∷ []) before in
+    one_signature Little types sent text old c.put_ended.new.fields.items (not_zero (length text) (sym c.is_empty.ensures ∙ c.if-is_empty.false)) e valid h put

@@ -1,0 +1,5 @@
+pub mod Methods
+pub mod Arguments
+pub mod Calls
+pub mod OwnMessages
+pub mod Layout

@@ -1,0 +1,75 @@
+//! The arguments of calls.
+
+ghost use Rattle.std.specs.Prelude.{◌≡◌, option_map};
+ghost use Rattle.marshal_core.specs.Values.{val_of, values_of};
+ghost use Rattle.driver.specs.Arguments.{elements_and_number, elements_of, number_of, only_text, text_and_number, text_of};
+
+use marshal_core::{BasicType, BasicValue, DataType, Value};
+
+pub fn text_of(value: &Value) -> Option<&str>
+    ensures { option_map (λ s. s.now) result ≡ text_of (val_of value.now) }
+{
+    match value {
+        Value::Basic(BasicValue::String(text)) => Some(text.as_str()),
+        _ => None,
+    }
+}
+
+fn number_of(value: &Value) -> Option<u32>
+    ensures { result ≡ number_of (val_of value.now) }
+{
+    match value {
+        Value::Basic(BasicValue::Uint32(number)) => Some(*number),
+        _ => None,
+    }
+}
+
+/// The elements of an array of strings.
+fn elements_of(value: &Value) -> Option<&[Value]>
+    ensures { option_map (λ s. values_of s.now) result ≡ elements_of (val_of value.now) }
+{
+    match value {
+        Value::Array(DataType::Basic(BasicType::String), elements) => Some(elements.as_slice()),
+        _ => None,
+    }
+}
+
+/// The text of the one argument, where it is a string.
+pub fn only_text(arguments: &[Value]) -> Option<&str>
+    ensures { option_map (λ s. s.now) result ≡ only_text (values_of arguments.now) }
+{
+    let (first, others) = arguments.split_first()?;
+    if others.is_empty() {
+        text_of(first)
+    } else {
+        None
+    }
+}
+
+/// The text and the number, where these are the arguments.
+pub fn text_and_number(arguments: &[Value]) -> Option<(&str, u32)>
+    ensures { option_map (λ pair. (pair.0.now, pair.1)) result ≡ text_and_number (values_of arguments.now) }
+{
+    let (first, others) = arguments.split_first()?;
+    let (second, none) = others.split_first()?;
+    if !none.is_empty() {
+        return None;
+    }
+    let text = text_of(first)?;
+    let number = number_of(second)?;
+    Some((text, number))
+}
+
+/// The elements of an array of strings and the number, where these are the arguments.
+pub fn elements_and_number(arguments: &[Value]) -> Option<(&[Value], u32)>
+    ensures { option_map (λ pair. (values_of pair.0.now, pair.1)) result ≡ elements_and_number (values_of arguments.now) }
+{
+    let (first, others) = arguments.split_first()?;
+    let (second, none) = others.split_first()?;
+    if !none.is_empty() {
+        return None;
+    }
+    let elements = elements_of(first)?;
+    let number = number_of(second)?;
+    Some((elements, number))
+}

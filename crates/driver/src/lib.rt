@@ -1,0 +1,25 @@
+//! The protocol of the bus itself: calls of its methods are read here, and its own messages are written.
+//!
+//! [`read_call`] reads a call to the bus with typed arguments, or tells the fault that the call alone shows. What is
+//! answered is written by [`write_reply`] and [`write_error`], and signals of the bus by [`write_signal`].
+//! `specs/Calls` and `specs/OwnMessages` say which call a message is, and which messages these are.
+//! ("Message Bus Messages" of the D-Bus Specification.) Nothing here knows of connections or of a bus's state.
+#![tactic(auto)]
+
+mod arguments;
+mod call;
+mod fault;
+mod fields;
+mod layout;
+mod method;
+mod reply;
+mod signal;
+mod strings;
+
+pub use call::{Call, expects_reply, is_call_to_bus, is_hello, read_call};
+pub use fault::DriverFault;
+pub use reply::{ReplyBody, ReplyTo, write_error, write_reply};
+pub use signal::write_signal;
+
+#[cfg(test)]
+mod tests;

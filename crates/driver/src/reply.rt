@@ -1,0 +1,156 @@
+//! Replies and errors.
+
+ghost use Rattle.std.specs.Prelude.{◌≡◌, ◌<◌, ◌≤◌, [], ◌∷◌, length, OnOk, OnErr};
+ghost use Rattle.names.specs.UniqueName.{unique_text};
+ghost use Rattle.marshal_core.specs.Types.{Tys};
+ghost use Rattle.marshal_core.specs.Values.{Vals};
+ghost use Rattle.marshal_core.specs.Signatures.{codes as signature_text};
+ghost use Rattle.marshal_core.specs.Spelling.{Spells};
+ghost use Rattle.marshal_core.specs.declared.order.Order.TheVariants.{Little};
+ghost use Rattle.message_core.specs.Headers.{message_of};
+ghost use Rattle.driver.specs.OwnMessages.{error_message, number_types, number_values, of_strings, reply_header, IsReplyBody, Writes};
+
+use crate::fields::{ROOM, put_end, put_reply_serial, put_string};
+use crate::layout::lay_out;
+use crate::strings;
+use arrayvec::ArrayVec;
+use match_rules::MessageKind;
+use message_core::HeaderField;
+use seq_bus_core::ErrorKind;
+use std::alloc::AllocError;
+
+/// The call that a reply or an error answers.
+#[derive(Clone, Copy, Debug, PartialEq, Eq)]
+pub struct ReplyTo {
+    /// The number of the caller, `n` in its unique name `:1.n`. It has none before its Hello is answered.
+    pub caller: Option<u64>,
+    /// The serial of the call, which is not 0.
+    pub call: u32,
+}
+
+/// What a reply carries. Bodies in bytes are in little-endian order as from offset 0 on, as the bus answers queries.
+#[derive(Clone, Copy)]
+pub enum ReplyBody<'a> {
+    Empty,
+    Number(u32),
+    /// The unique name of the connection of this number, as a string.
+    UniqueName(u64),
+    /// The bytes of one string.
+    String(&'a [u8]),
+    /// The bytes of one boolean.
+    Boolean(&'a [u8]),
+    /// The bytes of one array of strings.
+    Strings(&'a [u8]),
+}
+
+/// Appends a reply with a body of this signature.
+fn put_reply(
+    serial: u32,
+    to: ReplyTo,
+    signature: &str,
+    body: &[u8],
+    out: &mut Vec<u8>,
+) -> Result<(), AllocError>
+    requires serial { 0 < serial }
+    requires call { 0 < to.call }
+    requires short { length signature.now ≤ 16 }
+    ensures ok { (types : Tys) (values : Vals) → signature.now ≡ signature_text types → Spells Little 0 types values body.now → OnOk result (Writes out.old.items out.new.items (message_of (reply_header serial to) types values)) }
+    ensures err { OnErr result (out.new.items ≡ out.old.items) }
+{
+    let mut fields = ArrayVec::<u8, ROOM>::new();
+    put_reply_serial(&mut fields, to.call);
+    put_end(&mut fields, to.caller, signature);
+    lay_out(
+        MessageKind::MethodReturn,
+        serial,
+        fields.as_slice(),
+        body,
+        out,
+    )
+}
+
+/// Appends a reply with a number.
+fn put_number(serial: u32, to: ReplyTo, number: u32, out: &mut Vec<u8>) -> Result<(), AllocError>
+    requires serial { 0 < serial }
+    requires call { 0 < to.call }
+    ensures ok { OnOk result (Writes out.old.items out.new.items (message_of (reply_header serial to) number_types (number_values number))) }
+    ensures err { OnErr result (out.new.items ≡ out.old.items) }
+{
+    put_reply(serial, to, "u", &number.to_le_bytes(), out)
+}
+
+/// Appends a reply with the unique name of a connection.
+fn put_unique_name(
+    serial: u32,
+    to: ReplyTo,
+    number: u64,
+    out: &mut Vec<u8>,
+) -> Result<(), AllocError>
+    requires serial { 0 < serial }
+    requires call { 0 < to.call }
+    ensures ok { OnOk result (Writes out.old.items out.new.items (of_strings (reply_header serial to) (unique_text number ∷ []))) }
+    ensures err { OnErr result (out.new.items ≡ out.old.items) }
+{
+    let mut text = ArrayVec::<u8, { strings::ROOM }>::new();
+    strings::put_owner(&mut text, Some(number));
+    put_reply(serial, to, "s", text.as_slice(), out)
+}
+
+/// Appends the reply to a call ("Message Bus Messages" of the D-Bus Specification), with the serial that it has among
+/// the messages of the bus to its caller.
+///
+/// # Errors
+///
+/// Where there is not enough memory, `out` is as it was.
+pub fn write_reply(
+    serial: u32,
+    to: ReplyTo,
+    body: ReplyBody<'_>,
+    out: &mut Vec<u8>,
+) -> Result<(), AllocError>
+    requires serial { 0 < serial }
+    requires call { 0 < to.call }
+    ensures ok { (types : Tys) (values : Vals) → IsReplyBody body.entry types values → OnOk result (Writes out.old.items out.new.items (message_of (reply_header serial to) types values)) }
+    ensures err { OnErr result (out.new.items ≡ out.old.items) }
+{
+    match body {
+        ReplyBody::Empty => put_reply(serial, to, "", &[], out),
+        ReplyBody::Number(number) => put_number(serial, to, number, out),
+        ReplyBody::UniqueName(number) => put_unique_name(serial, to, number, out),
+        ReplyBody::String(bytes) => put_reply(serial, to, "s", bytes, out),
+        ReplyBody::Boolean(bytes) => put_reply(serial, to, "b", bytes, out),
+        ReplyBody::Strings(bytes) => put_reply(serial, to, "as", bytes, out),
+    }
+}
+
+/// Appends the error that a call is answered in place of a reply ("Message Bus Messages" of the D-Bus Specification).
+/// Its body is the text of the error.
+///
+/// # Errors
+///
+/// Where there is not enough memory, `out` is as it was.
+pub fn write_error(
+    serial: u32,
+    to: ReplyTo,
+    error: ErrorKind,
+    out: &mut Vec<u8>,
+) -> Result<(), AllocError>
+    requires serial { 0 < serial }
+    requires call { 0 < to.call }
+    ensures ok { OnOk result (Writes out.old.items out.new.items (error_message serial to error)) }
+    ensures err { OnErr result (out.new.items ≡ out.old.items) }
+{
+    let mut fields = ArrayVec::<u8, ROOM>::new();
+    put_string(&mut fields, HeaderField::ErrorName, error.name());
+    put_reply_serial(&mut fields, to.call);
+    put_end(&mut fields, to.caller, "s");
+    let mut text = ArrayVec::<u8, { strings::ROOM }>::new();
+    strings::put_string(&mut text, error.text());
+    lay_out(
+        MessageKind::Error,
+        serial,
+        fields.as_slice(),
+        text.as_slice(),
+        out,
+    )
+}
