@@ -1,0 +1,5 @@
+pub mod Places
+pub mod RuleLemmas
+pub mod NameNumbers
+pub mod Marks
+pub mod Members

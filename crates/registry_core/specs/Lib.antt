@@ -1,0 +1,3 @@
+pub mod RuleTables
+pub mod Listening
+pub mod Signals

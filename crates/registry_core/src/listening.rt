@@ -1,0 +1,114 @@
+//! Who listens to a message.
+
+ghost use Rattle.std.specs.Prelude.{◌≡◌, ℕ, ◌<◌, ◌≤◌, ◌&&◌, ◌==◌, true, false, not, [], length, map, filter, get_or, replicate};
+ghost use Rattle.std.specs.List.{list_any};
+ghost use Rattle.match_rules.specs.Fitting.{fits};
+ghost use Rattle.registry_core.specs.Listening.{stays, has_fitting, member_wants, member_watches, number_at, rules_of_monitor, watched, Rising};
+ghost use Rattle.registry_core.specs.RuleTables.{added_rule};
+
+use crate::member::{Member, place_of};
+use crate::rule_table::RuleEntry;
+use match_rules::{Facts, Owners};
+use seq_bus_core::Recipients;
+
+/// The most connections of a bus.
+pub const MAX_CONNECTIONS: usize = 256;
+
+/// Adds the connections, by rising number, that are no monitors and have added a rule that fits the message. A connection
+/// that leaves is not among them.
+pub fn add_those_that_want<O: Owners>(
+    members: &[Member],
+    rules: &[RuleEntry],
+    facts: &Facts<'_>,
+    owners: &O,
+    leaver: Option<u64>,
+    to: &mut Recipients,
+)
+    requires rising { Rising members.now }
+    requires few { length members.now ≤ MAX_CONNECTIONS }
+    requires empty { to.old ≡ [] }
+    ensures { to.new ≡ map (λ m. m.conn) (filter (λ m. stays leaver m.conn.number && member_wants (O.heads owners.now) (map added_rule rules.now) facts.now m) members.now) }
+{
+    let mut marks = no_marks();
+    mark(members, rules, facts, owners, &mut marks);
+    for (place, member) in members.iter().enumerate() {
+        if is_recipient(member, marks[place], leaver) {
+            to.push(member.conn);
+        }
+    }
+}
+
+/// Whether a connection gets a message that one of its rules fits or not.
+fn is_recipient(member: &Member, fits: bool, leaver: Option<u64>) -> bool
+    ensures { result ≡ (stays leaver member.now.conn.number && (not member.now.is_monitor && fits)) }
+{
+    fits && !member.is_monitor && leaver != Some(member.conn.number)
+}
+
+fn no_marks() -> [bool; MAX_CONNECTIONS]
+    ensures { result ≡ replicate MAX_CONNECTIONS false }
+{
+    [false; MAX_CONNECTIONS]
+}
+
+/// Marks the place of each connection that has added a rule that fits the message.
+fn mark<O: Owners>(
+    members: &[Member],
+    rules: &[RuleEntry],
+    facts: &Facts<'_>,
+    owners: &O,
+    marks: &mut [bool],
+)
+    requires rising { Rising members.now }
+    requires few { length members.now ≤ length marks.old }
+    requires unmarked { (k : ℕ) → get_or marks.old k false ≡ false }
+    ensures { (k : ℕ) → k < length members.now → get_or marks.new k false ≡ has_fitting (O.heads owners.now) (map added_rule rules.now) facts.now (number_at members.now k) }
+{
+    for entry in rules {
+        if entry.rule.fits(facts, owners) {
+            if let Some(place) = place_of(members, entry.connection) {
+                marks[place] = true;
+            }
+        }
+    }
+}
+
+/// Adds the monitors, by rising number, that are shown the message: those that have no rules or one that fits. A
+/// connection that leaves is not among them.
+pub fn add_monitors_shown<O: Owners>(
+    members: &[Member],
+    rules: &[RuleEntry],
+    facts: &Facts<'_>,
+    owners: &O,
+    leaver: Option<u64>,
+    shown: &mut Recipients,
+)
+    requires few { length members.now ≤ MAX_CONNECTIONS }
+    requires empty { shown.old ≡ [] }
+    ensures { shown.new ≡ map (λ m. m.conn) (filter (λ m. stays leaver m.conn.number && member_watches (O.heads owners.now) (map added_rule rules.now) facts.now m) members.now) }
+{
+    for member in members {
+        if member.is_monitor
+            && leaver != Some(member.conn.number)
+            && is_shown(member.conn.number, rules, facts, owners)
+        {
+            shown.push(member.conn);
+        }
+    }
+}
+
+/// Whether a monitor is shown a message, by the rules of all monitors.
+fn is_shown<O: Owners>(number: u64, rules: &[RuleEntry], facts: &Facts<'_>, owners: &O) -> bool
+    ensures { result ≡ watched (O.heads owners.now) facts.now (rules_of_monitor number (map added_rule rules.now)) }
+{
+    let mut has_rules = false;
+    for entry in rules {
+        if entry.connection == number {
+            if entry.rule.fits(facts, owners) {
+                return true;
+            }
+            has_rules = true;
+        }
+    }
+    !has_rules
+}
