@@ -11,6 +11,7 @@ use Rattle.marshal_core.specs.Signatures.{codes, signature_of}
 use Rattle.marshal_core.specs.Spelling.{pad_len, pads, SpellFields, Spells}
 use Rattle.marshal_core.specs.Reading.{decode_at, value_at}
 use Rattle.marshal_core.proofs.Results.{ok_is, done}
+use Rattle.marshal_core.proofs.TypesAgain.{signature_again}
 use Rattle.marshal.proofs.Decoded.{is_read as is_decoded}
 use Rattle.marshal.proofs.ValuesAgain.{nonempty, value_again}
 use Rattle.message_core.specs.declared.fault.FrameFault.{FrameFault}
@@ -76,6 +77,9 @@ bad e = Err e
 
 not_both : {A : Type 0} → (x : A) (e : MarshalFault) → done x ≡ bad e → ⊥
 not_both x e h = cc
+
+pub wrapped_signs : (e : MarshalFault) → signature_of (codes wrapped) ≡ Err e → ⊥
+wrapped_signs e wrong = not_both wrapped e (sym (signature_again wrapped refl) ∙ wrong)
 
 pub no_other : (order : Order) (at : ℕ) (bytes : List ℕ) (ts : Tys) (e : MarshalFault) → at % 8 ≡ 0 → signature_of (codes wrapped) ≡ Ok ts → decode_at order ts at bytes ≡ Err e → BeginsNoField order at bytes
 no_other order at bytes ts e aligned signed wrong = λ f front more whole spelled is.

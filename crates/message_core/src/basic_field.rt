@@ -1,6 +1,6 @@
 //! Header fields that the standard names: all of them have basic values.
 
-ghost use Rattle.std.specs.Prelude.{◌≡◌, ◌<◌, ◌≤◌, ◌+◌, ◌++◌, ◌↔◌, ℕ, List, IsTrue, length, take, slice_index, IfOk, IfSome, IfNone, is_ok};
+ghost use Rattle.std.specs.Prelude.{◌≡◌, ◌<◌, ◌≤◌, ◌+◌, ◌++◌, ◌↔◌, ℕ, List, IsTrue, length, take, slice_index, IfSome, IfNone, is_ok};
 ghost use Rattle.std.specs.Int.{w32};
 ghost use Rattle.marshal_core.specs.declared.data_type.BasicType.{BasicType};
 ghost use Rattle.marshal_core.specs.declared.data_type.BasicType.TheVariants as of_type;
@@ -13,9 +13,9 @@ ghost use Rattle.message_core.specs.BasicFields.{BeginsNoString, BeginsValue, Be
 
 use crate::announcement::number;
 use crate::header_field::HeaderField;
-use marshal_core::{MarshalFault, Order, Signature};
+use marshal_check::Types;
+use marshal_core::Order;
 use names::{BusName, ErrorName, Interface, Member, ObjectPath};
-use std::alloc::{AllocError, Global};
 
 /// The string that begins here.
 fn string(order: Order, bytes: &[u8]) -> Option<&str>
@@ -117,94 +117,71 @@ fn number_value(order: Order, field: HeaderField, bytes: &[u8]) -> Option<usize>
 }
 
 /// Whether the text is a signature.
-fn is_signature(alloc: Global, text: &[u8]) -> Result<bool, AllocError>
-    ensures { IfOk result (λ answer. answer ≡ is_ok (signature_of text.now)) }
+fn is_signature(text: &[u8]) -> bool
+    ensures { result ≡ is_ok (signature_of text.now) }
 {
-    match Signature::from_bytes(alloc, text) {
-        Ok(_) => Ok(true),
-        Err(MarshalFault::NoMemory) => Err(AllocError),
-        Err(_) => Ok(false),
-    }
+    Types::from_bytes(text).is_ok()
 }
 
 /// How many bytes the signature takes that begins here, if the field takes one.
-fn signature_value(
-    alloc: Global,
-    order: Order,
-    field: HeaderField,
-    bytes: &[u8],
-) -> Result<Option<usize>, AllocError>
-    ensures some { IfOk result (λ found. IfSome found (BeginsValue order field of_type.Signature bytes.now)) }
-    ensures none { IfOk result (λ found. IfNone found (BeginsNoValue order field of_type.Signature bytes.now)) }
+fn signature_value(order: Order, field: HeaderField, bytes: &[u8]) -> Option<usize>
+    ensures some { IfSome result (BeginsValue order field of_type.Signature bytes.now) }
+    ensures none { IfNone result (BeginsNoValue order field of_type.Signature bytes.now) }
 {
     let _ = order;
     let HeaderField::Signature = field else {
-        return Ok(None);
+        return None;
     };
-    let Some((first, rest)) = bytes.split_first() else {
-        return Ok(None);
-    };
+    let (first, rest) = bytes.split_first()?;
     let length = *first as usize;
     if rest.len() <= length {
-        return Ok(None);
+        return None;
     }
     let (text, end) = rest.split_at(length);
     if end[0] != 0 {
-        return Ok(None);
+        return None;
     }
-    if is_signature(alloc, text)? {
-        return Ok(Some(2 + length));
+    if is_signature(text) {
+        return Some(2 + length);
     }
-    Ok(None)
+    None
 }
 
-fn value(
-    alloc: Global,
-    order: Order,
-    field: HeaderField,
-    code: u8,
-    bytes: &[u8],
-) -> Result<Option<usize>, AllocError>
-    ensures some { IfOk result (λ found. IfSome found (λ n. (b : BasicType) × (code ≡ basic_code b) × BeginsValue order field b bytes.now n)) }
-    ensures none { IfOk result (λ found. IfNone found ((b : BasicType) → code ≡ basic_code b → BeginsNoValue order field b bytes.now)) }
+/// How many bytes the value takes that begins here, behind the code of its type.
+fn value(order: Order, field: HeaderField, code: u8, bytes: &[u8]) -> Option<usize>
+    ensures some { IfSome result (λ n. (b : BasicType) × (code ≡ basic_code b) × BeginsValue order field b bytes.now n) }
+    ensures none { IfNone result ((b : BasicType) → code ≡ basic_code b → BeginsNoValue order field b bytes.now) }
 {
     if code == b's' {
-        return Ok(string_value(order, field, bytes));
+        return string_value(order, field, bytes);
     }
     if code == b'o' {
-        return Ok(path_value(order, field, bytes));
+        return path_value(order, field, bytes);
     }
     if code == b'u' {
-        return Ok(number_value(order, field, bytes));
+        return number_value(order, field, bytes);
     }
     if code == b'g' {
-        return signature_value(alloc, order, field, bytes);
+        return signature_value(order, field, bytes);
     }
-    Ok(None)
+    None
 }
 
 /// How many bytes the field takes that begins here with its code.
-pub fn basic_field(
-    alloc: Global,
-    order: Order,
-    field: HeaderField,
-    bytes: &[u8],
-) -> Result<Option<usize>, AllocError>
+pub fn basic_field(order: Order, field: HeaderField, bytes: &[u8]) -> Option<usize>
     requires begins { 0 < length bytes.now }
     requires code { slice_index bytes.now 0 ≡ code_of field }
-    ensures some { IfOk result (λ found. IfSome found (BeginsBasic order field bytes.now)) }
-    ensures none { IfOk result (λ found. IfNone found (BeginsNoBasic order field bytes.now)) }
+    ensures some { IfSome result (BeginsBasic order field bytes.now) }
+    ensures none { IfNone result (BeginsNoBasic order field bytes.now) }
 {
     if bytes.len() < 4 {
-        return Ok(None);
+        return None;
     }
     if bytes[1] != 1 || bytes[3] != 0 {
-        return Ok(None);
+        return None;
     }
     let code = bytes[2];
     let (_, rest) = bytes.split_at(4);
-    match value(alloc, order, field, code, rest)? {
-        Some(length) => Ok(Some(4 + length)),
-        None => Ok(None),
-    }
+    let length = value(order, field, code, rest)?;
+    Some(4 + length)
 }

@@ -23,7 +23,7 @@ use crate::fault::FrameFault;
 use crate::field_place::FieldPlace;
 use crate::header::Header;
 use crate::header_field::HeaderField;
-use crate::reading::{check, number_at, order_of, place_of, signature_text, text_at};
+use crate::reading::{number_at, order_of, place_of, places_of, signature_text, text_at};
 use crate::writing::{lay_out, put_fields};
 use marshal::decode;
 use marshal_core::{MarshalFault, Order, Signature, Value};
@@ -61,7 +61,7 @@ impl Message {
         ensures fault { IfErr result (λ f. f ≢ WithoutMemory → IsRefused bytes.items f) }
         ensures none { IfErr result (λ f. f ≢ WithoutMemory → IsNoMessage bytes.items) }
     {
-        let fields = check(alloc, &bytes)?;
+        let fields = places_of(alloc, &bytes)?;
         Ok(Message { bytes, fields })
     }
 

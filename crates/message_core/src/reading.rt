@@ -1,10 +1,9 @@
 //! Reading one whole message.
 
 ghost use Rattle.std.specs.Prelude.{◌≡◌, ◌≢◌, ◌≤◌, ◌+◌, ◌∷◌, [], Ok, Some, None, IfOk, OnOk, IfErr, length};
-ghost use Rattle.marshal_core.specs.declared.fault.MarshalFault.TheVariants.{NoMemory as WithoutMemory};
 ghost use Rattle.marshal_core.specs.Signatures.{signature_of};
 ghost use Rattle.marshal_core.specs.Types.{Tys};
-ghost use Rattle.message_core.specs.declared.fault.FrameFault.TheVariants.{NoMemory, Missing, Body};
+ghost use Rattle.message_core.specs.declared.fault.FrameFault.TheVariants.{NoMemory, Missing};
 ghost use Rattle.message_core.specs.declared.header_field.HeaderField.{HeaderField};
 ghost use Rattle.message_core.specs.Announcements.{whole_length, announced};
 ghost use Rattle.message_core.specs.Kinds.{code_of, required as required_of};
@@ -17,8 +16,8 @@ use crate::fault::FrameFault;
 use crate::field_place::FieldPlace;
 use crate::header_field::HeaderField;
 use crate::header_fields::{has_code, is_zero, read_fields};
-use marshal::decode;
-use marshal_core::{MarshalFault, Order, Signature};
+use marshal_check::{Types, check};
+use marshal_core::Order;
 use match_rules::MessageKind;
 use std::alloc::Global;
 
@@ -76,29 +75,18 @@ fn check_required(kind: MessageKind, places: &[FieldPlace]) -> Result<(), FrameF
     Ok(())
 }
 
-fn body_fault(fault: MarshalFault) -> FrameFault
-    ensures memory { fault ≡ WithoutMemory → result ≡ NoMemory }
-    ensures other { fault ≢ WithoutMemory → result ≡ Body fault }
-{
-    match fault {
-        MarshalFault::NoMemory => FrameFault::NoMemory,
-        _ => FrameFault::Body(fault),
-    }
-}
-
 /// Checks that the body has the values that its signature says, and no byte more.
-fn check_body(alloc: Global, order: Order, signature: &[u8], body: &[u8]) -> Result<(), FrameFault>
+fn check_body(order: Order, signature: &[u8], body: &[u8]) -> Result<(), FrameFault>
     ensures body { OnOk result ((types : Tys) → signature_of signature.now ≡ Ok types → IsBody order types body.now) }
-    ensures fault { IfErr result (λ f. f ≢ NoMemory → (types : Tys) → signature_of signature.now ≡ Ok types → IsBodyFault order types body.now f) }
+    ensures fault { IfErr result (λ f. (types : Tys) → signature_of signature.now ≡ Ok types → IsBodyFault order types body.now f) }
 {
-    let signature = match Signature::from_bytes(alloc, signature) {
-        Ok(signature) => signature,
-        Err(fault) => return Err(body_fault(fault)),
+    let Ok(types) = Types::from_bytes(signature) else {
+        return Err(FrameFault::Field(8));
     };
-    match decode(alloc, order, 0, &signature, body) {
-        Ok((_, length)) if length < body.len() => Err(FrameFault::BodyLength),
+    match check(order, 0, types, body) {
+        Ok(length) if length < body.len() => Err(FrameFault::BodyLength),
         Ok(_) => Ok(()),
-        Err(fault) => Err(body_fault(fault)),
+        Err(fault) => Err(FrameFault::Body(fault)),
     }
 }
 
@@ -114,7 +102,7 @@ pub fn signature_text<'a>(places: &[FieldPlace], bytes: &'a [u8]) -> &'a [u8]
 }
 
 /// Checks the parts of a message, and tells the places of its fields.
-pub fn check(alloc: Global, bytes: &[u8]) -> Result<Vec<FieldPlace>, FrameFault>
+pub fn places_of(alloc: Global, bytes: &[u8]) -> Result<Vec<FieldPlace>, FrameFault>
     requires fixed { FIXED_LENGTH ≤ length bytes.now }
     requires small { length bytes.now ≤ MAXIMUM_LENGTH }
     requires whole { announced MAXIMUM_LENGTH bytes.now ≡ Ok (length bytes.now) }
@@ -131,12 +119,7 @@ pub fn check(alloc: Global, bytes: &[u8]) -> Result<Vec<FieldPlace>, FrameFault>
         return Err(FrameFault::Field(0));
     }
     check_required(MessageKind::from(bytes[1]), &places)?;
-    check_body(
-        alloc,
-        order,
-        signature_text(&places, bytes),
-        &bytes[begin..],
-    )?;
+    check_body(order, signature_text(&places, bytes), &bytes[begin..])?;
     Ok(places)
 }
 

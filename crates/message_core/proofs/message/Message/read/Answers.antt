@@ -5,13 +5,13 @@ use Rattle.message_core.proofs.NoMessages.{refused_none}
 use Rattle.message_core.proofs.Announced.{announced_facts}
 use Rattle.message_core.proofs.message.Message.read.Goals as goal
 
-pub check-requires-clause-small : goal.check-requires-clause-small
-check-requires-clause-small c =
+pub places_of-requires-clause-small : goal.places_of-requires-clause-small
+places_of-requires-clause-small c =
     let a = announced_facts 134217728 c.args.bytes.items _ c.requires.whole in
     rw c.deref.ensures.value a.within
 
-pub check-requires-clause-long : goal.check-requires-clause-long
-check-requires-clause-long c =
+pub places_of-requires-clause-long : goal.places_of-requires-clause-long
+places_of-requires-clause-long c =
     let a = announced_facts 134217728 c.args.bytes.items _ c.requires.whole in
     rw c.deref.ensures.value (sym a.length)
 

@@ -15,7 +15,7 @@ use Rattle.message_core.specs.Whole.{unplaced, IsBody, signature_part, place_of,
 use Rattle.std.proofs.lemmas.Result.{err_from_is_err_and}
 use Rattle.message_core.proofs.Wholes.{whole, signature_room}
 use Rattle.message_core.proofs.Refused.{is_at, missing_refused, body_refused}
-use Rattle.message_core.proofs.reading.check.Goals as goal
+use Rattle.message_core.proofs.reading.places_of.Goals as goal
 
 pub signature_text-requires : goal.signature_text-requires
 signature_text-requires c =
@@ -65,4 +65,4 @@ returns-in_err-check_body-clause-fault c =
     let p = err_from_is_err_and c.from_residual-in_err-check_body.result c.from_residual-in_err-check_body.ensures.1 in
     rw (p.1, p.2)
     (λ other. body_refused bytes c.order_of-order.result (16 + len) begin ps c.from.result c.signature_text.result.now (take (length bytes - begin) (drop begin bytes)) c.in_err-check_body.field-0.0 at c.in_ok-places.ensures.fields (sym c.is_zero.ensures ∙ c.if-not-is_zero.false)
-    c.from.ensures (ap (unplaced (required c.from.result)) (sym c.deref.ensures.value) ∙ c.in_ok-check_required.ensures.complete) text (take_all (length bytes - begin) (drop begin bytes) (omega (arith, length-drop begin bytes))) (c.in_err-check_body.ensures.fault other))
+    c.from.ensures (ap (unplaced (required c.from.result)) (sym c.deref.ensures.value) ∙ c.in_ok-check_required.ensures.complete) text (take_all (length bytes - begin) (drop begin bytes) (omega (arith, length-drop begin bytes))) c.in_err-check_body.ensures.fault)
