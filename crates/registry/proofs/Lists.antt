@@ -1,21 +1,8 @@
 -- Lists of the tables, and what they stand for.
-use Rattle.std.proofs.Common.{◌≡◌, ℕ, suc, ◌+◌, Bool, true, false, cond, ◌||◌, Some, option_map, List, [], ◌∷◌, map, length, take, take_while, insert, refl, ap, ◌∙◌, arith}
-use Rattle.std.specs.List.{list_any, find, prefix_len}
+use Rattle.std.proofs.Common.{Some, None, ◌++◌, filter, is_some, if◌then◌else◌, ◌≡◌, ℕ, suc, ◌+◌, Bool, true, false, cond, Some, List, [], ◌∷◌, length, take, take_while, insert, refl, ap, ◌∙◌, arith}
+use Rattle.std.specs.List.{find, prefix_len, AllByRecursion}
 use Rattle.names.specs.Texts.{Text, text_lt}
 use Rattle.seq_bus_core.specs.Histories.{inserted}
-
-pub list_any-map : {X Y : Type 0} (test : Y → Bool) (f : X → Y) (xs : List X) → list_any test (map f xs) ≡ list_any (λ x. test (f x)) xs
-list_any-map test f [] = refl
-list_any-map test f (x ∷ xs) = ap (λ rest. test (f x) || rest) (list_any-map test f xs)
-
-pub find-map : {X Y : Type 0} (test : Y → Bool) (f : X → Y) (xs : List X) → find test (map f xs) ≡ option_map f (find (λ x. test (f x)) xs)
-find-map test f [] = refl
-find-map test f (x ∷ xs) = by_test (test (f x)) (find-map test f xs)
-  where
-    by_test : (b : Bool) → find test (map f xs) ≡ option_map f (find (λ y. test (f y)) xs) →
-        cond b (Some (f x)) (find test (map f xs)) ≡ option_map f (cond b (Some x) (find (λ y. test (f y)) xs))
-    by_test true e = refl
-    by_test false e = e
 
 one_more : (n : Text) (names : List Text) (k : ℕ) → length (take (1 + k) (n ∷ names)) ≡ suc (length (take k names))
 one_more n names k = let more : 1 + k ≡ suc k = omega arith in ap (λ j. length (take j (n ∷ names))) more
@@ -33,3 +20,21 @@ inserted_is name (n ∷ names) = by_test (text_lt n name) refl (inserted_is name
 pub none_left : {X : Type 0} (xs : List X) → length xs ≡ 0 → xs ≡ []
 none_left [] h = refl
 none_left (x ∷ xs) h = absurd (omega (arith, h))
+
+pub filter_all : {X : Type 0} (test : X → Bool) (xs : List X) → AllByRecursion (λ x. test x ≡ true) xs → filter test xs ≡ xs
+filter_all test [] h = refl
+filter_all test (x ∷ xs) h = rw h.0 (ap (λ rest. x ∷ rest) (filter_all test xs h.1))
+
+-- what is found in a list with one more at its end
+pub find_push : {X : Type 0} (test : X → Bool) (xs : List X) (x : X) → find test (xs ++ x ∷ []) ≡ (if is_some (find test xs) then find test xs else if test x then Some x else None)
+find_push test [] x = by_test (test x)
+  where
+    by_test : (b : Bool) → cond b (Some x) None ≡ (if b then Some x else None)
+    by_test true = refl
+    by_test false = refl
+find_push test (y ∷ xs) x = by_test (test y) (find_push test xs x)
+  where
+    by_test : (b : Bool) → find test (xs ++ x ∷ []) ≡ (if is_some (find test xs) then find test xs else if test x then Some x else None) →
+        cond b (Some y) (find test (xs ++ x ∷ [])) ≡ (if is_some (cond b (Some y) (find test xs)) then cond b (Some y) (find test xs) else if test x then Some x else None)
+    by_test true h = refl
+    by_test false h = h

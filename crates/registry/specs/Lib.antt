@@ -1,5 +1,6 @@
 pub mod Acts
 pub mod Hellos
-pub mod Members
+pub mod Matches
 pub mod PreparedChanges
 pub mod Served
+pub mod Tables

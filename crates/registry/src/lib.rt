@@ -6,12 +6,15 @@
 //! copies of a registry, one after the other. What stands of a bus is read without taking memory.
 #![tactic(auto)]
 
+mod hello;
 pub mod laws;
-mod member;
-mod outcomes;
+mod matches;
+mod owners;
 mod prepared;
 mod registry;
+mod routing;
 mod services;
+mod signals;
 #[cfg(test)]
 mod tests;
 

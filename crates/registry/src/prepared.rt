@@ -1,9 +1,9 @@
 //! Changes that are prepared.
 
-ghost use Rattle.std.specs.Prelude.{◌≡◌};
+ghost use Rattle.std.specs.Prelude.{◌≡◌, [], None};
 
-use crate::outcomes::replied;
-use seq_bus_core::{Change, NumberedOutcome, Reply};
+use match_rules::Rule;
+use seq_bus_core::{Change, NumberedOutcome, Reply, Signals, TicketNumbers};
 use std::alloc::Global;
 use std::marker::Model;
 use std::mem::replace;
@@ -12,6 +12,8 @@ use std::mem::replace;
 #[derive(Drop)]
 pub enum Act {
     Hello { privileged: bool },
+    AddMatch { connection: u64, rule: Rule },
+    RemoveMatch { connection: u64, rule: Rule },
 }
 
 /// A change that a seat makes, with all that it needs of memory. It can be made on any registry.
@@ -44,9 +46,21 @@ impl Prepared {
     /// Takes the outcome out. What is left of it is its reply.
     pub fn take_outcome(&mut self, alloc: Global) -> NumberedOutcome
         ensures taken { result ≡ self.old.outcome }
-        ensures kept { self.new ≡ record self.old { outcome = self.new.outcome } }
+        ensures kept { self.new ≡ record self.old { outcome = record { reply = self.old.outcome.reply; signals = []; tickets = []; start = None } } }
     {
         let reply = self.outcome.reply;
         replace(&mut self.outcome, replied(alloc, reply))
+    }
+}
+
+/// Nothing else than a reply.
+pub(crate) fn replied(alloc: Global, reply: Reply) -> NumberedOutcome
+    ensures { result ≡ record { reply = reply; signals = []; tickets = []; start = None } }
+{
+    NumberedOutcome {
+        reply,
+        signals: Signals::new(alloc),
+        tickets: TicketNumbers::new(alloc),
+        start: None,
     }
 }

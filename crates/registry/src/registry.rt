@@ -1,59 +1,58 @@
 //! The registry.
 
 ghost use Rattle.std.specs.Prelude.{◌≡◌, IfOk, is_some, option_map};
-ghost use Rattle.seq_bus_core.specs.BusState.{connection_of, conn_of};
+ghost use Rattle.seq_bus_core.specs.BusState.{connection_of, conn_of, head_of, is_client};
 ghost use Rattle.seq_bus_core.specs.Consistency.{IsConsistent, IsWithinLimits};
 ghost use Rattle.seq_bus_core.specs.Histories.{CanOpen, opening};
-ghost use Rattle.seq_bus_core.specs.Steps.{free_slot, is_taken, step};
-ghost use Rattle.seq_bus_core.specs.declared.change.Change.TheVariants.{Hello};
-ghost use Rattle.registry.specs.Hellos.{next_conn};
+ghost use Rattle.seq_bus_core.specs.Steps.{step};
 ghost use Rattle.registry.specs.PreparedChanges.{prepared_on};
 ghost use Rattle.registry.specs.Served.{IsServedChange};
 
-use crate::member::{Member, find_member, has_slot};
-use crate::outcomes::{replied, welcomed};
 use crate::prepared::{Act, Prepared};
 use crate::services::sorted;
-use names::WellKnown;
+use match_rules::Owners;
+use names::{BusName, WellKnown};
 use owner_queues::Profile;
-use seq_bus_core::{Change, Conn, NumberedOutcome, Reply};
+use registry_core::{Member, RuleTable, place_of};
+use seq_bus_core::{Change, Conn};
 use std::alloc::{AllocError, Global};
 use std::marker::Model;
 
 /// The most connections of a bus.
-const MAX_CONNECTIONS: u16 = 256;
+pub(crate) const MAX_CONNECTIONS: usize = 256;
 
-/// The last number that a connection can have.
-const MAX_NUMBER: u64 = 1 << 63;
+/// The most rules that connections have added.
+pub(crate) const MAX_RULES: usize = 4096;
+
+/// The most rules of all monitors: as many for each connection as a monitor may have.
+const MAX_MONITOR_RULES: usize = MAX_CONNECTIONS * 64;
 
 /// The state of a message bus, in tables whose room is made when the bus is opened.
 ///
 /// Contracts see the state that the definitions speak of.
 #[derive(Drop)]
 pub struct Registry {
-    profile: Profile,
-    routers: u8,
+    pub(crate) profile: Profile,
+    pub(crate) routers: u8,
     /// By rising bytes.
-    services: Vec<WellKnown>,
+    pub(crate) services: Vec<WellKnown>,
     /// By rising number.
-    members: Vec<Member>,
-    next_number: u64,
+    pub(crate) members: Vec<Member>,
+    pub(crate) rules: RuleTable,
+    pub(crate) monitor_rules: RuleTable,
+    pub(crate) next_number: u64,
 }
 
 impl Model for Registry {
-    ghost use Rattle.std.specs.Prelude.{◌≤◌, vec_capacity};
-    ghost use Rattle.seq_bus_core.specs.BusState.{BusState, max_connections};
-    ghost use Rattle.seq_bus_core.specs.Consistency.{IsConsistent, IsWithinLimits};
-    ghost use Rattle.seq_bus_core.specs.Histories.{max_routers};
-    ghost use Rattle.registry.specs.Members.{state_of};
+    ghost use Rattle.seq_bus_core.specs.BusState.{BusState};
 
     ghost Value = { BusState };
 
-    ghost view = { λ r. state_of r.profile r.routers r.services.items r.members.items r.next_number };
+    ghost use Rattle.registry.specs.Tables.{state_of, IsKept};
 
-    ghost invariant = { λ r.
-        let s = state_of r.profile r.routers r.services.items r.members.items r.next_number in
-        (1 ≤ r.routers) × (r.routers ≤ max_routers) × IsConsistent s × IsWithinLimits s × (max_connections ≤ vec_capacity r.members) };
+    ghost view = { state_of };
+
+    ghost invariant = { IsKept };
 }
 
 impl Registry {
@@ -73,26 +72,29 @@ impl Registry {
             profile,
             routers,
             services: sorted(alloc, services)?,
-            members: Vec::with_capacity(alloc, usize::from(MAX_CONNECTIONS))?,
+            members: Vec::with_capacity(alloc, MAX_CONNECTIONS)?,
+            rules: RuleTable::new(alloc, MAX_RULES)?,
+            monitor_rules: RuleTable::new(alloc, MAX_MONITOR_RULES)?,
             next_number: 1,
         })
     }
 
     /// Prepares a change of a seat: says what it would be told, and makes all that needs memory. Nothing changes.
     ///
-    /// Seat 0 is the main thread's, the others are those of the routers, from 1. Today a Hello is served.
+    /// Seat 0 is the main thread's, the others are those of the routers, from 1. Today Hello, AddMatch and RemoveMatch
+    /// are served.
     pub fn prepare(&self, alloc: Global, seat: u8, change: &Change) -> Result<Prepared, AllocError>
         requires { IsServedChange change.now }
         ensures { IfOk result (λ prepared. prepared ≡ prepared_on self.now seat change.now) }
     {
         match change {
-            Change::Hello { privileged } => Ok(Prepared {
-                seat,
-                act: Act::Hello {
-                    privileged: *privileged,
-                },
-                outcome: self.outcome_of_hello(alloc, seat, *privileged)?,
-            }),
+            Change::Hello { privileged } => self.prepare_hello(alloc, seat, *privileged),
+            Change::AddMatch { connection, rule } => {
+                Ok(self.prepare_add_match(alloc, seat, *connection, rule))
+            }
+            Change::RemoveMatch { connection, rule } => {
+                Ok(self.prepare_remove_match(alloc, seat, *connection, rule))
+            }
             _ => Err(AllocError),
         }
     }
@@ -103,6 +105,12 @@ impl Registry {
     {
         match &prepared.act {
             Act::Hello { privileged } => self.say_hello(prepared.seat, *privileged),
+            Act::AddMatch { connection, rule } => {
+                self.add_match(prepared.seat, *connection, rule);
+            }
+            Act::RemoveMatch { connection, rule } => {
+                self.remove_match(prepared.seat, *connection, rule);
+            }
         }
     }
 
@@ -110,8 +118,8 @@ impl Registry {
     pub fn conn(&self, number: u64) -> Option<Conn>
         ensures { result ≡ option_map conn_of (connection_of self.now number) }
     {
-        match find_member(&self.members, number) {
-            Some(member) => Some(member.conn),
+        match place_of(&self.members, number) {
+            Some(place) => Some(self.members[place].conn),
             None => None,
         }
     }
@@ -123,6 +131,24 @@ impl Registry {
         self.conn(number).is_some()
     }
 
+    /// Whether there is a connection of this number that is no monitor.
+    pub fn is_client(&self, number: u64) -> bool
+        ensures { result ≡ is_client self.now.connections number }
+    {
+        match place_of(&self.members, number) {
+            Some(place) => !self.members[place].is_monitor,
+            None => false,
+        }
+    }
+
+    /// The connection that messages to a name are delivered to: the owner of a well-known name, the holder of a unique
+    /// name. The bus itself is no connection.
+    pub fn owner(&self, name: &BusName) -> Option<u64>
+        ensures { result ≡ head_of self.now name.now }
+    {
+        self.head(name.as_str())
+    }
+
     /// The number of routers.
     pub fn routers(&self) -> u8
         ensures value { result ≡ self.now.routers }
@@ -130,69 +156,5 @@ impl Registry {
         ensures within_limits { IsWithinLimits self.now }
     {
         self.routers
-    }
-
-    fn is_taken(&self, slot: u16) -> bool
-        ensures { result ≡ is_taken self.now slot }
-    {
-        has_slot(&self.members, slot)
-    }
-
-    /// The least slot of the seat's router that no connection has.
-    fn free_slot(&self, seat: u8) -> Option<u16>
-        ensures { result ≡ free_slot self.now seat }
-    {
-        if seat == 0 || seat > self.routers {
-            return None;
-        }
-        let count = MAX_CONNECTIONS / u16::from(self.routers);
-        let first = (u16::from(seat) - 1) * count;
-        for slot in first..first + count {
-            if !self.is_taken(slot) {
-                return Some(slot);
-            }
-        }
-        None
-    }
-
-    /// The connection that a Hello of this seat makes, if it makes one.
-    fn next_conn(&self, seat: u8) -> Option<Conn>
-        ensures { result ≡ next_conn self.now seat }
-    {
-        if self.next_number > MAX_NUMBER {
-            return None;
-        }
-        let slot = self.free_slot(seat)?;
-        Some(Conn {
-            number: self.next_number,
-            slot,
-            router: seat,
-        })
-    }
-
-    fn outcome_of_hello(
-        &self,
-        alloc: Global,
-        seat: u8,
-        privileged: bool,
-    ) -> Result<NumberedOutcome, AllocError>
-        ensures { IfOk result (λ outcome. outcome ≡ (step self.now seat (Hello privileged)).1) }
-    {
-        let Some(conn) = self.next_conn(seat) else {
-            return Ok(replied(alloc, Reply::LimitsExceeded));
-        };
-        let _ = &self.members;
-        let outcome = welcomed(alloc, conn)?;
-        Ok(outcome)
-    }
-
-    fn say_hello(&mut self, seat: u8, privileged: bool)
-        ensures { self.new ≡ (step self.old seat (Hello privileged)).0 }
-    {
-        let Some(conn) = self.next_conn(seat) else {
-            return;
-        };
-        self.members.push_reserved(Member { conn, privileged });
-        self.next_number += 1;
     }
 }

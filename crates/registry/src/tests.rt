@@ -5,8 +5,11 @@ ghost use Rattle.std.specs.Prelude.{◌≤◌};
 ghost use Rattle.registry.specs.Served.{IsServedChange};
 
 use super::Registry;
+use arrayvec::ArrayVec;
+use match_rules::{Facts, MessageKind, Rule};
+use names::{BusName, UniqueName};
 use owner_queues::Profile;
-use seq_bus_core::{BusSignal, Change, Conn, NumberedOutcome, Reply};
+use seq_bus_core::{BusSignal, Change, Conn, NumberedOutcome, Reply, VerdictKind};
 use std::alloc::Global;
 use std::process::Abort;
 
@@ -68,6 +71,8 @@ fn first_connection_and_its_name(rt: HostRuntime) {
     assert!(rt; registry.present(1) && !registry.present(2));
     assert!(rt; registry.conn(1) == Some(conn));
     assert_eq!(rt; registry.routers(), 2);
+    let name = BusName::from(UniqueName::of(1));
+    assert!(rt; registry.owner(&name) == Some(1));
 }
 
 #[test]
@@ -96,4 +101,86 @@ fn slots_of_a_router(rt: HostRuntime) {
             "of the main thread"
         );
     }
+}
+
+fn rule(rt: &impl Abort, text: &str) -> Rule {
+    Rule::parse(text)
+        .ok()
+        .expect(rt, "the text is a match rule")
+}
+
+fn add_match(connection: u64, rule: Rule) -> Change
+    ensures { IsServedChange result }
+{
+    Change::AddMatch { connection, rule }
+}
+
+fn remove_match(connection: u64, rule: Rule) -> Change
+    ensures { IsServedChange result }
+{
+    Change::RemoveMatch { connection, rule }
+}
+
+/// A signal of a member, sent to all.
+fn signal(member: &str) -> Facts<'_> {
+    Facts {
+        kind: MessageKind::Signal,
+        auto_start: true,
+        sender: 0,
+        path: Some("/com/example"),
+        interface: Some("com.example"),
+        member: Some(member),
+        destination: None,
+        arguments: ArrayVec::new(),
+    }
+}
+
+#[test]
+fn rules_that_are_added_and_removed(rt: HostRuntime) {
+    let alloc = rt.alloc();
+    let mut registry = open(&rt, alloc, 1);
+    let gone = make(&rt, alloc, &mut registry, 1, &add_match(1, rule(&rt, "")));
+    assert_eq!(rt; gone.reply, Reply::Gone);
+    make(&rt, alloc, &mut registry, 1, &hello());
+    make(&rt, alloc, &mut registry, 1, &hello());
+    let tick = rule(&rt, "member='Tick',sender=':1.2'");
+    let names = rule(&rt, "member='NameOwnerChanged'");
+    assert_eq!(rt;
+        make(&rt, alloc, &mut registry, 1, &add_match(1, tick)).reply,
+        Reply::Done
+    );
+    assert_eq!(rt;
+        make(&rt, alloc, &mut registry, 1, &add_match(1, names)).reply,
+        Reply::Done
+    );
+
+    let listener = Conn {
+        number: 1,
+        slot: 0,
+        router: 1,
+    };
+    let verdict = registry.route(2, &signal("Tick"));
+    assert!(rt; matches!(verdict.kind, VerdictKind::Plain));
+    assert_eq!(rt; verdict.to.as_slice(), [listener].as_slice());
+    let verdict = registry.route(1, &signal("Tick"));
+    assert!(rt; verdict.to.as_slice().is_empty());
+    let verdict = registry.route(3, &signal("Tick"));
+    assert!(rt; matches!(verdict.kind, VerdictKind::Absent));
+
+    let outcome = make(&rt, alloc, &mut registry, 1, &hello());
+    let [announced, _] = outcome.signals.as_slice() else {
+        panic!(rt; "a Hello has two signals");
+    };
+    assert_eq!(rt; announced.to.as_slice(), [listener].as_slice());
+
+    assert_eq!(rt;
+        make(&rt, alloc, &mut registry, 1, &remove_match(1, tick)).reply,
+        Reply::Done
+    );
+    assert_eq!(rt;
+        make(&rt, alloc, &mut registry, 1, &remove_match(1, tick)).reply,
+        Reply::RuleNotFound
+    );
+    let verdict = registry.route(2, &signal("Tick"));
+    assert!(rt; verdict.to.as_slice().is_empty());
 }

@@ -6,8 +6,8 @@ use Rattle.registry.proofs.registry.Registry.free_slot.Goals as goal
 
 pub loop-slot-preserved : goal.loop-slot-preserved
 loop-slot-preserved c =
-    let count = 256 / c.from-count.result in
-    let end = (c.from.result - 1) * count + count in
+    let count = 256 / c.from.result in
+    let end = (c.from-2.result - 1) * count + count in
     let slot = c.loop-slot.slot in
     let free : ℕ → Bool = λ k. not (is_taken c.args.self.now k) in
     let taken : free slot ≡ false = ap not (sym c.if-not-is_taken.ensures) in

@@ -1,13 +1,32 @@
-use Rattle.std.proofs.Common.{◌≡◌, Some, ◌∙◌, sym, ap}
-use Rattle.seq_bus_core.specs.BusState.{BusState}
-use Rattle.registry.specs.Hellos.{next_conn}
-use Rattle.registry.specs.Members.{state_of}
+use Rattle.std.proofs.Common.{◌≡◌, Some, None, List, [], ◌∷◌, ◌++◌, sym, ap, ◌∙◌, subst}
+use Rattle.names.specs.Texts.{Text}
+use Rattle.names.specs.UniqueName.{unique_text}
+use Rattle.seq_bus_core.specs.BusState.{BusState, head_of}
+use Rattle.seq_bus_core.specs.Consistency.{IsConsistent}
+use Rattle.seq_bus_core.specs.Steps.{with_connection}
+use Rattle.seq_bus_core.specs.declared.outcome.NumberedOutcome.{NumberedOutcome}
+use Rattle.seq_bus_core.specs.declared.outcome.Reply.TheVariants.{Welcome}
+use Rattle.seq_bus_core.specs.declared.signal.AddressedSignal.{AddressedSignal}
+use Rattle.seq_bus_core.specs.declared.signal.BusSignal.TheVariants.{NameOwnerChanged, NameAcquired}
+use Rattle.registry_core.specs.Signals.{announced_to, told_to}
+use Rattle.registry.specs.Hellos.{client_at}
 use Rattle.registry.proofs.HelloLemmas.{hello_told}
 use Rattle.registry.proofs.registry.Registry.outcome_of_hello.Goals as goal
 
 pub returns : goal.returns
 returns c =
-    let i = c.self.inside in
-    let s = state_of i.profile i.routers i.services.items i.members.items i.next_number in
-    let made : next_conn s c.args.seat ≡ Some c.in-Some.conn = ap (λ (t : BusState). next_conn t c.args.seat) c.self.view_is ∙ sym c.next_conn.ensures ∙ c.in-Some.is in
-    rw (← c.self.view_is) (c.in_ok-outcome.ensures ∙ hello_told i.profile i.routers i.services.items i.members.items i.next_number c.args.seat c.in-Some.conn c.args.privileged c.self.invariant.2 made)
+    let s : BusState = c.args.self.now in
+    let conn = c.in-Some.conn in
+    let heads = head_of (with_connection s (client_at conn c.args.privileged)) in
+    let name_is : c.from-name.result ≡ unique_text conn.number = c.from-name.ensures ∙ c.of.ensures in
+    let first : AddressedSignal = announced_to heads None s (NameOwnerChanged (unique_text conn.number) None (Some conn.number)) in
+    let second : AddressedSignal = told_to heads None s conn (NameAcquired (unique_text conn.number) conn.number) in
+    let first_is : c.announced.result ≡ first = c.announced.ensures ∙ ap (λ (name : Text). announced_to heads None s (NameOwnerChanged name None (Some conn.number))) name_is in
+    let second_is : c.acquired.result ≡ second = c.acquired.ensures ∙ ap (λ (name : Text). told_to heads None s conn (NameAcquired name conn.number)) name_is in
+    let told : List AddressedSignal → NumberedOutcome = λ signals. record { reply = Welcome conn; signals = signals; tickets = []; start = None } in
+    let one : c.push.new.self ≡ first ∷ [] =
+    c.in_ok-push.ensures.ok ∙ ap (λ (o : NumberedOutcome). o.signals ++ c.announced.result ∷ []) c.replied-outcome.ensures ∙ ap (λ (a : AddressedSignal). a ∷ []) first_is in
+    let both : c.push-2.new.self ≡ first ∷ second ∷ [] =
+    c.in_ok-push-2.ensures.ok ∙ ap (λ (before : List AddressedSignal). before ++ c.acquired.result ∷ []) one ∙ ap (λ (a : AddressedSignal). first ∷ a ∷ []) second_is in
+    ap (λ (o : NumberedOutcome). record { reply = o.reply; signals = c.push-2.new.self; tickets = o.tickets; start = o.start }) c.replied-outcome.ensures
+    ∙ ap told both ∙ sym (hello_told s c.args.seat conn c.args.privileged (subst IsConsistent c.self.view_is c.self.invariant.consistent) (sym c.next_conn.ensures ∙ c.in-Some.is))

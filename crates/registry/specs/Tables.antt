@@ -1,0 +1,30 @@
+-- What the tables of the registry stand for.
+use Rattle.std.specs.Prelude.{◌≡◌, ◌≤◌, [], map, vec_capacity}
+use Rattle.seq_bus_core.specs.BusState.{BusState, max_connections, max_rules}
+use Rattle.seq_bus_core.specs.Consistency.{IsConsistent, IsWithinLimits}
+use Rattle.seq_bus_core.specs.Histories.{max_routers}
+use Rattle.registry_core.specs.Listening.{connection_of_member}
+use Rattle.registry.specs.declared.registry.Registry.TheInside.{Inside}
+
+-- a bus on which nobody has requested a name or started a service
+abbrev pub state_of : Inside → BusState
+state_of r = record {
+  profile = r.profile;
+  routers = r.routers;
+  services = r.services.items;
+  connections = map (connection_of_member r.monitor_rules.rules) r.members.items;
+  names = [];
+  rules = r.rules.rules;
+  starts = [];
+  next_number = r.next_number;
+  next_ticket = 1;
+  next_start = 1;
+}
+
+pub record IsKept (r : Inside) : Type 0 where
+  pub routed : 1 ≤ r.routers
+  pub few_routers : r.routers ≤ max_routers
+  pub consistent : IsConsistent (state_of r)
+  pub within_limits : IsWithinLimits (state_of r)
+  pub members_room : max_connections ≤ vec_capacity r.members
+  pub rules_room : r.rules.room ≡ max_rules

@@ -1,0 +1,102 @@
+//! AddMatch and RemoveMatch.
+
+ghost use Rattle.std.specs.Prelude.{◌≡◌};
+ghost use Rattle.seq_bus_core.specs.Steps.{step};
+ghost use Rattle.seq_bus_core.specs.declared.change.Change.TheVariants.{AddMatch, RemoveMatch};
+ghost use Rattle.registry.specs.Matches.{reply_to_add, reply_to_remove};
+ghost use Rattle.registry.specs.PreparedChanges.{prepared_on};
+
+use crate::prepared::{Act, Prepared, replied};
+use crate::registry::{MAX_RULES, Registry};
+use match_rules::Rule;
+use seq_bus_core::Reply;
+use std::alloc::Global;
+
+/// The most rules that one connection has added.
+const MAX_RULES_OF_ONE: usize = 256;
+
+impl Registry {
+    pub(crate) fn prepare_add_match(
+        &self,
+        alloc: Global,
+        seat: u8,
+        connection: u64,
+        rule: &Rule,
+    ) -> Prepared
+        ensures { result ≡ prepared_on self.now seat (AddMatch connection rule.now) }
+    {
+        Prepared {
+            seat,
+            act: Act::AddMatch {
+                connection,
+                rule: *rule,
+            },
+            outcome: replied(alloc, self.reply_to_add(connection)),
+        }
+    }
+
+    pub(crate) fn prepare_remove_match(
+        &self,
+        alloc: Global,
+        seat: u8,
+        connection: u64,
+        rule: &Rule,
+    ) -> Prepared
+        ensures { result ≡ prepared_on self.now seat (RemoveMatch connection rule.now) }
+    {
+        Prepared {
+            seat,
+            act: Act::RemoveMatch {
+                connection,
+                rule: *rule,
+            },
+            outcome: replied(alloc, self.reply_to_remove(connection, rule)),
+        }
+    }
+
+    /// A connection adds a rule.
+    pub(crate) fn add_match(&mut self, seat: u8, connection: u64, rule: &Rule)
+        ensures { self.new ≡ (step self.old seat (AddMatch connection rule.now)).0 }
+    {
+        match self.reply_to_add(connection) {
+            Reply::Done => self.rules.push(connection, *rule),
+            _ => {}
+        }
+    }
+
+    /// A connection gives up the first rule that is equal to this one.
+    pub(crate) fn remove_match(&mut self, seat: u8, connection: u64, rule: &Rule)
+        ensures { self.new ≡ (step self.old seat (RemoveMatch connection rule.now)).0 }
+    {
+        match self.reply_to_remove(connection, rule) {
+            Reply::Done => self.rules.remove_first(connection, rule),
+            _ => {}
+        }
+    }
+
+    fn reply_to_add(&self, connection: u64) -> Reply
+        ensures { result ≡ reply_to_add self.now connection }
+    {
+        if !self.is_client(connection) {
+            return Reply::Gone;
+        }
+        if self.rules.len() < MAX_RULES && self.rules.count_of(connection) < MAX_RULES_OF_ONE {
+            Reply::Done
+        } else {
+            Reply::LimitsExceeded
+        }
+    }
+
+    fn reply_to_remove(&self, connection: u64, rule: &Rule) -> Reply
+        ensures { result ≡ reply_to_remove self.now connection rule.now }
+    {
+        if !self.is_client(connection) {
+            return Reply::Gone;
+        }
+        if self.rules.contains(connection, rule) {
+            Reply::Done
+        } else {
+            Reply::RuleNotFound
+        }
+    }
+}

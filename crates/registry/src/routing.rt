@@ -1,0 +1,162 @@
+//! Where messages go. (D-Bus Specification: "Message Bus Message Routing")
+
+ghost use Rattle.std.specs.Prelude.{◌≡◌, [], Some, is_some};
+ghost use Rattle.seq_bus_core.specs.BusState.{is_service};
+ghost use Rattle.seq_bus_core.specs.Recipients.{recipients, conn_at, verdict_of, is_call, is_signal, may_send, is_for_bus, destination_head, may_start};
+
+use crate::registry::Registry;
+use arrayvec::ArrayVec;
+use match_rules::{Facts, MessageKind, Owners};
+use seq_bus_core::{Recipients, Verdict, VerdictKind};
+
+/// The name of the bus itself.
+const BUS: &str = "org.freedesktop.DBus";
+
+impl Registry {
+    /// Where a message from this connection goes, 0 being the bus, whatever sender its facts name; and which monitors are
+    /// shown it.
+    pub fn route(&self, from: u64, facts: &Facts<'_>) -> Verdict
+        ensures { result ≡ recipients self.now from facts.now }
+    {
+        if facts.sender == from {
+            self.route_heard(facts)
+        } else {
+            self.route_heard(&with_sender(facts, from))
+        }
+    }
+
+    fn route_heard(&self, facts: &Facts<'_>) -> Verdict
+        ensures { result ≡ verdict_of self.now facts.now }
+    {
+        let mut verdict = Verdict {
+            kind: VerdictKind::Absent,
+            to: Recipients::new(),
+            monitors: Recipients::new(),
+        };
+        if !self.may_send(facts.sender) {
+            return verdict;
+        }
+        self.add_monitors_shown(facts, self, None, &mut verdict.monitors);
+        if is_for_bus(facts) {
+            verdict.kind = VerdictKind::Bus;
+            return verdict;
+        }
+        let head = self.destination_head(facts);
+        if let Some(head) = head {
+            verdict.kind = VerdictKind::Plain;
+            self.add_conn(head, &mut verdict.to);
+            return verdict;
+        }
+        if self.may_start(facts) {
+            verdict.kind = VerdictKind::Start;
+            return verdict;
+        }
+        if has_destination(facts) {
+            verdict.kind = VerdictKind::Nobody;
+            return verdict;
+        }
+        if !is_signal(facts.kind) {
+            verdict.kind = VerdictKind::Nobody;
+            return verdict;
+        }
+        verdict.kind = VerdictKind::Plain;
+        self.add_those_that_want(facts, self, None, &mut verdict.to);
+        verdict
+    }
+
+    /// Adds the connection of a number.
+    fn add_conn(&self, number: u64, to: &mut Recipients)
+        requires { to.old ≡ [] }
+        ensures { to.new ≡ conn_at self.now (Some number) }
+    {
+        let _ = &self.members;
+        match self.conn(number) {
+            Some(conn) => to.push(conn),
+            None => {}
+        }
+    }
+
+    /// Whether a message may come from here: from the bus, or from a connection that is no monitor.
+    fn may_send(&self, sender: u64) -> bool
+        ensures { result ≡ may_send self.now sender }
+    {
+        sender == 0 || self.is_client(sender)
+    }
+
+    fn destination_head(&self, facts: &Facts<'_>) -> Option<u64>
+        ensures { result ≡ destination_head self.now facts.now }
+    {
+        match facts.destination {
+            Some(name) => self.head(name),
+            None => None,
+        }
+    }
+
+    /// Whether a message may start the service that it goes to.
+    fn may_start(&self, facts: &Facts<'_>) -> bool
+        ensures { result ≡ may_start self.now facts.now }
+    {
+        if !is_call(facts.kind) || !facts.auto_start {
+            return false;
+        }
+        match facts.destination {
+            Some(name) => self.is_service(name),
+            None => false,
+        }
+    }
+
+    /// Whether a name is that of a service.
+    pub fn is_service(&self, name: &str) -> bool
+        ensures { result ≡ is_service self.now name.now }
+    {
+        self.services.iter().any(|service| service.as_str() == name)
+    }
+}
+
+/// The facts of a message as from this sender.
+fn with_sender<'a>(facts: &Facts<'a>, sender: u64) -> Facts<'a>
+    ensures { result ≡ record facts.now { sender = sender } }
+{
+    let mut arguments = ArrayVec::new();
+    let _ = arguments.try_extend_from_slice(facts.arguments.as_slice());
+    Facts {
+        kind: facts.kind,
+        auto_start: facts.auto_start,
+        sender,
+        path: facts.path,
+        interface: facts.interface,
+        member: facts.member,
+        destination: facts.destination,
+        arguments,
+    }
+}
+
+fn has_destination(facts: &Facts<'_>) -> bool
+    ensures { result ≡ is_some facts.now.destination }
+{
+    match facts.destination {
+        Some(_) => true,
+        None => false,
+    }
+}
+
+fn is_call(kind: MessageKind) -> bool
+    ensures { result ≡ is_call kind }
+{
+    matches!(kind, MessageKind::MethodCall)
+}
+
+fn is_signal(kind: MessageKind) -> bool
+    ensures { result ≡ is_signal kind }
+{
+    matches!(kind, MessageKind::Signal)
+}
+
+fn is_for_bus(facts: &Facts<'_>) -> bool
+    ensures { result ≡ is_for_bus facts.now }
+{
+    match facts.destination {
+        Some(name) => name == BUS,
+        None => is_call(facts.kind),
+    }
+}

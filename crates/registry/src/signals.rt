@@ -1,0 +1,114 @@
+//! The signals that a change sends.
+
+ghost use Rattle.std.specs.Prelude.{◌≡◌, ◌&&◌, []};
+ghost use Rattle.registry_core.specs.Signals.{announced_to, told_to};
+ghost use Rattle.registry_core.specs.Listening.{conns_that, stays, wants_by, watches_by};
+ghost use Rattle.seq_bus_core.specs.declared.signal.BusSignal.TheVariants.{NameOwnerChanged, NameAcquired};
+
+use crate::registry::Registry;
+use match_rules::{Facts, Owners};
+use names::{BusName, UniqueName};
+use registry_core::listening::{add_monitors_shown, add_those_that_want};
+use registry_core::signals::{owner_changed, owner_name, owner_text, owner_told};
+use seq_bus_core::{AddressedSignal, BusSignal, Conn, Recipients};
+
+impl Registry {
+    /// The signal NameOwnerChanged to all that want it, where names are owned as these owners say. A connection that
+    /// leaves does not get it.
+    pub(crate) fn announced<O: Owners>(
+        &self,
+        owners: &O,
+        leaver: Option<u64>,
+        name: BusName,
+        old_owner: Option<u64>,
+        new_owner: Option<u64>,
+    ) -> AddressedSignal
+        ensures { result ≡ announced_to (O.heads owners.now) leaver self.now (NameOwnerChanged name old_owner new_owner) }
+    {
+        let old_name = owner_name(old_owner);
+        let new_name = owner_name(new_owner);
+        let facts = owner_changed(name.as_str(), owner_text(&old_name), owner_text(&new_name));
+        let mut addressed = unheard(BusSignal::NameOwnerChanged {
+            name,
+            old_owner,
+            new_owner,
+        });
+        self.add_those_that_want(&facts, owners, leaver, &mut addressed.to);
+        self.add_monitors_shown(&facts, owners, leaver, &mut addressed.monitors);
+        addressed
+    }
+
+    /// The signal NameAcquired to a connection.
+    pub(crate) fn acquired<O: Owners>(
+        &self,
+        owners: &O,
+        leaver: Option<u64>,
+        name: BusName,
+        conn: Conn,
+    ) -> AddressedSignal
+        ensures { result ≡ told_to (O.heads owners.now) leaver self.now conn (NameAcquired name conn.number) }
+    {
+        let owner = UniqueName::of(conn.number);
+        let facts = owner_told("NameAcquired", name.as_str(), owner.as_str());
+        let mut addressed = unheard(BusSignal::NameAcquired {
+            name,
+            owner: conn.number,
+        });
+        addressed.to.push(conn);
+        self.add_monitors_shown(&facts, owners, leaver, &mut addressed.monitors);
+        addressed
+    }
+
+    /// Adds the connections that want a message, where names are owned as these owners say.
+    pub(crate) fn add_those_that_want<O: Owners>(
+        &self,
+        facts: &Facts<'_>,
+        owners: &O,
+        leaver: Option<u64>,
+        to: &mut Recipients,
+    )
+        requires { to.old ≡ [] }
+        ensures { to.new ≡ conns_that (λ c. stays leaver c.number && wants_by (O.heads owners.now) self.now.rules facts.now c) self.now.connections }
+    {
+        add_those_that_want(
+            &self.members,
+            self.rules.as_slice(),
+            facts,
+            owners,
+            leaver,
+            to,
+        );
+    }
+
+    /// Adds the monitors that are shown a message, where names are owned as these owners say.
+    pub(crate) fn add_monitors_shown<O: Owners>(
+        &self,
+        facts: &Facts<'_>,
+        owners: &O,
+        leaver: Option<u64>,
+        shown: &mut Recipients,
+    )
+        requires { shown.old ≡ [] }
+        ensures { shown.new ≡ conns_that (λ c. stays leaver c.number && watches_by (O.heads owners.now) facts.now c) self.now.connections }
+    {
+        add_monitors_shown(
+            &self.members,
+            self.monitor_rules.as_slice(),
+            facts,
+            owners,
+            leaver,
+            shown,
+        );
+    }
+}
+
+/// A signal that nobody gets.
+fn unheard(signal: BusSignal) -> AddressedSignal
+    ensures { result ≡ record { signal = signal; to = []; monitors = [] } }
+{
+    AddressedSignal {
+        signal,
+        to: Recipients::new(),
+        monitors: Recipients::new(),
+    }
+}
