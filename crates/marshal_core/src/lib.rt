@@ -5,10 +5,12 @@
 //! "Marshaling (Wire Format)" of the D-Bus Specification.
 #![tactic(auto)]
 
+mod conversions;
 mod data_type;
 mod fault;
 mod order;
 mod parsing;
+mod printing;
 mod signature;
 mod value;
 

@@ -18,6 +18,7 @@ pub struct Signature {
 }
 
 impl Signature {
+    ghost use Rattle.std.specs.Prelude.{◌≡◌};
     ghost use Rattle.marshal_core.specs.Types.{types_of};
     ghost use Rattle.marshal_core.specs.Signatures.{signature_of};
     ghost use Rattle.marshal_core.specs.Faults.{Gives};
@@ -31,6 +32,13 @@ impl Signature {
         Ok(Signature { types })
     }
 
+    /// Its complete types, from the left.
+    pub fn complete_types(&self) -> &[DataType]
+        ensures { result.now ≡ self.now.types.items }
+    {
+        &self.types
+    }
+
     /// The same of a `str`.
     pub fn parse(alloc: Global, text: &str) -> Result<Signature, MarshalFault>
         ensures { Gives (λ x. types_of x.types.items) result (signature_of text.now) }
@@ -42,7 +50,7 @@ impl Signature {
 /// The text of the signature.
 impl fmt::Display for Signature {
     fn fmt<W: fmt::Write>(&self, f: &mut fmt::Formatter<W>) -> fmt::Result {
-        for one in &self.types {
+        for one in self.complete_types() {
             write!(f, "{one}")?;
         }
         Ok(())
