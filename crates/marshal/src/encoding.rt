@@ -68,8 +68,8 @@ fn number64(order: Order, at: usize, number: u64, output: &mut Vec<u8>) -> Resul
     Ok(())
 }
 
-/// The code of a type.
-fn type_code(of: &DataType, output: &mut Vec<u8>) -> Result<(), AllocError>
+/// The code of a type, put behind what there is.
+pub fn type_code(of: &DataType, output: &mut Vec<u8>) -> Result<(), AllocError>
     ensures { OnOk result (output.new.items ≡ output.old.items ++ code (ty_of of.now)) }
 {
     match of {
