@@ -1,5 +1,5 @@
 -- The types that the text of a signature spells, after "Valid Signatures" of the D-Bus Specification.
-use Rattle.std.specs.Prelude.{◌≡◌, ℕ, Bool, List, Option, Some, None, Result, Ok, Err, is_ok}
+use Rattle.std.specs.Prelude.{◌≡◌, ℕ, Bool, List, [], ◌∷◌, Option, Some, None, Result, Ok, Err, is_ok}
 use Rattle.marshal_core.specs.declared.data_type.BasicType.{BasicType}
 use Rattle.marshal_core.specs.declared.data_type.BasicType.TheVariants.{Byte, Boolean, Int16, Uint16, Int32, Uint32, Int64, Uint64, Double, String, ObjectPath, Signature}
 use Rattle.marshal_core.specs.declared.fault.MarshalFault.{MarshalFault}
@@ -21,6 +21,11 @@ types_in text = types_or_none (signature_of text)
 -- the first of them, alone, and the others
 abbrev pub BeginsWith : Tys → Tys → Tys → Type 0
 BeginsWith ts first others = (t : Ty) × (first ≡ one_type t) × (ts ≡ more_types t others)
+
+-- each of them alone
+abbrev pub each_alone : Tys → List Tys
+each_alone no_types = []
+each_alone (more_types t ts) = one_type t ∷ each_alone ts
 
 -- how many bytes a value of a basic type has, where any bytes so many are one
 abbrev pub free_size : BasicType → Option ℕ

@@ -7,13 +7,16 @@
 mod basic;
 mod body_arguments;
 mod checking;
+mod complete_types;
 mod letters;
 mod one_argument;
+mod ownership;
 mod recognizing;
 mod signature_text;
 
 pub use body_arguments::{Argument, Arguments};
 pub use checking::check;
+pub use complete_types::CompleteTypes;
 pub use signature_text::Types;
 
 #[cfg(test)]

@@ -3,6 +3,7 @@
 ghost use Rattle.std.specs.Prelude.{◌≡◌, true};
 ghost use Rattle.marshal_check.specs.SignatureTexts.{is_signature_text};
 
+use crate::complete_types::CompleteTypes;
 use crate::letters::skip_type;
 use crate::recognizing::is_signature;
 use marshal_core::MarshalFault;
@@ -20,7 +21,8 @@ impl<'a> Types<'a> {
     ghost use Rattle.marshal_core.specs.Types.{no_types};
     ghost use Rattle.marshal_core.specs.Signatures.{signature_of};
     ghost use Rattle.marshal_core.specs.Faults.{Tells};
-    ghost use Rattle.marshal_check.specs.SignatureTexts.{BeginsWith, types_in};
+    ghost use Rattle.marshal_check.specs.SignatureTexts.{BeginsWith, each_alone, types_in};
+    ghost use Rattle.marshal_check.specs.TypeViews.{types_left};
 
     /// The types of a text, or the first fault from the left: `Signature`, and `Descriptor` at an
     /// `h`. A text of more than 255 bytes is no signature, whatever stands in it.
@@ -43,6 +45,13 @@ impl<'a> Types<'a> {
         let others = skip_type(self.text);
         let (first, _) = self.text.split_at(self.text.len() - others.len());
         Some((Types { text: first }, Types { text: others }))
+    }
+
+    /// Its complete types from the left, each as a signature of one type.
+    pub fn complete_types(self) -> CompleteTypes<'a>
+        ensures { types_left result ≡ each_alone (types_in self.entry.text.now) }
+    {
+        CompleteTypes::new(self)
     }
 
     /// The same of a `str`.

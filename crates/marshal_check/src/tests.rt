@@ -309,3 +309,26 @@ fn lends_arguments(rt: HostRuntime) -> Result<(), Fail> {
     );
     Ok(())
 }
+
+#[test]
+fn takes_signatures_apart(rt: HostRuntime) -> Result<(), Fail> {
+    let alloc = rt.alloc();
+    let types = Types::parse("a{s(ua{yv})}(v)y")?;
+    let mut texts = Vec::new(alloc);
+    for one in types.complete_types() {
+        texts.push(one.text)?;
+    }
+    assert_eq!(rt;
+        texts.as_slice(),
+        [
+            b"a{s(ua{yv})}".as_slice(),
+            b"(v)".as_slice(),
+            b"y".as_slice()
+        ]
+        .as_slice()
+    );
+    let signature = types.to_signature(alloc)?;
+    let mut text = Vec::new(alloc);
+    assert_eq!(rt; Types::of(&signature, &mut text)?, types);
+    Ok(())
+}
