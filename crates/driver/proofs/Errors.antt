@@ -1,5 +1,5 @@
 -- The names and the texts of errors are strings.
-use Rattle.std.proofs.Common.{◌≡◌, ◌≤◌, ◌<◌, false, length, refl, sym, subst, lit<, arith}
+use Rattle.std.proofs.Common.{◌≡◌, ◌≤◌, false, length, refl, subst, arith}
 use Rattle.std.specs.Prelude.{IsUtf8}
 use Rattle.names.specs.Texts.{Text}
 use Rattle.marshal_core.specs.Spelling.{IsString, has_zero}

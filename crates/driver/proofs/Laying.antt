@@ -1,5 +1,5 @@
 -- Parts of a message that are appended one after the other.
-use Rattle.std.proofs.Common.{◌≡◌, ℕ, List, ◌++◌, Result, Ok, refl, sym, ap, ◌∙◌, append_assoc}
+use Rattle.std.proofs.Common.{◌≡◌, ℕ, List, ◌++◌, Result, Ok, ap, ◌∙◌, append_assoc}
 use Rattle.std.specs.Prelude.{is_ok, if◌then◌else◌}
 
 pub extended : {E : Type 0} → (r : Result (Unit {0}) E) (u : Unit {0}) (new old more : List ℕ) → new ≡ (if is_ok r then old ++ more else old) → r ≡ Ok u → new ≡ old ++ more

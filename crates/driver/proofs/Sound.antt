@@ -1,5 +1,5 @@
 -- The fields of the messages of the bus.
-use Rattle.std.proofs.Common.{◌≡◌, ℕ, ◌<◌, ◌≤◌, ◌^◌, List, [], ◌∷◌, ◌++◌, Option, Some, None, refl, lit<, arith}
+use Rattle.std.proofs.Common.{ℕ, ◌<◌, ◌^◌, List, ◌∷◌, refl, lit<, arith}
 use Rattle.names.specs.BusName.{bus_text}
 use Rattle.names.specs.Member.{IsMember}
 use Rattle.names.proofs.Faults.{none_interface, none_member}

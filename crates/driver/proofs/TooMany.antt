@@ -1,5 +1,5 @@
 -- Arguments of other numbers than a method takes.
-use Rattle.std.proofs.Common.{◌≡◌, ℕ, List, [], ◌∷◌, length, ◌==◌, Bool, true, false, Option, Some, None, refl}
+use Rattle.std.proofs.Common.{◌≡◌, List, [], ◌∷◌, length, ◌==◌, true, false, None, refl}
 use Rattle.marshal_core.specs.declared.value.Value.{Value}
 use Rattle.marshal_core.specs.Values.{values_of}
 use Rattle.driver.specs.Arguments.{only_text, text_and_number, elements_and_number}

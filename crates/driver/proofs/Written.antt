@@ -1,5 +1,5 @@
 -- What is laid out is the one writing of a message.
-use Rattle.std.proofs.Common.{◌≡◌, ℕ, ◌+◌, ◌≤◌, ◌<◌, ◌^◌, List, [], ◌∷◌, ◌++◌, length, Option, Some, None, Result, Ok, Err, OnOk, refl, sym, ap, subst, ◌∙◌, arith, lit<, inl, inr, append_assoc, append-nil}
+use Rattle.std.proofs.Common.{◌≡◌, ℕ, ◌+◌, ◌≤◌, ◌<◌, ◌^◌, List, [], ◌∷◌, ◌++◌, length, Option, Some, None, Result, Ok, Err, OnOk, refl, sym, ap, subst, ◌∙◌, arith, lit<, inl, inr, append-nil}
 use Rattle.std.specs.List.{AllByRecursion}
 use Rattle.std.specs.Int.{w32}
 use Rattle.std.proofs.lemmas.List.{length-append}
@@ -10,7 +10,7 @@ use Rattle.names.specs.UniqueName.{unique_text}
 use Rattle.names.proofs.Faults.{none_well_known}
 use Rattle.marshal_core.specs.declared.order.Order.TheVariants.{Little}
 use Rattle.marshal_core.specs.Types.{Tys, no_types, more_types}
-use Rattle.marshal_core.specs.Values.{BasicVal, a_string, a_uint32, an_object_path, a_signature, Vals}
+use Rattle.marshal_core.specs.Values.{BasicVal, a_string, a_signature, Vals}
 use Rattle.marshal_core.specs.Spelling.{IsString, number_bytes, pads, max_container_depth, SpellFields, Spells, text_spelling}
 use Rattle.marshal_core.proofs.Results.{leb_true}
 use Rattle.match_rules.specs.declared.kind.MessageKind.{MessageKind}
@@ -21,7 +21,7 @@ use Rattle.message_core.specs.declared.header_field.HeaderField.TheVariants as f
 use Rattle.message_core.specs.Announcements.{fields_place, order_byte, protocol_version}
 use Rattle.message_core.specs.Kinds.{code_of, required}
 use Rattle.message_core.specs.HeaderFields.{Field, IsBasicOf, IsField, AreFields, value_of, missing, by_code, insert_field, body_types, types_in}
-use Rattle.message_core.specs.Messages.{Message, IsSent, IsWritten}
+use Rattle.message_core.specs.Messages.{Message, IsWritten}
 use Rattle.message_core.specs.Headers.{AreWritten, known_field, optional_field, signature_field}
 use Rattle.message_core.proofs.FieldReading.{same_field}
 use Rattle.message_core.proofs.Strings.{length-number}

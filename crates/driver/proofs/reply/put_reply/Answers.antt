@@ -1,4 +1,4 @@
-use Rattle.std.proofs.Common.{subst, sym, refl, List, ℕ, [], ◌∷◌, arith}
+use Rattle.std.proofs.Common.{subst, sym, refl, List, ℕ, [], ◌∷◌}
 use Rattle.marshal_core.specs.declared.order.Order.TheVariants.{Little}
 use Rattle.marshal_core.specs.Values.{a_uint32}
 use Rattle.match_rules.specs.declared.kind.MessageKind.TheVariants as kind

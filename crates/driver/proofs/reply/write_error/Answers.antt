@@ -7,7 +7,6 @@ use Rattle.match_rules.specs.declared.kind.MessageKind.TheVariants as kind
 use Rattle.match_rules.specs.Kinds.{kind_number}
 use Rattle.seq_bus_core.specs.Errors.{error_name, error_text}
 use Rattle.message_core.specs.declared.header_field.HeaderField.TheVariants as field
-use Rattle.message_core.specs.HeaderFields.{Field}
 use Rattle.message_core.specs.Headers.{AreWritten, known_field}
 use Rattle.driver.specs.OwnMessages.{error_message, string_types, string_values}
 use Rattle.driver.specs.Layout.{laid_out}

@@ -1,4 +1,4 @@
-use Rattle.std.proofs.Common.{◌≡◌, subst, sym, refl, ap, ◌∙◌, Option, List, ℕ, [], ◌∷◌, ◌++◌, length}
+use Rattle.std.proofs.Common.{◌≡◌, subst, sym, refl, ◌∙◌, Option, List, ℕ, [], ◌∷◌, ◌++◌}
 use Rattle.names.specs.BusName.{bus_text}
 use Rattle.marshal_core.specs.declared.order.Order.TheVariants.{Little}
 use Rattle.marshal_core.specs.Types.{Tys}
