@@ -1,11 +1,11 @@
 //! The two halves of a first conversation, and hostile beginnings.
 
 use crate::Framer;
-use marshal_core::Order;
+use marshal_core::{BasicValue, MarshalFault, Order, Value};
 use match_rules::MessageKind;
 use message_core::{FrameFault, Header, Message, NO_REPLY_EXPECTED};
-use names::{BusName, Interface, Member, NameFault, ObjectPath};
-use std::alloc::Global;
+use names::{BusName, ErrorName, Interface, Member, NameFault, ObjectPath};
+use std::alloc::{AllocError, Global};
 use std::process::Abort;
 use std::test::Fail;
 
@@ -34,6 +34,11 @@ pub const GET_NAME_OWNER: &[u8] =
     \0\0\x02\x01s\0\0\0\0\x14org.freedesktop.DBus\0\0\0\0\x03\x01s\0\0\0\0\x0cGetNameOwn\
     er\0\0\0\0\x06\x01s\0\0\0\0\x14org.freedesktop.DBus\0\0\0\0\x08\x01g\0\x01s\0\0\0\0\0\
     \x04:1.1\0";
+
+/// A return to `:1.2` with a field that the standard does not name.
+const UNKNOWN_FIELD: &[u8] =
+    b"l\x02\x01\x01\0\0\0\0\x03\0\0\0\x1d\0\0\0\x05\x01u\0\x05\0\0\0\x06\x01s\0\x04\0\0\0:1\
+    .2\0\0\0\0\xc8\x01y\0\x07\0\0\0";
 
 /// The one message that the bytes are.
 fn only(rt: &impl Abort, alloc: Global, bytes: &[u8]) -> Result<Message, Fail> {
@@ -65,6 +70,21 @@ fn calls_are_read(rt: HostRuntime) -> Result<(), Fail> {
     assert_eq!(rt; owner.member(), Some("GetNameOwner"));
     assert_eq!(rt; owner.signature(), b"s".as_slice());
     assert_eq!(rt; owner.body(), b"\0\0\0\x04:1.1\0".as_slice());
+    let name = Value::Basic(BasicValue::String(String::from_str(rt.alloc(), ":1.1")?));
+    assert_eq!(rt; owner.arguments(rt.alloc())?.as_slice(), [name].as_slice());
+    Ok(())
+}
+
+#[test]
+fn unknown_fields_are_kept(rt: HostRuntime) -> Result<(), Fail> {
+    let message = only(&rt, rt.alloc(), UNKNOWN_FIELD)?;
+    assert_eq!(rt; message.reply_serial(), Some(5));
+    assert_eq!(rt; message.destination(), Some(":1.2"));
+    let places = [(5, 16, 24), (6, 24, 37), (200, 40, 45)];
+    for (place, expected) in message.fields().iter().zip(places.iter()) {
+        assert_eq!(rt; (place.code, place.from, place.to), *expected);
+    }
+    assert_eq!(rt; message.fields().len(), 3);
     Ok(())
 }
 
@@ -150,26 +170,19 @@ fn byte_by_byte(rt: HostRuntime) -> Result<(), Fail> {
     Ok(())
 }
 
-/// The first bytes of a message of so many bytes in all, with a body of so many.
-fn beginning(body: u32) -> [u8; 16] {
-    let four = body.to_le_bytes();
-    [
-        b'l', 2, 0, 1, four[0], four[1], four[2], four[3], 1, 0, 0, 0, 8, 0, 0, 0,
-    ]
-}
-
 #[test]
 fn announced_lengths(rt: HostRuntime) -> Result<(), Fail> {
+    // 1,048,576 bytes in all, and one more.
     let mut framer = Framer::new(rt.alloc());
-    framer.feed(&beginning(1_048_576 - 24))?;
+    framer.feed(b"l\x01\0\x01\x80\xff\x0f\0\x01\0\0\0m\0\0\0")?;
     assert!(rt; framer.next()?.is_none());
     let mut framer = Framer::new(rt.alloc());
-    framer.feed(&beginning(1_048_576 - 23))?;
+    framer.feed(b"l\x01\0\x01\x81\xff\x0f\0\x01\0\0\0m\0\0\0")?;
     assert!(rt; matches!(framer.next(), Err(FrameFault::TooLong)));
     Ok(())
 }
 
-/// What is wrong with HELLO where one byte is another.
+/// What is wrong with a message where one byte is another.
 fn fault_with(
     rt: &impl Abort,
     alloc: Global,
@@ -217,6 +230,128 @@ fn faults_of_the_header(rt: HostRuntime) -> Result<(), Fail> {
             "at {place}"
         );
     }
+    Ok(())
+}
+
+#[test]
+fn faults_of_numbers(rt: HostRuntime) -> Result<(), Fail> {
+    // REPLY_SERIAL 0, UNIX_FDS 1, UNIX_FDS of another type.
+    for (original, place, byte, fault) in [
+        (HELLO_REPLY, 20, 0, FrameFault::Field(5)),
+        (HELLO_REPLY, 16, 9, FrameFault::Field(9)),
+        (UNKNOWN_FIELD, 40, 9, FrameFault::Field(9)),
+    ] {
+        assert_eq!(rt; fault_with(&rt, rt.alloc(), original, place, byte)?, fault);
+    }
+    Ok(())
+}
+
+#[test]
+fn required_fields(rt: HostRuntime) -> Result<(), Fail> {
+    for (kind, missing) in [
+        (MessageKind::MethodCall, [1, 3, 0]),
+        (MessageKind::MethodReturn, [5, 0, 0]),
+        (MessageKind::Error, [4, 5, 0]),
+        (MessageKind::Signal, [1, 2, 3]),
+    ] {
+        let mut header = own_header(kind, 1)?;
+        for code in missing {
+            let made = Message::with_body(rt.alloc(), &header, "", b"");
+            if code == 0 {
+                assert!(rt; made.is_ok());
+                break;
+            }
+            assert!(rt;
+                matches!(made, Err(FrameFault::Missing(told)) if told == code),
+                "{kind}"
+            );
+            match code {
+                1 => header.path = Some(ObjectPath::parse("/")?),
+                2 => header.interface = Some(Interface::parse("a.b")?),
+                3 => header.member = Some(Member::parse("C")?),
+                4 => header.error_name = Some(ErrorName::parse("a.b")?),
+                _ => header.reply_serial = Some(1),
+            }
+        }
+    }
+    // A message of another type needs none.
+    let header = own_header(MessageKind::Unknown(5), 1)?;
+    let other = Message::with_body(rt.alloc(), &header, "", b"")?;
+    assert_eq!(rt;
+        only(&rt, rt.alloc(), other.as_bytes())?.kind(),
+        MessageKind::Unknown(5)
+    );
+    Ok(())
+}
+
+/// What a framer answers to bytes that come in two pieces: whether there is a message, and the fault.
+fn cut_at(alloc: Global, bytes: &[u8], cut: usize) -> Result<Result<bool, FrameFault>, AllocError> {
+    let (front, rest) = bytes
+        .split_at_checked(cut)
+        .unwrap_or((bytes, b"".as_slice()));
+    let mut framer = Framer::new(alloc);
+    framer.feed(front)?;
+    match framer.next() {
+        Ok(None) => {}
+        Ok(Some(_)) => return Ok(Ok(true)),
+        Err(fault) => return Ok(Err(fault)),
+    }
+    framer.feed(rest)?;
+    Ok(framer.next().map(|found| found.is_some()))
+}
+
+#[test]
+fn cuts_do_not_matter(rt: HostRuntime) -> Result<(), Fail> {
+    for bytes in [
+        HELLO,
+        HELLO_REPLY,
+        NAME_ACQUIRED,
+        GET_NAME_OWNER,
+        UNKNOWN_FIELD,
+    ] {
+        for place in 0..bytes.len() {
+            assert_eq!(rt; cut_at(rt.alloc(), bytes, place)?, Ok(true));
+            for byte in [0, 255] {
+                let mut changed = Vec::from_slice(rt.alloc(), bytes)?;
+                if let Some(slot) = changed.get_mut(place) {
+                    *slot = byte;
+                }
+                let whole = cut_at(rt.alloc(), &changed, 0)?;
+                // Before the byte that was changed, and in the midst.
+                for cut in [place, 64] {
+                    let cut_answer = cut_at(rt.alloc(), &changed, cut)?;
+                    assert_eq!(rt; cut_answer, whole, "{place}, {byte}, {cut}");
+                }
+            }
+        }
+    }
+    Ok(())
+}
+
+/// The fault of a message of two parts.
+fn fault_of(rt: &impl Abort, alloc: Global, front: &[u8], rest: &[u8]) -> Result<FrameFault, Fail> {
+    let mut framer = Framer::new(alloc);
+    framer.feed(front)?;
+    framer.feed(rest)?;
+    let fault = framer.next().err().ok_or("no fault")?;
+    assert!(rt; fault != FrameFault::NoMemory);
+    Ok(fault)
+}
+
+#[test]
+fn bodies_too_long_and_too_short(rt: HostRuntime) -> Result<(), Fail> {
+    // HELLO with a body of a byte, and GET_NAME_OWNER with none.
+    let (_, hello) = HELLO.split_at(8);
+    let mut long = Vec::from_slice(rt.alloc(), b"l\x01\0\x01\x01\0\0\0")?;
+    long.extend_from_slice(hello)?;
+    assert_eq!(rt;
+        fault_of(&rt, rt.alloc(), &long, b"x")?,
+        FrameFault::BodyLength
+    );
+    let (_, owner) = GET_NAME_OWNER.split_at(8);
+    let (fields, _) = owner.split_at(136);
+    let fault = fault_of(&rt, rt.alloc(), b"B\x01\0\x01\0\0\0\0", fields)?;
+    assert_eq!(rt; fault, FrameFault::Body(MarshalFault::Truncated));
     Ok(())
 }
 
