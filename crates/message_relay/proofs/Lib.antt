@@ -5,3 +5,4 @@ pub mod Names
 pub mod Ready
 pub mod PartLemmas
 pub mod Refusals
+pub mod ArgumentLemmas

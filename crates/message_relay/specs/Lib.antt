@@ -3,3 +3,4 @@ pub mod MessageBytes
 pub mod Senders
 pub mod Layout
 pub mod Parts
+pub mod FactsOf

@@ -7,6 +7,7 @@
 
 mod fault;
 mod layout;
+mod message_facts;
 mod parts;
 mod putting;
 mod relaying;
@@ -14,4 +15,5 @@ mod relaying;
 mod tests;
 
 pub use fault::RelayFault;
+pub use message_facts::facts;
 pub use relaying::{relayed_length, with_sender, write};

@@ -1,6 +1,7 @@
 //! Messages written again, with their sender's name or without.
 
 use crate::{relayed_length, with_sender, write};
+use match_rules::{Argument, MessageKind};
 use message_core::{FIXED_LENGTH, MAXIMUM_LENGTH, Message, announced_length};
 use names::UniqueName;
 use std::alloc::Global;
@@ -52,6 +53,12 @@ const CALL_RELAYED: &[u8] =
     b"B\x01\0\x01\0\0\0\x09\0\0\0\x02\0\0\0\x3f\x01\x01o\0\0\0\0\x02/a\0\0\0\0\0\0\x03\x01s\0\0\0\0\x0cG\
     etNameOwner\0\0\0\0\x07\x01s\0\0\0\0\x04:1.1\0\0\0\0\x08\x01g\0\x01s\0\0\0\0\0\x04:1.1\0";
 
+/// A signal with arguments, which starts no service.
+const SIGNAL_WITH_ARGUMENTS: &[u8] =
+    b"l\x04\x02\x01\x14\0\0\0\x03\0\0\0\x39\0\0\0\x01\x01o\0\x02\0\0\0/a\0\0\0\0\0\0\x02\x01s\0\x03\0\0\0\
+    a.b\0\0\0\0\0\x03\x01s\0\x01\0\0\0C\0\0\0\0\0\0\0\x08\x01g\0\x03sou\0\0\0\0\0\0\0\0\
+    \x01\0\0\0A\0\0\0\x02\0\0\0/a\0\0\x07\0\0\0";
+
 /// The message that the bytes are.
 fn read(alloc: Global, bytes: &[u8]) -> Result<Message, Fail> {
     let bytes = Vec::from_slice(alloc, bytes)?;
@@ -99,5 +106,34 @@ fn messages_are_relayed(rt: HostRuntime) -> Result<(), Fail> {
         assert_eq!(rt; &output[4..], to);
         assert_eq!(rt; relayed_length(&message, &sender), Ok(to.len()));
     }
+    Ok(())
+}
+
+#[test]
+fn facts_are_lent(rt: HostRuntime) -> Result<(), Fail> {
+    let message = read(rt.alloc(), SIGNAL_WITH_ARGUMENTS)?;
+    let facts = crate::facts(&message);
+    assert_eq!(rt; facts.kind, MessageKind::Signal);
+    assert!(rt; !facts.auto_start);
+    assert_eq!(rt; facts.sender, 0);
+    assert_eq!(rt; facts.path, Some("/a"));
+    assert_eq!(rt; facts.interface, Some("a.b"));
+    assert_eq!(rt; facts.member, Some("C"));
+    assert_eq!(rt; facts.destination, None);
+    assert!(rt;
+        matches!(
+            facts.arguments.as_slice(),
+            [
+                Argument::String("A"),
+                Argument::ObjectPath("/a"),
+                Argument::Other
+            ]
+        )
+    );
+    let message = read(rt.alloc(), REPLY)?;
+    let facts = crate::facts(&message);
+    assert!(rt; facts.auto_start);
+    assert_eq!(rt; facts.destination, Some(":1.2"));
+    assert!(rt; facts.arguments.is_empty());
     Ok(())
 }
