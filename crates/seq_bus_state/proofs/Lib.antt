@@ -1,0 +1,9 @@
+pub mod Adding
+pub mod Addressing
+pub mod Firsts
+pub mod FreeSlots
+pub mod Leaving
+pub mod Made
+pub mod Names
+pub mod Routing
+pub mod ServiceOrder
