@@ -5,3 +5,4 @@ pub mod HeadLemmas
 pub mod ListeningLemmas
 pub mod HelloLemmas
 pub mod MatchLemmas
+pub mod LeaveLemmas

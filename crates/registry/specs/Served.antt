@@ -4,7 +4,7 @@ use Rattle.seq_bus_core.specs.declared.change.Change.TheVariants.{Hello, Leave, 
 
 abbrev pub IsServedChange : Change → Type 0
 IsServedChange (Hello privileged) = Unit {0}
-IsServedChange (Leave connection) = ⊥
+IsServedChange (Leave connection) = Unit {0}
 IsServedChange (Request connection name flags) = ⊥
 IsServedChange (Release connection name) = ⊥
 IsServedChange (AddMatch connection rule) = Unit {0}

@@ -8,6 +8,7 @@
 
 mod hello;
 pub mod laws;
+mod leave;
 mod matches;
 mod owners;
 mod prepared;

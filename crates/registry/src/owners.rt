@@ -62,7 +62,7 @@ impl<'a> Owners for Joined<'a> {
 }
 
 /// Whether a name is read as a unique name.
-fn is_unique(name: &str) -> bool
+pub fn is_unique(name: &str) -> bool
     ensures { result ≡ is_unique name.now }
 {
     let bytes = name.as_bytes();

@@ -12,6 +12,7 @@ use std::mem::replace;
 #[derive(Drop)]
 pub enum Act {
     Hello { privileged: bool },
+    Leave { connection: u64 },
     AddMatch { connection: u64, rule: Rule },
     RemoveMatch { connection: u64, rule: Rule },
 }

@@ -81,14 +81,15 @@ impl Registry {
 
     /// Prepares a change of a seat: says what it would be told, and makes all that needs memory. Nothing changes.
     ///
-    /// Seat 0 is the main thread's, the others are those of the routers, from 1. Today Hello, AddMatch and RemoveMatch
-    /// are served.
+    /// Seat 0 is the main thread's, the others are those of the routers, from 1. Today Hello, Leave, AddMatch and
+    /// RemoveMatch are served.
     pub fn prepare(&self, alloc: Global, seat: u8, change: &Change) -> Result<Prepared, AllocError>
         requires { IsServedChange change.now }
         ensures { IfOk result (λ prepared. prepared ≡ prepared_on self.now seat change.now) }
     {
         match change {
             Change::Hello { privileged } => self.prepare_hello(alloc, seat, *privileged),
+            Change::Leave { connection } => self.prepare_leave(alloc, seat, *connection),
             Change::AddMatch { connection, rule } => {
                 Ok(self.prepare_add_match(alloc, seat, *connection, rule))
             }
@@ -105,6 +106,7 @@ impl Registry {
     {
         match &prepared.act {
             Act::Hello { privileged } => self.say_hello(prepared.seat, *privileged),
+            Act::Leave { connection } => self.leave(prepared.seat, *connection),
             Act::AddMatch { connection, rule } => {
                 self.add_match(prepared.seat, *connection, rule);
             }

@@ -184,3 +184,47 @@ fn rules_that_are_added_and_removed(rt: HostRuntime) {
     let verdict = registry.route(2, &signal("Tick"));
     assert!(rt; verdict.to.as_slice().is_empty());
 }
+
+#[test]
+fn a_connection_that_leaves(rt: HostRuntime) {
+    let alloc = rt.alloc();
+    let mut registry = open(&rt, alloc, 1);
+    make(&rt, alloc, &mut registry, 1, &hello());
+    make(&rt, alloc, &mut registry, 1, &hello());
+    let all = rule(&rt, "");
+    make(&rt, alloc, &mut registry, 1, &add_match(1, all));
+    make(&rt, alloc, &mut registry, 1, &add_match(2, all));
+    let left = make(&rt, alloc, &mut registry, 1, &leave(1));
+    assert_eq!(rt; left.reply, Reply::Done);
+    let [announced] = left.signals.as_slice() else {
+        panic!(rt; "a Leave without names has one signal");
+    };
+    let listener = Conn {
+        number: 2,
+        slot: 1,
+        router: 1,
+    };
+    assert_eq!(rt; announced.to.as_slice(), [listener].as_slice());
+    assert!(rt; !registry.present(1));
+    assert_eq!(rt;
+        make(&rt, alloc, &mut registry, 1, &leave(1)).reply,
+        Reply::Gone
+    );
+    let conn = Conn {
+        number: 3,
+        slot: 0,
+        router: 1,
+    };
+    assert_eq!(rt;
+        make(&rt, alloc, &mut registry, 1, &hello()).reply,
+        Reply::Welcome(conn)
+    );
+    let verdict = registry.route(3, &signal("Tick"));
+    assert_eq!(rt; verdict.to.as_slice(), [listener].as_slice());
+}
+
+fn leave(connection: u64) -> Change
+    ensures { IsServedChange result }
+{
+    Change::Leave { connection }
+}

@@ -1,0 +1,221 @@
+-- What a Leave does on a bus on which nobody has requested a name.
+use Rattle.std.proofs.Common.{◌≡◌, ℕ, ◌<◌, ◌==◌, Bool, true, false, cond, not, ◌&&◌, ◌||◌, Option, Some, None, is_some, List, [], ◌∷◌, map, filter, refl, sym, ap, ◌∙◌, subst, arith, if◌then◌else◌}
+use Rattle.std.specs.List.{AllByRecursion as Each, find}
+use Rattle.std.proofs.lemmas.Bool.Decides.{nat_tests}
+use Rattle.names.specs.UniqueName.{unique_text}
+use Rattle.match_rules.specs.Facts.{Facts}
+use Rattle.match_rules.specs.Fitting.{Heads, fits}
+use Rattle.seq_bus_core.specs.BusState.{BusState, Connection, AddedRule, OwnedName, conn_of, connection_of, head_of, is_client, is_monitor}
+use Rattle.seq_bus_core.specs.Consistency.{IsConsistent, Pairwise}
+use Rattle.seq_bus_core.specs.Recipients.{all_that_want, monitors_shown}
+use Rattle.seq_bus_core.specs.Steps.{addressed, facts_of, leave, rules_without, signals_of_leave, step, without_connection}
+use Rattle.seq_bus_core.specs.declared.change.Change.TheVariants.{Leave}
+use Rattle.seq_bus_core.specs.declared.connection.Conn.{Conn}
+use Rattle.seq_bus_core.specs.declared.outcome.NumberedOutcome.{NumberedOutcome}
+use Rattle.seq_bus_core.specs.declared.outcome.Reply.TheVariants.{Done, Gone}
+use Rattle.seq_bus_core.specs.declared.signal.AddressedSignal.{AddressedSignal}
+use Rattle.seq_bus_core.specs.declared.signal.BusSignal.{BusSignal}
+use Rattle.seq_bus_core.specs.declared.signal.BusSignal.TheVariants.{NameOwnerChanged}
+use Rattle.seq_bus_core.proofs.ConsistencyLaws.{steps_keep_consistency}
+use Rattle.registry_core.specs.declared.member.Member.{Member}
+use Rattle.registry_core.specs.Listening.{stays, conns_that, connection_of_member, has_fitting, wants_by, watches_by}
+use Rattle.registry_core.specs.Signals.{announced_to}
+use Rattle.registry_core.proofs.Members.{filter_alike}
+use Rattle.registry.specs.declared.registry.Registry.TheInside.{Inside}
+use Rattle.registry.specs.Tables.{state_of}
+use Rattle.registry.proofs.ListeningLemmas.{announced, shown_same}
+
+-- ## The connection that leaves
+
+none_above : (n : ℕ) (cs : List Connection) → Each (λ c. n < c.number) cs → is_client cs n ≡ false
+none_above n [] h = refl
+none_above n (c ∷ cs) h = let other : (c.number == n) ≡ false = grind (arith, nat_tests) in rw other (none_above n cs h.1)
+
+pub client_found : (n : ℕ) (cs : List Connection) (c : Connection) → Pairwise (λ a b. a.number < b.number) cs → find (λ d. d.number == n) cs ≡ Some c → is_client cs n ≡ not (is_monitor c)
+client_found n [] c h e = cc
+client_found n (d ∷ cs) c h e = by_test (d.number == n) refl (λ found. client_found n cs c h.1 found) e
+  where
+    or_false : (b t : Bool) → t ≡ false → (b || t) ≡ b
+    or_false true t k = refl
+    or_false false t k = k
+
+    here : (d.number == n) ≡ true → is_client cs n ≡ false
+    here same = let at : d.number ≡ n = grind (arith, nat_tests) in rw (← at) (none_above d.number cs h.0)
+
+    by_test : (b : Bool) → (d.number == n) ≡ b → (find (λ m. m.number == n) cs ≡ Some c → is_client cs n ≡ not (is_monitor c)) → cond b (Some d) (find (λ m. m.number == n) cs) ≡ Some c →
+        is_client (d ∷ cs) n ≡ not (is_monitor c)
+    by_test true is others found = let same : d ≡ c = cc in rw is (or_false (not (is_monitor d)) (is_client cs n) (here is) ∙ ap (λ m. not (is_monitor m)) same)
+    by_test false is others found = rw is (others found)
+
+pub leave_gone : (s : BusState) (seat n : ℕ) → is_some (connection_of s n) ≡ false → ((step s seat (Leave n)).0 ≡ s) × ((step s seat (Leave n)).1 ≡ record { reply = Gone; signals = []; tickets = []; start = None })
+leave_gone s seat n absent = by_found (connection_of s n) absent
+  where
+    by_found : (o : Option Connection) → is_some o ≡ false → ((leave s n o).0 ≡ s) × ((leave s n o).1 ≡ record { reply = Gone; signals = []; tickets = []; start = None })
+    by_found None e = (refl, refl)
+    by_found (Some c) e = cc
+
+pub leave_state : (s : BusState) (seat n : ℕ) → is_some (connection_of s n) ≡ true → (step s seat (Leave n)).0 ≡ without_connection s n
+leave_state s seat n present = by_found (connection_of s n) present
+  where
+    by_found : (o : Option Connection) → is_some o ≡ true → (leave s n o).0 ≡ without_connection s n
+    by_found None e = cc
+    by_found (Some c) e = refl
+
+-- ## The tables
+
+filter_other : (k n : ℕ) (rules : List AddedRule) → (k == n) ≡ false → filter (λ r. r.connection == k) (rules_without n rules) ≡ filter (λ r. r.connection == k) rules
+filter_other k n [] other = refl
+filter_other k n (r ∷ rules) other = by_test (r.connection == n) refl (filter_other k n rules other)
+  where
+    not_its : (r.connection == n) ≡ true → (r.connection == k) ≡ false
+    not_its same = grind (arith, nat_tests)
+
+    by_test : (b : Bool) → (r.connection == n) ≡ b → filter (λ q. q.connection == k) (rules_without n rules) ≡ filter (λ q. q.connection == k) rules →
+        filter (λ q. q.connection == k) (rules_without n (r ∷ rules)) ≡ filter (λ q. q.connection == k) (r ∷ rules)
+    by_test true is others = rw (is, not_its is) others
+    by_test false is others = rw is (ap (λ rest. cond (r.connection == k) (r ∷ rest) rest) others)
+
+members_left : (n : ℕ) (mr : List AddedRule) (ms : List Member) →
+    map (connection_of_member (rules_without n mr)) (filter (λ m. not (m.conn.number == n)) ms) ≡ filter (λ c. not (c.number == n)) (map (connection_of_member mr) ms)
+members_left n mr [] = refl
+members_left n mr (m ∷ ms) = by_test (m.conn.number == n) refl (members_left n mr ms)
+  where
+    with_rules : List AddedRule → Connection
+    with_rules rules = record {
+      number = m.conn.number;
+      router = m.conn.router;
+      slot = m.conn.slot;
+      privileged = m.privileged;
+      monitor = if m.is_monitor then Some (map (λ r. r.rule) rules) else None;
+    }
+
+    by_test : (b : Bool) → (m.conn.number == n) ≡ b →
+        map (connection_of_member (rules_without n mr)) (filter (λ k. not (k.conn.number == n)) ms) ≡ filter (λ c. not (c.number == n)) (map (connection_of_member mr) ms) →
+        map (connection_of_member (rules_without n mr)) (filter (λ k. not (k.conn.number == n)) (m ∷ ms)) ≡ filter (λ c. not (c.number == n)) (map (connection_of_member mr) (m ∷ ms))
+    by_test true is others = rw is others
+    by_test false is others = rw is (ap (λ c. c ∷ map (connection_of_member (rules_without n mr)) (filter (λ k. not (k.conn.number == n)) ms)) (ap with_rules (filter_other m.conn.number n mr is)) ∙ ap (λ rest. connection_of_member mr m ∷ rest) others)
+
+pub left_state : (r next : Inside) (n : ℕ) → next ≡ record r { members = next.members; rules = next.rules; monitor_rules = next.monitor_rules } →
+    next.members.items ≡ filter (λ m. not (m.conn.number == n)) r.members.items → next.rules.rules ≡ rules_without n r.rules.rules → next.monitor_rules.rules ≡ rules_without n r.monitor_rules.rules →
+    without_connection (state_of r) n ≡ state_of next
+left_state r next n same members rules monitor_rules =
+    let rest : List Connection → List AddedRule → BusState = λ connections rs. record (state_of r) { connections = connections; rules = rs } in
+    ap (λ connections. rest connections (rules_without n r.rules.rules)) (sym (members_left n r.monitor_rules.rules r.members.items) ∙ ap (λ ms. map (connection_of_member (rules_without n r.monitor_rules.rules)) ms) (sym members)
+    ∙ ap (λ mr. map (connection_of_member mr) next.members.items) (sym monitor_rules))
+    ∙ ap (rest (map (connection_of_member next.monitor_rules.rules) next.members.items)) (sym rules)
+    ∙ ap state_of (sym same)
+
+-- ## The signal
+
+filter_twice : {X : Type 0} (keep test : X → Bool) (xs : List X) → filter test (filter keep xs) ≡ filter (λ x. keep x && test x) xs
+filter_twice keep test [] = refl
+filter_twice keep test (x ∷ xs) = by_test (keep x) (filter_twice keep test xs)
+  where
+    by_test : (b : Bool) → filter test (filter keep xs) ≡ filter (λ y. keep y && test y) xs →
+        filter test (cond b (x ∷ filter keep xs) (filter keep xs)) ≡ cond (b && test x) (x ∷ filter (λ y. keep y && test y) xs) (filter (λ y. keep y && test y) xs)
+    by_test true others = ap (λ rest. cond (test x) (x ∷ rest) rest) others
+    by_test false others = others
+
+fits_other : (heads : Heads) (facts : Facts) (k n : ℕ) (rules : List AddedRule) → (k == n) ≡ false → has_fitting heads (rules_without n rules) facts k ≡ has_fitting heads rules facts k
+fits_other heads facts k n [] other = refl
+fits_other heads facts k n (r ∷ rules) other = by_test (r.connection == n) refl (fits_other heads facts k n rules other)
+  where
+    not_its : (r.connection == n) ≡ true → (r.connection == k) ≡ false
+    not_its same = grind (arith, nat_tests)
+
+    by_test : (b : Bool) → (r.connection == n) ≡ b → has_fitting heads (rules_without n rules) facts k ≡ has_fitting heads rules facts k →
+        has_fitting heads (rules_without n (r ∷ rules)) facts k ≡ has_fitting heads (r ∷ rules) facts k
+    by_test true is others = rw (is, not_its is) others
+    by_test false is others = rw is (ap (λ rest. ((r.connection == k) && fits heads r.rule facts) || rest) others)
+
+left_want : (s : BusState) (n : ℕ) (facts : Facts) →
+    all_that_want (without_connection s n) facts ≡ conns_that (λ c. stays (Some n) c.number && wants_by (head_of (without_connection s n)) s.rules facts c) s.connections
+left_want s n facts =
+    let heads = head_of (without_connection s n) in
+    ap (map conn_of) (filter_twice (λ c. not (c.number == n)) (wants_by heads (rules_without n s.rules) facts) s.connections
+    ∙ filter_alike (λ c. not (c.number == n) && wants_by heads (rules_without n s.rules) facts c) (λ c. not (c.number == n) && wants_by heads s.rules facts c) s.connections (λ c. by_test heads c (c.number == n) refl))
+  where
+    by_test : (heads : Heads) (c : Connection) (b : Bool) → (c.number == n) ≡ b →
+        (not (c.number == n) && wants_by heads (rules_without n s.rules) facts c) ≡ (not (c.number == n) && wants_by heads s.rules facts c)
+    by_test heads c true is = rw is refl
+    by_test heads c false is = rw is (ap (λ f. not (is_monitor c) && f) (fits_other heads facts c.number n s.rules is))
+
+left_shown : (s : BusState) (n : ℕ) (facts : Facts) →
+    monitors_shown (without_connection s n) facts ≡ conns_that (λ c. stays (Some n) c.number && watches_by (head_of (without_connection s n)) facts c) s.connections
+left_shown s n facts =
+    shown_same (without_connection s n) facts ∙ ap (map conn_of) (filter_twice (λ c. not (c.number == n)) (watches_by (head_of (without_connection s n)) facts) s.connections)
+
+-- what a Leave is told where the connection owns no name
+pub leave_told : (s : BusState) (seat n : ℕ) → IsConsistent s → s.names ≡ [] → is_client s.connections n ≡ true → is_some (connection_of s n) ≡ true →
+    (step s seat (Leave n)).1 ≡ record {
+      reply = Done;
+      signals = announced_to (head_of (without_connection s n)) (Some n) s (NameOwnerChanged (unique_text n) (Some n) None) ∷ [];
+      tickets = [];
+      start = None;
+    }
+leave_told s seat n h unnamed client present =
+    let next = without_connection s n in
+    let signal = NameOwnerChanged (unique_text n) (Some n) None in
+    let after : IsConsistent next = subst IsConsistent (leave_state s seat n present) (steps_keep_consistency s seat (Leave n) h) in
+    let sent : List Conn → List Conn → AddressedSignal = λ to shown. record { signal = signal; to = to; monitors = shown } in
+    let told : List AddressedSignal → NumberedOutcome = λ signals. record { reply = Done; signals = signals; tickets = []; start = None } in
+    by_found (connection_of s n) refl present ∙ ap told (ap (map (addressed next)) (only unnamed) ∙ ap (λ a. a ∷ []) (announced next (unique_text n) (Some n) None after
+    ∙ ap (λ to. sent to (monitors_shown next (facts_of signal))) (left_want s n (facts_of signal))
+    ∙ ap (sent (conns_that (λ c. stays (Some n) c.number && wants_by (head_of next) s.rules (facts_of signal) c) s.connections)) (left_shown s n (facts_of signal))))
+  where
+    only : s.names ≡ [] → signals_of_leave s n ≡ NameOwnerChanged (unique_text n) (Some n) None ∷ []
+    only e = ap (λ (names : List OwnedName). signals_of_leave (record s { names = names }) n) e
+
+    signals_if : Bool → List BusSignal
+    signals_if monitor = if monitor then [] else signals_of_leave s n
+
+    by_found : (o : Option Connection) → connection_of s n ≡ o → is_some o ≡ true →
+        (leave s n o).1 ≡ record { reply = Done; signals = map (addressed (without_connection s n)) (signals_of_leave s n); tickets = []; start = None }
+    by_found None e present = cc
+    by_found (Some c) e present =
+        ap (λ b. record { reply = Done; signals = map (addressed (without_connection s n)) (signals_if b); tickets = []; start = None }) (not_monitor (is_monitor c) (sym client ∙ client_found n s.connections c h.connections_rise e))
+      where
+        not_monitor : (b : Bool) → true ≡ not b → b ≡ false
+        not_monitor true k = cc
+        not_monitor false k = refl
+
+pub leave_of_monitor : (s : BusState) (seat n : ℕ) → IsConsistent s → is_client s.connections n ≡ false → is_some (connection_of s n) ≡ true →
+    (step s seat (Leave n)).1 ≡ record { reply = Done; signals = []; tickets = []; start = None }
+leave_of_monitor s seat n h other present = by_found (connection_of s n) refl present
+  where
+    monitor : (b : Bool) → false ≡ not b → b ≡ true
+    monitor true k = refl
+    monitor false k = cc
+
+    signals_if : Bool → List BusSignal
+    signals_if m = if m then [] else signals_of_leave s n
+
+    by_found : (o : Option Connection) → connection_of s n ≡ o → is_some o ≡ true → (leave s n o).1 ≡ record { reply = Done; signals = []; tickets = []; start = None }
+    by_found None e present = cc
+    by_found (Some c) e present =
+        ap (λ b. record { reply = Done; signals = map (addressed (without_connection s n)) (signals_if b); tickets = []; start = None }) (monitor (is_monitor c) (sym other ∙ client_found n s.connections c h.connections_rise e))
+
+-- ## Heads
+
+pub client_left : (cs : List Connection) (n m : ℕ) → is_client (filter (λ c. not (c.number == n)) cs) m ≡ (not (m == n) && is_client cs m)
+client_left [] n m = and_false (not (m == n))
+  where
+    and_false : (b : Bool) → false ≡ (b && false)
+    and_false true = refl
+    and_false false = refl
+client_left (c ∷ cs) n m = by_tests (c.number == n) (c.number == m) (m == n) refl refl refl (client_left cs n m)
+  where
+    never : (c.number == n) ≡ true → (c.number == m) ≡ true → (m == n) ≡ false → ⊥
+    never a b d = grind (arith, nat_tests)
+
+    never_other : (c.number == n) ≡ false → (c.number == m) ≡ true → (m == n) ≡ true → ⊥
+    never_other a b d = grind (arith, nat_tests)
+
+    by_tests : (a b d : Bool) → (c.number == n) ≡ a → (c.number == m) ≡ b → (m == n) ≡ d → is_client (filter (λ k. not (k.number == n)) cs) m ≡ (not (m == n) && is_client cs m) →
+        is_client (filter (λ k. not (k.number == n)) (c ∷ cs)) m ≡ (not (m == n) && is_client (c ∷ cs) m)
+    by_tests true true true x y z others = rw (x, z) (others ∙ rw z refl)
+    by_tests true true false x y z others = absurd (never x y z)
+    by_tests true false d x y z others = rw (x, y) others
+    by_tests false true true x y z others = absurd (never_other x y z)
+    by_tests false true false x y z others = rw (x, y, z) (ap (λ t. not (is_monitor c) || t) (others ∙ rw z refl))
+    by_tests false false d x y z others = rw (x, y) others
