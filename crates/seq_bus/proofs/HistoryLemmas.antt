@@ -1,12 +1,17 @@
 -- The history of a bus with one seat.
-use Rattle.std.proofs.Common.{◌≡◌, ℕ, zero, suc, ◌+◌, ◌==◌, Bool, true, false, cond, List, [], ◌∷◌, ◌++◌, length, map, filter, refl, sym, ap, ◌∙◌, arith}
+use Rattle.std.proofs.Common.{◌≡◌, ℕ, zero, suc, ◌+◌, ◌==◌, Bool, true, false, cond, List, [], ◌∷◌, ◌++◌, length, map, filter, refl, sym, ap, ◌∙◌, arith, subst}
 use Rattle.std.specs.List.{range_with_len, AllByRecursion}
 use Rattle.std.proofs.Common.{length-append}
 use Rattle.std.proofs.lemmas.List.{map-append}
 use Rattle.seq_bus_core.specs.Histories.{History, IsLegal, numbers_of, has_whole_publications}
 use Rattle.seq_bus_core.specs.Tickets.{WholeBus, bus_step, bus_after}
 use Rattle.seq_bus_core.specs.declared.entry.Entry.{Entry}
-use Rattle.seq_bus.specs.PlainBus.{AreOwnEntries, opened_as, without_tickets, IsStepped}
+use Rattle.seq_bus.specs.PlainBus.{AreOwnEntries, opened_as}
+use Rattle.seq_bus_core.specs.Steps.{step}
+use Rattle.seq_bus_core.proofs.StepCases.{step_cases}
+use Rattle.seq_bus_core.proofs.TicketLaws.{steps_keep_whole}
+use Rattle.seq_bus_core.proofs.LimitLaws.{steps_keep_limits}
+use Rattle.seq_bus_state.specs.Steps.{IsSound, IsStepped}
 use Rattle.seq_bus_core.specs.BusState.{BusState}
 use Rattle.seq_bus_core.specs.declared.change.Change.{Change}
 use Rattle.seq_bus_core.specs.declared.outcome.Outcome.{Outcome}
@@ -15,14 +20,46 @@ pub after_one : (b : WholeBus) (history : History) (e : Entry) → bus_after b (
 after_one b [] e = refl
 after_one b (x ∷ history) e = after_one (bus_step b x.seat x.change).0 history e
 
+-- a change does not touch what a bus was opened with
+pub opened_still : (s : BusState) (seat : ℕ) (change : Change) → opened_as (step s seat change).0 ≡ opened_as s
+opened_still s seat change =
+    step_cases s (λ t. opened_as t ≡ opened_as s)
+    (record {
+      same = refl;
+      hello = λ _ _ _ _ _. refl;
+      leave = λ _. refl;
+      request = λ _ _ _ _ _ _. refl;
+      release = λ _ _ _. refl;
+      add_match = λ _ _ _ _. refl;
+      remove_match = λ _. refl;
+      monitor = λ _ _. refl;
+      first_ticket = λ _ _ _ _. refl;
+      later_ticket = λ _ _. refl;
+      failed = λ _. refl;
+    }) seat change
+
+pub opened_by : (b t : WholeBus) (change : Change) (outcome : Outcome) → IsStepped b t change outcome → opened_as t.state ≡ opened_as b.state
+opened_by b t change outcome stepped = ap (λ (r : WholeBus × Outcome). opened_as r.0.state) (sym stepped) ∙ opened_still b.state 1 change
+
 -- the history after a change that was made
-pub step_made : (s t : BusState) (history : History) (number : ℕ) (change : Change) (outcome : Outcome) →
-    bus_after (opened_as s) history ≡ without_tickets s → opened_as t ≡ opened_as s → IsStepped s t change outcome →
-    bus_after (opened_as t) (history ++ record { seat = 1; number = number; change = change; left = 0 } ∷ []) ≡ without_tickets t
-step_made s t history number change outcome now opened stepped =
+pub step_made : (b t : WholeBus) (history : History) (number : ℕ) (change : Change) (outcome : Outcome) →
+    bus_after (opened_as b.state) history ≡ b → IsStepped b t change outcome →
+    bus_after (opened_as t.state) (history ++ record { seat = 1; number = number; change = change; left = 0 } ∷ []) ≡ t
+step_made b t history number change outcome now stepped =
     let e : Entry = record { seat = 1; number = number; change = change; left = 0 } in
-    ap (λ (b : WholeBus). bus_after b (history ++ e ∷ [])) opened ∙ after_one (opened_as s) history e
-    ∙ ap (λ (b : WholeBus). (bus_step b 1 change).0) now ∙ ap (λ (r : WholeBus × Outcome). r.0) stepped
+    let opened : opened_as t.state ≡ opened_as b.state = ap (λ (r : WholeBus × Outcome). opened_as r.0.state) (sym stepped) ∙ opened_still b.state 1 change in
+    ap (λ (w : WholeBus). bus_after w (history ++ e ∷ [])) opened ∙ after_one (opened_as b.state) history e
+    ∙ ap (λ (w : WholeBus). (bus_step w 1 change).0) now ∙ ap (λ (r : WholeBus × Outcome). r.0) stepped
+
+pub step_sound : (b t : WholeBus) (change : Change) (outcome : Outcome) → IsSound b → IsStepped b t change outcome → IsSound t
+step_sound b t change outcome sound stepped =
+    let after : (bus_step b 1 change).0 ≡ t = ap (λ (r : WholeBus × Outcome). r.0) stepped in
+    let routers : (step b.state 1 change).0.routers ≡ b.state.routers = ap (λ (w : WholeBus). w.state.routers) (opened_still b.state 1 change) in
+    subst IsSound after (record {
+      whole = steps_keep_whole b sound.whole 1 change;
+      within = steps_keep_limits b.state 1 change sound.whole.consistent sound.within;
+      routed = rw routers sound.routed;
+    })
 
 range_more : (a n : ℕ) → range_with_len a (n + 1) ≡ range_with_len a n ++ (a + n) ∷ []
 range_more a zero = let same : a ≡ a + 0 = omega arith in ap (λ k. k ∷ []) same

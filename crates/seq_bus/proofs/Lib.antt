@@ -1,5 +1,3 @@
 pub mod BodyLemmas
-pub mod ClientLemmas
 pub mod HistoryLemmas
 pub mod OpeningLemmas
-pub mod StepLemmas

@@ -1,5 +1,4 @@
-pub mod PlainBus
-pub mod Clients
-pub mod Served
 pub mod Bodies
+pub mod PlainBus
 pub mod Refusals
+pub mod Served

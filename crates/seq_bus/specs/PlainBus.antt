@@ -39,7 +39,3 @@ pub record AreOwnEntries (history : History) : Type 0 where
   pub seats : AllByRecursion (λ e. e.seat ≡ SEAT) history
   pub numbers : map (λ e. e.number) history ≡ range_with_len 1 (length history)
   pub alone : AllByRecursion (λ e. e.left ≡ 0) history
-
--- what a change does where no ticket waits before it or after it
-abbrev pub IsStepped : BusState → BusState → Change → Outcome → Type 0
-IsStepped before after change outcome = bus_step (without_tickets before) SEAT change ≡ (without_tickets after, outcome)

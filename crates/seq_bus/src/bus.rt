@@ -3,6 +3,7 @@
 ghost use Rattle.std.specs.Prelude.{◌≡◌, [], is_some, IfOk, OnErr, IfErr};
 ghost use Rattle.seq_bus_core.specs.BusState.{connection_of};
 ghost use Rattle.seq_bus_core.specs.Answers.{answer};
+ghost use Rattle.seq_bus_core.specs.Recipients.{recipients};
 ghost use Rattle.seq_bus_core.specs.Histories.{CanOpen, IsLegal};
 ghost use Rattle.seq_bus_core.specs.Tickets.{opening_bus};
 ghost use Rattle.seq_bus.specs.Bodies.{Answers};
@@ -13,11 +14,13 @@ ghost use Rattle.seq_bus.specs.declared.answer.AskFault.TheVariants.{NoMemory as
 
 use crate::SEAT;
 use crate::answer::{AskFault, Asked};
+use crate::bodies::{append_owner, append_whether};
 use crate::refusal::Refused;
-use crate::state::State;
+use match_rules::Facts;
 use names::WellKnown;
 use owner_queues::Profile;
-use seq_bus_core::{Change, Entry, Outcome, Query};
+use seq_bus_core::{Change, Entry, Outcome, Query, Verdict};
+use seq_bus_state::State;
 use std::alloc::{AllocError, Global};
 use std::marker::Model;
 
@@ -34,13 +37,14 @@ pub struct SeqBus {
 impl Model for SeqBus {
     ghost use Rattle.std.specs.Prelude.{◌≡◌};
     ghost use Rattle.seq_bus_core.specs.Tickets.{bus_after};
-    ghost use Rattle.seq_bus.specs.PlainBus.{PlainBus, opened_as, without_tickets, AreOwnEntries};
+    ghost use Rattle.seq_bus.specs.PlainBus.{PlainBus, opened_as, AreOwnEntries};
+    ghost use Rattle.seq_bus_state.specs.Steps.{IsSound};
 
     ghost Value = { PlainBus };
 
-    ghost view = { λ b. record { opening = opened_as b.state; seen = b.seen.items } };
+    ghost view = { λ b. record { opening = opened_as b.state.state; seen = b.seen.items } };
 
-    ghost invariant = { λ b. (bus_after (opened_as b.state) b.seen.items ≡ without_tickets b.state) × AreOwnEntries b.seen.items };
+    ghost invariant = { λ b. (bus_after (opened_as b.state.state) b.seen.items ≡ b.state) × AreOwnEntries b.seen.items × IsSound b.state };
 }
 
 impl SeqBus {
@@ -66,7 +70,8 @@ impl SeqBus {
 
     /// Makes a change, and says what it is told.
     ///
-    /// A change that is refused is handed back, and the bus is as it was. Today a Hello and a Leave are served.
+    /// A change that is refused is handed back, and the bus is as it was. Today a Hello, a Leave, an AddMatch and a
+    /// RemoveMatch are served.
     pub fn change(&mut self, change: Change) -> Result<Outcome, Refused>
         requires { IsServedChange change }
         ensures made { IfOk result (λ outcome. IsMade self.old self.new change outcome) }
@@ -102,7 +107,22 @@ impl SeqBus {
         ensures unanswered { OnErr result (body.new.items ≡ body.old.items) }
         ensures unchanged { self.new ≡ self.old }
     {
-        self.state.answer(query, body)
+        match query {
+            Query::GetNameOwner(name) => append_owner(body, self.state.owner_name(name)),
+            Query::NameHasOwner(name) => {
+                append_whether(body, self.state.owner_name(name).is_some())
+            }
+            _ => unreachable!(),
+        }
+    }
+
+    /// Where a message from a connection goes, and which monitors are shown it. 0 is the bus.
+    ///
+    /// The sender that the facts name is not looked at. No memory is taken.
+    pub fn route(&self, from: u64, facts: &Facts<'_>) -> Verdict
+        ensures { result ≡ recipients (bus_now self.now).state from facts.now }
+    {
+        self.state.route(from, facts)
     }
 
     /// The changes that were made, in order. They are a legal history.

@@ -1,4 +1,4 @@
-//! The plain bus: one thread, no tables but a list of connections, and the whole list of its changes.
+//! The plain bus: one thread, plain lists, and the whole list of its changes.
 //!
 //! [`SeqBus`] is what the definitions of `seq_bus_core` say, made to run: [`SeqBus::change`] makes one change and
 //! [`SeqBus::ask`] answers one query. What contracts see of it is how it was opened and which changes it has made.
@@ -8,11 +8,8 @@
 mod answer;
 mod bodies;
 mod bus;
-mod client;
 mod opening;
-mod outcomes;
 mod refusal;
-mod state;
 #[cfg(test)]
 mod tests;
 

@@ -4,9 +4,11 @@
 ghost use Rattle.seq_bus.specs.Served.{IsServedChange, IsServedQuery};
 
 use super::{Asked, SEAT, SeqBus, can_open};
+use arrayvec::ArrayVec;
+use match_rules::{Facts, MessageKind, Rule};
 use names::{BusName, UniqueName, WellKnown};
 use owner_queues::Profile;
-use seq_bus_core::{BusSignal, Change, Conn, Outcome, Query, Reply};
+use seq_bus_core::{BusSignal, Change, Conn, Outcome, Query, Reply, VerdictKind};
 use std::alloc::Global;
 use std::process::Abort;
 
@@ -191,4 +193,123 @@ fn what_a_bus_can_be_opened_with(rt: HostRuntime) {
     assert!(rt; !can_open(&[first, bus], 1));
     let opened = open(&rt, rt.alloc(), &[second, first], 8);
     assert!(rt; opened.history().is_empty());
+}
+
+/// A signal without destination.
+fn signal(member: &str) -> Facts<'_> {
+    Facts {
+        kind: MessageKind::Signal,
+        auto_start: true,
+        sender: 0,
+        path: Some("/"),
+        interface: Some("com.example.Clock"),
+        member: Some(member),
+        destination: None,
+        arguments: ArrayVec::new(),
+    }
+}
+
+fn recipients(rt: &impl Abort, bus: &SeqBus, from: u64, facts: &Facts<'_>) -> (VerdictKind, usize) {
+    let verdict = bus.route(from, facts);
+    assert!(rt; verdict.monitors.as_slice().is_empty());
+    (verdict.kind, verdict.to.as_slice().len())
+}
+
+#[test]
+fn rules_of_a_connection(rt: HostRuntime) {
+    let mut bus = open(&rt, rt.alloc(), &[], 1);
+    make(&rt, &mut bus, hello());
+    make(&rt, &mut bus, hello());
+    let rule = Rule::parse("sender=':1.1',member='Ticked'")
+        .ok()
+        .expect(&rt, "a rule");
+    let add = make(
+        &rt,
+        &mut bus,
+        Change::AddMatch {
+            connection: 2,
+            rule,
+        },
+    );
+    assert_eq!(rt; add.reply, Reply::Done);
+
+    assert_eq!(rt;
+        recipients(&rt, &bus, 1, &signal("Ticked")),
+        (VerdictKind::Plain, 1)
+    );
+    assert_eq!(rt;
+        recipients(&rt, &bus, 2, &signal("Ticked")),
+        (VerdictKind::Plain, 0)
+    );
+    assert_eq!(rt;
+        recipients(&rt, &bus, 1, &signal("Struck")),
+        (VerdictKind::Plain, 0)
+    );
+    assert_eq!(rt;
+        recipients(&rt, &bus, 3, &signal("Ticked")),
+        (VerdictKind::Absent, 0)
+    );
+    let mut to_second = signal("Ticked");
+    to_second.destination = Some(":1.2");
+    assert_eq!(rt;
+        recipients(&rt, &bus, 1, &to_second),
+        (VerdictKind::Plain, 1)
+    );
+    to_second.destination = Some(":1.3");
+    assert_eq!(rt;
+        recipients(&rt, &bus, 1, &to_second),
+        (VerdictKind::Nobody, 0)
+    );
+
+    let remove = make(
+        &rt,
+        &mut bus,
+        Change::RemoveMatch {
+            connection: 2,
+            rule,
+        },
+    );
+    assert_eq!(rt; remove.reply, Reply::Done);
+    let again = make(
+        &rt,
+        &mut bus,
+        Change::RemoveMatch {
+            connection: 2,
+            rule,
+        },
+    );
+    assert_eq!(rt; again.reply, Reply::RuleNotFound);
+    assert_eq!(rt;
+        recipients(&rt, &bus, 1, &signal("Ticked")),
+        (VerdictKind::Plain, 0)
+    );
+}
+
+#[test]
+fn names_that_come_and_go_are_told(rt: HostRuntime) {
+    let mut bus = open(&rt, rt.alloc(), &[], 1);
+    make(&rt, &mut bus, hello());
+    let rule = Rule::parse("member='NameOwnerChanged'")
+        .ok()
+        .expect(&rt, "a rule");
+    make(
+        &rt,
+        &mut bus,
+        Change::AddMatch {
+            connection: 1,
+            rule,
+        },
+    );
+    for outcome in [
+        make(&rt, &mut bus, hello()),
+        make(&rt, &mut bus, Change::Leave { connection: 2 }),
+    ] {
+        let Some(announced) = outcome.signals.as_slice().first() else {
+            panic!(rt; "a name has another owner");
+        };
+        let [conn] = announced.to.as_slice() else {
+            panic!(rt; "one connection listens");
+        };
+        assert_eq!(rt; conn.number, 1);
+    }
 }

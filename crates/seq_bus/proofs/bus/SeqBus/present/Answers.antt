@@ -1,12 +1,10 @@
-use Rattle.std.proofs.Common.{◌≡◌, ap, sym, ◌∙◌, ◌==◌, is_some}
-use Rattle.seq_bus_core.specs.BusState.{Connection, connection_of}
+use Rattle.std.proofs.Common.{◌≡◌, ap, sym, ◌∙◌, is_some}
+use Rattle.seq_bus_core.specs.BusState.{connection_of}
 use Rattle.seq_bus_core.specs.Tickets.{WholeBus}
 use Rattle.seq_bus.specs.PlainBus.{bus_now}
-use Rattle.seq_bus.proofs.ClientLemmas.{is_some-find}
 use Rattle.seq_bus.proofs.bus.SeqBus.present.Goals as goal
 
 pub returns : goal.returns
 returns c =
-    let now : bus_now c.args.self.now ≡ _ = ap bus_now (sym c.self.view_is) ∙ c.self.invariant.0 in
-    c.has.ensures ∙ sym (is_some-find (λ (d : Connection). d.number == c.args.number) c.self.inside.state.connections)
-    ∙ ap (λ (b : WholeBus). is_some (connection_of b.state c.args.number)) (sym now)
+    let now : bus_now c.args.self.now ≡ c.self.inside.state = ap bus_now (sym c.self.view_is) ∙ c.self.invariant.0 in
+    c.has.ensures ∙ ap (λ (b : WholeBus). is_some (connection_of b.state c.args.number)) (sym now)

@@ -1,9 +1,0 @@
-use Rattle.std.proofs.Common.{◌==◌, sym}
-use Rattle.seq_bus.specs.Clients.{connection_of_client}
-use Rattle.seq_bus.proofs.ClientLemmas.{list_any-map}
-use Rattle.seq_bus.proofs.state.State.has.Goals as goal
-
-pub returns : goal.returns
-returns c =
-    rw (c.has_number.ensures, c.deref.ensures.value, ← c.self.view_is)
-    (sym (list_any-map (λ d. d.number == c.args.number) connection_of_client c.self.inside.clients.items))
