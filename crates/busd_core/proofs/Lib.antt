@@ -1,11 +1,8 @@
-pub mod Arguments
-pub mod Asking
 pub mod Known
 pub mod Reading
 pub mod Sending
 pub mod Served
-pub mod Signed
 pub mod Stages
 pub mod Steps
 pub mod Streams
-pub mod Strings
+pub mod Telling

@@ -4,18 +4,18 @@ use Rattle.std.specs.List.{flat_map, AllByRecursion}
 use Rattle.std.proofs.lemmas.Grind.{flat_map-append}
 use Rattle.message_core.specs.Messages.{Message}
 use Rattle.message_core.specs.Said.{said}
-use Rattle.busd_core.specs.Serving.{Standing, serve}
+use Rattle.busd_core.specs.Serving.{Standing, Known, serve}
 use Rattle.busd_core.specs.Runs.{Taken, IsWhole, serve_all, AreWritten, Serves}
 use Rattle.busd_core.proofs.Sending.{are_written}
 
 serve_all_standing : (s : Standing) (xs ys : List Taken) → (serve_all s (xs ++ ys)).standing ≡ (serve_all (serve_all s xs).standing ys).standing
 serve_all_standing s [] ys = refl
-serve_all_standing s (x ∷ xs) ys = serve_all_standing (serve x.granted s (said x.bytes)).standing xs ys
+serve_all_standing s (x ∷ xs) ys = serve_all_standing (serve x.known s (said x.bytes)).standing xs ys
 
 serve_all_sent : (s : Standing) (xs ys : List Taken) → (serve_all s (xs ++ ys)).sent ≡ (serve_all s xs).sent ++ (serve_all (serve_all s xs).standing ys).sent
 serve_all_sent s [] ys = refl
 serve_all_sent s (x ∷ xs) ys =
-    let first = serve x.granted s (said x.bytes) in
+    let first = serve x.known s (said x.bytes) in
     ap (λ (l : List Message). first.sent ++ l) (serve_all_sent first.standing xs ys)
     ∙ sym (append_assoc first.sent (serve_all first.standing xs).sent (serve_all (serve_all first.standing xs).standing ys).sent)
 
@@ -53,13 +53,13 @@ serves_on bytes mid rest first later s t u f g =
     }
 
 -- one message
-pub serves_one : (bytes message rest written : List ℕ) (granted : Bool) (s t : Standing) → bytes ≡ message ++ rest → IsWhole (record { bytes = message; granted = granted })
-    → t ≡ (serve granted s (said message)).standing → AreWritten (serve granted s (said message)).sent written → Serves bytes s rest t written
-serves_one bytes message rest written granted s t whole frame standing sent =
+pub serves_one : (bytes message rest written : List ℕ) (known : Known) (s t : Standing) → bytes ≡ message ++ rest → IsWhole (record { bytes = message; known = known })
+    → t ≡ (serve known s (said message)).standing → AreWritten (serve known s (said message)).sent written → Serves bytes s rest t written
+serves_one bytes message rest written known s t whole frame standing sent =
     record {
-      taken = record { bytes = message; granted = granted } ∷ [];
+      taken = record { bytes = message; known = known } ∷ [];
       whole = whole ∙ ap (λ (l : List ℕ). l ++ rest) (sym (append-nil message));
       each = (frame, tt);
       standing = standing;
-      sent = subst (λ (l : List Message). AreWritten l written) (sym (append-nil (serve granted s (said message)).sent)) sent;
+      sent = subst (λ (l : List Message). AreWritten l written) (sym (append-nil (serve known s (said message)).sent)) sent;
     }

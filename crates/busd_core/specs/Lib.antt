@@ -1,5 +1,3 @@
-pub mod OwnMessages
-pub mod Calls
 pub mod Serving
 pub mod Runs
 pub mod Transfers

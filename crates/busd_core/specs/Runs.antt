@@ -1,5 +1,5 @@
 -- What the bus writes for a whole stream.
-use Rattle.std.specs.Prelude.{◌≡◌, ℕ, ◌≤◌, Bool, List, [], ◌∷◌, ◌++◌, length, Option, Result, Ok, Err}
+use Rattle.std.specs.Prelude.{◌≡◌, ℕ, ◌≤◌, true, Some, None, List, [], ◌∷◌, ◌++◌, length, Option, Result, Ok, Err}
 use Rattle.std.specs.List.{flat_map, AllByRecursion}
 use Rattle.std.specs.Io.KnownBytes.{Consumes, Appends}
 use Rattle.message_core.specs.Messages.{Message, IsMessage, IsWritten}
@@ -10,25 +10,31 @@ use Rattle.busd_core.specs.declared.fault.Cause.TheVariants.{Faulty}
 use Rattle.busd_core.specs.declared.fault.RunFault.{RunFault}
 use Rattle.busd_core.specs.declared.fault.RunFault.TheVariants as fault
 use Rattle.busd_core.specs.declared.stage.Stage.TheVariants.{Closed}
-use Rattle.busd_core.specs.Serving.{Standing, Served, serve, quiet, opening}
+use Rattle.driver.specs.Calls.{is_call_to_bus, IsCall}
+use Rattle.busd_core.specs.Serving.{Standing, Served, Known, serve, quiet, opening}
 
--- a message that was received, and whether the memory that its serving wants was granted
+-- a message that was received, and what it is read as, where there was memory to serve it
 pub record Taken : Type 0 where
   pub bytes : List ℕ
-  pub granted : Bool
+  pub known : Known
+
+-- a call to the bus is read as what it is
+abbrev pub IsKnown : Message → Known → Type 0
+IsKnown m None = Unit {0}
+IsKnown m (Some reading) = is_call_to_bus m ≡ true → IsCall m reading
 
 -- the most bytes of a message
 abbrev pub limit : ℕ
 limit = 1048576
 
 abbrev pub IsWhole : Taken → Type 0
-IsWhole t = IsMessage t.bytes (said t.bytes) × (length t.bytes ≤ limit)
+IsWhole t = IsMessage t.bytes (said t.bytes) × (length t.bytes ≤ limit) × IsKnown (said t.bytes) t.known
 
 -- serves the messages one after another
 abbrev pub serve_all : Standing → List Taken → Served
 serve_all s [] = quiet s
 serve_all s (t ∷ ts) =
-    let first = serve t.granted s (said t.bytes) in
+    let first = serve t.known s (said t.bytes) in
     let later = serve_all first.standing ts in
     record { standing = later.standing; sent = first.sent ++ later.sent }
 

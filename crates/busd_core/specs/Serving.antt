@@ -1,31 +1,34 @@
 -- What the bus does for one message of a connection. (D-Bus Specification: "Message Bus Messages")
 use Rattle.std.specs.Prelude.{ℕ, ◌+◌, Bool, true, ◌==◌, Option, Some, None, Result, Ok, Err, List, [], ◌∷◌, ◌++◌, if◌then◌else◌}
-use Rattle.names.specs.Texts.{Text}
 use Rattle.names.specs.UniqueName.{unique_text}
+use Rattle.marshal_core.specs.Types.{Tys, one_type}
+use Rattle.marshal_core.specs.Values.{Vals, values}
 use Rattle.owner_queues.specs.declared.request.Profile.TheVariants.{Two}
-use Rattle.seq_bus_core.specs.Answers.{Answer, OneName, answer}
-use Rattle.seq_bus_core.specs.Errors.{error_text}
+use Rattle.seq_bus_core.specs.Answers.{Answer, answer}
 use Rattle.seq_bus_core.specs.declared.change.Change.{Change}
 use Rattle.seq_bus_core.specs.declared.change.Change.TheVariants.{Hello as SaysHello}
 use Rattle.seq_bus_core.specs.declared.error_kind.ErrorKind.{ErrorKind}
-use Rattle.seq_bus_core.specs.declared.error_kind.ErrorKind.TheVariants.{Failed, NoMemory, NameHasNoOwner, LimitsExceeded as LimitsError}
+use Rattle.seq_bus_core.specs.declared.error_kind.ErrorKind.TheVariants.{Failed, NoMemory, NameHasNoOwner, UnknownMethod, LimitsExceeded as LimitsError}
 use Rattle.seq_bus_core.specs.declared.outcome.Reply.{Reply as ChangeReply}
 use Rattle.seq_bus_core.specs.declared.outcome.Reply.TheVariants.{Welcome}
+use Rattle.seq_bus_core.specs.declared.query.Query.{Query}
 use Rattle.seq_bus_core.specs.declared.query.Query.TheVariants as query
+use Rattle.seq_bus_core.specs.declared.signal.BusSignal.TheVariants.{NameAcquired}
 use Rattle.seq_bus_core.specs.Tickets.{opening_bus, bus_step}
 use Rattle.seq_bus.specs.declared.TheConstants.{SEAT}
+use Rattle.seq_bus.specs.Bodies.{answer_type, answer_value}
 use Rattle.seq_bus.specs.PlainBus.{PlainBus, bus_now, next_entry}
 use Rattle.message_core.specs.Messages.{Message}
-use Rattle.busd_core.specs.declared.call.Method.{Method}
-use Rattle.busd_core.specs.declared.call.Method.TheVariants.{Hello, GetNameOwner}
+use Rattle.message_core.specs.Headers.{message_of}
+use Rattle.driver.specs.declared.call.Call.{Call}
+use Rattle.driver.specs.declared.call.Call.TheVariants as call
+use Rattle.driver.specs.declared.reply.ReplyTo.{ReplyTo}
+use Rattle.driver.specs.Calls.{Reading, is_call_to_bus, expects_reply, is_hello, error_of}
+use Rattle.driver.specs.OwnMessages.{reply_header, of_strings, error_message, signal_message}
 use Rattle.busd_core.specs.declared.fault.Cause.{Cause}
 use Rattle.busd_core.specs.declared.fault.Cause.TheVariants.{NotHello, LimitsExceeded}
-use Rattle.busd_core.specs.declared.own_message.OwnMessage.{OwnMessage}
-use Rattle.busd_core.specs.declared.own_message.OwnMessage.TheVariants.{Reply, Error, NameAcquired}
 use Rattle.busd_core.specs.declared.stage.Stage.{Stage}
 use Rattle.busd_core.specs.declared.stage.Stage.TheVariants.{Unnamed, Named, Closed}
-use Rattle.busd_core.specs.OwnMessages.{own_message}
-use Rattle.busd_core.specs.Calls.{is_call_to_bus, expects_reply, method_of, is_hello, name_in}
 
 -- a connection: how far it has come, the serial of the last message that the bus sent it, and the bus
 pub record Standing : Type 0 where
@@ -51,19 +54,25 @@ quiet s = record { standing = s; sent = [] }
 abbrev pub next_serial : ℕ → ℕ
 next_serial serial = if serial == 4294967295 then 1 else serial + 1
 
--- one message more
-abbrev pub sending : OwnMessage → Text → Served → Served
-sending own text v = record {
+-- one message more, by its serial
+abbrev pub sending : (ℕ → Message) → Served → Served
+sending make v = record {
   standing = record v.standing { serial = next_serial v.standing.serial };
-  sent = v.sent ++ own_message (next_serial v.standing.serial) own text ∷ [];
+  sent = v.sent ++ make (next_serial v.standing.serial) ∷ [];
 }
 
 -- the reply to a call, where it expects one
-abbrev pub replying : Message → OwnMessage → Text → Served → Served
-replying m own text v = if expects_reply m then sending own text v else v
+abbrev pub replying : Message → (ℕ → Message) → Served → Served
+replying m make v = if expects_reply m then sending make v else v
+
+abbrev pub reply_to : Message → Option ℕ → ReplyTo
+reply_to m caller = record { caller = caller; call = m.serial }
+
+abbrev pub error_by : Message → Option ℕ → ErrorKind → ℕ → Message
+error_by m caller error serial = error_message serial (reply_to m caller) error
 
 abbrev pub refusing : Message → Option ℕ → ErrorKind → Standing → Served
-refusing m caller error s = replying m (Error caller m.serial error) (error_text error) (quiet s)
+refusing m caller error s = replying m (error_by m caller error) (quiet s)
 
 abbrev pub closing : Cause → Served → Served
 closing cause v = record v { standing = record v.standing { stage = Closed cause } }
@@ -78,11 +87,16 @@ hello_change = SaysHello true
 abbrev pub with_change : PlainBus → Change → PlainBus
 with_change bus change = record bus { seen = bus.seen ++ next_entry bus change ∷ [] }
 
+-- its unique name, in the reply and in a signal
+abbrev pub welcome_by : Message → ℕ → ℕ → Message
+welcome_by m number serial = of_strings (reply_header serial (reply_to m (Some number))) (unique_text number ∷ [])
+
+abbrev pub acquired_by : ℕ → ℕ → Message
+acquired_by number serial = signal_message serial (NameAcquired (unique_text number) number)
+
 -- the connection has its number, and is told so
 abbrev pub naming : Message → ℕ → Standing → Served
-naming m number s =
-    sending (NameAcquired number) (unique_text number)
-    (replying m (Reply (Some number) m.serial) (unique_text number) (quiet (record s { stage = Named number })))
+naming m number s = sending (acquired_by number) (replying m (welcome_by m number) (quiet (record s { stage = Named number })))
 
 -- the connection would exceed a limit of the bus
 abbrev pub turning_away : Message → Standing → Served
@@ -95,39 +109,56 @@ greeting m s reply = turning_away m s
 abbrev pub welcoming : Message → Standing → Served
 welcoming m s = greeting m (record s { bus = with_change s.bus hello_change }) (bus_step (bus_now s.bus) SEAT hello_change).1.reply
 
-abbrev pub hello : Bool → Standing → Message → Served
-hello granted s m = if granted then welcoming m s else refusing m None NoMemory s
+-- What a call is read as; none where there is no memory to serve it.
+abbrev pub Known : Type 0
+Known = Option (Reading Call)
 
-abbrev pub serve_unnamed : Bool → Standing → Message → Served
-serve_unnamed granted s m = if is_hello m then hello granted s m else closing NotHello (quiet s)
+abbrev pub hello : Known → Standing → Message → Served
+hello None s m = refusing m None NoMemory s
+hello (Some reading) s m = welcoming m s
+
+abbrev pub serve_unnamed : Known → Standing → Message → Served
+serve_unnamed known s m = if is_hello m then hello known s m else closing NotHello (quiet s)
 
 -- ## Once it has a name
 
+abbrev pub answer_by : Message → ℕ → Answer → ℕ → Message
+answer_by m number told serial = message_of (reply_header serial (reply_to m (Some number))) (one_type (answer_type told)) (values (answer_value told ∷ []))
+
 abbrev pub telling : Message → ℕ → Standing → Option Answer → Served
-telling m number s (Some (OneName owner)) = replying m (Reply (Some number) m.serial) owner (quiet s)
-telling m number s answer = refusing m (Some number) NameHasNoOwner s
+telling m number s None = refusing m (Some number) NameHasNoOwner s
+telling m number s (Some told) = replying m (answer_by m number told) (quiet s)
 
-abbrev pub asking : Message → ℕ → Standing → Result Text ErrorKind → Served
+-- The query that a call is, or the error that it is answered. The bus serves no other yet.
+abbrev pub query_of : Call → Result Query ErrorKind
+query_of call.Hello = Err Failed
+query_of (call.GetNameOwner name) = Ok (query.GetNameOwner name)
+query_of (call.NameHasOwner name) = Ok (query.NameHasOwner name)
+query_of other = Err UnknownMethod
+
+abbrev pub query_in : Reading Call → Result Query ErrorKind
+query_in (Err fault) = Err (error_of fault)
+query_in (Ok c) = query_of c
+
+abbrev pub asking : Message → ℕ → Standing → Result Query ErrorKind → Served
 asking m number s (Err error) = refusing m (Some number) error s
-asking m number s (Ok name) = telling m number s (answer (bus_now s.bus).state (query.GetNameOwner name))
+asking m number s (Ok asked) = telling m number s (answer (bus_now s.bus).state asked)
 
-abbrev pub serve_call : Bool → ℕ → Standing → Message → Result Method ErrorKind → Served
-serve_call granted number s m (Err error) = refusing m (Some number) error s
-serve_call granted number s m (Ok Hello) = refusing m (Some number) Failed s
-serve_call granted number s m (Ok GetNameOwner) =
-    if granted then asking m number s (name_in m.body) else refusing m (Some number) NoMemory s
+abbrev pub serve_known : Message → ℕ → Standing → Known → Served
+serve_known m number s None = refusing m (Some number) NoMemory s
+serve_known m number s (Some reading) = asking m number s (query_in reading)
 
 -- A message that is no call to the bus is for nobody.
-abbrev pub serve_named : Bool → ℕ → Standing → Message → Served
-serve_named granted number s m = if is_call_to_bus m then serve_call granted number s m (method_of m) else quiet s
+abbrev pub serve_named : Known → ℕ → Standing → Message → Served
+serve_named known number s m = if is_call_to_bus m then serve_known m number s known else quiet s
 
 -- ## At each stage
 
-abbrev pub serve_at : Stage → Bool → Standing → Message → Served
-serve_at Unnamed granted s m = serve_unnamed granted s m
-serve_at (Named number) granted s m = serve_named granted number s m
-serve_at (Closed cause) granted s m = quiet s
+abbrev pub serve_at : Stage → Known → Standing → Message → Served
+serve_at Unnamed known s m = serve_unnamed known s m
+serve_at (Named number) known s m = serve_named known number s m
+serve_at (Closed cause) known s m = quiet s
 
--- serves a message, where the memory that a Hello or a GetNameOwner wants was granted or refused
-unfoldable pub serve : Bool → Standing → Message → Served
-serve granted s m = serve_at s.stage granted s m
+-- Serves a message. Without memory for it a call is answered NoMemory, and nothing changes.
+unfoldable pub serve : Known → Standing → Message → Served
+serve known s m = serve_at s.stage known s m

@@ -1,14 +1,15 @@
 -- What the parts of a session do.
-use Rattle.std.specs.Prelude.{◌≡◌, ◌⊎◌, ℕ, Bool, List, [], ◌++◌, Some, None, Result, Ok, Err}
-use Rattle.names.specs.Texts.{Text}
-use Rattle.seq_bus_core.specs.Answers.{answer}
-use Rattle.seq_bus_core.specs.declared.change.Change.TheVariants.{Leave}
-use Rattle.seq_bus_core.specs.declared.query.Query.TheVariants as query
+use Rattle.std.specs.Prelude.{◌≡◌, ◌⊎◌, ℕ, List, [], ◌++◌, None, Result, Ok, Err}
+use Rattle.std.specs.declared.alloc.AllocError.{AllocError}
+use Rattle.seq_bus_core.specs.declared.error_kind.ErrorKind.{ErrorKind}
 use Rattle.seq_bus_core.specs.declared.error_kind.ErrorKind.TheVariants.{NoMemory}
-use Rattle.seq_bus.specs.PlainBus.{bus_now}
+use Rattle.seq_bus_core.specs.declared.query.Query.{Query}
+use Rattle.seq_bus_core.specs.declared.change.Change.TheVariants.{Leave}
 use Rattle.message_core.specs.Messages.{Message}
 use Rattle.message_core.specs.Said.{said}
 use Rattle.message.specs.Framing.{IsWaiting, IsTaken, IsJudged}
+use Rattle.driver.specs.declared.call.Call.{Call}
+use Rattle.driver.specs.Calls.{Reading, IsCall}
 use Rattle.busd_core.specs.declared.fault.Cause.{Cause}
 use Rattle.busd_core.specs.declared.fault.Cause.TheVariants.{Faulty}
 use Rattle.busd_core.specs.declared.stage.Stage.{Stage}
@@ -16,8 +17,8 @@ use Rattle.busd_core.specs.declared.stage.Stage.TheVariants.{Named, Closed}
 use Rattle.busd_core.specs.declared.session.Stop.{Stop}
 use Rattle.busd_core.specs.declared.session.Stop.TheVariants.{Closed as StopClosed, Memory}
 use Rattle.busd_core.specs.declared.session.Session.{Session}
-use Rattle.busd_core.specs.Serving.{Standing, Served, opening, next_serial, with_change, telling, refusing, serve}
-use Rattle.busd_core.specs.Runs.{limit, Serves, IsOpen, ClosesFor, AreWritten}
+use Rattle.busd_core.specs.Serving.{Standing, Served, Known, opening, with_change, query_in, serve_known, serve}
+use Rattle.busd_core.specs.Runs.{limit, Serves, IsKnown, IsOpen, ClosesFor, AreWritten}
 
 abbrev pub standing_of : Session → Standing
 standing_of s = record { stage = s.stage; serial = s.serial; bus = s.bus }
@@ -53,17 +54,10 @@ abbrev pub Shows : Session → Session → Served → (before after : List ℕ) 
 Shows old new served before after =
     (new.framer ≡ old.framer) × (standing_of new ≡ served.standing) × ((written : List ℕ) × AreWritten served.sent written × (after ≡ before ++ written))
 
--- a message of the bus, which has the next serial
-abbrev pub Appends : Session → Session → List ℕ → (before after : List ℕ) → Result (Unit {0}) Stop → Type 0
-Appends old new message before after (Ok u) = (new ≡ record old { serial = next_serial old.serial }) × (after ≡ before ++ message)
-Appends old new message before after (Err Memory) = Grows before after
-Appends old new message before after (Err (StopClosed cause)) = ⊥
-
--- It is done, or there was no memory.
-abbrev pub Does : Session → Session → Served → (before after : List ℕ) → Result (Unit {0}) Stop → Type 0
+-- It is done, or there was no memory, and nothing is done.
+abbrev pub Does : Session → Session → Served → (before after : List ℕ) → Result (Unit {0}) AllocError → Type 0
 Does old new served before after (Ok u) = Shows old new served before after
-Does old new served before after (Err Memory) = Grows before after
-Does old new served before after (Err (StopClosed cause)) = ⊥
+Does old new served before after (Err e) = (new ≡ old) × (after ≡ before)
 
 -- ## What a message brings
 
@@ -78,16 +72,29 @@ Ends old new served before after (Ok u) = Shows old new served before after × I
 Ends old new served before after (Err Memory) = Grows before after
 Ends old new served before after (Err (StopClosed cause)) = Shows old new served before after × ClosesBy cause new
 
--- the owner of a name is told, or there was no memory to ask for it
-abbrev pub TellsOrWants : Session → Session → ℕ → Message → Text → (before after : List ℕ) → Result (Unit {0}) Stop → Type 0
-TellsOrWants old new caller m name before after result =
-    Does old new (telling m caller (standing_of old) (answer (bus_now old.bus).state (query.GetNameOwner name))) before after result
-    ⊎ Does old new (refusing m (Some caller) NoMemory (standing_of old)) before after result
+-- A step that keeps the connection as it is, or there was no memory to go on.
+abbrev pub Stops : Session → Session → Served → (before after : List ℕ) → Result (Unit {0}) Stop → Type 0
+Stops old new served before after (Ok u) = Shows old new served before after
+Stops old new served before after (Err Memory) = Grows before after
+Stops old new served before after (Err (StopClosed cause)) = ⊥
+
+-- a call is read, or there was no memory for it
+abbrev pub ReadsOrWants : Message → Result Query ErrorKind → Type 0
+ReadsOrWants m result = ((reading : Reading Call) × IsCall m reading × (result ≡ query_in reading)) ⊎ (result ≡ Err NoMemory)
+
+-- a call is served, or there was no memory, and nothing is done
+abbrev pub ServesCall : Message → ℕ → Session → Session → (before after : List ℕ) → Result (Unit {0}) AllocError → Type 0
+ServesCall m number old new before after (Ok u) = (known : Known) × IsKnown m known × Shows old new (serve_known m number (standing_of old) known) before after
+ServesCall m number old new before after (Err e) = (new ≡ old) × (after ≡ before)
+
+-- a call is served, whatever there is memory for
+abbrev pub ServesKnown : (Known → Served) → Message → Session → Session → (before after : List ℕ) → Result (Unit {0}) Stop → Type 0
+ServesKnown served m old new before after result = (known : Known) × IsKnown m known × Ends old new (served known) before after result
 
 -- one message is served
 abbrev pub ServesOne : Session → Session → List ℕ → (before after : List ℕ) → Result (Unit {0}) Stop → Type 0
 ServesOne old new m before after result =
-    (granted : Bool) × Ends old new (serve granted (standing_of old) (said m)) before after result × (result ≡ Err Memory → after ≡ before)
+    ServesKnown (λ known. serve known (standing_of old) (said m)) (said m) old new before after result × (result ≡ Err Memory → after ≡ before)
 
 -- A connection that has a number leaves, where there is memory for it.
 abbrev pub LeavesAs : Stage → Session → Session → Type 0

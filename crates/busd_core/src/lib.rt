@@ -4,9 +4,8 @@
 //! for a stream.
 #![tactic(auto)]
 
-mod call;
 mod fault;
-mod own_message;
+mod query;
 mod session;
 mod stage;
 mod stream;

@@ -1,28 +1,35 @@
 //! The bus's side of one connection.
 
-ghost use Rattle.std.specs.Prelude.{◌≡◌, ◌++◌, Bool, IfOk, IfErr, IfSome, IfNone, OnErr, Some, None};
-ghost use Rattle.names.specs.Texts.{Text};
-ghost use Rattle.marshal_core.specs.Spelling.{IsString, Spells};
-ghost use Rattle.marshal_core.specs.declared.order.Order.TheVariants.{Little};
+ghost use Rattle.std.specs.Prelude.{◌≡◌, ◌<◌, ◌++◌, true, Some, None, IfOk, IfErr, IfSome, IfNone, OnErr};
+ghost use Rattle.marshal_core.specs.Types.{Tys};
+ghost use Rattle.marshal_core.specs.Values.{Vals};
 ghost use Rattle.seq_bus_core.specs.Answers.{answer};
+ghost use Rattle.seq_bus_core.specs.declared.error_kind.ErrorKind.TheVariants.{NoMemory};
 ghost use Rattle.seq_bus.specs.PlainBus.{bus_now};
-ghost use Rattle.message_core.specs.Messages.{IsWritten};
+ghost use Rattle.seq_bus.specs.Served.{IsServedQuery};
+ghost use Rattle.message_core.specs.Headers.{message_of};
 ghost use Rattle.message_core.specs.Said.{said};
-ghost use Rattle.busd_core.specs.OwnMessages.{one_string, string_body, own_message};
-ghost use Rattle.busd_core.specs.Serving.{quiet, next_serial, sending, replying, refusing, naming, turning_away, hello, telling, serve_unnamed, serve_named, serve};
+ghost use Rattle.driver.specs.Calls.{is_hello};
+ghost use Rattle.driver.specs.OwnMessages.{reply_header, IsReplyBody};
+ghost use Rattle.busd_core.specs.Serving.{quiet, next_serial, sending, replying, reply_to, refusing, acquired_by, naming, turning_away, hello, telling, serve_unnamed, serve_named, serve};
 ghost use Rattle.busd_core.specs.Runs.{IsOpen};
-ghost use Rattle.busd_core.specs.Sessions.{standing_of, IsFresh, IsReady, TakesOff, IsAtRest, StopsReading, Appends, Does, Ends, TellsOrWants, ServesOne, Leaves, Receives};
+ghost use Rattle.busd_core.specs.Sessions.{standing_of, IsFresh, IsReady, TakesOff, IsAtRest, StopsReading, Does, Ends, Stops, ServesCall, ServesKnown, ServesOne, Leaves, Receives};
 
-use crate::call::{Method, expects_reply, is_call_to_bus, is_hello, method_of, name_in};
 use crate::fault::{Cause, RunFault};
-use crate::own_message::{OwnMessage, text_body};
+use crate::query::{body_of, query_in, reply_to};
 use crate::stage::Stage;
+use driver::{
+    ReplyBody, expects_reply, is_call_to_bus, is_hello, write_error, write_reply, write_signal,
+};
 use message::{FrameFault, Framer, Message};
 use names::{BusName, UniqueName};
 use owner_queues::Profile;
 use seq_bus::{Asked, SeqBus};
-use seq_bus_core::{Change, ErrorKind, Query, Reply};
+use seq_bus_core::{BusSignal, Change, ErrorKind, Query, Reply};
 use std::alloc::{AllocError, Global};
+
+/// Room for what a Hello brings: a reply and a signal, which have unique names of at most 24 bytes.
+const HELLO_ROOM: usize = 512;
 
 /// Why a session takes no more.
 #[derive(Clone, Copy, Debug, PartialEq, Eq)]
@@ -108,7 +115,8 @@ impl Session {
     }
 
     fn next_serial(&self) -> u32
-        ensures { result ≡ next_serial self.now.serial }
+        ensures value { result ≡ next_serial self.now.serial }
+        ensures positive { 0 < result }
     {
         if self.serial == u32::MAX {
             1
@@ -117,78 +125,34 @@ impl Session {
         }
     }
 
-    /// Appends a message of the bus.
-    fn append(&mut self, message: &Message, out: &mut Vec<u8>) -> Result<(), Stop>
-        ensures { Appends self.old self.new message.now out.old.items out.new.items result }
+    /// The next message of the bus was appended.
+    fn count(&mut self)
+        ensures { self.new ≡ record self.old { serial = next_serial self.old.serial } }
     {
-        out.extend_from_slice(message.as_bytes())?;
         self.serial = self.next_serial();
-        Ok(())
-    }
-
-    /// A message of the bus itself with this body, which is one string.
-    fn with_body(&self, own: OwnMessage, body: &[u8]) -> Result<Message, AllocError>
-        ensures { (text : Text) → Spells Little 0 one_string (string_body text) body.now → IfOk result (λ message. IsWritten message (own_message (next_serial self.now.serial) own text)) }
-    {
-        let header = own.header(self.next_serial());
-        match Message::with_body(self.alloc, &header, "s", body) {
-            Ok(message) => Ok(message),
-            Err(_) => Err(AllocError),
-        }
-    }
-
-    /// Sends a message of the bus itself with this body, which is one string.
-    fn send_body(&mut self, own: OwnMessage, body: &[u8], out: &mut Vec<u8>) -> Result<(), Stop>
-        ensures { (text : Text) → Spells Little 0 one_string (string_body text) body.now → Does self.old self.new (sending own text (quiet (standing_of self.old))) out.old.items out.new.items result }
-    {
-        let message = self.with_body(own, body)?;
-        self.append(&message, out)
-    }
-
-    /// Sends a message of the bus itself, whose body is a text.
-    fn send(&mut self, own: OwnMessage, text: &str, out: &mut Vec<u8>) -> Result<(), Stop>
-        requires { IsString text.now }
-        ensures { Does self.old self.new (sending own text.now (quiet (standing_of self.old))) out.old.items out.new.items result }
-    {
-        let body = text_body(self.alloc, text)?;
-        self.send_body(own, body.as_slice(), out)
     }
 
     /// Sends the reply to a call, if it expects one.
     fn reply(
         &mut self,
         call: &Message,
-        own: OwnMessage,
-        text: &str,
-        out: &mut Vec<u8>,
-    ) -> Result<(), Stop>
-        requires { IsString text.now }
-        ensures { Does self.old self.new (replying (said call.now) own text.now (quiet (standing_of self.old))) out.old.items out.new.items result }
-    {
-        if !expects_reply(call) {
-            return Ok(());
-        }
-        self.send(own, text, out)
-    }
-
-    /// Sends the reply to a call that asked for an owner, if it expects one.
-    fn reply_answer(
-        &mut self,
-        call: &Message,
         caller: u64,
-        body: &[u8],
+        body: ReplyBody<'_>,
         out: &mut Vec<u8>,
-    ) -> Result<(), Stop>
-        ensures { (text : Text) → Spells Little 0 one_string (string_body text) body.now → Does self.old self.new (replying (said call.now) (OwnMessage.Reply (Some caller) (said call.now).serial) text (quiet (standing_of self.old))) out.old.items out.new.items result }
+    ) -> Result<(), AllocError>
+        ensures { (types : Tys) (values : Vals) → IsReplyBody body.entry types values → Does self.old self.new (replying (said call.now) (λ serial. message_of (reply_header serial (reply_to (said call.now) (Some caller))) types values) (quiet (standing_of self.old))) out.old.items out.new.items result }
     {
         if !expects_reply(call) {
             return Ok(());
         }
-        let own = OwnMessage::Reply {
-            caller: Some(caller),
-            call: call.serial(),
-        };
-        self.send_body(own, body, out)
+        let to = reply_to(call, Some(caller));
+        match write_reply(self.next_serial(), to, body, out) {
+            Ok(()) => {
+                self.count();
+                Ok(())
+            }
+            Err(error) => Err(error),
+        }
     }
 
     /// Sends an error in place of a reply, if the call expects one.
@@ -198,15 +162,37 @@ impl Session {
         caller: Option<u64>,
         error: ErrorKind,
         out: &mut Vec<u8>,
-    ) -> Result<(), Stop>
+    ) -> Result<(), AllocError>
         ensures { Does self.old self.new (refusing (said call.now) caller error (standing_of self.old)) out.old.items out.new.items result }
     {
-        let own = OwnMessage::Error {
-            caller,
-            call: call.serial(),
-            error,
+        if !expects_reply(call) {
+            return Ok(());
+        }
+        let to = reply_to(call, caller);
+        match write_error(self.next_serial(), to, error, out) {
+            Ok(()) => {
+                self.count();
+                Ok(())
+            }
+            Err(error) => Err(error),
+        }
+    }
+
+    /// Tells the connection that it has its unique name.
+    fn acquire(&mut self, number: u64, out: &mut Vec<u8>) -> Result<(), AllocError>
+        ensures { Does self.old self.new (sending (acquired_by number) (quiet (standing_of self.old))) out.old.items out.new.items result }
+    {
+        let signal = BusSignal::NameAcquired {
+            name: BusName::from(UniqueName::of(number)),
+            owner: number,
         };
-        self.reply(call, own, error.text(), out)
+        match write_signal(self.next_serial(), &signal, out) {
+            Ok(()) => {
+                self.count();
+                Ok(())
+            }
+            Err(error) => Err(error),
+        }
     }
 
     /// Gives the connection its number, and tells it so.
@@ -214,44 +200,60 @@ impl Session {
         ensures { Ends self.old self.new (naming (said call.now) number (standing_of self.old)) out.old.items out.new.items result }
     {
         self.stage = Stage::Named(number);
-        let name = UniqueName::of(number);
-        let reply = OwnMessage::Reply {
-            caller: Some(number),
-            call: call.serial(),
-        };
-        self.reply(call, reply, name.as_str(), out)?;
-        let acquired = OwnMessage::NameAcquired { owner: number };
-        self.send(acquired, name.as_str(), out)
+        match self.reply(call, number, ReplyBody::UniqueName(number), out) {
+            Ok(()) => match self.acquire(number, out) {
+                Ok(()) => Ok(()),
+                Err(_) => Err(Stop::Memory),
+            },
+            Err(_) => Err(Stop::Memory),
+        }
+    }
+
+    /// Answers a call for which there is no memory. Without memory for that either, nothing goes on.
+    fn want(&mut self, call: &Message, caller: Option<u64>, out: &mut Vec<u8>) -> Result<(), Stop>
+        ensures { Stops self.old self.new (refusing (said call.now) caller NoMemory (standing_of self.old)) out.old.items out.new.items result }
+    {
+        match self.refuse(call, caller, ErrorKind::NoMemory, out) {
+            Ok(()) => Ok(()),
+            Err(_) => Err(Stop::Memory),
+        }
     }
 
     /// Closes a connection that would exceed a limit of the bus.
     fn turn_away(&mut self, call: &Message, out: &mut Vec<u8>) -> Result<(), Stop>
         ensures { Ends self.old self.new (turning_away (said call.now) (standing_of self.old)) out.old.items out.new.items result }
     {
-        self.refuse(call, None, ErrorKind::LimitsExceeded, out)?;
-        self.stage = Stage::Closed(Cause::LimitsExceeded);
-        Err(Stop::Closed(Cause::LimitsExceeded))
+        match self.refuse(call, None, ErrorKind::LimitsExceeded, out) {
+            Ok(()) => {
+                self.stage = Stage::Closed(Cause::LimitsExceeded);
+                Err(Stop::Closed(Cause::LimitsExceeded))
+            }
+            Err(_) => Err(Stop::Memory),
+        }
     }
 
-    /// Serves the call of Hello that comes first.
+    /// Serves the call of Hello that comes first. Room for what is sent is made before the bus changes.
     fn hello(&mut self, call: &Message, out: &mut Vec<u8>) -> Result<(), Stop>
-        requires { IsOpen (standing_of self.old) }
-        ensures { (granted : Bool) × Ends self.old self.new (hello granted (standing_of self.old) (said call.now)) out.old.items out.new.items result }
+        requires open { IsOpen (standing_of self.old) }
+        requires hello { is_hello (said call.now) ≡ true }
+        ensures { ServesKnown (λ known. hello known (standing_of self.old) (said call.now)) (said call.now) self.old self.new out.old.items out.new.items result }
     {
-        let change = Change::Hello { privileged: true };
-        match self.bus.change(change) {
+        if out.reserve(HELLO_ROOM).is_err() {
+            return self.want(call, None, out);
+        }
+        match self.bus.change(Change::Hello { privileged: true }) {
             Ok(outcome) => match outcome.reply {
                 Reply::Welcome(conn) => self.name(call, conn.number, out),
                 _ => self.turn_away(call, out),
             },
-            Err(_) => self.refuse(call, None, ErrorKind::NoMemory, out),
+            Err(_) => self.want(call, None, out),
         }
     }
 
     /// Serves the first message.
     fn serve_unnamed(&mut self, message: &Message, out: &mut Vec<u8>) -> Result<(), Stop>
         requires { IsOpen (standing_of self.old) }
-        ensures { (granted : Bool) × Ends self.old self.new (serve_unnamed granted (standing_of self.old) (said message.now)) out.old.items out.new.items result }
+        ensures { ServesKnown (λ known. serve_unnamed known (standing_of self.old) (said message.now)) (said message.now) self.old self.new out.old.items out.new.items result }
     {
         if is_hello(message) {
             return self.hello(message, out);
@@ -260,46 +262,59 @@ impl Session {
         Err(Stop::Closed(Cause::NotHello))
     }
 
-    /// Replies with the owner of a name.
-    fn tell_owner(
+    /// Replies with the answer to a query.
+    fn tell(
         &mut self,
         call: &Message,
         caller: u64,
-        name: BusName,
+        query: &Query,
         out: &mut Vec<u8>,
-    ) -> Result<(), Stop>
-        ensures { TellsOrWants self.old self.new caller (said call.now) name out.old.items out.new.items result }
+    ) -> Result<(), AllocError>
+        requires { IsServedQuery query.now }
+        ensures { Does self.old self.new (telling (said call.now) caller (standing_of self.old) (answer (bus_now self.old.bus).state query.now)) out.old.items out.new.items result }
     {
         let mut body = Vec::new(self.alloc);
-        match self.bus.ask(&Query::GetNameOwner(name), &mut body) {
-            Ok(Asked::Body) => self.reply_answer(call, caller, body.as_slice(), out),
+        match self.bus.ask(query, &mut body) {
+            Ok(Asked::Body) => self.reply(call, caller, body_of(query, body.as_slice()), out),
             Ok(Asked::NameHasNoOwner) => {
                 self.refuse(call, Some(caller), ErrorKind::NameHasNoOwner, out)
             }
-            Err(_) => self.refuse(call, Some(caller), ErrorKind::NoMemory, out),
+            Err(_) => Err(AllocError),
+        }
+    }
+
+    /// Serves a call to the bus of a connection that has this number.
+    fn serve_call(
+        &mut self,
+        number: u64,
+        message: &Message,
+        out: &mut Vec<u8>,
+    ) -> Result<(), AllocError>
+        ensures { ServesCall (said message.now) number self.old self.new out.old.items out.new.items result }
+    {
+        match query_in(self.alloc, message) {
+            Ok(query) => self.tell(message, number, &query, out),
+            Err(error) => self.refuse(message, Some(number), error, out),
         }
     }
 
     /// Serves a message of a connection that has this number.
     fn serve_named(&mut self, number: u64, message: &Message, out: &mut Vec<u8>) -> Result<(), Stop>
-        ensures { (granted : Bool) × Does self.old self.new (serve_named granted number (standing_of self.old) (said message.now)) out.old.items out.new.items result }
+        requires { IsOpen (standing_of self.old) }
+        ensures { ServesKnown (λ known. serve_named known number (standing_of self.old) (said message.now)) (said message.now) self.old self.new out.old.items out.new.items result }
     {
         if !is_call_to_bus(message) {
             return Ok(());
         }
-        match method_of(message) {
-            Err(error) => self.refuse(message, Some(number), error, out),
-            Ok(Method::Hello) => self.refuse(message, Some(number), ErrorKind::Failed, out),
-            Ok(Method::GetNameOwner) => match name_in(self.alloc, message) {
-                Err(error) => self.refuse(message, Some(number), error, out),
-                Ok(name) => self.tell_owner(message, number, name, out),
-            },
+        match self.serve_call(number, message, out) {
+            Ok(()) => Ok(()),
+            Err(_) => self.want(message, Some(number), out),
         }
     }
 
     fn serve_at_stage(&mut self, message: &Message, out: &mut Vec<u8>) -> Result<(), Stop>
         requires { IsOpen (standing_of self.old) }
-        ensures { (granted : Bool) × Ends self.old self.new (serve granted (standing_of self.old) (said message.now)) out.old.items out.new.items result }
+        ensures { ServesKnown (λ known. serve known (standing_of self.old) (said message.now)) (said message.now) self.old self.new out.old.items out.new.items result }
     {
         match self.stage {
             Stage::Unnamed => self.serve_unnamed(message, out),

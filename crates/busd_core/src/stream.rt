@@ -18,7 +18,8 @@ const PIECE: usize = 4096;
 /// However the reader cuts the stream, what is written is the answer to what was read, message after message. At the
 /// end of the input the connection leaves, and a rest that is no whole message is ignored. The run ends earlier where
 /// the bus closes the connection, with all replies up to there written; where the reader or the writer fails; and
-/// where there is not enough memory to go on. A Hello or a GetNameOwner that finds no memory is answered NoMemory.
+/// where there is not enough memory to go on. A call that finds no memory, be it for its reply, is answered NoMemory,
+/// and changes nothing; the run ends where there is no memory for that either.
 pub fn run<R: Read, W: Write>(alloc: Global, reader: &mut R, writer: &mut W) -> Result<(), RunFault>
     ensures { Runs (R.remaining reader.old) (R.remaining reader.new) (W.contents writer.old) (W.contents writer.new) result }
 {

@@ -36,7 +36,7 @@ pub const LIST_NAMES: &[u8] =
 pub const OTHER_METHOD: &[u8] =
     b"l\x01\0\x01\0\0\0\0\x02\0\0\0-\0\0\0\x01\x01o\0\x15\0\0\0/org/freedesktop/DBus\0\0\0\x03\x01s\0\x04\0\0\0Ping\0\0\0\0";
 
-/// A call of the monitors' interface.
+/// A call of BecomeMonitor without its arguments.
 pub const MONITOR_METHOD: &[u8] =
     b"l\x01\0\x01\0\0\0\0\x02\0\0\0}\0\0\0\x01\x01o\0\x15\0\0\0/org/freedesktop/DBus\0\0\0\x02\x01s\0\x1f\0\0\0org.freedesktop.DBus.Monitoring\0\x03\x01s\0\x0d\0\0\0BecomeMonitor\0\0\0\x06\x01s\0\x14\0\0\0org.freedesktop.DBus\0\0\0\0";
 
@@ -113,3 +113,10 @@ pub const MEMORY_AT_HELLO: &[u8] =
 /// The error where a GetNameOwner found no memory.
 pub const MEMORY_AT_OWNER: &[u8] =
     b"l\x03\x01\x01\x12\0\0\0\x03\0\0\0o\0\0\0\x04\x01s\0#\0\0\0org.freedesktop.DBus.Error.NoMemory\0\0\0\0\0\x05\x01u\0\x02\0\0\0\x06\x01s\0\x04\0\0\0:1.1\0\0\0\0\x07\x01s\0\x14\0\0\0org.freedesktop.DBus\0\0\0\0\x08\x01g\0\x01s\0\0\x0d\0\0\0Out of memory\0";
+
+/// NameHasOwner of `:1.1`.
+pub const NAME_HAS_OWNER: &[u8] =
+    b"l\x01\0\x01\x09\0\0\0\x02\0\0\0\x7f\0\0\0\x01\x01o\0\x15\0\0\0/org/freedesktop/DBus\0\0\0\x02\x01s\0\x14\0\0\0org.freedesktop.DBus\0\0\0\0\x03\x01s\0\x0c\0\0\0NameHasOwner\0\0\0\0\x06\x01s\0\x14\0\0\0org.freedesktop.DBus\0\0\0\0\x08\x01g\0\x01s\0\0\x04\0\0\0:1.1\0";
+
+pub const HAS_OWNER: &[u8] =
+    b"l\x02\x01\x01\x04\0\0\0\x03\0\0\0?\0\0\0\x05\x01u\0\x02\0\0\0\x06\x01s\0\x04\0\0\0:1.1\0\0\0\0\x07\x01s\0\x14\0\0\0org.freedesktop.DBus\0\0\0\0\x08\x01g\0\x01b\0\0\x01\0\0\0";

@@ -1,16 +1,24 @@
-use Rattle.std.proofs.Common.{◌∙◌}
+use Rattle.std.proofs.Common.{[], ◌∷◌, refl}
+use Rattle.names.specs.UniqueName.{unique_text}
 use Rattle.message_core.specs.Said.{said}
-use Rattle.busd_core.proofs.Strings.{is_name_string}
-use Rattle.busd_core.proofs.Sending.{is_named}
+use Rattle.driver.specs.OwnMessages.{string_types, string_values}
+use Rattle.busd_core.specs.declared.stage.Stage.TheVariants.{Named}
+use Rattle.busd_core.specs.Serving.{quiet, replying, welcome_by}
+use Rattle.busd_core.specs.Sessions.{standing_of}
+use Rattle.busd_core.proofs.Sending.{is_named, nothing_grown, shown_grown}
 use Rattle.busd_core.proofs.session.Session.name.Goals as goal
 
-pub returns : goal.returns
-returns c =
-    is_named c.args.self.now c.reply.new.self c.send.new.self (said c.args.call.now) c.args.number c.serial.result c.as_str.result.now c.as_str-2.result.now c.args.out.now.items c.reply.new.out.items c.send.new.out.items c.send.result
-    c.serial.ensures (c.as_str.ensures.value ∙ c.of-name.ensures) (c.as_str-2.ensures.value ∙ c.of-name.ensures) c.in_ok-reply.ensures c.send.ensures
+pub returns-in-Ok-acquire : goal.returns-in-Ok-acquire
+returns-in-Ok-acquire c =
+    is_named c.args.self.now c.reply.new.self c.acquire.new.self (said c.args.call.now) c.args.number c.args.out.now.items c.reply.new.out.items c.acquire.new.out.items
+    (c.in-Ok.ensures (string_types (unique_text c.args.number ∷ [])) (string_values (unique_text c.args.number ∷ [])) (refl, refl)) c.in-Ok-acquire.ensures
 
-pub reply-requires : goal.reply-requires
-reply-requires c = is_name_string c.of-name.result c.as_str.result.now c.as_str.ensures.value c.as_str.ensures.name c.as_str.utf8
+pub returns-in-Err-acquire : goal.returns-in-Err-acquire
+returns-in-Err-acquire c =
+    shown_grown (record c.args.self.now { stage = Named c.args.number }) c.reply.new.self
+    (replying (said c.args.call.now) (welcome_by (said c.args.call.now) c.args.number) (quiet (standing_of (record c.args.self.now { stage = Named c.args.number })))) c.args.out.now.items c.reply.new.out.items c.acquire.new.out.items
+    (c.in-Ok.ensures (string_types (unique_text c.args.number ∷ [])) (string_values (unique_text c.args.number ∷ [])) (refl, refl)) c.in-Err-acquire.ensures.1
 
-pub send-requires : goal.send-requires
-send-requires c = is_name_string c.of-name.result c.as_str-2.result.now c.as_str-2.ensures.value c.as_str-2.ensures.name c.as_str-2.utf8
+pub returns-in-Err : goal.returns-in-Err
+returns-in-Err c =
+    nothing_grown c.args.out.now.items c.reply.new.out.items (c.in-Err.ensures (string_types (unique_text c.args.number ∷ [])) (string_values (unique_text c.args.number ∷ [])) (refl, refl)).1

@@ -21,8 +21,8 @@ pub loop-message-preserved : goal.loop-message-preserved
 loop-message-preserved c =
     let (fault, is_open, served) = c.loop-message.invariant in
     let taken = rw c.in-Some.is at c.in_ok-message.ensures.some in
-    let (granted, one, restored) = c.in_ok-serve.ensures in (
+    let ((known, is, one), restored) = c.in_ok-serve.ensures in (
       ap (λ (f : Unread). f.fault) one.0.0 ∙ taken.0.still_fine,
       one.1,
-      serves_next _ _ c.loop-message.self c.next.new.self c.serve.new.self c.in-Some.message _ c.loop-message.out.items _ granted served taken one.0,
+      serves_next _ _ c.loop-message.self c.next.new.self c.serve.new.self c.in-Some.message _ c.loop-message.out.items _ known is served taken one.0,
     )

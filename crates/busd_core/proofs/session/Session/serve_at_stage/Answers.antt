@@ -8,4 +8,4 @@ returns-in-Unnamed c =
 
 pub returns-in-Named : goal.returns-in-Named
 returns-in-Named c =
-    served_named c.args.self.now c.serve_named.new.self (said c.args.message.now) c.in-Named.number c.args.out.now.items c.serve_named.new.out.items c.serve_named.result c.requires c.in-Named.is c.serve_named.ensures
+    served_named c.args.self.now c.serve_named.new.self (said c.args.message.now) c.in-Named.number c.args.out.now.items c.serve_named.new.out.items c.serve_named.result c.in-Named.is c.serve_named.ensures

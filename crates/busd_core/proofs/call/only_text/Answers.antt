@@ -1,6 +1,0 @@
-use Rattle.std.proofs.Common.{sym}
-use Rattle.busd_core.proofs.Arguments.{no_text_of_more}
-use Rattle.busd_core.proofs.call.only_text.Goals as goal
-
-pub returns-else-is_empty : goal.returns-else-is_empty
-returns-else-is_empty c = rw c.in_ok-first.ensures.cases.0 (no_text_of_more _ _ (sym c.if-is_empty.ensures))
