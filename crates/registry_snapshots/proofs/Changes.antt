@@ -59,16 +59,16 @@ snap_next book opening s seat made change p front kept made_is seat_is change_is
 -- The published copy with a change that was prepared on it, where `front` is all of the history and `next` goes on with the
 -- change. The outcome was taken out of what was prepared.
 pub snap_after : (book : Book) (opening : WholeBus) (s shown : SnapView) (front : FrontView) (seat made : ℕ) (change : Change) (prepared left : PreparedChange) (next copy : FrontView) → IsSnapOf book opening s → shown ≡ s
-    → front ≡ shown.front → made ≡ length (numbers_of seat front.log) → prepared ≡ prepared_on shown.bus seat change → left ≡ record prepared { outcome = left.outcome }
+    → front ≡ shown.front → made ≡ length (numbers_of seat front.log) → prepared ≡ prepared_on shown.bus seat change → left.seat ≡ prepared.seat → left.change ≡ prepared.change
     → next ≡ front_of front.book (front.log ++ entry_alone seat (made + 1) change ∷ []) → copy ≡ next → IsSnapOf book opening (absorbed s seat (made + 1) left copy)
-snap_after book opening s shown front seat made change prepared left next copy kept shown_is front_is made_is prepared_is left_is next_is copy_is =
+snap_after book opening s shown front seat made change prepared left next copy kept shown_is front_is made_is prepared_is seat_is change_is next_is copy_is =
     let same : front ≡ s.front = front_is ∙ ap (λ (t : SnapView). t.front) shown_is in
     let made_there : made ≡ length (numbers_of seat s.front.log) = made_is ∙ ap (λ (f : FrontView). length (numbers_of seat f.log)) same in
     let now : copy ≡ front_of book (s.front.log ++ entry_alone seat (made + 1) change ∷ []) =
     copy_is ∙ next_is ∙ ap (λ (f : FrontView). front_of f.book (f.log ++ entry_alone seat (made + 1) change ∷ [])) same
     ∙ ap (λ (b : Book). front_of b (s.front.log ++ entry_alone seat (made + 1) change ∷ [])) kept.book_is in
-    snap_next book opening s seat made change left copy kept made_there (ap (λ (p : PreparedChange). p.seat) left_is ∙ ap (λ (p : PreparedChange). p.seat) prepared_is)
-    (ap (λ (p : PreparedChange). p.change) left_is ∙ ap (λ (p : PreparedChange). p.change) prepared_is) now
+    snap_next book opening s seat made change left copy kept made_there (seat_is ∙ ap (λ (p : PreparedChange). p.seat) prepared_is)
+    (change_is ∙ ap (λ (p : PreparedChange). p.change) prepared_is) now
 
 -- what the seat has seen after its change
 pub changed : (opening : WholeBus) (known log next : History) (seat made : ℕ) (change : Change) (outcome : Outcome) → Begins known log → IsLegal log → made ≡ length (numbers_of seat log)

@@ -1,18 +1,20 @@
 //! The copy of the registry that readers take, and the operation that brings it up.
 
 ghost use Rattle.std.specs.Prelude.{◌≡◌, ◌<◌, ◌≤◌, length, is_some, option_map, IfOk, IfSome, replicate, slice_get, slice_index};
-ghost use Rattle.seq_bus_core.specs.BusState.{connection_of, conn_of};
+ghost use Rattle.seq_bus_core.specs.BusState.{connection_of, conn_of, head_of};
 ghost use Rattle.seq_bus_core.specs.Histories.{CanOpen, opening};
+ghost use Rattle.seq_bus_core.specs.Recipients.{recipients};
 ghost use Rattle.registry.specs.PreparedChanges.{prepared_on};
 ghost use Rattle.registry.specs.Served.{IsServedChange};
 ghost use Rattle.registry_snapshots.specs.Copies.{put_number};
 
 use crate::history::Front;
 use left_right::Absorb;
-use names::WellKnown;
+use match_rules::Facts;
+use names::{BusName, WellKnown};
 use owner_queues::Profile;
 use registry::{Prepared, Registry};
-use seq_bus_core::{Change, Conn};
+use seq_bus_core::{Change, Conn, Verdict};
 use std::alloc::{AllocError, Global};
 use std::marker::Model;
 
@@ -134,6 +136,20 @@ impl Snap {
         ensures { IfOk result (λ prepared. prepared ≡ prepared_on self.now.bus seat change.now) }
     {
         self.registry.prepare(alloc, seat, change)
+    }
+
+    /// Where a message from this connection goes, 0 being the bus, and which monitors are shown it.
+    pub fn route(&self, from: u64, facts: &Facts<'_>) -> Verdict
+        ensures { result ≡ recipients self.now.bus from facts.now }
+    {
+        self.registry.route(from, facts)
+    }
+
+    /// The head of a name: the connection that messages to it are delivered to. The bus itself is no connection.
+    pub fn owner(&self, name: &BusName) -> Option<u64>
+        ensures { result ≡ head_of self.now.bus name.now }
+    {
+        self.registry.owner(name)
     }
 
     /// Where the connection of this number is reached, if there is one.

@@ -5,6 +5,9 @@ ghost use Rattle.owner_queues.specs.declared.request.Profile.TheVariants.{One};
 ghost use Rattle.seq_bus_core.specs.Tickets.{opening_bus};
 
 use super::{Cause, Naming, Opened, Seat, Serve, Shared, start};
+use arrayvec::ArrayVec;
+use match_rules::{Facts, MessageKind};
+use names::{BusName, UniqueName};
 use owner_queues::Profile;
 use seq_bus_core::{Change, Conn, Outcome, Reply};
 use std::alloc::Global;
@@ -33,18 +36,35 @@ struct Done {
     refused: u64,
 }
 
-/// Makes a Hello and reads it back: the number of the new connection, if nothing was refused.
+/// What rules see of a call to a name.
+fn call_to(name: &UniqueName) -> Facts<'_> {
+    Facts {
+        kind: MessageKind::MethodCall,
+        auto_start: true,
+        sender: 0,
+        path: None,
+        interface: None,
+        member: None,
+        destination: Some(name.as_str()),
+        arguments: ArrayVec::new(),
+    }
+}
+
+/// Makes a Hello, and routes a call of the new connection to itself: its number, if nothing was refused.
 fn greet<J: Naming, R: Wait>(rt: &R, seat: &mut Seat<J>, shared: &Shared<J>) -> Option<u64> {
     let change = Change::Hello { privileged: false };
     let (outcome, _) = seat.change(rt, shared, change).ok()?;
     let number = number_of(&outcome);
-    match seat.present(number) {
-        Ok(true) => Some(number),
+    let name = UniqueName::of(number);
+    let facts = call_to(&name);
+    let verdict = seat.open(|snap| snap.route(number, &facts)).ok()?;
+    match verdict.to.as_slice() {
+        [conn] if conn.number == number => Some(number),
         _ => None,
     }
 }
 
-/// Makes Hellos, with a read after each.
+/// Makes Hellos, with a route after each.
 fn hellos<J: Naming, R: Wait>(
     rt: &R,
     alloc: Global,
@@ -152,6 +172,8 @@ impl<'a, R: Wait + Abort> Serve for Teller<'a, R> {
         };
         assert_eq!(rt; hello(rt, &mut first, &shared), conn);
         second.take_note(&first.note().expect(rt, "it made a change"));
+        let name = BusName::from(UniqueName::of(1));
+        assert_eq!(rt; second.open(|snap| snap.owner(&name)).ok(), Some(Some(1)));
         assert_eq!(rt; second.open(|snap| snap.conn(1)).ok(), Some(Some(conn)));
         assert_eq!(rt; second.present(2).ok(), Some(false));
         let conn = Conn {

@@ -19,7 +19,7 @@ replace_with-requires g c =
     let op : Op = Made c.args.seat (c.args.made + 1) left c.again.result in
     let ready : IsSnapOf g.J.Naming.book g.J.Naming.opening (absorbed s c.args.seat (c.args.made + 1) left c.again.result) =
     snap_after g.J.Naming.book g.J.Naming.opening s c.published-shown.result.now c.in-Ok.front c.args.seat c.args.made c.args.change c.in-Ok-prepare.prepared left c.in-Some.next c.again.result c.self.invariant.1
-    c.published-shown.ensures c.in-Ok.ensures.front.0 c.in-Ok.ensures.made.0 c.in-Ok-prepare.ensures c.take_outcome-told.ensures.kept c.in-Some.ensures c.again.ensures in
+    c.published-shown.ensures c.in-Ok.ensures.front.0 c.in-Ok.ensures.made.0 c.in-Ok-prepare.ensures (ap (λ (q : PreparedChange). q.seat) c.take_outcome-told.ensures.kept) (ap (λ (q : PreparedChange). q.change) c.take_outcome-told.ensures.kept) c.in-Some.ensures c.again.ensures in
     let pending = c.in-Ok-append.ensures.pending ∙ ap (λ (ops : List Op). ops ++ op ∷ []) (c.self.invariant.3 c.if-self.false) in
     rw (pending, c.in-Ok-append.ensures.desk) ready
 
@@ -30,7 +30,7 @@ invariant_of-self-in-Ok-append g c =
     let op : Op = Made c.args.seat (c.args.made + 1) left c.again.result in
     let ready : IsSnapOf g.J.Naming.book g.J.Naming.opening (absorbed s c.args.seat (c.args.made + 1) left c.again.result) =
     snap_after g.J.Naming.book g.J.Naming.opening s c.published-shown.result.now c.in-Ok.front c.args.seat c.args.made c.args.change c.in-Ok-prepare.prepared left c.in-Some.next c.again.result c.self.invariant.1
-    c.published-shown.ensures c.in-Ok.ensures.front.0 c.in-Ok.ensures.made.0 c.in-Ok-prepare.ensures c.take_outcome-told.ensures.kept c.in-Some.ensures c.again.ensures in
+    c.published-shown.ensures c.in-Ok.ensures.front.0 c.in-Ok.ensures.made.0 c.in-Ok-prepare.ensures (ap (λ (q : PreparedChange). q.seat) c.take_outcome-told.ensures.kept) (ap (λ (q : PreparedChange). q.change) c.take_outcome-told.ensures.kept) c.in-Some.ensures c.again.ensures in
     let pending = c.in-Ok-append.ensures.pending ∙ ap (λ (ops : List Op). ops ++ op ∷ []) (c.self.invariant.3 c.if-self.false) in
     let shown : c.replace_with.new.dest.desk.shown.value ≡ absorbed s c.args.seat (c.args.made + 1) left c.again.result = rw (pending, c.in-Ok-append.ensures.desk) at c.replace_with.ensures.1 in
     let idle : IsIdle (bus_after g.J.Naming.opening c.in-Ok.front.log) = rw (ap (λ (f : FrontView). f.log) (c.in-Ok.ensures.front.0 ∙ ap (λ (t : SnapView). t.front) c.published-shown.ensures)) c.self.invariant.2 in
