@@ -14,4 +14,5 @@ pub mod NoMessages
 pub mod Lending
 pub mod Putting
 pub mod Own
+pub mod OwnRefused
 pub mod Arguments

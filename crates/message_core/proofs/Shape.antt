@@ -71,7 +71,7 @@ field_part_types = more_types (basic of_type.Byte) (one_type variant)
 abbrev FieldInside : Order → Field → List ℕ → ℕ → Type 0
 FieldInside order f inside n = SpellFields (field_parts f) 62 order n field_part_types inside
 
-basic_inside : (v : BasicVal) (t : Ty) (d : ℕ) (order : Order) (at : ℕ) (bytes : List ℕ) → SpellValue (a_basic v) d order at t bytes → (t ≡ basic (basic_type v)) × IsBasicValue v × (bytes ≡ basic_spelling order at v)
+pub basic_inside : (v : BasicVal) (t : Ty) (d : ℕ) (order : Order) (at : ℕ) (bytes : List ℕ) → SpellValue (a_basic v) d order at t bytes → (t ≡ basic (basic_type v)) × IsBasicValue v × (bytes ≡ basic_spelling order at v)
 basic_inside v (basic b) d order at bytes h = (sym (ap basic h.0), h.1, h.2)
 basic_inside v variant d order at bytes h = absurd h
 basic_inside v (array t) d order at bytes h = absurd h

@@ -40,6 +40,10 @@ fields_place = 12
 abbrev pub max_fields_length : ℕ
 max_fields_length = 67108864
 
+-- the most bytes of a message
+abbrev pub max_message_length : ℕ
+max_message_length = 134217728
+
 -- the number in the four bytes at a place
 abbrev pub number : Order → ℕ → List ℕ → ℕ
 number order.Little place bytes = from_le_bytes w32 (take 4 (drop place bytes))

@@ -1,18 +1,18 @@
 -- The message of a header and a body.
-use Rattle.std.specs.Prelude.{◌≡◌, ℕ, ◌+◌, ◌<◌, ◌^◌, List, [], ◌∷◌, ◌++◌, length, map, Option, Some, None}
+use Rattle.std.specs.Prelude.{◌≡◌, ℕ, ◌+◌, ◌<◌, ◌≤◌, ◌^◌, List, [], ◌∷◌, ◌++◌, length, map, Option, Some, None}
 use Rattle.std.specs.Int.{w32}
 use Rattle.marshal_core.specs.declared.order.Order.{Order}
 use Rattle.marshal_core.specs.Types.{Tys, no_types, more_types}
-use Rattle.marshal_core.specs.Values.{BasicVal, a_string, an_object_path, a_uint32, a_signature, a_basic, values, Vals}
-use Rattle.marshal_core.specs.Spelling.{number_bytes, pads, SpellElements}
+use Rattle.marshal_core.specs.Values.{BasicVal, a_string, an_object_path, a_uint32, a_signature, Val, a_basic, values, Vals}
+use Rattle.marshal_core.specs.Spelling.{number_bytes, pads, IsBasicValue, SpellElements}
 use Rattle.match_rules.specs.Kinds.{kind_number}
 use Rattle.message_core.specs.declared.header.Header.{Header}
 use Rattle.message_core.specs.declared.header_field.HeaderField.{HeaderField}
 use Rattle.message_core.specs.declared.header_field.HeaderField.TheVariants as field
 use Rattle.message_core.specs.Kinds.{code_of}
 use Rattle.message_core.specs.HeaderFields.{Field, field_type, field_value}
-use Rattle.message_core.specs.Messages.{Message}
-use Rattle.message_core.specs.Announcements.{fixed_length, order_byte, protocol_version}
+use Rattle.message_core.specs.Messages.{Message, IsWritten}
+use Rattle.message_core.specs.Announcements.{fixed_length, max_message_length, order_byte, protocol_version}
 use Rattle.message_core.specs.Places.{field_depth}
 
 abbrev pub known_field : HeaderField → BasicVal → Field
@@ -51,7 +51,21 @@ message_of header types body = record {
   body = body;
 }
 
+-- no bytes are this message, within the longest length that there is
+abbrev pub HasNoWriting : Message → Type 0
+HasNoWriting m = (bytes : List ℕ) → length bytes ≤ max_message_length → IsWritten bytes m → ⊥
+
 -- ---- putting fields one after the other
+
+-- the value is one that its type has
+abbrev pub IsKnownValue : Val → Type 0
+IsKnownValue (a_basic v) = IsBasicValue v
+IsKnownValue v = Unit {0}
+
+-- each field has a value that its type has
+abbrev pub AreKnownValues : List Field → Type 0
+AreKnownValues [] = Unit {0}
+AreKnownValues (f ∷ fs) = IsKnownValue f.value × AreKnownValues fs
 
 -- the bytes of an array spell these fields
 abbrev pub AreWritten : Order → List Field → List ℕ → Type 0

@@ -1,6 +1,6 @@
 //! Whole messages.
 
-ghost use Rattle.std.specs.Prelude.{◌≡◌, ◌≢◌, ◌≤◌, ℕ, List, Ok, IfOk, IfErr, length, true};
+ghost use Rattle.std.specs.Prelude.{◌≡◌, ◌≢◌, ◌≤◌, ℕ, List, Ok, IfOk, IfErr, MatchResult, length, true};
 ghost use Rattle.marshal_core.specs.Signatures.{codes};
 ghost use Rattle.marshal_core.specs.declared.fault.MarshalFault.TheVariants.{NoMemory};
 ghost use Rattle.marshal_core.specs.Spelling.{Spells};
@@ -12,7 +12,7 @@ ghost use Rattle.message_core.specs.declared.header_field.HeaderField.TheVariant
 ghost use Rattle.message_core.specs.Announcements.{announced};
 ghost use Rattle.message_core.specs.HeaderFields.{text_field, number_field};
 ghost use Rattle.message_core.specs.Messages.{Message as Record, IsMessage, IsWritten};
-ghost use Rattle.message_core.specs.Headers.{message_of};
+ghost use Rattle.message_core.specs.Headers.{HasNoWriting, message_of};
 ghost use Rattle.message_core.specs.Places.{ArePlaced};
 ghost use Rattle.message_core.specs.Refusals.{IsRefused, IsNoMessage};
 ghost use Rattle.message_core.specs.Said.{said};
@@ -67,14 +67,16 @@ impl Message {
 
     /// A message of one's own: a header, the signature of the body as text, and the body's bytes in the
     /// header's byte order. Its fields stand by rising code. `Field(8)` where the signature is none, and the
-    /// other faults where the header or the body is none of a message.
+    /// other faults where the header or the body is none of a message: where both make one of at most
+    /// `MAXIMUM_LENGTH` bytes, want of memory alone refuses it.
     pub fn with_body(
         alloc: Global,
         header: &Header<'_>,
         signature: &str,
         body: &[u8],
     ) -> Result<Message, FrameFault>
-        ensures { (types : Tys) (values : Vals) → signature.now ≡ codes types → Spells header.now.order 0 types values body.now → IfOk result (λ m. IsWritten m (message_of header.now types values)) }
+        ensures { (types : Tys) (values : Vals) → signature.now ≡ codes types → Spells header.now.order 0 types values body.now
+            → MatchResult result (λ m. IsWritten m (message_of header.now types values)) (λ f. f ≢ WithoutMemory → HasNoWriting (message_of header.now types values)) }
     {
         let mut fields = Vec::new(alloc);
         put_fields(&mut fields, header, signature.as_bytes())?;

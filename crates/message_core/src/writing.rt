@@ -1,14 +1,15 @@
 //! Putting messages of one's own together.
 
-ghost use Rattle.std.specs.Prelude.{◌≡◌, ◌++◌, ◌∷◌, [], ℕ, List, length, OnOk, IfOk};
+ghost use Rattle.std.specs.Prelude.{◌≡◌, ◌≢◌, ◌≤◌, ◌⊎◌, ◌^◌, ◌++◌, ◌∷◌, [], ℕ, List, length, OnOk, IfOk, IfErr};
 ghost use Rattle.std.specs.Int.{w32};
 ghost use Rattle.marshal_core.specs.Types.{Tys};
 ghost use Rattle.marshal_core.specs.Values.{Vals, a_string, an_object_path, a_uint32};
 ghost use Rattle.marshal_core.specs.Signatures.{codes, IsSignature};
 ghost use Rattle.marshal_core.specs.Spelling.{IsString, ended, number_bytes, pads};
+ghost use Rattle.message_core.specs.declared.fault.FrameFault.TheVariants.{NoMemory};
 ghost use Rattle.message_core.specs.declared.header_field.HeaderField.TheVariants as field_of;
 ghost use Rattle.message_core.specs.HeaderFields.{Field};
-ghost use Rattle.message_core.specs.Headers.{AreWritten, IsLaidOut, optional_field, signature_field, fields_of, message_of};
+ghost use Rattle.message_core.specs.Headers.{AreWritten, AreKnownValues, IsLaidOut, optional_field, signature_field, fields_of, message_of};
 ghost use Rattle.message_core.specs.Announcements.{order_byte as order_byte_of};
 ghost use Rattle.marshal_core.specs.declared.order.Order.{Order};
 ghost use Rattle.message_core.specs.Kinds.{code_of};
@@ -98,6 +99,7 @@ fn put_text(
 ) -> Result<(), FrameFault>
     ensures put { OnOk result (output.new.items ≡ output.old.items ++ (pads 8 (length output.old.items) ++ (code_of field ∷ 1 ∷ letter ∷ 0 ∷ []) ++ (number_bytes order w32 (length text.now) ++ ended text.now))) }
     ensures string { OnOk result (IsString text.now) }
+    ensures refused { IfErr result (λ f. f ≢ NoMemory → IsString text.now → ⊥) }
 {
     let Ok(length) = u32::try_from(text.len()) else {
         return Err(FrameFault::TooLong);
@@ -119,7 +121,8 @@ fn put_name<N: Name>(
     field: HeaderField,
     name: &Option<N>,
 ) -> Result<(), FrameFault>
-    ensures { (sent : List Field) → AreWritten order sent output.old.items → OnOk result (AreWritten order (sent ++ optional_field field (λ n. a_string (N.text n)) name.now) output.new.items) }
+    ensures put { (sent : List Field) → AreWritten order sent output.old.items → OnOk result (AreWritten order (sent ++ optional_field field (λ n. a_string (N.text n)) name.now) output.new.items) }
+    ensures refused { IfErr result (λ f. f ≢ NoMemory → AreKnownValues (optional_field field (λ n. a_string (N.text n)) name.now) → ⊥) }
 {
     match name {
         Some(name) => put_text(output, order, field, b's', name.as_text()),
@@ -133,7 +136,8 @@ fn put_path(
     order: Order,
     path: &Option<ObjectPath<'_>>,
 ) -> Result<(), FrameFault>
-    ensures { (sent : List Field) → AreWritten order sent output.old.items → OnOk result (AreWritten order (sent ++ optional_field field_of.Path an_object_path path.now) output.new.items) }
+    ensures put { (sent : List Field) → AreWritten order sent output.old.items → OnOk result (AreWritten order (sent ++ optional_field field_of.Path an_object_path path.now) output.new.items) }
+    ensures refused { IfErr result (λ f. f ≢ NoMemory → AreKnownValues (optional_field field_of.Path an_object_path path.now) → ⊥) }
 {
     match path {
         Some(path) => put_text(output, order, HeaderField::Path, b'o', path.as_str()),
@@ -147,7 +151,8 @@ fn put_reply_serial(
     order: Order,
     serial: Option<u32>,
 ) -> Result<(), FrameFault>
-    ensures { (sent : List Field) → AreWritten order sent output.old.items → OnOk result (AreWritten order (sent ++ optional_field field_of.ReplySerial a_uint32 serial) output.new.items) }
+    ensures put { (sent : List Field) → AreWritten order sent output.old.items → OnOk result (AreWritten order (sent ++ optional_field field_of.ReplySerial a_uint32 serial) output.new.items) }
+    ensures memory { IfErr result (λ f. f ≡ NoMemory) }
 {
     match serial {
         Some(serial) => {
@@ -161,7 +166,8 @@ fn put_reply_serial(
 
 /// Puts SIGNATURE, where the body has values.
 fn put_signature(output: &mut Vec<u8>, signature: &[u8]) -> Result<(), FrameFault>
-    ensures { (order : Order) (types : Tys) (sent : List Field) → signature.now ≡ codes types → IsSignature types → AreWritten order sent output.old.items → OnOk result (AreWritten order (sent ++ signature_field types) output.new.items) }
+    ensures put { (order : Order) (types : Tys) (sent : List Field) → signature.now ≡ codes types → IsSignature types → AreWritten order sent output.old.items → OnOk result (AreWritten order (sent ++ signature_field types) output.new.items) }
+    ensures refused { IfErr result (λ f. f ≢ NoMemory → (types : Tys) → signature.now ≡ codes types → IsSignature types → ⊥) }
 {
     if signature.is_empty() {
         return Ok(());
@@ -182,7 +188,8 @@ pub fn put_fields(
     header: &Header<'_>,
     signature: &[u8],
 ) -> Result<(), FrameFault>
-    ensures { (types : Tys) → signature.now ≡ codes types → IsSignature types → output.old.items ≡ [] → OnOk result (AreWritten header.now.order (fields_of header.now types) output.new.items) }
+    ensures put { (types : Tys) → signature.now ≡ codes types → IsSignature types → output.old.items ≡ [] → OnOk result (AreWritten header.now.order (fields_of header.now types) output.new.items) }
+    ensures refused { IfErr result (λ f. f ≢ NoMemory → (types : Tys) → signature.now ≡ codes types → IsSignature types → AreKnownValues (fields_of header.now types) → ⊥) }
 {
     let order = header.order;
     put_path(output, order, &header.path)?;
@@ -211,7 +218,8 @@ pub fn lay_out(
     fields: &[u8],
     body: &[u8],
 ) -> Result<Vec<u8>, FrameFault>
-    ensures { IfOk result (λ bytes. (types : Tys) (values : Vals) → IsLaidOut (message_of header.now types values) fields.now body.now bytes.items) }
+    ensures laid { IfOk result (λ bytes. (types : Tys) (values : Vals) → IsLaidOut (message_of header.now types values) fields.now body.now bytes.items) }
+    ensures refused { IfErr result (λ f. f ≢ NoMemory → (2 ^ 32 ≤ length fields.now) ⊎ (2 ^ 32 ≤ length body.now)) }
 {
     let (Ok(fields_length), Ok(body_length)) = (
         u32::try_from(fields.len()),

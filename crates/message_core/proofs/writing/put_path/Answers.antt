@@ -1,7 +1,7 @@
 use Rattle.message_core.proofs.Putting.{both_ok, path_put}
 use Rattle.message_core.proofs.writing.put_path.Goals as goal
 
-pub returns-in-Some : goal.returns-in-Some
-returns-in-Some c = λ sent h.
+pub returns-in-Some-clause-put : goal.returns-in-Some-clause-put
+returns-in-Some-clause-put c = λ sent h.
     rw c.in-Some.is (both_ok c.put_text.result (path_put c.args.order sent c.as_str.result.now c.in-Some.path c.args.output.now.items c.put_text.new.output.items c.as_str.ensures.value c.as_str.ensures.name h)
     c.put_text.ensures.put c.put_text.ensures.string)

@@ -6,8 +6,8 @@ use Rattle.message_core.specs.declared.header_field.HeaderField.TheVariants as f
 use Rattle.message_core.proofs.Putting.{one_more, text_bytes}
 use Rattle.message_core.proofs.writing.put_reply_serial.Goals as goal
 
-pub returns-in_ok-put_number-in-Some : goal.returns-in_ok-put_number-in-Some
-returns-in_ok-put_number-in-Some c = λ sent h.
+pub returns-in_ok-put_number-in-Some-clause-put : goal.returns-in_ok-put_number-in-Some-clause-put
+returns-in_ok-put_number-in-Some-clause-put c = λ sent h.
     let old : List ℕ = c.args.output.now.items in
     let start : List ℕ = 5 ∷ 1 ∷ 117 ∷ 0 ∷ [] in
     let word : List ℕ = number_bytes c.args.order w32 c.in-Some.serial in

@@ -5,12 +5,12 @@ use Rattle.message_core.proofs.Announced.{not_zero}
 use Rattle.message_core.proofs.Putting.{no_signature, one_signature}
 use Rattle.message_core.proofs.writing.put_signature.Goals as goal
 
-pub returns-then-is_empty : goal.returns-then-is_empty
-returns-then-is_empty c = λ order types sent e valid h.
+pub returns-then-is_empty-clause-put : goal.returns-then-is_empty-clause-put
+returns-then-is_empty-clause-put c = λ order types sent e valid h.
     no_signature order types sent c.args.signature.now c.args.output.now.items (eqb-yes (length c.args.signature.now) 0 (sym c.is_empty.ensures ∙ c.if-is_empty.true)) e valid h
 
-pub returns : goal.returns
-returns c = λ order types sent e valid h.
+pub returns-clause-put : goal.returns-clause-put
+returns-clause-put c = λ order types sent e valid h.
     let text : List ℕ = c.args.signature.now in
     let old : List ℕ = c.args.output.now.items in
     let start : List ℕ = 8 ∷ 1 ∷ 103 ∷ 0 ∷ [] in
