@@ -2,7 +2,7 @@
 
 SAMPLE = examples/hello-get-name-owner.stream
 
-.PHONY: run test
+.PHONY: run test bench
 
 # The main job: the sample stream through `busd run`, the replies shown as bytes and text. The first time it proves
 # and builds the program.
@@ -14,3 +14,7 @@ run:
 # The gate: every proof from nothing, the edits that must fail, the tests, the program as two compilers build it.
 test:
 	@rt ci
+
+# What the calls take, beside the same in plain Rust. No part of the gate.
+bench:
+	@$(MAKE) -s -C crates/bench/rust bench
