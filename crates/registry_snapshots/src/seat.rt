@@ -4,6 +4,7 @@ ghost use Rattle.std.specs.Prelude.{◌≡◌, ◌⊎◌, ◌+◌, [], Some, is_
 ghost use Rattle.std.specs.Fn.{FnOnceReturnsAt};
 ghost use Rattle.seq_bus_core.specs.BusState.{connection_of};
 ghost use Rattle.seq_bus_core.specs.Histories.{IsLegal, Begins};
+ghost use Rattle.seq_bus_core.specs.Recipients.{recipients};
 ghost use Rattle.seq_bus_core.specs.Tickets.{bus_after};
 ghost use Rattle.registry.specs.Served.{IsServedChange};
 ghost use Rattle.registry_snapshots.specs.Copies.{SnapView};
@@ -18,7 +19,8 @@ use crate::rule::{Finds, Kept};
 use crate::shared::Shared;
 use crate::snap::Snap;
 use left_right::reader::Reading;
-use seq_bus_core::{Change, Outcome};
+use match_rules::Facts;
+use seq_bus_core::{Change, Outcome, Verdict};
 use std::marker::Model;
 use std::sync::Wait;
 
@@ -93,6 +95,36 @@ impl<J: Naming> Seat<J> {
         self.number
     }
 
+    // Enters the published copy.
+    fn begin_reading(&mut self) -> Result<(SnapReading<J>, Front), Gone>
+        ensures front { IfOk result (λ r. (r.1.book ≡ J.book) × IsRead self.old.seen self.old.number self.old.made r.1.log) }
+        ensures begun { IfOk result (λ r. Begins self.new.seen r.1.log) }
+        ensures copy { IfOk result (λ r. r.0.part.value.bus ≡ (bus_after J.opening r.1.log).state) }
+        ensures same { self.new ≡ self.old }
+    {
+        let Some(reader) = self.reader.take() else {
+            return Err(Gone);
+        };
+        match enter(reader, self.number, self.made, &self.front) {
+            Ok(entered) => Ok(entered),
+            Err(reader) => {
+                self.reader = Some(reader);
+                Err(Gone)
+            }
+        }
+    }
+
+    // Leaves the copy, which stood for this front.
+    fn end_reading(&mut self, reading: SnapReading<J>, front: Front)
+        requires book { front.book ≡ J.book }
+        requires begun { Begins self.old.seen front.log }
+        ensures seen { self.new.seen ≡ front.log }
+        ensures kept { (self.new.number ≡ self.old.number) × (self.new.made ≡ self.old.made) × (self.new.held ≡ self.old.held) }
+    {
+        self.reader = Some(reading.leave());
+        self.front = front;
+    }
+
     /// Calls `f` once on the published copy and gives its answer. It waits for no lock and takes no memory.
     ///
     /// What `f` is lent stays as it is until `f` returns. `Gone` where the registry has ended; then `f` isn't called.
@@ -103,21 +135,25 @@ impl<J: Naming> Seat<J> {
         ensures kept { (self.new.number ≡ self.old.number) × (self.new.made ≡ self.old.made) × (self.new.held ≡ self.old.held) }
         ensures gone { OnErr result (self.new.seen ≡ self.old.seen) }
     {
-        let Some(reader) = self.reader.take() else {
-            return Err(Gone);
-        };
-        match enter(reader, self.number, self.made, &self.front) {
-            Ok((reading, front)) => {
-                let answer = f(reading.get());
-                self.reader = Some(reading.leave());
-                self.front = front;
-                Ok(answer)
-            }
-            Err(reader) => {
-                self.reader = Some(reader);
-                Err(Gone)
-            }
-        }
+        let (reading, front) = self.begin_reading()?;
+        let answer = f(reading.get());
+        self.end_reading(reading, front);
+        Ok(answer)
+    }
+
+    /// Where a message from this connection goes, 0 being the bus, and which monitors are shown it.
+    ///
+    /// It waits for no lock and takes no memory. `Gone` where the registry has ended.
+    pub fn route(&mut self, from: u64, facts: &Facts<'_>) -> Result<Verdict, Gone>
+        ensures verdict { IfOk result (λ verdict. verdict ≡ recipients (bus_after J.opening self.new.seen).state from facts.now) }
+        ensures read { OnOk result (IsRead self.old.seen self.old.number self.old.made self.new.seen) }
+        ensures kept { (self.new.number ≡ self.old.number) × (self.new.made ≡ self.old.made) × (self.new.held ≡ self.old.held) }
+        ensures gone { OnErr result (self.new.seen ≡ self.old.seen) }
+    {
+        let (reading, front) = self.begin_reading()?;
+        let verdict = reading.get().route(from, facts);
+        self.end_reading(reading, front);
+        Ok(verdict)
     }
 
     /// Whether there is a connection of this number.

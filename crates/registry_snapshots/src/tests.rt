@@ -57,7 +57,7 @@ fn greet<J: Naming, R: Wait>(rt: &R, seat: &mut Seat<J>, shared: &Shared<J>) -> 
     let number = number_of(&outcome);
     let name = UniqueName::of(number);
     let facts = call_to(&name);
-    let verdict = seat.open(|snap| snap.route(number, &facts)).ok()?;
+    let verdict = seat.route(number, &facts).ok()?;
     match verdict.to.as_slice() {
         [conn] if conn.number == number => Some(number),
         _ => None,
