@@ -1,6 +1,5 @@
 -- What is sent, message after message.
-use Rattle.std.proofs.Common.{◌≡◌, ℕ, Bool, true, false, List, [], ◌∷◌, ◌++◌, Result, Ok, Err, Some, refl, sym, ap, ◌∙◌, subst, append_assoc, append-nil, if◌then◌else◌}
-use Rattle.std.specs.declared.alloc.AllocError.{AllocError}
+use Rattle.std.proofs.Common.{◌≡◌, ℕ, Bool, true, false, List, [], ◌∷◌, ◌++◌, Result, Ok, Err, refl, sym, ap, ◌∙◌, subst, append_assoc, append-nil, if◌then◌else◌}
 use Rattle.message_core.specs.Messages.{Message, IsWritten}
 use Rattle.seq_bus_core.specs.declared.outcome.Outcome.{Outcome}
 use Rattle.seq_bus.specs.PlainBus.{PlainBus, IsMade}
@@ -18,7 +17,7 @@ use Rattle.busd_core.specs.declared.session.Stop.{Stop}
 use Rattle.busd_core.specs.declared.session.Stop.TheVariants.{Closed, Memory}
 use Rattle.busd_core.specs.Serving.{Standing, Served, quiet, next_serial, sending, replying, closing, welcome_by, acquired_by, naming, turning_away, greeting, welcoming, hello_change, with_change}
 use Rattle.busd_core.specs.Runs.{AreWritten, IsOpen}
-use Rattle.busd_core.specs.Sessions.{standing_of, Grows, Shows, Does, Ends, Stops}
+use Rattle.busd_core.specs.Sessions.{standing_of, Grows, Shows, Ends, Stops}
 
 pub one_written : (m : Message) (bytes : List ℕ) → IsWritten bytes m → AreWritten (m ∷ []) bytes
 one_written m bytes w = (bytes, [], w, refl, sym (append-nil bytes))
@@ -101,6 +100,11 @@ pub ends_as : (old same new : Session) (v : Served) (before after : List ℕ) (r
 ends_as old same new v before after (Ok u) e ((kept, standing, sent), is_open) = ((kept ∙ e, standing, sent), is_open)
 ends_as old same new v before after (Err Memory) e grown = grown
 ends_as old same new v before after (Err (Closed cause)) e ((kept, standing, sent), closes) = ((kept ∙ e, standing, sent), closes)
+
+pub stops_as : (old same new : Session) (v : Served) (before after : List ℕ) (result : Result (Unit {0}) Stop) → old.framer ≡ same.framer → Stops old new v before after result → Stops same new v before after result
+stops_as old same new v before after (Ok u) e (kept, standing, sent) = (kept ∙ e, standing, sent)
+stops_as old same new v before after (Err Memory) e grown = grown
+stops_as old same new v before after (Err (Closed cause)) e nothing = absurd nothing
 
 -- the connection is closed once more was sent
 pub ends_closed : (old mid : Session) (v : Served) (before after : List ℕ) → Shows old mid v before after

@@ -1,5 +1,5 @@
 -- One more message of a piece.
-use Rattle.std.proofs.Common.{◌≡◌, ℕ, Bool, List, ◌++◌, Err, refl, sym, ap, ◌∙◌, subst, append_assoc}
+use Rattle.std.proofs.Common.{◌≡◌, ℕ, List, ◌++◌, Err, refl, sym, ap, ◌∙◌, subst, append_assoc}
 use Rattle.message.specs.Framing.{Unread}
 use Rattle.message_core.specs.Said.{said}
 use Rattle.busd_core.specs.declared.session.Session.{Session}

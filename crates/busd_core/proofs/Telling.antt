@@ -1,5 +1,5 @@
 -- What a query is told.
-use Rattle.std.proofs.Common.{◌≡◌, ℕ, List, [], ◌++◌, Option, Some, None, Result, refl, sym, subst}
+use Rattle.std.proofs.Common.{◌≡◌, ℕ, List, [], Option, Some, None, Result, refl, sym, subst}
 use Rattle.std.specs.declared.alloc.AllocError.{AllocError}
 use Rattle.seq_bus_core.specs.Answers.{Answer}
 use Rattle.seq_bus.specs.Bodies.{Answers, IsBody}

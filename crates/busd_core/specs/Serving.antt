@@ -1,17 +1,17 @@
 -- What the bus does for one message of a connection. (D-Bus Specification: "Message Bus Messages")
-use Rattle.std.specs.Prelude.{ℕ, ◌+◌, Bool, true, ◌==◌, Option, Some, None, Result, Ok, Err, List, [], ◌∷◌, ◌++◌, if◌then◌else◌}
+use Rattle.std.specs.Prelude.{ℕ, ◌+◌, true, ◌==◌, Option, Some, None, Result, Ok, Err, List, [], ◌∷◌, ◌++◌, if◌then◌else◌}
 use Rattle.names.specs.UniqueName.{unique_text}
-use Rattle.marshal_core.specs.Types.{Tys, one_type}
-use Rattle.marshal_core.specs.Values.{Vals, values}
+use Rattle.marshal_core.specs.Types.{no_types, one_type}
+use Rattle.marshal_core.specs.Values.{no_values, values}
 use Rattle.owner_queues.specs.declared.request.Profile.TheVariants.{Two}
 use Rattle.seq_bus_core.specs.Answers.{Answer, answer}
 use Rattle.seq_bus_core.specs.declared.change.Change.{Change}
-use Rattle.seq_bus_core.specs.declared.change.Change.TheVariants.{Hello as SaysHello}
+use Rattle.seq_bus_core.specs.declared.change.Change.TheVariants.{Hello as SaysHello, AddMatch, RemoveMatch}
 use Rattle.seq_bus_core.specs.declared.error_kind.ErrorKind.{ErrorKind}
-use Rattle.seq_bus_core.specs.declared.error_kind.ErrorKind.TheVariants.{Failed, NoMemory, NameHasNoOwner, UnknownMethod, LimitsExceeded as LimitsError}
+use Rattle.seq_bus_core.specs.declared.error_kind.ErrorKind.TheVariants.{Failed, NoMemory, NameHasNoOwner, UnknownMethod, MatchRuleNotFound, LimitsExceeded as LimitsError}
 use Rattle.seq_bus_core.specs.declared.outcome.Reply.{Reply as ChangeReply}
-use Rattle.seq_bus_core.specs.declared.outcome.Reply.TheVariants.{Welcome}
-use Rattle.seq_bus_core.specs.declared.query.Query.{Query}
+use Rattle.seq_bus_core.specs.declared.outcome.Reply.TheVariants.{Welcome, Done, RuleNotFound}
+use Rattle.seq_bus_core.specs.declared.outcome.Reply.TheVariants as of_change
 use Rattle.seq_bus_core.specs.declared.query.Query.TheVariants as query
 use Rattle.seq_bus_core.specs.declared.signal.BusSignal.TheVariants.{NameAcquired}
 use Rattle.seq_bus_core.specs.Tickets.{opening_bus, bus_step}
@@ -27,6 +27,8 @@ use Rattle.driver.specs.Calls.{Reading, is_call_to_bus, expects_reply, is_hello,
 use Rattle.driver.specs.OwnMessages.{reply_header, of_strings, error_message, signal_message}
 use Rattle.busd_core.specs.declared.fault.Cause.{Cause}
 use Rattle.busd_core.specs.declared.fault.Cause.TheVariants.{NotHello, LimitsExceeded}
+use Rattle.busd_core.specs.declared.request.Request.{Request}
+use Rattle.busd_core.specs.declared.request.Request.TheVariants.{Ask, Make}
 use Rattle.busd_core.specs.declared.stage.Stage.{Stage}
 use Rattle.busd_core.specs.declared.stage.Stage.TheVariants.{Unnamed, Named, Closed}
 
@@ -129,24 +131,46 @@ abbrev pub telling : Message → ℕ → Standing → Option Answer → Served
 telling m number s None = refusing m (Some number) NameHasNoOwner s
 telling m number s (Some told) = replying m (answer_by m number told) (quiet s)
 
--- The query that a call is, or the error that it is answered. The bus serves no other yet.
-abbrev pub query_of : Call → Result Query ErrorKind
-query_of call.Hello = Err Failed
-query_of (call.GetNameOwner name) = Ok (query.GetNameOwner name)
-query_of (call.NameHasOwner name) = Ok (query.NameHasOwner name)
-query_of other = Err UnknownMethod
+-- What a call of the connection of this number asks of the bus, or the error that it is answered. The bus serves no other yet.
+abbrev pub request_of : ℕ → Call → Result Request ErrorKind
+request_of number call.Hello = Err Failed
+request_of number (call.GetNameOwner name) = Ok (Ask (query.GetNameOwner name))
+request_of number (call.NameHasOwner name) = Ok (Ask (query.NameHasOwner name))
+request_of number (call.AddMatch rule) = Ok (Make (AddMatch number rule))
+request_of number (call.RemoveMatch rule) = Ok (Make (RemoveMatch number rule))
+request_of number other = Err UnknownMethod
 
-abbrev pub query_in : Reading Call → Result Query ErrorKind
-query_in (Err fault) = Err (error_of fault)
-query_in (Ok c) = query_of c
+abbrev pub request_in : ℕ → Reading Call → Result Request ErrorKind
+request_in number (Err fault) = Err (error_of fault)
+request_in number (Ok c) = request_of number c
 
-abbrev pub asking : Message → ℕ → Standing → Result Query ErrorKind → Served
+-- the error that a call is answered whose change was told so; none where the change was made
+abbrev pub error_told : ChangeReply → Option ErrorKind
+error_told Done = None
+error_told of_change.LimitsExceeded = Some LimitsError
+error_told RuleNotFound = Some MatchRuleNotFound
+error_told other = Some Failed
+
+-- a reply without a body
+abbrev pub done_by : Message → ℕ → ℕ → Message
+done_by m number serial = message_of (reply_header serial (reply_to m (Some number))) no_types no_values
+
+abbrev pub answering : Message → ℕ → Standing → Option ErrorKind → Served
+answering m number s None = replying m (done_by m number) (quiet s)
+answering m number s (Some error) = refusing m (Some number) error s
+
+-- the bus makes the change, and the call is answered by what the change is told
+abbrev pub making : Message → ℕ → Standing → Change → Served
+making m number s change = answering m number (record s { bus = with_change s.bus change }) (error_told (bus_step (bus_now s.bus) SEAT change).1.reply)
+
+abbrev pub asking : Message → ℕ → Standing → Result Request ErrorKind → Served
 asking m number s (Err error) = refusing m (Some number) error s
-asking m number s (Ok asked) = telling m number s (answer (bus_now s.bus).state asked)
+asking m number s (Ok (Ask asked)) = telling m number s (answer (bus_now s.bus).state asked)
+asking m number s (Ok (Make change)) = making m number s change
 
 abbrev pub serve_known : Message → ℕ → Standing → Known → Served
 serve_known m number s None = refusing m (Some number) NoMemory s
-serve_known m number s (Some reading) = asking m number s (query_in reading)
+serve_known m number s (Some reading) = asking m number s (request_in number reading)
 
 -- A message that is no call to the bus is for nobody.
 abbrev pub serve_named : Known → ℕ → Standing → Message → Served

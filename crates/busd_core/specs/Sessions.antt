@@ -1,10 +1,10 @@
 -- What the parts of a session do.
-use Rattle.std.specs.Prelude.{◌≡◌, ◌⊎◌, ℕ, List, [], ◌++◌, None, Result, Ok, Err}
+use Rattle.std.specs.Prelude.{◌≡◌, ◌⊎◌, ℕ, List, [], ◌++◌, Some, None, Result, Ok, Err}
 use Rattle.std.specs.declared.alloc.AllocError.{AllocError}
 use Rattle.seq_bus_core.specs.declared.error_kind.ErrorKind.{ErrorKind}
 use Rattle.seq_bus_core.specs.declared.error_kind.ErrorKind.TheVariants.{NoMemory}
-use Rattle.seq_bus_core.specs.declared.query.Query.{Query}
 use Rattle.seq_bus_core.specs.declared.change.Change.TheVariants.{Leave}
+use Rattle.seq_bus.specs.Served.{IsServedChange, IsServedQuery}
 use Rattle.message_core.specs.Messages.{Message}
 use Rattle.message_core.specs.Said.{said}
 use Rattle.message.specs.Framing.{IsWaiting, IsTaken, IsJudged}
@@ -12,12 +12,14 @@ use Rattle.driver.specs.declared.call.Call.{Call}
 use Rattle.driver.specs.Calls.{Reading, IsCall}
 use Rattle.busd_core.specs.declared.fault.Cause.{Cause}
 use Rattle.busd_core.specs.declared.fault.Cause.TheVariants.{Faulty}
+use Rattle.busd_core.specs.declared.request.Request.{Request}
+use Rattle.busd_core.specs.declared.request.Request.TheVariants.{Ask, Make}
 use Rattle.busd_core.specs.declared.stage.Stage.{Stage}
 use Rattle.busd_core.specs.declared.stage.Stage.TheVariants.{Named, Closed}
 use Rattle.busd_core.specs.declared.session.Stop.{Stop}
 use Rattle.busd_core.specs.declared.session.Stop.TheVariants.{Closed as StopClosed, Memory}
 use Rattle.busd_core.specs.declared.session.Session.{Session}
-use Rattle.busd_core.specs.Serving.{Standing, Served, Known, opening, with_change, query_in, serve_known, serve}
+use Rattle.busd_core.specs.Serving.{Standing, Served, Known, opening, with_change, refusing, request_in, serve}
 use Rattle.busd_core.specs.Runs.{limit, Serves, IsKnown, IsOpen, ClosesFor, AreWritten}
 
 abbrev pub standing_of : Session → Standing
@@ -79,13 +81,18 @@ Stops old new served before after (Err Memory) = Grows before after
 Stops old new served before after (Err (StopClosed cause)) = ⊥
 
 -- a call is read, or there was no memory for it
-abbrev pub ReadsOrWants : Message → Result Query ErrorKind → Type 0
-ReadsOrWants m result = ((reading : Reading Call) × IsCall m reading × (result ≡ query_in reading)) ⊎ (result ≡ Err NoMemory)
+abbrev pub ReadsOrWants : Message → ℕ → Result Request ErrorKind → Type 0
+ReadsOrWants m number result = ((reading : Reading Call) × IsCall m reading × (result ≡ request_in number reading)) ⊎ (result ≡ Err NoMemory)
 
--- a call is served, or there was no memory, and nothing is done
-abbrev pub ServesCall : Message → ℕ → Session → Session → (before after : List ℕ) → Result (Unit {0}) AllocError → Type 0
-ServesCall m number old new before after (Ok u) = (known : Known) × IsKnown m known × Shows old new (serve_known m number (standing_of old) known) before after
-ServesCall m number old new before after (Err e) = (new ≡ old) × (after ≡ before)
+-- what a plain bus serves today
+abbrev pub IsServedRequest : Request → Type 0
+IsServedRequest (Ask query) = IsServedQuery query
+IsServedRequest (Make change) = IsServedChange change
+
+-- a call of the connection of this number is served, or there was no memory, and it is answered so
+abbrev pub StopsOrWants : Message → ℕ → Session → Session → Served → (before after : List ℕ) → Result (Unit {0}) Stop → Type 0
+StopsOrWants m number old new served before after result =
+    Stops old new served before after result ⊎ Stops old new (refusing m (Some number) NoMemory (standing_of old)) before after result
 
 -- a call is served, whatever there is memory for
 abbrev pub ServesKnown : (Known → Served) → Message → Session → Session → (before after : List ℕ) → Result (Unit {0}) Stop → Type 0

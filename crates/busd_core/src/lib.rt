@@ -5,7 +5,7 @@
 #![tactic(auto)]
 
 mod fault;
-mod query;
+mod request;
 mod session;
 mod stage;
 mod stream;

@@ -6,17 +6,17 @@ ghost use Rattle.marshal_core.specs.Values.{Vals};
 ghost use Rattle.seq_bus_core.specs.Answers.{answer};
 ghost use Rattle.seq_bus_core.specs.declared.error_kind.ErrorKind.TheVariants.{NoMemory};
 ghost use Rattle.seq_bus.specs.PlainBus.{bus_now};
-ghost use Rattle.seq_bus.specs.Served.{IsServedQuery};
+ghost use Rattle.seq_bus.specs.Served.{IsServedChange, IsServedQuery};
 ghost use Rattle.message_core.specs.Headers.{message_of};
 ghost use Rattle.message_core.specs.Said.{said};
 ghost use Rattle.driver.specs.Calls.{is_hello};
 ghost use Rattle.driver.specs.OwnMessages.{reply_header, IsReplyBody};
-ghost use Rattle.busd_core.specs.Serving.{quiet, next_serial, sending, replying, reply_to, refusing, acquired_by, naming, turning_away, hello, telling, serve_unnamed, serve_named, serve};
+ghost use Rattle.busd_core.specs.Serving.{quiet, next_serial, sending, replying, reply_to, refusing, acquired_by, naming, turning_away, hello, telling, answering, making, serve_unnamed, serve_named, serve};
 ghost use Rattle.busd_core.specs.Runs.{IsOpen};
-ghost use Rattle.busd_core.specs.Sessions.{standing_of, IsFresh, IsReady, TakesOff, IsAtRest, StopsReading, Does, Ends, Stops, ServesCall, ServesKnown, ServesOne, Leaves, Receives};
+ghost use Rattle.busd_core.specs.Sessions.{standing_of, IsFresh, IsReady, TakesOff, IsAtRest, StopsReading, Does, Ends, Stops, StopsOrWants, ServesKnown, ServesOne, Leaves, Receives};
 
 use crate::fault::{Cause, RunFault};
-use crate::query::{body_of, query_in, reply_to};
+use crate::request::{Request, body_of, error_told, reply_to, request_in};
 use crate::stage::Stage;
 use driver::{
     ReplyBody, expects_reply, is_call_to_bus, is_hello, write_error, write_reply, write_signal,
@@ -28,8 +28,8 @@ use seq_bus::{Asked, SeqBus};
 use seq_bus_core::{BusSignal, Change, ErrorKind, Query, Reply};
 use std::alloc::{AllocError, Global};
 
-/// Room for what a Hello brings: a reply and a signal, which have unique names of at most 24 bytes.
-const HELLO_ROOM: usize = 512;
+/// Room for what a call brings that changes the bus: a reply and a signal, which have unique names of at most 24 bytes.
+const ROOM: usize = 512;
 
 /// Why a session takes no more.
 #[derive(Clone, Copy, Debug, PartialEq, Eq)]
@@ -238,7 +238,7 @@ impl Session {
         requires hello { is_hello (said call.now) ≡ true }
         ensures { ServesKnown (λ known. hello known (standing_of self.old) (said call.now)) (said call.now) self.old self.new out.old.items out.new.items result }
     {
-        if out.reserve(HELLO_ROOM).is_err() {
+        if out.reserve(ROOM).is_err() {
             return self.want(call, None, out);
         }
         match self.bus.change(Change::Hello { privileged: true }) {
@@ -283,18 +283,75 @@ impl Session {
         }
     }
 
-    /// Serves a call to the bus of a connection that has this number.
-    fn serve_call(
+    /// Answers a call by a query, where there is memory for it.
+    fn ask(
         &mut self,
-        number: u64,
-        message: &Message,
+        call: &Message,
+        caller: u64,
+        query: &Query,
+        out: &mut Vec<u8>,
+    ) -> Result<(), Stop>
+        requires { IsServedQuery query.now }
+        ensures { StopsOrWants (said call.now) caller self.old self.new (telling (said call.now) caller (standing_of self.old) (answer (bus_now self.old.bus).state query.now)) out.old.items out.new.items result }
+    {
+        match self.tell(call, caller, query, out) {
+            Ok(()) => Ok(()),
+            Err(_) => self.want(call, Some(caller), out),
+        }
+    }
+
+    /// Answers a call whose change was told so: by an error, or by an empty reply.
+    fn answer(
+        &mut self,
+        call: &Message,
+        caller: u64,
+        error: Option<ErrorKind>,
         out: &mut Vec<u8>,
     ) -> Result<(), AllocError>
-        ensures { ServesCall (said message.now) number self.old self.new out.old.items out.new.items result }
+        ensures { Does self.old self.new (answering (said call.now) caller (standing_of self.old) error) out.old.items out.new.items result }
     {
-        match query_in(self.alloc, message) {
-            Ok(query) => self.tell(message, number, &query, out),
-            Err(error) => self.refuse(message, Some(number), error, out),
+        match error {
+            None => self.reply(call, caller, ReplyBody::Empty, out),
+            Some(error) => self.refuse(call, Some(caller), error, out),
+        }
+    }
+
+    /// Makes a change, and answers the call that asked for it. Room for what is sent is made before the bus changes.
+    fn make(
+        &mut self,
+        call: &Message,
+        caller: u64,
+        change: Change,
+        out: &mut Vec<u8>,
+    ) -> Result<(), Stop>
+        requires { IsServedChange change }
+        ensures { StopsOrWants (said call.now) caller self.old self.new (making (said call.now) caller (standing_of self.old) change) out.old.items out.new.items result }
+    {
+        if out.reserve(ROOM).is_err() {
+            return self.want(call, Some(caller), out);
+        }
+        match self.bus.change(change) {
+            Ok(outcome) => match self.answer(call, caller, error_told(outcome.reply), out) {
+                Ok(()) => Ok(()),
+                Err(_) => Err(Stop::Memory),
+            },
+            Err(_) => self.want(call, Some(caller), out),
+        }
+    }
+
+    /// Answers a call by an error, where there is memory for it.
+    fn deny(
+        &mut self,
+        call: &Message,
+        caller: u64,
+        error: ErrorKind,
+        out: &mut Vec<u8>,
+    ) -> Result<(), Stop>
+        ensures { StopsOrWants (said call.now) caller self.old self.new (refusing (said call.now) (Some caller) error (standing_of self.old)) out.old.items out.new.items result }
+    {
+        match self.refuse(call, Some(caller), error, out) {
+            Ok(()) => Ok(()),
+            Err(_) => self.want(call, Some(caller), out),
         }
     }
 
@@ -306,9 +363,10 @@ impl Session {
         if !is_call_to_bus(message) {
             return Ok(());
         }
-        match self.serve_call(number, message, out) {
-            Ok(()) => Ok(()),
-            Err(_) => self.want(message, Some(number), out),
+        match request_in(self.alloc, number, message) {
+            Ok(Request::Ask(query)) => self.ask(message, number, &query, out),
+            Ok(Request::Make(change)) => self.make(message, number, change, out),
+            Err(error) => self.deny(message, number, error, out),
         }
     }
 

@@ -82,6 +82,9 @@ fn calls_after_hello(rt: HostRuntime) -> Result<(), Fail> {
         (OTHER_OWNER, NO_OWNER),
         (BUS_OWNER, BUS_REPLY),
         (NAME_HAS_OWNER, HAS_OWNER),
+        (ADD_MATCH, ADDED),
+        (ADD_NO_RULE, RULE_INVALID),
+        (REMOVE_MATCH, RULE_NOT_FOUND),
         (SILENT, none),
         (SIGNAL, none),
         (ELSEWHERE, none),
@@ -94,6 +97,16 @@ fn calls_after_hello(rt: HostRuntime) -> Result<(), Fail> {
         assert_eq!(rt; run(rt.alloc(), &mut input.as_slice(), &mut output), Ok(()));
         assert_eq!(rt; output.as_slice(), expected.as_slice(), "{sent:?}");
     }
+    Ok(())
+}
+
+#[test]
+fn rule_that_is_added_and_removed(rt: HostRuntime) -> Result<(), Fail> {
+    let input = joined(rt.alloc(), &[HELLO, ADD_MATCH, REMOVE_MATCH])?;
+    let expected = joined(rt.alloc(), &[WELCOME, ACQUIRED, ADDED, REMOVED])?;
+    let mut output = Vec::new(rt.alloc());
+    assert_eq!(rt; run(rt.alloc(), &mut input.as_slice(), &mut output), Ok(()));
+    assert_eq!(rt; output.as_slice(), expected.as_slice());
     Ok(())
 }
 
@@ -204,20 +217,24 @@ fn bytes_set_to_others(rt: HostRuntime) -> Result<(), Fail> {
 #[test]
 fn memory_that_runs_out(rt: HostRuntime) -> Result<(), Fail> {
     let alloc = rt.alloc();
-    let input = joined(alloc, &[HELLO, GET_NAME_OWNER])?;
-    let whole = joined(alloc, &[WELCOME, ACQUIRED, OWNER])?;
-    let greeted = joined(alloc, &[WELCOME, ACQUIRED])?;
-    let unanswered = joined(alloc, &[WELCOME, ACQUIRED, MEMORY_AT_OWNER])?;
-    let mut output = Vec::new(alloc);
-    let end = run(alloc, &mut input.as_slice(), &mut output);
-    let written = output.as_slice();
-    let is_due = match end {
-        Ok(()) => written == whole.as_slice() || written == unanswered.as_slice(),
-        Err(RunFault::Memory) => written.is_empty() || written == greeted.as_slice(),
-        Err(RunFault::Closed(cause)) => cause == Cause::NotHello && written == MEMORY_AT_HELLO,
-        Err(_) => false,
-    };
-    assert!(rt; is_due, "{end:?}");
+    for (call, reply) in [(GET_NAME_OWNER, OWNER), (ADD_MATCH, ADDED)] {
+        let input = joined(alloc, &[HELLO, call])?;
+        let whole = joined(alloc, &[WELCOME, ACQUIRED, reply])?;
+        let greeted = joined(alloc, &[WELCOME, ACQUIRED])?;
+        let unanswered = joined(alloc, &[WELCOME, ACQUIRED, NO_MEMORY])?;
+        let mut output = Vec::new(alloc);
+        let end = run(alloc, &mut input.as_slice(), &mut output);
+        let written = output.as_slice();
+        let is_due = match end {
+            Ok(()) => written == whole.as_slice() || written == unanswered.as_slice(),
+            Err(RunFault::Memory) => written.is_empty() || written == greeted.as_slice(),
+            Err(RunFault::Closed(cause)) => {
+                cause == Cause::NotHello && written == MEMORY_AT_HELLO
+            }
+            Err(_) => false,
+        };
+        assert!(rt; is_due, "{end:?}");
+    }
     Ok(())
 }
 

@@ -110,8 +110,8 @@ pub const HELLO_WITH_ARGUMENT: &[u8] =
 pub const MEMORY_AT_HELLO: &[u8] =
     b"l\x03\x01\x01\x12\0\0\0\x01\0\0\0_\0\0\0\x04\x01s\0#\0\0\0org.freedesktop.DBus.Error.NoMemory\0\0\0\0\0\x05\x01u\0\x01\0\0\0\x07\x01s\0\x14\0\0\0org.freedesktop.DBus\0\0\0\0\x08\x01g\0\x01s\0\0\x0d\0\0\0Out of memory\0";
 
-/// The error where a GetNameOwner found no memory.
-pub const MEMORY_AT_OWNER: &[u8] =
+/// The error where the call after Hello found no memory.
+pub const NO_MEMORY: &[u8] =
     b"l\x03\x01\x01\x12\0\0\0\x03\0\0\0o\0\0\0\x04\x01s\0#\0\0\0org.freedesktop.DBus.Error.NoMemory\0\0\0\0\0\x05\x01u\0\x02\0\0\0\x06\x01s\0\x04\0\0\0:1.1\0\0\0\0\x07\x01s\0\x14\0\0\0org.freedesktop.DBus\0\0\0\0\x08\x01g\0\x01s\0\0\x0d\0\0\0Out of memory\0";
 
 /// NameHasOwner of `:1.1`.
@@ -120,3 +120,29 @@ pub const NAME_HAS_OWNER: &[u8] =
 
 pub const HAS_OWNER: &[u8] =
     b"l\x02\x01\x01\x04\0\0\0\x03\0\0\0?\0\0\0\x05\x01u\0\x02\0\0\0\x06\x01s\0\x04\0\0\0:1.1\0\0\0\0\x07\x01s\0\x14\0\0\0org.freedesktop.DBus\0\0\0\0\x08\x01g\0\x01b\0\0\x01\0\0\0";
+
+/// AddMatch of `type='signal'`.
+pub const ADD_MATCH: &[u8] =
+    b"l\x01\0\x01\x12\0\0\0\x02\0\0\0\x7f\0\0\0\x01\x01o\0\x15\0\0\0/org/freedesktop/DBus\0\0\0\x02\x01s\0\x14\0\0\0org.freedesktop.DBus\0\0\0\0\x03\x01s\0\x08\0\0\0AddMatch\0\0\0\0\0\0\0\0\x06\x01s\0\x14\0\0\0org.freedesktop.DBus\0\0\0\0\x08\x01g\0\x01s\0\0\x0d\0\0\0type='signal'\0";
+
+/// The reply to `ADD_MATCH`.
+pub const ADDED: &[u8] =
+    b"l\x02\x01\x01\0\0\0\0\x03\0\0\x005\0\0\0\x05\x01u\0\x02\0\0\0\x06\x01s\0\x04\0\0\0:1.1\0\0\0\0\x07\x01s\0\x14\0\0\0org.freedesktop.DBus\0\0\0\0";
+
+/// AddMatch of a text that is no match rule.
+pub const ADD_NO_RULE: &[u8] =
+    b"l\x01\0\x01\x0d\0\0\0\x02\0\0\0\x7f\0\0\0\x01\x01o\0\x15\0\0\0/org/freedesktop/DBus\0\0\0\x02\x01s\0\x14\0\0\0org.freedesktop.DBus\0\0\0\0\x03\x01s\0\x08\0\0\0AddMatch\0\0\0\0\0\0\0\0\x06\x01s\0\x14\0\0\0org.freedesktop.DBus\0\0\0\0\x08\x01g\0\x01s\0\0\x08\0\0\0type='x'\0";
+
+pub const RULE_INVALID: &[u8] =
+    b"l\x03\x01\x01\x17\0\0\0\x03\0\0\0w\0\0\0\x04\x01s\0+\0\0\0org.freedesktop.DBus.Error.MatchRuleInvalid\0\0\0\0\0\x05\x01u\0\x02\0\0\0\x06\x01s\0\x04\0\0\0:1.1\0\0\0\0\x07\x01s\0\x14\0\0\0org.freedesktop.DBus\0\0\0\0\x08\x01g\0\x01s\0\0\x12\0\0\0Invalid match rule\0";
+
+/// RemoveMatch of `type='signal'`.
+pub const REMOVE_MATCH: &[u8] =
+    b"l\x01\0\x01\x12\0\0\0\x02\0\0\0\x7f\0\0\0\x01\x01o\0\x15\0\0\0/org/freedesktop/DBus\0\0\0\x02\x01s\0\x14\0\0\0org.freedesktop.DBus\0\0\0\0\x03\x01s\0\x0b\0\0\0RemoveMatch\0\0\0\0\0\x06\x01s\0\x14\0\0\0org.freedesktop.DBus\0\0\0\0\x08\x01g\0\x01s\0\0\x0d\0\0\0type='signal'\0";
+
+/// The reply to `REMOVE_MATCH`, serial 4.
+pub const REMOVED: &[u8] =
+    b"l\x02\x01\x01\0\0\0\0\x04\0\0\x005\0\0\0\x05\x01u\0\x02\0\0\0\x06\x01s\0\x04\0\0\0:1.1\0\0\0\0\x07\x01s\0\x14\0\0\0org.freedesktop.DBus\0\0\0\0";
+
+pub const RULE_NOT_FOUND: &[u8] =
+    b"l\x03\x01\x01\x17\0\0\0\x03\0\0\0w\0\0\0\x04\x01s\0,\0\0\0org.freedesktop.DBus.Error.MatchRuleNotFound\0\0\0\0\x05\x01u\0\x02\0\0\0\x06\x01s\0\x04\0\0\0:1.1\0\0\0\0\x07\x01s\0\x14\0\0\0org.freedesktop.DBus\0\0\0\0\x08\x01g\0\x01s\0\0\x12\0\0\0No such match rule\0";

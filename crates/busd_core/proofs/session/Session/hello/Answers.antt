@@ -1,4 +1,4 @@
-use Rattle.std.proofs.Common.{Some, Ok, List, ℕ, subst, Result}
+use Rattle.std.proofs.Common.{Some, Ok, List, ℕ, subst}
 use Rattle.message_core.specs.Said.{said}
 use Rattle.driver.specs.declared.call.Call.TheVariants as call
 use Rattle.busd_core.specs.Serving.{naming, turning_away}

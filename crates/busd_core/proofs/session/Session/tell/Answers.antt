@@ -1,4 +1,4 @@
-use Rattle.std.proofs.Common.{[], ◌∷◌, refl}
+use Rattle.std.proofs.Common.{[], ◌∷◌}
 use Rattle.marshal_core.specs.Types.{one_type}
 use Rattle.marshal_core.specs.Values.{values}
 use Rattle.seq_bus_core.specs.Answers.{answer}
