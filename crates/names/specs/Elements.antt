@@ -1,13 +1,17 @@
 -- The elements of names, after "Valid Names" and "Valid Object Paths" of the D-Bus Specification.
-use Rattle.std.specs.Prelude.{◌≡◌, ℕ, ◌+◌, ◌<◌, Bool, true, false, ◌&&◌, ◌||◌, not, List, [], ◌∷◌, ◌++◌, length, Option, Some, None, nat_le, nat_lt, ◌==◌, if◌then◌else◌}
+use Rattle.std.specs.Prelude.{◌≡◌, ℕ, ◌+◌, ◌<◌, ◌≤◌, Bool, true, false, ◌&&◌, ◌||◌, not, List, [], ◌∷◌, ◌++◌, length, Option, Some, None, nat_le, nat_lt, ◌==◌, if◌then◌else◌}
 use Rattle.std.specs.List.{flat_map, AllByRecursion}
-use Rattle.names.specs.Texts.{Text}
+use Rattle.names.specs.Texts.{Text, IsPlain}
 use Rattle.names.specs.declared.fault.NameFault.{NameFault}
 use Rattle.names.specs.declared.fault.NameFault.TheVariants.{Empty, TooLong, BadByte, TooFewElements, DigitFirst}
 
 -- the longest name; object paths have no such limit
 abbrev pub max_name_length : ℕ
 max_name_length = 255
+
+-- what every name is, but for object paths, which may be longer
+abbrev pub IsShortAndPlain : Text → Type 0
+IsShortAndPlain text = (length text ≤ max_name_length) × IsPlain text
 
 abbrev pub hyphen_byte : ℕ
 hyphen_byte = 45

@@ -19,7 +19,7 @@ pub use bus_name_kind::BusNameKind;
 pub use error_name::ErrorName;
 pub use fault::NameFault;
 pub use interface_name::Interface;
-pub use laws::{connections_have_unique_names, unique_names_differ};
+pub use laws::{connections_have_unique_names, names_are_plain, unique_names_differ};
 pub use member_name::Member;
 pub use object_path::ObjectPath;
 pub use unique_name::UniqueName;

@@ -108,6 +108,74 @@ fn object_paths(rt: HostRuntime) {
 }
 
 #[test]
+fn zero_bytes_and_other_letters(rt: HostRuntime) {
+    for text in ["a.b\0", "a.b\0.c", "a.b\u{e9}", "a.b\u{1f68c}"] {
+        assert_eq!(rt;
+            Interface::parse(text).err(),
+            Some(NameFault::BadByte(3)),
+            "at {text:?}"
+        );
+        assert_eq!(rt;
+            ErrorName::parse(text).err(),
+            Some(NameFault::BadByte(3)),
+            "at {text:?}"
+        );
+        assert_eq!(rt;
+            WellKnown::parse(text).err(),
+            Some(NameFault::BadByte(3)),
+            "at {text:?}"
+        );
+        assert_eq!(rt;
+            BusName::parse(text).err(),
+            Some(NameFault::BadByte(3)),
+            "at {text:?}"
+        );
+        assert!(rt; !WellKnown::is_namespace(text), "at {text:?}");
+    }
+    assert_eq!(rt;
+        UniqueName::parse(":1.2\0").err(),
+        Some(NameFault::BadByte(4))
+    );
+    assert_eq!(rt; Member::parse("Ping\0").err(), Some(NameFault::BadByte(4)));
+    assert_eq!(rt;
+        ObjectPath::parse("/a\0").err(),
+        Some(NameFault::BadByte(2))
+    );
+    assert_eq!(rt; ObjectPath::parse("/\0").err(), Some(NameFault::BadByte(1)));
+}
+
+#[test]
+fn names_are_shown_as_they_were_read(rt: HostRuntime) -> io::Result<()> {
+    let alloc = rt.alloc();
+    let interface = Interface::parse("com.example.Track").expect(&rt, "the text is an interface");
+    assert_eq!(rt; interface.as_str(), "com.example.Track");
+    assert_eq!(rt;
+        format!(in alloc; "{interface}")?.as_str(),
+        "com.example.Track"
+    );
+    let error = ErrorName::parse("com.example.Failed").expect(&rt, "the text is an error name");
+    assert_eq!(rt; error.as_str(), "com.example.Failed");
+    assert_eq!(rt;
+        format!(in alloc; "{error}")?.as_str(),
+        "com.example.Failed"
+    );
+    let member = Member::parse("Ping").expect(&rt, "the text is a member");
+    assert_eq!(rt; member.as_str(), "Ping");
+    assert_eq!(rt; format!(in alloc; "{member}")?.as_str(), "Ping");
+    let well_known = WellKnown::parse("com.example.A").expect(&rt, "the text is a name");
+    assert_eq!(rt; well_known.as_str(), "com.example.A");
+    assert_eq!(rt;
+        format!(in alloc; "{well_known}")?.as_str(),
+        "com.example.A"
+    );
+    let bus_name = BusName::from(well_known);
+    assert_eq!(rt; format!(in alloc; "{bus_name}")?.as_str(), "com.example.A");
+    let path = ObjectPath::parse("/com/example").expect(&rt, "the text is an object path");
+    assert_eq!(rt; format!(in alloc; "{path}")?.as_str(), "/com/example");
+    Ok(())
+}
+
+#[test]
 fn longest_names(rt: HostRuntime) {
     let mut bytes = [b'a'; 256];
     bytes[1] = b'.';
