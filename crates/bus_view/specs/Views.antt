@@ -1,0 +1,75 @@
+-- What a view of a bus knows, and what a change, a read and a note do to it.
+use Rattle.std.specs.Prelude.{◌≡◌, ℕ, ◌+◌, ltb, if◌then◌else◌, Bool, true, false, Option, Some, None, [], ◌∷◌, ◌++◌, length}
+use Rattle.std.specs.List.{range_with_len}
+use Rattle.seq_bus_core.specs.Histories.{History, IsLegal, Begins, numbers_of}
+use Rattle.seq_bus_core.specs.Tickets.{WholeBus, bus_step, bus_after}
+use Rattle.seq_bus_core.specs.declared.change.Change.{Change}
+use Rattle.seq_bus_core.specs.declared.entry.Entry.{Entry}
+use Rattle.seq_bus_core.specs.declared.outcome.Outcome.{Outcome}
+
+-- Which registry it is a view of, and how that was opened; the seat by which it makes its changes; the beginning of the history
+-- that it has seen; how many changes it made; and the longest beginning that a note tells which it made or took.
+pub record Knowledge : Type 0 where
+  pub registry : ℕ
+  pub opening : WholeBus
+  pub seat : ℕ
+  pub seen : History
+  pub made : ℕ
+  pub held : Option History
+
+-- the bus after all that was seen
+abbrev pub bus_seen : Knowledge → WholeBus
+bus_seen k = bus_after k.opening k.seen
+
+-- A point of the history that begins with all that was seen. Where nobody else makes changes, it is just what was seen.
+pub record Reaches (alone : Bool) (seen point : History) : Type 0 where
+  pub begun : Begins seen point
+  pub same : alone ≡ true → point ≡ seen
+
+-- the history has of a seat's changes just the first `made`, each once and in order
+abbrev pub HasJust : ℕ → ℕ → History → Type 0
+HasJust seat made history = numbers_of seat history ≡ range_with_len 1 made
+
+-- the entry of the next change, which is a publication of its own
+abbrev pub next_entry : Knowledge → Change → Entry
+next_entry k change = record { seat = k.seat; number = k.made + 1; change = change; left = 0 }
+
+-- once this history was seen, to which a change of one's own was added, and which a note tells
+abbrev pub having_changed : Knowledge → History → Knowledge
+having_changed k now = record k { seen = now; made = k.made + 1; held = Some now }
+
+-- A change was made. What it was told is what the bus says at one point of the history, which begins with all that was seen.
+-- There it was added, and the history up to it was seen.
+pub record IsChanged (alone : Bool) (old : Knowledge) (change : Change) (outcome : Outcome) (new : Knowledge) : Type 0 where
+  pub point : History
+  pub reached : Reaches alone old.seen point
+  pub told : outcome ≡ (bus_step (bus_after old.opening point) old.seat change).1
+  pub added : new ≡ having_changed old (point ++ next_entry old change ∷ [])
+  pub legal : IsLegal new.seen
+  pub own : HasJust new.seat new.made new.seen
+
+-- A read found the bus at one point of the history, which begins with all that was seen, and has of the view's changes just those
+-- that it made.
+pub record IsRead (alone : Bool) (old new : Knowledge) : Type 0 where
+  pub reached : Reaches alone old.seen new.seen
+  pub kept : new ≡ record old { seen = new.seen }
+  pub legal : IsLegal new.seen
+  pub own : HasJust new.seat new.made new.seen
+
+-- of what is held and what is told, the longer
+abbrev pub longer : Option History → History → History
+longer None told = told
+longer (Some held) told = if ltb (length held) (length told) then told else held
+
+-- A note was taken: what it tells was seen. Where nobody else makes changes, a note tells nothing.
+pub record IsNoted (alone : Bool) (old : Knowledge) (told : History) (new : Knowledge) : Type 0 where
+  pub reached : Reaches alone old.seen new.seen
+  pub learned : alone ≡ false → Begins told new.seen
+  pub held : alone ≡ false → new.held ≡ Some (longer old.held told)
+  pub kept : new ≡ record old { seen = new.seen; held = new.held }
+  pub nothing : alone ≡ true → new ≡ old
+
+-- A read that was not answered. It may have reached a later point all the same.
+pub record IsUnread (alone : Bool) (old new : Knowledge) : Type 0 where
+  pub reached : Reaches alone old.seen new.seen
+  pub kept : new ≡ record old { seen = new.seen }

@@ -1,0 +1,67 @@
+//! The plain bus, seen by the one who uses it.
+
+ghost use Rattle.std.specs.Prelude.{◌≡◌};
+
+use crate::refusal::{Cause, Gone, Refused};
+use crate::view::BusView;
+use match_rules::Facts;
+use seq_bus::{AskFault, Asked, SeqBus};
+use seq_bus_core::{Change, Outcome, Query, Verdict};
+
+impl BusView for SeqBus {
+    type Note = ();
+
+    type Right = ();
+
+    ghost use Rattle.std.specs.Prelude.{true, []};
+    ghost use Rattle.bus_view.specs.PlainViews.{knowledge_of};
+
+    ghost alone = { true };
+
+    ghost knows = { knowledge_of };
+
+    ghost told = { λ _. [] };
+
+    ghost registry_of = { λ _. 0 };
+
+    fn change(&mut self, _right: &(), change: Change) -> Result<(Outcome, ()), Refused> {
+        let _legal = self.history();
+        let made = SeqBus::change(self, change);
+        let _legal = self.history();
+        match made {
+            Ok(outcome) => Ok((outcome, ())),
+            Err(refused) => Err(Refused {
+                change: refused.change,
+                cause: Cause::NoMemory,
+            }),
+        }
+    }
+
+    fn ask(&mut self, query: &Query, body: &mut Vec<u8>) -> Result<Asked, AskFault> {
+        let _legal = self.history();
+        SeqBus::ask(self, query, body)
+    }
+
+    fn route(&mut self, from: u64, facts: &Facts<'_>) -> Result<Verdict, Gone> {
+        let _legal = self.history();
+        Ok(SeqBus::route(self, from, facts))
+    }
+
+    fn present(&mut self, number: u64) -> Result<bool, Gone> {
+        let _legal = self.history();
+        Ok(SeqBus::present(self, number))
+    }
+
+    fn take_note(&mut self, _note: &()) {}
+
+    fn note(&self) -> Option<()> {
+        if self.history().is_empty() {
+            return None;
+        }
+        Some(())
+    }
+
+    fn seat(&self) -> u8 {
+        SeqBus::seat(self)
+    }
+}
