@@ -1,5 +1,6 @@
 pub mod Places
 pub mod RuleLemmas
 pub mod NameNumbers
+pub mod NameTableLemmas
 pub mod Marks
 pub mod Members

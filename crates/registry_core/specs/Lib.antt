@@ -1,3 +1,4 @@
+pub mod NameTables
 pub mod RuleTables
 pub mod Listening
 pub mod Signals

@@ -8,8 +8,10 @@
 
 pub mod listening;
 mod member;
+mod name_table;
 mod rule_table;
 pub mod signals;
 
 pub use member::{Member, number_of, place_of};
+pub use name_table::{MAX_NAMES, MAX_QUEUED, NameEntry, NameTable};
 pub use rule_table::{RuleEntry, RuleTable};

@@ -1,0 +1,437 @@
+-- Names by rising bytes, and the place of one of them.
+use Rattle.std.proofs.Common.{inl, inr, ◌≡◌, ℕ, zero, suc, ◌+◌, ◌-◌, ◌<◌, ◌≤◌, nat_le, ◌&&◌, not, true, false, cond, if◌then◌else◌, List, [], ◌∷◌, ◌++◌, map, filter, length, take, drop, insert, remove, get_or, refl, sym, ap, ◌∙◌, subst, arith, append_assoc, append-nil}
+use Rattle.std.specs.List.{AllByRecursion as Each, AllWithin, sum_by}
+use Rattle.std.specs.List.Sorted.{IsPartitionedBy}
+use Rattle.std.proofs.Math.ListN.{set}
+use Rattle.std.proofs.Math.Seq.{take-suc}
+use Rattle.std.proofs.lemmas.Bool.{true≢false, cases_Bool}
+use Rattle.std.proofs.lemmas.List.{length-append, take-append-drop}
+use Rattle.std.proofs.lemmas.List.Edits.{length-insert}
+use Rattle.std.proofs.lemmas.List.Sums.{sum_by-cons, sum_by-append}
+use Rattle.names.specs.Texts.{Text, text_eq, text_lt}
+use Rattle.owner_queues.specs.Queues.{Queue, without, is_free, is_in}
+use Rattle.owner_queues.proofs.QueueLemmas.{length-without}
+use Rattle.seq_bus_core.specs.BusState.{OwnedName, queue_of, with_queue, kept_name, queued_in, names_of, max_names, max_queued, max_names_of_one}
+use Rattle.seq_bus_core.specs.Steps.{names_without}
+use Rattle.seq_bus_core.proofs.Lists.{each_weaker}
+use Rattle.seq_bus_core.proofs.TextLemmas.{text_lt-trans, text_eq-true, text_eq-swapped, text_lt-itself, text_lt-back, text_lt-other}
+use Rattle.registry_core.specs.NameTables.{NamesRise, AreInTable, IsAt, WouldStand, are_within}
+
+abbrev pub Below : OwnedName → OwnedName → Type 0
+Below a b = text_lt a.name b.name ≡ true
+
+-- ## The search
+
+each_at : {X : Type 0} (f : X → OwnedName) (P : OwnedName → Type 0) (xs : List X) (k : ℕ) (d : X) → Each P (map f xs) → k < length xs → P (f (get_or xs k d))
+each_at f P [] k d h lt = absurd (omega (arith, lt))
+each_at f P (x ∷ xs) zero d h lt = h.0
+each_at f P (x ∷ xs) (suc k) d h lt = each_at f P xs k d h.1 (omega (arith, lt))
+
+pub partitioned : {X : Type 0} (f : X → OwnedName) (name : Text) (xs : List X) → NamesRise (map f xs) → IsPartitionedBy (λ x. text_lt (f x).name name) xs
+partitioned f name [] h i j d le lt passes = absurd (omega (arith, lt))
+partitioned f name (x ∷ xs) h zero zero d le lt passes = passes
+partitioned f name (x ∷ xs) h zero (suc j) d le lt passes = text_lt-trans (f x).name (f (get_or xs j d)).name name (each_at f (Below (f x)) xs j d h.0 (omega (arith, lt))) passes
+partitioned f name (x ∷ xs) h (suc i) zero d le lt passes = absurd (omega (arith, le))
+partitioned f name (x ∷ xs) h (suc i) (suc j) d le lt passes = partitioned f name xs h.1 i j d (omega (arith, le)) (omega (arith, lt)) passes
+
+pub before_place : {X : Type 0} (f : X → OwnedName) (P : OwnedName → Type 0) (xs : List X) (i : ℕ) → i ≤ length xs → AllWithin (λ x. P (f x)) xs 0 i → Each P (take i (map f xs))
+before_place f P xs zero le h = tt
+before_place f P [] (suc i) le h = tt
+before_place f P (x ∷ xs) (suc i) le h = (h 0 x (omega arith) (omega arith), before_place f P xs i (omega (arith, le)) (λ k d low high. h (suc k) d (omega arith) (omega (arith, high))))
+
+pub behind_place : {X : Type 0} (f : X → OwnedName) (P : OwnedName → Type 0) (xs : List X) (i : ℕ) → AllWithin (λ x. P (f x)) xs i (length xs) → Each P (drop i (map f xs))
+behind_place f P [] zero h = tt
+behind_place f P [] (suc i) h = tt
+behind_place f P (x ∷ xs) zero h = (h 0 x (omega arith) (omega arith), behind_place f P xs zero (λ k d low high. h (suc k) d (omega arith) (omega (arith, high))))
+behind_place f P (x ∷ xs) (suc i) h = behind_place f P xs i (λ k d low high. h (suc k) d (omega (arith, low)) (omega (arith, high)))
+
+-- ## Names before and behind another
+
+below_differs : (a b : Text) → text_lt a b ≡ true → text_eq a b ≡ false
+below_differs a b h = elim (cases_Bool (text_eq a b)) [ inl same ↦ absurd (true≢false (sym h ∙ ap (text_lt a) (sym (text_eq-true a b same)) ∙ text_lt-itself a)) | inr other ↦ other ]
+
+above_differs : (a b : Text) → text_lt b a ≡ true → text_eq a b ≡ false
+above_differs a b h = text_eq-swapped b a (below_differs b a h)
+
+front_below : (name : Text) (front back : List OwnedName) → Each (λ n. text_lt n.name name ≡ true) front → filter (λ n. text_lt n.name name) (front ++ back) ≡ front ++ filter (λ n. text_lt n.name name) back
+front_below name [] back h = refl
+front_below name (n ∷ front) back h = rw h.0 (ap (λ rest. n ∷ rest) (front_below name front back h.1))
+
+front_not_above : (name : Text) (front back : List OwnedName) → Each (λ n. text_lt n.name name ≡ true) front → filter (λ n. text_lt name n.name) (front ++ back) ≡ filter (λ n. text_lt name n.name) back
+front_not_above name [] back h = refl
+front_not_above name (n ∷ front) back h = rw (text_lt-back n.name name h.0) (front_not_above name front back h.1)
+
+front_queue : (name : Text) (front back : List OwnedName) → Each (λ n. text_lt n.name name ≡ true) front → queue_of (front ++ back) name ≡ queue_of back name
+front_queue name [] back h = refl
+front_queue name (n ∷ front) back h = rw (below_differs n.name name h.0) (front_queue name front back h.1)
+
+back_not_below : (name : Text) (back : List OwnedName) → Each (λ n. text_lt name n.name ≡ true) back → filter (λ n. text_lt n.name name) back ≡ []
+back_not_below name [] h = refl
+back_not_below name (n ∷ back) h = rw (text_lt-back name n.name h.0) (back_not_below name back h.1)
+
+back_above : (name : Text) (back : List OwnedName) → Each (λ n. text_lt name n.name ≡ true) back → filter (λ n. text_lt name n.name) back ≡ back
+back_above name [] h = refl
+back_above name (n ∷ back) h = rw h.0 (ap (λ rest. n ∷ rest) (back_above name back h.1))
+
+back_queue : (name : Text) (back : List OwnedName) → Each (λ n. text_lt name n.name ≡ true) back → queue_of back name ≡ []
+back_queue name [] h = refl
+back_queue name (n ∷ back) h = rw (above_differs n.name name h.0) (back_queue name back h.1)
+
+pub rise_behind : (front back : List OwnedName) → NamesRise (front ++ back) → NamesRise back
+rise_behind [] back h = h
+rise_behind (n ∷ front) back h = rise_behind front back h.1
+
+-- a name that is found between others
+pub found : (names front back : List OwnedName) (n : OwnedName) (name : Text) (place : ℕ) → names ≡ front ++ n ∷ back → length front ≡ place → NamesRise names →
+    Each (λ m. text_lt m.name name ≡ true) front → text_eq n.name name ≡ true → IsAt names name place
+found names front back n name place names_are place_is rise before same =
+    let is : n.name ≡ name = text_eq-true n.name name same in
+    let above : Each (λ m. text_lt name m.name ≡ true) back = subst (λ t. Each (λ m. text_lt t m.name ≡ true) back) is (rise_behind front (n ∷ back) (subst NamesRise names_are rise)).0 in
+    let not_below : text_lt n.name name ≡ false = ap (λ t. text_lt t name) is ∙ text_lt-itself name in
+    let not_above : text_lt name n.name ≡ false = ap (text_lt name) is ∙ text_lt-itself name in
+    let here : List OwnedName → List OwnedName = λ rest. cond (text_lt n.name name) (n ∷ rest) rest in
+    record {
+      front = front;
+      queue = n.queue;
+      back = back;
+      names_are = names_are ∙ ap (λ t. front ++ record { name = t; queue = n.queue } ∷ back) is;
+      between = record {
+        place_is = place_is;
+        before = ap (filter (λ m. text_lt m.name name)) names_are ∙ front_below name front (n ∷ back) before ∙ ap (λ rest. front ++ rest) (rw not_below (back_not_below name back above)) ∙ append-nil front;
+        behind = ap (filter (λ m. text_lt name m.name)) names_are ∙ front_not_above name front (n ∷ back) before ∙ rw not_above (back_above name back above);
+        queue_is = ap (λ ns. queue_of ns name) names_are ∙ front_queue name front (n ∷ back) before ∙ rw same refl;
+      };
+    }
+
+stands : (names front back : List OwnedName) (name : Text) (place : ℕ) → names ≡ front ++ back → length front ≡ place →
+    Each (λ m. text_lt m.name name ≡ true) front → Each (λ m. text_lt name m.name ≡ true) back → WouldStand names name place
+stands names front back name place names_are place_is before above = record {
+  front = front;
+  back = back;
+  names_are = names_are;
+  between = record {
+    place_is = place_is;
+    before = ap (filter (λ m. text_lt m.name name)) names_are ∙ front_below name front back before ∙ ap (λ rest. front ++ rest) (back_not_below name back above) ∙ append-nil front;
+    behind = ap (filter (λ m. text_lt name m.name)) names_are ∙ front_not_above name front back before ∙ back_above name back above;
+    queue_is = ap (λ ns. queue_of ns name) names_are ∙ front_queue name front back before ∙ back_queue name back above;
+  };
+}
+
+take_all : {X : Type 0} (xs : List X) (i : ℕ) → i ≡ length xs → take i xs ≡ xs
+take_all [] zero is = refl
+take_all [] (suc i) is = refl
+take_all (x ∷ xs) zero is = absurd (omega (arith, is))
+take_all (x ∷ xs) (suc i) is = ap (λ rest. x ∷ rest) (take_all xs i (omega (arith, is)))
+
+-- a name that comes behind all others
+pub stands_last : (names : List OwnedName) (name : Text) (place : ℕ) → place ≡ length names → Each (λ m. text_lt m.name name ≡ true) (take place names) → WouldStand names name place
+stands_last names name place is before =
+    stands names names [] name place (sym (append-nil names)) (sym is) (subst (Each (λ m. text_lt m.name name ≡ true)) (take_all names place is) before) tt
+
+-- the names before a place, the one there and those behind it
+pub split_at : {X : Type 0} (f : X → OwnedName) (xs : List X) (i : ℕ) (d : X) → i < length xs →
+    (map f xs ≡ take i (map f xs) ++ f (get_or xs i d) ∷ drop (suc i) (map f xs)) × (length (take i (map f xs)) ≡ i) × (drop i (map f xs) ≡ f (get_or xs i d) ∷ drop (suc i) (map f xs))
+split_at f [] i d lt = absurd (omega (arith, lt))
+split_at f (x ∷ xs) zero d lt = (refl, refl, refl)
+split_at f (x ∷ xs) (suc i) d lt =
+    let rest = split_at f xs i d (omega (arith, lt)) in
+    (ap (λ more. f x ∷ more) rest.0, ap suc rest.1, rest.2)
+
+-- a name that comes before another
+pub stands_before : (names front back : List OwnedName) (n : OwnedName) (name : Text) (place : ℕ) → names ≡ front ++ n ∷ back → length front ≡ place → NamesRise names →
+    Each (λ m. text_lt m.name name ≡ true) front → text_lt n.name name ≡ false → text_eq n.name name ≡ false → WouldStand names name place
+stands_before names front back n name place names_are place_is rise before not_below other =
+    let above : text_lt name n.name ≡ true = text_lt-other n.name name not_below (text_eq-swapped n.name name other) in
+    let higher : Each (Below n) back = (rise_behind front (n ∷ back) (subst NamesRise names_are rise)).0 in
+    stands names front (n ∷ back) name place names_are place_is before (above, each_weaker (Below n) (λ m. text_lt name m.name ≡ true) (λ m up. text_lt-trans name n.name m.name above up) back higher)
+
+-- ## Edits
+
+pub split_same : {X : Type 0} (front back other rest : List X) (n m : X) → front ++ n ∷ back ≡ other ++ m ∷ rest → length front ≡ length other → (front ≡ other) × (n ≡ m) × (back ≡ rest)
+split_same [] back [] rest n m e is = let first : n ≡ m = cc in let more : back ≡ rest = cc in (refl, first, more)
+split_same [] back (y ∷ other) rest n m e is = absurd (omega (arith, is))
+split_same (x ∷ front) back [] rest n m e is = absurd (omega (arith, is))
+split_same {X} (x ∷ front) back (y ∷ other) rest n m e is =
+    let first : x ≡ y = cc in
+    let more : front ++ n ∷ back ≡ other ++ m ∷ rest = cc in
+    let same = split_same front back other rest n m more (omega (arith, is)) in
+    (ap (λ z. z ∷ front) first ∙ ap (λ (zs : List X). y ∷ zs) same.0, same.1, same.2)
+
+pub map_at : {X Y : Type 0} (f : X → Y) (xs : List X) (i : ℕ) (d : X) (front back : List Y) (n : Y) → map f xs ≡ front ++ n ∷ back → length front ≡ i → f (get_or xs i d) ≡ n
+map_at f [] i d [] back n e is = cc
+map_at f [] i d (m ∷ front) back n e is = cc
+map_at f (x ∷ xs) zero d [] back n e is = let same : f x ≡ n = cc in same
+map_at f (x ∷ xs) (suc i) d [] back n e is = absurd (omega (arith, is))
+map_at f (x ∷ xs) zero d (m ∷ front) back n e is = absurd (omega (arith, is))
+map_at f (x ∷ xs) (suc i) d (m ∷ front) back n e is = let rest : map f xs ≡ front ++ n ∷ back = cc in map_at f xs i d front back n rest (omega (arith, is))
+
+pub map_set : {X Y : Type 0} (f : X → Y) (xs : List X) (i : ℕ) (x : X) (front back : List Y) (n : Y) → map f xs ≡ front ++ n ∷ back → length front ≡ i → map f (set xs i x) ≡ front ++ f x ∷ back
+map_set f [] i x [] back n e is = cc
+map_set f [] i x (m ∷ front) back n e is = cc
+map_set f (y ∷ xs) zero x [] back n e is = let same : map f xs ≡ back = cc in ap (λ rest. f x ∷ rest) same
+map_set f (y ∷ xs) (suc i) x [] back n e is = absurd (omega (arith, is))
+map_set f (y ∷ xs) zero x (m ∷ front) back n e is = absurd (omega (arith, is))
+map_set {X} {Y} f (y ∷ xs) (suc i) x (m ∷ front) back n e is =
+    let first : f y ≡ m = cc in
+    let rest : map f xs ≡ front ++ n ∷ back = cc in
+    ap (λ (o : Y). o ∷ map f (set xs i x)) first ∙ ap (λ (more : List Y). m ∷ more) (map_set f xs i x front back n rest (omega (arith, is)))
+
+pub map_removed : {X Y : Type 0} (f : X → Y) (xs : List X) (i : ℕ) (front back : List Y) (n : Y) → map f xs ≡ front ++ n ∷ back → length front ≡ i → map f (remove xs i) ≡ front ++ back
+map_removed f [] i [] back n e is = cc
+map_removed f [] i (m ∷ front) back n e is = cc
+map_removed f (x ∷ xs) zero [] back n e is = let same : map f xs ≡ back = cc in same
+map_removed f (x ∷ xs) (suc i) [] back n e is = absurd (omega (arith, is))
+map_removed f (x ∷ xs) zero (m ∷ front) back n e is = absurd (omega (arith, is))
+map_removed {X} {Y} f (x ∷ xs) (suc i) (m ∷ front) back n e is =
+    let first : f x ≡ m = cc in
+    let rest : map f xs ≡ front ++ n ∷ back = cc in
+    ap (λ (o : Y). o ∷ map f (remove xs i)) first ∙ ap (λ (more : List Y). m ∷ more) (map_removed f xs i front back n rest (omega (arith, is)))
+
+pub map_inserted : {X Y : Type 0} (f : X → Y) (xs : List X) (i : ℕ) (x : X) → i ≤ length xs → map f (insert xs i x) ≡ insert (map f xs) i (f x)
+map_inserted f xs zero x le = refl
+map_inserted f [] (suc i) x le = absurd (omega (arith, le))
+map_inserted f (y ∷ xs) (suc i) x le = ap (λ rest. f y ∷ rest) (map_inserted f xs i x (omega (arith, le)))
+
+pub inserted_between : (front back : List OwnedName) (i : ℕ) (n : OwnedName) → length front ≡ i → insert (front ++ back) i n ≡ front ++ n ∷ back
+inserted_between [] back i n is = let none : 0 ≡ i = is in rw (← none) refl
+inserted_between (m ∷ front) back zero n is = absurd (omega (arith, is))
+inserted_between (m ∷ front) back (suc i) n is = ap (λ rest. m ∷ rest) (inserted_between front back i n (omega (arith, is)))
+
+-- a name that has another queue stands where it stood
+rise_kept : (front back : List OwnedName) (n : OwnedName) (queue : Queue) → NamesRise (front ++ n ∷ back) → NamesRise (front ++ kept_name n.name queue ++ back)
+rise_kept [] back n [] h = h.1
+rise_kept [] back n (owner ∷ waiting) h = h
+rise_kept (m ∷ front) back n queue h = (each_kept_between (Below m) front back n queue (λ q above. above) h.0, rise_kept front back n queue h.1)
+  where
+    each_kept_between : (P : OwnedName → Type 0) (f b : List OwnedName) (k : OwnedName) (q : Queue) → ((r : Queue) → P k → P (record k { queue = r })) → Each P (f ++ k ∷ b) → Each P (f ++ kept_name k.name q ++ b)
+    each_kept_between P [] b k [] same e = e.1
+    each_kept_between P [] b k (owner ∷ waiting) same e = (same (owner ∷ waiting) e.0, e.1)
+    each_kept_between P (o ∷ f) b k q same e = (e.0, each_kept_between P f b k q same e.1)
+
+rise_renewed : (front back : List OwnedName) (n : OwnedName) (queue : Queue) → NamesRise (front ++ n ∷ back) → NamesRise (front ++ record n { queue = queue } ∷ back)
+rise_renewed [] back n queue h = h
+rise_renewed (m ∷ front) back n queue h = (each_renewed (Below m) front back n queue (λ q above. above) h.0, rise_renewed front back n queue h.1)
+  where
+    each_renewed : (P : OwnedName → Type 0) (f b : List OwnedName) (k : OwnedName) (q : Queue) → ((r : Queue) → P k → P (record k { queue = r })) → Each P (f ++ k ∷ b) → Each P (f ++ record k { queue = q } ∷ b)
+    each_renewed P [] b k q same e = (same q e.0, e.1)
+    each_renewed P (o ∷ f) b k q same e = (e.0, each_renewed P f b k q same e.1)
+
+-- ## Places in all queues
+
+abbrev places : OwnedName → ℕ
+places n = length n.queue
+
+pub queued_between : (front back : List OwnedName) (n : OwnedName) → queued_in (front ++ n ∷ back) ≡ queued_in front + (length n.queue + queued_in back)
+queued_between front back n = sum_by-append places front (n ∷ back) ∙ ap (λ k. queued_in front + k) (sum_by-cons places n back)
+
+pub queued_dropped : (front back : List OwnedName) (n : OwnedName) → n.queue ≡ [] → queued_in (front ++ n ∷ back) ≡ queued_in (front ++ back)
+queued_dropped front back n none =
+    let before : queued_in (front ++ n ∷ back) ≡ queued_in front + (length n.queue + queued_in back) = queued_between front back n in
+    let after : queued_in (front ++ back) ≡ queued_in front + queued_in back = sum_by-append places front back in
+    let empty : length n.queue ≡ 0 = ap length none in
+    omega arith
+
+pub queued_kept : (front back : List OwnedName) (name : Text) (queue : Queue) → queued_in (front ++ record { name = name; queue = queue } ∷ back) ≡ queued_in (front ++ kept_name name queue ++ back)
+queued_kept front back name [] = queued_dropped front back (record { name = name; queue = [] }) refl ∙ ap (λ ns. queued_in (ns ++ back)) (sym (append-nil front))
+queued_kept front back name (owner ∷ waiting) = ap queued_in (sym (append_assoc front (record { name = name; queue = owner ∷ waiting } ∷ []) back))
+
+-- ## The table
+
+pub place_counts : (names front back : List OwnedName) (n : OwnedName) (spare queued room spare_room : ℕ) → AreInTable names spare queued room spare_room → names ≡ front ++ n ∷ back → length n.queue ≤ queued
+place_counts names front back n spare queued room spare_room h is = let all : queued ≡ queued_in front + (length n.queue + queued_in back) = h.counted ∙ ap queued_in is ∙ queued_between front back n in omega arith
+
+pub requeued : (names front back : List OwnedName) (n : OwnedName) (queue : Queue) (spare queued room spare_room : ℕ) → AreInTable names spare queued room spare_room → names ≡ front ++ n ∷ back →
+    queued_in (front ++ record n { queue = queue } ∷ back) ≤ max_queued → AreInTable (front ++ record n { queue = queue } ∷ back) spare (queued - length n.queue + length queue) room spare_room
+requeued names front back n queue spare queued room spare_room h is few =
+    let all : queued ≡ queued_in front + (length n.queue + queued_in back) = h.counted ∙ ap queued_in is ∙ queued_between front back n in
+    let after : queued_in (front ++ record n { queue = queue } ∷ back) ≡ queued_in front + (length queue + queued_in back) = queued_between front back (record n { queue = queue }) in
+    let counted : queued - length n.queue + length queue ≡ queued_in (front ++ record n { queue = queue } ∷ back) = omega arith in
+    record {
+      rise = rise_renewed front back n queue (subst NamesRise is h.rise);
+      entries = ap (λ k. k + spare) (length-append front (record n { queue = queue } ∷ back) ∙ sym (length-append front (n ∷ back)) ∙ ap length (sym is)) ∙ h.entries;
+      counted = counted;
+      few_places = subst (λ k. k ≤ max_queued) (sym counted) few;
+      has_room = h.has_room;
+      has_spare_room = h.has_spare_room;
+    }
+
+pub fewer_places : (names front back : List OwnedName) (n : OwnedName) (c spare queued room spare_room : ℕ) → AreInTable names spare queued room spare_room → names ≡ front ++ n ∷ back →
+    queued_in (front ++ record n { queue = without c n.queue } ∷ back) ≤ max_queued
+fewer_places names front back n c spare queued room spare_room h is =
+    let all : queued ≡ queued_in front + (length n.queue + queued_in back) = h.counted ∙ ap queued_in is ∙ queued_between front back n in
+    let after : queued_in (front ++ record n { queue = without c n.queue } ∷ back) ≡ queued_in front + (length (without c n.queue) + queued_in back) = queued_between front back (record n { queue = without c n.queue }) in
+    let fewer : length (without c n.queue) ≤ length n.queue = length-without c n.queue in
+    let few : queued ≤ max_queued = h.few_places in
+    omega arith
+
+pub free_queue : (queue : Queue) → is_free queue ≡ true → queue ≡ []
+free_queue [] h = refl
+free_queue (owner ∷ waiting) h = cc
+
+pub kept_whole : (name : Text) (queue : Queue) → is_free queue ≡ false → kept_name name queue ≡ record { name = name; queue = queue } ∷ []
+kept_whole name [] h = cc
+kept_whole name (owner ∷ waiting) h = refl
+
+pub dropped : (names front back : List OwnedName) (n : OwnedName) (spare queued room spare_room : ℕ) → AreInTable names spare queued room spare_room → names ≡ front ++ n ∷ back → n.queue ≡ [] →
+    AreInTable (front ++ back) (spare + 1) queued room spare_room
+dropped names front back n spare queued room spare_room h is none =
+    let whole : length names ≡ length front + suc (length back) = ap length is ∙ length-append front (n ∷ back) in
+    let rest : length (front ++ back) ≡ length front + length back = length-append front back in
+    let all : length names + spare ≡ max_names = h.entries in
+    record {
+      rise = subst (λ ns. NamesRise (ns ++ back)) (append-nil front) (rise_kept front back n [] (subst NamesRise is h.rise));
+      entries = omega arith;
+      counted = h.counted ∙ ap queued_in is ∙ queued_dropped front back n none;
+      few_places = h.few_places;
+      has_room = h.has_room;
+      has_spare_room = h.has_spare_room;
+    }
+
+pub added : (names : List OwnedName) (place : ℕ) (n : OwnedName) (spare less queued room spare_room : ℕ) → AreInTable names spare queued room spare_room → place ≤ length names → NamesRise (insert names place n) →
+    spare ≡ less + 1 → queued + length n.queue ≤ max_queued → AreInTable (insert names place n) less (queued + length n.queue) room spare_room
+added names place n spare less queued room spare_room h le rise one few =
+    let longer : length (insert names place n) ≡ length names + 1 = length-insert names place n le in
+    let all : length names + spare ≡ max_names = h.entries in
+    let parts : names ≡ take place names ++ drop place names = sym (take-append-drop place names) in
+    let before : queued ≡ queued_in (take place names) + queued_in (drop place names) = h.counted ∙ ap queued_in parts ∙ sum_by-append places (take place names) (drop place names) in
+    let after : queued_in (insert names place n) ≡ queued_in (take place names) + (length n.queue + queued_in (drop place names)) = queued_between (take place names) (drop place names) n in
+    record {
+      rise = rise;
+      entries = omega arith;
+      counted = omega arith;
+      few_places = few;
+      has_room = h.has_room;
+      has_spare_room = h.has_spare_room;
+    }
+
+-- ## A connection that stands in no queue
+
+pub leaves_one : (c : ℕ) (names : List OwnedName) (i : ℕ) (d : OwnedName) → i < length names →
+    names_without c (drop i names) ≡ kept_name (get_or names i d).name (without c (get_or names i d).queue) ++ names_without c (drop (suc i) names)
+leaves_one c [] i d lt = absurd (omega (arith, lt))
+leaves_one c (n ∷ names) zero d lt = refl
+leaves_one c (n ∷ names) (suc i) d lt = leaves_one c names i d (omega (arith, lt))
+
+pub leave_next : (c : ℕ) (names : List OwnedName) (p q : ℕ) (d : OwnedName) → p ≡ suc q → p ≤ length names →
+    take p names ++ names_without c (drop p names) ≡ take q names ++ get_or names q d ∷ names_without c (drop p names)
+leave_next c names p q d is le =
+    ap (λ k. take k names ++ names_without c (drop p names)) is ∙ ap (λ ns. ns ++ names_without c (drop p names)) (take-suc names q d (omega (arith, le, is)))
+    ∙ append_assoc (take q names) (get_or names q d ∷ []) (names_without c (drop p names))
+
+pub leave_done : (c : ℕ) (names : List OwnedName) (p q : ℕ) (d : OwnedName) → p ≡ suc q → p ≤ length names →
+    take q names ++ kept_name (get_or names q d).name (without c (get_or names q d).queue) ++ names_without c (drop p names) ≡ take q names ++ names_without c (drop q names)
+leave_done c names p q d is le =
+    let kept : List OwnedName = kept_name (get_or names q d).name (without c (get_or names q d).queue) in
+    append_assoc (take q names) kept (names_without c (drop p names)) ∙ ap (λ k. take q names ++ (kept ++ names_without c (drop k names))) is
+    ∙ ap (λ ns. take q names ++ ns) (sym (leaves_one c names q d (omega (arith, le, is))))
+
+-- ## The queue of a name
+
+pub with_found : (names : List OwnedName) (name : Text) (place : ℕ) (queue : Queue) (at : IsAt names name place) → with_queue name queue names ≡ at.front ++ kept_name name queue ++ at.back
+with_found names name place queue at =
+    ap (λ ns. ns ++ kept_name name queue ++ filter (λ n. text_lt name n.name) names) at.between.before ∙ ap (λ ns. at.front ++ kept_name name queue ++ ns) at.between.behind
+
+pub with_absent : (names : List OwnedName) (name : Text) (place : ℕ) (queue : Queue) (at : WouldStand names name place) → with_queue name queue names ≡ at.front ++ kept_name name queue ++ at.back
+with_absent names name place queue at =
+    ap (λ ns. ns ++ kept_name name queue ++ filter (λ n. text_lt name n.name) names) at.between.before ∙ ap (λ ns. at.front ++ kept_name name queue ++ ns) at.between.behind
+
+pub requeued_places : (names front back : List OwnedName) (n : OwnedName) (name : Text) (place : ℕ) (queue : Queue) → IsAt names name place → names ≡ front ++ n ∷ back → length front ≡ place →
+    queued_in (front ++ record n { queue = queue } ∷ back) ≡ queued_in (with_queue name queue names)
+requeued_places names front back n name place queue at is place_is =
+    let same = split_same front back at.front at.back n (record { name = name; queue = at.queue }) (sym is ∙ at.names_are) (place_is ∙ sym at.between.place_is) in
+    ap (λ ns. queued_in (ns ++ record n { queue = queue } ∷ back)) same.0 ∙ ap (λ (m : OwnedName). queued_in (at.front ++ record m { queue = queue } ∷ back)) same.1
+    ∙ ap (λ ns. queued_in (at.front ++ record { name = name; queue = queue } ∷ ns)) same.2
+    ∙ queued_kept at.front at.back name queue ∙ ap queued_in (sym (with_found names name place queue at))
+
+pub added_is : (names : List OwnedName) (name : Text) (place : ℕ) (queue : Queue) → WouldStand names name place → is_free queue ≡ false → insert names place (record { name = name; queue = queue }) ≡ with_queue name queue names
+added_is names name place queue at some =
+    let n : OwnedName = record { name = name; queue = queue } in
+    ap (λ ns. insert ns place n) at.names_are ∙ inserted_between at.front at.back place n at.between.place_is ∙ sym (append_assoc at.front (n ∷ []) at.back)
+    ∙ ap (λ ns. at.front ++ ns ++ at.back) (sym (kept_whole name queue some)) ∙ sym (with_absent names name place queue at)
+
+-- the same table, with as much room or more
+pub resized : (names same : List OwnedName) (spare spare_same queued queued_same room more spare_room spare_more : ℕ) → AreInTable names spare queued room spare_room →
+    same ≡ names → spare_same ≡ spare → queued_same ≡ queued → room ≤ more → spare_room ≤ spare_more → AreInTable same spare_same queued_same more spare_more
+resized names same spare spare_same queued queued_same room more spare_room spare_more h e f g k l = record {
+  rise = subst NamesRise (sym e) h.rise;
+  entries = ap (λ ns. length ns + spare_same) e ∙ ap (λ m. length names + m) f ∙ h.entries;
+  counted = g ∙ h.counted ∙ ap queued_in (sym e);
+  few_places = subst (λ m. m ≤ max_queued) (sym g) h.few_places;
+  has_room = let less : max_names ≤ room = h.has_room in omega arith;
+  has_spare_room = let less : max_names ≤ spare_room = h.has_spare_room in omega arith;
+}
+
+abbrev OfQueue : (Queue → ℕ) → OwnedName → ℕ
+OfQueue g n = g n.queue
+
+kept_sum : (g : Queue → ℕ) → g [] ≡ 0 → (name : Text) (queue : Queue) → sum_by (OfQueue g) (kept_name name queue) ≡ g queue
+kept_sum g none name [] = sym none
+kept_sum g none name (owner ∷ waiting) = omega arith
+
+between_sum : (g : Queue → ℕ) → g [] ≡ 0 → (front back : List OwnedName) (name : Text) (queue : Queue) →
+    sum_by (OfQueue g) (front ++ kept_name name queue ++ back) ≡ sum_by (OfQueue g) front + g queue + sum_by (OfQueue g) back
+between_sum g none front back name queue =
+    let f : OwnedName → ℕ = OfQueue g in
+    let kept : sum_by f (kept_name name queue) ≡ g queue = kept_sum g none name queue in
+    let first : sum_by f (front ++ kept_name name queue) ≡ sum_by f front + sum_by f (kept_name name queue) = sum_by-append f front (kept_name name queue) in
+    let whole : sum_by f (front ++ kept_name name queue ++ back) ≡ sum_by f (front ++ kept_name name queue) + sum_by f back = sum_by-append f (front ++ kept_name name queue) back in
+    omega arith
+
+pub sum_found : (g : Queue → ℕ) → g [] ≡ 0 → (names : List OwnedName) (name : Text) (place : ℕ) (queue : Queue) (at : IsAt names name place) →
+    sum_by (OfQueue g) (with_queue name queue names) + g at.queue ≡ sum_by (OfQueue g) names + g queue
+sum_found g none names name place queue at =
+    let f : OwnedName → ℕ = OfQueue g in
+    let n : OwnedName = record { name = name; queue = at.queue } in
+    let after : sum_by f (with_queue name queue names) ≡ sum_by f at.front + g queue + sum_by f at.back = ap (sum_by f) (with_found names name place queue at) ∙ between_sum g none at.front at.back name queue in
+    let before : sum_by f names ≡ sum_by f at.front + sum_by f (n ∷ at.back) = ap (sum_by f) at.names_are ∙ sum_by-append f at.front (n ∷ at.back) in
+    let first : sum_by f (n ∷ at.back) ≡ g at.queue + sum_by f at.back = sum_by-cons f n at.back in
+    omega arith
+
+pub sum_absent : (g : Queue → ℕ) → g [] ≡ 0 → (names : List OwnedName) (name : Text) (place : ℕ) (queue : Queue) → WouldStand names name place →
+    sum_by (OfQueue g) (with_queue name queue names) ≡ sum_by (OfQueue g) names + g queue
+sum_absent g none names name place queue at =
+    let f : OwnedName → ℕ = OfQueue g in
+    let after : sum_by f (with_queue name queue names) ≡ sum_by f at.front + g queue + sum_by f at.back = ap (sum_by f) (with_absent names name place queue at) ∙ between_sum g none at.front at.back name queue in
+    let before : sum_by f names ≡ sum_by f at.front + sum_by f at.back = ap (sum_by f) at.names_are ∙ sum_by-append f at.front at.back in
+    omega arith
+
+kept_length : (name : Text) (queue : Queue) → length (kept_name name queue) ≡ (if not (is_free queue) then 1 else 0)
+kept_length name [] = refl
+kept_length name (owner ∷ waiting) = refl
+
+between_length : (front back : List OwnedName) (name : Text) (queue : Queue) → length (front ++ kept_name name queue ++ back) ≡ length front + (if not (is_free queue) then 1 else 0) + length back
+between_length front back name queue =
+    let kept : length (kept_name name queue) ≡ (if not (is_free queue) then 1 else 0) = kept_length name queue in
+    let first : length (front ++ kept_name name queue) ≡ length front + length (kept_name name queue) = length-append front (kept_name name queue) in
+    let whole : length (front ++ kept_name name queue ++ back) ≡ length (front ++ kept_name name queue) + length back = length-append (front ++ kept_name name queue) back in
+    omega arith
+
+pub length_found : (names : List OwnedName) (name : Text) (place : ℕ) (queue : Queue) → IsAt names name place → length (with_queue name queue names) + 1 ≡ length names + (if not (is_free queue) then 1 else 0)
+length_found names name place queue at =
+    let after = ap length (with_found names name place queue at) ∙ between_length at.front at.back name queue in
+    let before : length names ≡ length at.front + suc (length at.back) = ap length at.names_are ∙ length-append at.front (record { name = name; queue = at.queue } ∷ at.back) in
+    omega (arith, after)
+
+pub length_absent : (names : List OwnedName) (name : Text) (place : ℕ) (queue : Queue) → WouldStand names name place → length (with_queue name queue names) ≡ length names + (if not (is_free queue) then 1 else 0)
+length_absent names name place queue at =
+    let after = ap length (with_absent names name place queue at) ∙ between_length at.front at.back name queue in
+    let before : length names ≡ length at.front + length at.back = ap length at.names_are ∙ length-append at.front at.back in
+    omega (arith, after)
+
+abbrev pub one_if_in : ℕ → Queue → ℕ
+one_if_in c queue = if is_in c queue then 1 else 0
+
+pub count_found : (names : List OwnedName) (name : Text) (place : ℕ) (queue : Queue) (c : ℕ) (at : IsAt names name place) → names_of c (with_queue name queue names) + one_if_in c at.queue ≡ names_of c names + one_if_in c queue
+count_found names name place queue c at = sum_found (one_if_in c) refl names name place queue at
+
+pub count_absent : (names : List OwnedName) (name : Text) (place : ℕ) (queue : Queue) (c : ℕ) → WouldStand names name place → names_of c (with_queue name queue names) ≡ names_of c names + one_if_in c queue
+count_absent names name place queue c at = sum_absent (one_if_in c) refl names name place queue at
+
+pub queued_found : (names : List OwnedName) (name : Text) (place : ℕ) (queue : Queue) (at : IsAt names name place) → queued_in (with_queue name queue names) + length at.queue ≡ queued_in names + length queue
+queued_found names name place queue at = sum_found length refl names name place queue at
+
+pub queued_absent : (names : List OwnedName) (name : Text) (place : ℕ) (queue : Queue) → WouldStand names name place → queued_in (with_queue name queue names) ≡ queued_in names + length queue
+queued_absent names name place queue at = sum_absent length refl names name place queue at
+
+pub within_by : (names : List OwnedName) (c a b d : ℕ) → a ≡ length names → b ≡ queued_in names → d ≡ names_of c names → (nat_le a max_names && nat_le b max_queued && nat_le d max_names_of_one) ≡ are_within names c
+within_by names c a b d e f g = rw (e, f, g) refl

@@ -1,0 +1,54 @@
+use Rattle.std.proofs.Common.{◌≡◌, ◌<◌, ◌≤◌, suc, List, ◌∷◌, ◌++◌, map, take, drop, get_or, length, sym, ap, ◌∙◌, subst, arith, Box, Global}
+use Rattle.std.proofs.lemmas.List.{length-map}
+use Rattle.owner_queues.specs.Queues.{Queue}
+use Rattle.seq_bus_core.specs.BusState.{OwnedName}
+use Rattle.registry_core.specs.NameTables.{owned_name}
+use Rattle.registry_core.specs.declared.name_table.NameEntry.{NameEntry}
+use Rattle.registry_core.proofs.NameTableLemmas.{split_at, map_at, map_set, place_counts, requeued}
+use Rattle.registry_core.proofs.name_table.NameTable.requeue.Goals as goal
+
+abbrev name_in : Box NameEntry Global → OwnedName
+name_in b = owned_name b.value
+
+pub overflow_sub-self : goal.overflow_sub-self
+overflow_sub-self c =
+    let r = c.self.inside in
+    let items = r.entries.items in
+    let b : Box NameEntry Global = c.index_mut-entry.result.now in
+    let there : c.args.place < length items = omega (arith, ap length c.self.view_is, length-map items name_in, c.requires.there) in
+    let split = split_at name_in items c.args.place b there in
+    let front : List OwnedName = take c.args.place (map name_in items) in
+    let back : List OwnedName = drop (suc c.args.place) (map name_in items) in
+    let n : OwnedName = name_in (get_or items c.args.place b) in
+    let at : name_in b ≡ n = ap name_in c.index_mut-entry.ensures.value in
+    let queue_is : c.as_slice.result.now ≡ n.queue = c.as_slice.ensures.value ∙ ap (λ (e : NameEntry). e.queue) c.deref.ensures ∙ ap (λ (m : OwnedName). m.queue) at in
+    subst (λ (q : Queue). length q ≤ r.queued) (sym queue_is) (place_counts (map name_in items) front back n _ _ _ _ c.self.invariant split.0)
+
+pub invariant_of-self : goal.invariant_of-self
+invariant_of-self c =
+    let r = c.self.inside in
+    let items = r.entries.items in
+    let b : Box NameEntry Global = c.index_mut-entry.result.now in
+    let there : c.args.place < length items = omega (arith, ap length c.self.view_is, length-map items name_in, c.requires.there) in
+    let split = split_at name_in items c.args.place b there in
+    let front : List OwnedName = take c.args.place (map name_in items) in
+    let back : List OwnedName = drop (suc c.args.place) (map name_in items) in
+    let n : OwnedName = name_in (get_or items c.args.place b) in
+    let at : name_in b ≡ n = ap name_in c.index_mut-entry.ensures.value in
+    let queue_is : c.as_slice.result.now ≡ n.queue = c.as_slice.ensures.value ∙ ap (λ (e : NameEntry). e.queue) c.deref.ensures ∙ ap (λ (m : OwnedName). m.queue) at in
+    let left_is : name_in (record b { value = record { name = c.deref_mut.result.now.name; queue = c.copy_from.new.self } }) ≡ record n { queue = c.args.queue.now } =
+    ap (λ (q : Queue). record { name = c.deref_mut.result.now.name; queue = q }) c.copy_from.ensures
+    ∙ ap (λ (e : NameEntry). record (owned_name e) { queue = c.args.queue.now }) c.deref_mut.ensures.value ∙ ap (λ (m : OwnedName). record m { queue = c.args.queue.now }) at in
+    rw (map_set name_in items c.args.place _ front back n split.0 split.1, left_is, queue_is, c.as_slice-2.ensures.value)
+    (requeued (map name_in items) front back n c.args.queue.now _ _ _ _ c.self.invariant split.0 (c.requires.few_places front back n (sym c.self.view_is ∙ split.0) split.1))
+
+pub returns : goal.returns
+returns c front back n is place_is =
+    let items = c.self.inside.entries.items in
+    let b : Box NameEntry Global = c.index_mut-entry.result.now in
+    let names_are : map name_in items ≡ front ++ n ∷ back = c.self.view_is ∙ is in
+    let at : name_in b ≡ n = ap name_in c.index_mut-entry.ensures.value ∙ map_at name_in items c.args.place b front back n names_are place_is in
+    let left_is : name_in (record b { value = record { name = c.deref_mut.result.now.name; queue = c.copy_from.new.self } }) ≡ record n { queue = c.args.queue.now } =
+    ap (λ (q : Queue). record { name = c.deref_mut.result.now.name; queue = q }) c.copy_from.ensures
+    ∙ ap (λ (e : NameEntry). record (owned_name e) { queue = c.args.queue.now }) c.deref_mut.ensures.value ∙ ap (λ (m : OwnedName). record m { queue = c.args.queue.now }) at in
+    map_set name_in items c.args.place (record b { value = record { name = c.deref_mut.result.now.name; queue = c.copy_from.new.self } }) front back n names_are place_is ∙ ap (λ m. front ++ m ∷ back) left_is

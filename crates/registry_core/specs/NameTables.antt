@@ -1,0 +1,52 @@
+-- Tables of the names that have an owner.
+use Rattle.std.specs.Prelude.{◌≡◌, ℕ, ◌+◌, ◌≤◌, nat_le, ◌&&◌, Bool, true, Result, Ok, Err, List, [], ◌∷◌, ◌++◌, length, filter}
+use Rattle.names.specs.Texts.{Text, text_lt}
+use Rattle.owner_queues.specs.Queues.{Queue}
+use Rattle.seq_bus_core.specs.BusState.{OwnedName, queue_of, queued_in, names_of, max_names, max_queued, max_names_of_one}
+use Rattle.seq_bus_core.specs.Consistency.{Pairwise}
+use Rattle.registry_core.specs.declared.name_table.NameEntry.{NameEntry}
+
+abbrev pub owned_name : NameEntry → OwnedName
+owned_name e = record { name = e.name; queue = e.queue }
+
+abbrev pub NamesRise : List OwnedName → Type 0
+NamesRise names = Pairwise (λ a b. text_lt a.name b.name ≡ true) names
+
+-- the names of a table that has so many spare entries, places in its queues, and room for its entries
+pub record AreInTable (names : List OwnedName) (spare queued room spare_room : ℕ) : Type 0 where
+  pub rise : NamesRise names
+  pub entries : length names + spare ≡ max_names
+  pub counted : queued ≡ queued_in names
+  pub few_places : queued ≤ max_queued
+  pub has_room : max_names ≤ room
+  pub has_spare_room : max_names ≤ spare_room
+
+-- those before a name and those behind it
+pub record IsBetween (names : List OwnedName) (name : Text) (front back : List OwnedName) (queue : Queue) (place : ℕ) : Type 0 where
+  pub place_is : length front ≡ place
+  pub before : filter (λ n. text_lt n.name name) names ≡ front
+  pub behind : filter (λ n. text_lt name n.name) names ≡ back
+  pub queue_is : queue_of names name ≡ queue
+
+-- a name stands at a place with this queue
+pub record IsAt (names : List OwnedName) (name : Text) (place : ℕ) : Type 0 where
+  pub front : List OwnedName
+  pub queue : Queue
+  pub back : List OwnedName
+  pub names_are : names ≡ front ++ record { name = name; queue = queue } ∷ back
+  pub between : IsBetween names name front back queue place
+
+-- a name is not there, and would stand at a place
+pub record WouldStand (names : List OwnedName) (name : Text) (place : ℕ) : Type 0 where
+  pub front : List OwnedName
+  pub back : List OwnedName
+  pub names_are : names ≡ front ++ back
+  pub between : IsBetween names name front back [] place
+
+abbrev pub SearchGives : List OwnedName → Text → Result ℕ ℕ → Type 0
+SearchGives names name (Ok place) = IsAt names name place
+SearchGives names name (Err place) = WouldStand names name place
+
+-- whether the limits of names hold, for a connection too
+abbrev pub are_within : List OwnedName → ℕ → Bool
+are_within names connection = nat_le (length names) max_names && nat_le (queued_in names) max_queued && nat_le (names_of connection names) max_names_of_one

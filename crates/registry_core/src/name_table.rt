@@ -1,0 +1,286 @@
+//! Well-known names in a table.
+
+ghost use Rattle.std.specs.Prelude.{◌≡◌, ◌<◌, ◌≤◌, ◌+◌, ◌++◌, ◌∷◌, [], ℕ, List, length, map, remove, insert, get_or, false, true, take, drop, vec_capacity, nat_le, ◌&&◌, if◌then◌else◌, IfOk, MatchOption};
+ghost use Rattle.std.specs.List.{AllByRecursion};
+ghost use Rattle.names.specs.Texts.{text_lt};
+ghost use Rattle.owner_queues.specs.Queues.{queue_head, without, is_free};
+ghost use Rattle.seq_bus_core.specs.BusState.{OwnedName, queue_of, with_queue, kept_name, queued_in, names_of, max_names, max_queued, max_names_of_one};
+ghost use Rattle.seq_bus_core.specs.Steps.{names_without};
+ghost use Rattle.registry_core.specs.NameTables.{owned_name, NamesRise, SearchGives, are_within};
+
+use names::BusName;
+use owner_queues::Queue;
+use std::alloc::{AllocError, Global};
+use std::marker::Model;
+
+/// The most well-known names that have an owner.
+pub const MAX_NAMES: usize = 1024;
+
+/// The most places in all queues, those of the owners included.
+pub const MAX_QUEUED: usize = 4096;
+
+/// The most names that one connection owns or waits for.
+pub const MAX_NAMES_OF_ONE: usize = 64;
+
+/// A well-known name that has an owner, and its queue.
+#[derive(Drop)]
+pub struct NameEntry {
+    pub name: BusName,
+    pub queue: Queue,
+}
+
+/// The names that have an owner, by rising bytes, so that a name is found by a binary search. Their room is made with the
+/// table, an entry on the heap for each, so that a name that comes or goes moves nothing but pointers.
+#[derive(Drop)]
+pub struct NameTable {
+    entries: Vec<Box<NameEntry>>,
+    /// The entries of no name.
+    spare: Vec<Box<NameEntry>>,
+    /// The places in all queues.
+    queued: usize,
+}
+
+impl Model for NameTable {
+    ghost use Rattle.std.specs.Prelude.{List, length, map, vec_capacity};
+    ghost use Rattle.seq_bus_core.specs.BusState.{OwnedName};
+    ghost use Rattle.registry_core.specs.NameTables.{owned_name, AreInTable};
+
+    ghost Value = { List OwnedName };
+
+    ghost view = { λ t. map (λ b. owned_name b.value) t.entries.items };
+
+    ghost invariant = { λ t. AreInTable (map (λ b. owned_name b.value) t.entries.items) (length t.spare.items) t.queued (vec_capacity t.entries) (vec_capacity t.spare) };
+}
+
+impl NameTable {
+    /// A table without names.
+    pub fn new(alloc: Global) -> Result<NameTable, AllocError>
+        ensures { IfOk result (λ table. table ≡ []) }
+    {
+        let mut spare = Vec::with_capacity(alloc, MAX_NAMES)?;
+        for _place in 0..MAX_NAMES {
+            let entry = NameEntry {
+                name: BusName::bus(),
+                queue: Queue::new(),
+            };
+            spare.push_reserved(Box::new(alloc, entry)?);
+        }
+        Ok(NameTable {
+            entries: Vec::with_capacity(alloc, MAX_NAMES)?,
+            spare,
+            queued: 0,
+        })
+    }
+
+    /// How many names there are.
+    pub fn len(&self) -> usize
+        ensures value { result ≡ length self.now }
+        ensures bound { length self.now ≤ MAX_NAMES }
+    {
+        self.entries.len()
+    }
+
+    /// How many places there are in all queues.
+    pub fn queued(&self) -> usize
+        ensures value { result ≡ queued_in self.now }
+        ensures bound { queued_in self.now ≤ MAX_QUEUED }
+    {
+        self.queued
+    }
+
+    /// The names, by rising bytes.
+    pub fn as_slice(&self) -> &[Box<NameEntry>]
+        ensures value { map (λ b. owned_name b.value) result.now ≡ self.now }
+        ensures rise { NamesRise self.now }
+    {
+        self.entries.as_slice()
+    }
+
+    /// The queue of a name, if the name has an owner.
+    pub fn queue(&self, name: &str) -> Option<&Queue>
+        ensures { MatchOption result (queue_of self.now name.now ≡ []) (λ queue. queue.now ≡ queue_of self.now name.now) }
+    {
+        match search(self.entries.as_slice(), name) {
+            Ok(place) => Some(&self.entries[place].queue),
+            Err(_) => None,
+        }
+    }
+
+    /// The connection that owns a name.
+    pub fn head(&self, name: &str) -> Option<u64>
+        ensures { result ≡ queue_head (queue_of self.now name.now) }
+    {
+        match self.queue(name) {
+            Some(queue) => queue.head(),
+            None => None,
+        }
+    }
+
+    /// Whether the limits would hold if a name had this queue: of the names, of the places in all queues, and of the names
+    /// that this connection owns or waits for.
+    pub fn would_fit(&self, name: &str, queue: &Queue, connection: u64) -> bool
+        ensures { result ≡ are_within (with_queue name.now queue.now self.now) connection }
+    {
+        let names = self.len() + count(!queue.is_empty());
+        let queued = self.queued + queue.as_slice().len();
+        let of_one = self.count_of(connection) + count(queue.contains(connection));
+        match search(self.entries.as_slice(), name) {
+            Ok(place) => {
+                let old = &self.entries[place].queue;
+                are_within(
+                    names - 1,
+                    queued - old.as_slice().len(),
+                    of_one - count(old.contains(connection)),
+                )
+            }
+            Err(_) => are_within(names, queued, of_one),
+        }
+    }
+
+    /// From now on a name has this queue. A name whose queue is empty is not there any longer.
+    pub fn set_queue(&mut self, name: &BusName, queue: &Queue)
+        requires few_names { length (with_queue name.now queue.now self.old) ≤ MAX_NAMES }
+        requires few_places { queued_in (with_queue name.now queue.now self.old) ≤ MAX_QUEUED }
+        ensures { self.new ≡ with_queue name.now queue.now self.old }
+    {
+        match search(self.entries.as_slice(), name.as_str()) {
+            Ok(place) => {
+                self.requeue(place, queue);
+                self.drop_if_empty(place);
+            }
+            Err(place) => {
+                if !queue.is_empty() {
+                    self.add(place, name, queue);
+                }
+            }
+        }
+    }
+
+    /// Takes a connection out of all queues.
+    pub fn leave(&mut self, connection: u64)
+        ensures { self.new ≡ names_without connection self.old }
+    {
+        let mut place = self.entries.len();
+        while place > 0 {
+            place -= 1;
+            self.leave_at(place, connection);
+            self.drop_if_empty(place);
+        }
+    }
+
+    /// Another queue at a place.
+    fn requeue(&mut self, place: usize, queue: &Queue)
+        requires there { place < length self.old }
+        requires few_places { (front back : List OwnedName) (n : OwnedName) → self.old ≡ front ++ n ∷ back → length front ≡ place → queued_in (front ++ record n { queue = queue.now } ∷ back) ≤ MAX_QUEUED }
+        ensures { (front back : List OwnedName) (n : OwnedName) → self.old ≡ front ++ n ∷ back → length front ≡ place → self.new ≡ front ++ record n { queue = queue.now } ∷ back }
+    {
+        let entry = &mut self.entries[place];
+        self.queued -= entry.queue.as_slice().len();
+        self.queued += queue.as_slice().len();
+        entry.queue.copy_from(queue);
+    }
+
+    /// Takes a connection out of the queue at a place.
+    fn leave_at(&mut self, place: usize, connection: u64)
+        requires { place < length self.old }
+        ensures { (front back : List OwnedName) (n : OwnedName) → self.old ≡ front ++ n ∷ back → length front ≡ place → self.new ≡ front ++ record n { queue = without connection n.queue } ∷ back }
+    {
+        let entry = &mut self.entries[place];
+        self.queued -= entry.queue.as_slice().len();
+        entry.queue.leave(connection);
+        self.queued += entry.queue.as_slice().len();
+    }
+
+    /// Takes out the name at a place if its queue is empty.
+    fn drop_if_empty(&mut self, place: usize)
+        requires { place < length self.old }
+        ensures { (front back : List OwnedName) (n : OwnedName) → self.old ≡ front ++ n ∷ back → length front ≡ place → self.new ≡ front ++ kept_name n.name n.queue ++ back }
+    {
+        if self.entries[place].queue.is_empty() {
+            let entry = self.entries.remove(place);
+            self.spare.push_reserved(entry);
+        }
+    }
+
+    /// A name that was not there, at its place.
+    fn add(&mut self, place: usize, name: &BusName, queue: &Queue)
+        requires there { place ≤ length self.old }
+        requires rise { NamesRise (insert self.old place (record { name = name.now; queue = queue.now })) }
+        requires few_names { length self.old < MAX_NAMES }
+        requires few_places { queued_in self.old + length queue.now ≤ MAX_QUEUED }
+        ensures { self.new ≡ insert self.old place (record { name = name.now; queue = queue.now }) }
+    {
+        if let Some(spare) = self.spare.pop() {
+            self.queued += queue.as_slice().len();
+            insert_reserved(&mut self.entries, place, filled(spare, name, queue));
+        }
+    }
+
+    /// How many names a connection owns or waits for.
+    pub fn count_of(&self, connection: u64) -> usize
+        ensures { result ≡ names_of connection self.now }
+    {
+        self.entries
+            .iter()
+            .filter(|entry| entry.queue.contains(connection))
+            .count()
+    }
+}
+
+fn count(one: bool) -> usize
+    ensures { result ≡ (if one then 1 else 0) }
+{
+    if one { 1 } else { 0 }
+}
+
+/// Whether there may be so many names and places, and so many names of one connection.
+fn are_within(names: usize, queued: usize, of_one: usize) -> bool
+    ensures { result ≡ (nat_le names max_names && nat_le queued max_queued && nat_le of_one max_names_of_one) }
+{
+    names <= MAX_NAMES && queued <= MAX_QUEUED && of_one <= MAX_NAMES_OF_ONE
+}
+
+/// An entry with this name and queue in place of what it had.
+fn filled(mut entry: Box<NameEntry>, name: &BusName, queue: &Queue) -> Box<NameEntry>
+    ensures { owned_name result.value ≡ record { name = name.now; queue = queue.now } }
+{
+    entry.name = *name;
+    entry.queue.copy_from(queue);
+    entry
+}
+
+/// Puts an entry at its place, where there is room for it.
+fn insert_reserved(entries: &mut Vec<Box<NameEntry>>, place: usize, entry: Box<NameEntry>)
+    requires there { place ≤ length entries.old.items }
+    requires has_room { length entries.old.items < vec_capacity entries.old }
+    ensures items { entries.new.items ≡ insert entries.old.items place entry }
+    ensures room { vec_capacity entries.old ≤ vec_capacity entries.new }
+{
+    let _ = entries.insert(place, entry);
+}
+
+/// The place of a name, or the place where it would stand.
+fn search(entries: &[Box<NameEntry>], name: &str) -> Result<usize, usize>
+    requires { NamesRise (map (λ b. owned_name b.value) entries.now) }
+    ensures { SearchGives (map (λ b. owned_name b.value) entries.now) name.now result }
+{
+    let place = place_among(entries, name);
+    if place == entries.len() {
+        return Err(place);
+    }
+    if entries[place].name.as_str() == name {
+        Ok(place)
+    } else {
+        Err(place)
+    }
+}
+
+/// How many names come before this one.
+fn place_among(entries: &[Box<NameEntry>], name: &str) -> usize
+    requires { NamesRise (map (λ b. owned_name b.value) entries.now) }
+    ensures bound { result ≤ length entries.now }
+    ensures before { AllByRecursion (λ n. text_lt n.name name.now ≡ true) (take result (map (λ b. owned_name b.value) entries.now)) }
+    ensures behind { AllByRecursion (λ n. text_lt n.name name.now ≡ false) (drop result (map (λ b. owned_name b.value) entries.now)) }
+{
+    entries.partition_point(|entry| entry.name.as_str() < name)
+}
