@@ -4,3 +4,5 @@ pub mod TypesLoop
 pub mod TypeSteps
 pub mod TypesAgain
 pub mod TypesTaken
+pub mod StringFaults
+pub mod Codes

@@ -3,4 +3,5 @@ pub mod Signatures
 pub mod Faults
 pub mod Values
 pub mod Spelling
+pub mod TextFaults
 pub mod Reading

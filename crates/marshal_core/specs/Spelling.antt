@@ -1,7 +1,8 @@
 -- What bytes spell which values, after "Marshaling (Wire Format)" of the D-Bus Specification.
-use Rattle.std.specs.Prelude.{◌≡◌, ℕ, ◌+◌, ◌-◌, ◌%◌, ◌<◌, ◌≤◌, ◌^◌, Bool, true, false, ◌||◌, List, [], ◌∷◌, ◌++◌, length, replicate, IsUtf8, FitsSigned, ◌==◌}
+use Rattle.std.specs.Prelude.{◌≡◌, ℕ, ◌+◌, ◌-◌, ◌%◌, ◌<◌, ◌≤◌, ◌^◌, Bool, true, false, List, [], ◌∷◌, ◌++◌, length, replicate, IsUtf8, FitsSigned}
 use Rattle.std.specs.Int.{Width, w16, w32, w64, byte_len, to_le_bytes, to_be_bytes, cast_unsigned}
 use Rattle.names.specs.Texts.{Text}
+pub use Rattle.names.specs.Texts.{has_zero}
 use Rattle.names.specs.ObjectPath.{IsObjectPath}
 use Rattle.marshal_core.specs.declared.data_type.BasicType.{BasicType}
 use Rattle.marshal_core.specs.declared.data_type.BasicType.TheVariants as of_type
@@ -76,10 +77,6 @@ text_spelling order at text = number_spelling order w32 at (length text) ++ ende
 
 abbrev pub signature_spelling : Tys → List ℕ
 signature_spelling ts = length (codes ts) ∷ ended (codes ts)
-
-abbrev pub has_zero : List ℕ → Bool
-has_zero [] = false
-has_zero (b ∷ bs) = b == 0 || has_zero bs
 
 -- UTF-8 without zero bytes, whose length fits 32 bits
 abbrev pub IsString : Text → Type 0

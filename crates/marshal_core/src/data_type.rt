@@ -90,6 +90,19 @@ impl BasicType {
     }
 }
 
+/// The letter of the type in a signature.
+impl fmt::Display for BasicType {
+    ghost use Rattle.std.specs.Prelude.{Some, [], ◌∷◌};
+    ghost use Rattle.marshal_core.specs.Signatures.{basic_code};
+
+    ghost output = { λ basic. Some (basic_code basic ∷ []) };
+
+    fn fmt<W: fmt::Write>(&self, f: &mut fmt::Formatter<W>) -> fmt::Result {
+        let code = char::from(self.code());
+        write!(f, "{code}")
+    }
+}
+
 /// A single complete type. A dictionary is an array of dict entries, which stand nowhere else and
 /// have a key of a basic type ("Container Types" of the D-Bus Specification).
 #[derive(Debug, Drop, PartialEq, Eq)]
@@ -152,18 +165,18 @@ impl DataType {
 
 /// The type as it stands in a signature.
 impl fmt::Display for DataType {
+    ghost use Rattle.std.specs.Prelude.{Some};
+    ghost use Rattle.marshal_core.specs.Types.{ty_of};
+    ghost use Rattle.marshal_core.specs.Signatures.{code};
+
+    ghost output = { λ of. Some (code (ty_of of)) };
+
     fn fmt<W: fmt::Write>(&self, f: &mut fmt::Formatter<W>) -> fmt::Result {
         match self {
-            DataType::Basic(basic) => {
-                let code = char::from(basic.code());
-                write!(f, "{code}")
-            }
+            DataType::Basic(basic) => write!(f, "{basic}"),
             DataType::Variant => write!(f, "v"),
             DataType::Array(element) => write!(f, "a{element}"),
-            DataType::Dictionary(key, value) => {
-                let key = char::from(key.code());
-                write!(f, "a{{{key}{value}}}")
-            }
+            DataType::Dictionary(key, value) => write!(f, "a{{{key}{value}}}"),
             DataType::Struct(fields) => {
                 write!(f, "(")?;
                 for field in fields {

@@ -12,6 +12,7 @@ mod order;
 mod parsing;
 mod printing;
 mod signature;
+mod texts;
 mod value;
 
 pub use data_type::{BasicType, DataType};

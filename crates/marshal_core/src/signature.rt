@@ -49,6 +49,12 @@ impl Signature {
 
 /// The text of the signature.
 impl fmt::Display for Signature {
+    ghost use Rattle.std.specs.Prelude.{Some};
+    ghost use Rattle.marshal_core.specs.Types.{types_of};
+    ghost use Rattle.marshal_core.specs.Signatures.{codes};
+
+    ghost output = { λ signature. Some (codes (types_of signature.types.items)) };
+
     fn fmt<W: fmt::Write>(&self, f: &mut fmt::Formatter<W>) -> fmt::Result {
         for one in self.complete_types() {
             write!(f, "{one}")?;
@@ -68,6 +74,20 @@ mod tests {
             let signature = Signature::parse(rt.alloc(), text)?;
             assert_eq!(rt; format!(in rt.alloc(); "{signature}")?.as_str(), text);
         }
+        Ok(())
+    }
+
+    #[test]
+    fn goes_through_complete_types(rt: HostRuntime) -> Result<(), Fail> {
+        let signature = Signature::parse(rt.alloc(), "a{s(ua{yv})}(v)y")?;
+        let mut texts = Vec::new(rt.alloc());
+        for one in signature.complete_types() {
+            texts.push(format!(in rt.alloc(); "{one}")?)?;
+        }
+        assert_eq!(rt; texts.len(), 3);
+        assert_eq!(rt; texts[0].as_str(), "a{s(ua{yv})}");
+        assert_eq!(rt; texts[1].as_str(), "(v)");
+        assert_eq!(rt; texts[2].as_str(), "y");
         Ok(())
     }
 
@@ -92,6 +112,30 @@ mod tests {
                 Signature::parse(rt.alloc(), text).err(),
                 Some(want),
                 "{text}"
+            );
+        }
+        for (arrays, structs, fault) in [
+            (32, 0, None),
+            (33, 0, Some(MarshalFault::Signature)),
+            (0, 32, None),
+            (0, 33, Some(MarshalFault::Signature)),
+            (32, 32, None),
+        ] {
+            let mut text = Vec::new(rt.alloc());
+            for _ in 0..arrays {
+                text.push(b'a')?;
+            }
+            for _ in 0..structs {
+                text.push(b'(')?;
+            }
+            text.push(b'y')?;
+            for _ in 0..structs {
+                text.push(b')')?;
+            }
+            assert_eq!(rt;
+                Signature::from_bytes(rt.alloc(), &text).err(),
+                fault,
+                "{arrays} arrays, {structs} structs"
             );
         }
         let long = [b'y'; 256];
