@@ -9,15 +9,14 @@ use Rattle.seq_bus_core.specs.declared.outcome.Reply.TheVariants.{Welcome}
 use Rattle.driver.specs.Calls.{expects_reply}
 use Rattle.driver.specs.OwnMessages.{Writes}
 use Rattle.busd_core.specs.declared.fault.Cause.{Cause}
-use Rattle.busd_core.specs.declared.fault.Cause.TheVariants.{NotHello, LimitsExceeded}
 use Rattle.busd_core.specs.declared.stage.Stage.{Stage}
 use Rattle.busd_core.specs.declared.stage.Stage.TheVariants.{Named, Closed as StageClosed}
 use Rattle.busd_core.specs.declared.session.Session.{Session}
 use Rattle.busd_core.specs.declared.session.Stop.{Stop}
 use Rattle.busd_core.specs.declared.session.Stop.TheVariants.{Closed, Memory}
-use Rattle.busd_core.specs.Serving.{Standing, Served, quiet, next_serial, sending, replying, closing, welcome_by, acquired_by, naming, turning_away, greeting, welcoming, hello_change, with_change}
+use Rattle.busd_core.specs.Serving.{Standing, Served, quiet, next_serial, sending, replying, closing, relaying, welcome_by, acquired_by, naming, turning_away, greeting, welcoming, hello_change, with_change}
 use Rattle.busd_core.specs.Runs.{AreWritten, IsOpen}
-use Rattle.busd_core.specs.Sessions.{standing_of, Grows, Shows, Ends, Stops}
+use Rattle.busd_core.specs.Sessions.{standing_of, Grows, Shows, ClosesBy, Ends, Stops}
 
 pub one_written : (m : Message) (bytes : List ℕ) → IsWritten bytes m → AreWritten (m ∷ []) bytes
 one_written m bytes w = (bytes, [], w, refl, sym (append-nil bytes))
@@ -29,6 +28,10 @@ are_written (m ∷ ms) ns x y (first, later, w, f, e) g =
 
 pub nothing_sent : (s : Session) (x : List ℕ) → Shows s s (quiet (standing_of s)) x x
 nothing_sent s x = (refl, refl, ([], refl, sym (append-nil x)))
+
+-- a message was relayed
+pub one_relayed : (s : Session) (m : Message) (bytes before after : List ℕ) → IsWritten bytes m → after ≡ before ++ bytes → Shows s s (relaying m (quiet (standing_of s))) before after
+one_relayed s m bytes before after w grown = (refl, refl, (bytes, one_written m bytes w, grown))
 
 -- a message of the bus was appended, and counted
 pub one_sent : (old new : Session) (make : ℕ → Message) (serial : ℕ) (before after : List ℕ) → serial ≡ next_serial old.serial → Writes before after (make serial)
@@ -106,14 +109,18 @@ stops_as old same new v before after (Ok u) e (kept, standing, sent) = (kept ∙
 stops_as old same new v before after (Err Memory) e grown = grown
 stops_as old same new v before after (Err (Closed cause)) e nothing = absurd nothing
 
--- the connection is closed once more was sent
-pub ends_closed : (old mid : Session) (v : Served) (before after : List ℕ) → Shows old mid v before after
-    → Ends old (record mid { stage = StageClosed LimitsExceeded }) (closing LimitsExceeded v) before after (Err (Closed LimitsExceeded))
-ends_closed old mid v before after (same, standing, sent) =
-    ((same, ap (λ (t : Standing). record t { stage = StageClosed LimitsExceeded }) standing, sent), refl)
-
-pub ends_unasked : (old : Session) (x : List ℕ) → Ends old (record old { stage = StageClosed NotHello }) (closing NotHello (quiet (standing_of old))) x x (Err (Closed NotHello))
-ends_unasked old x = ((refl, refl, ([], refl, sym (append-nil x))), refl)
+-- the connection is closed, once all was sent, for no fault in what was received
+pub ends_closed : (old mid new : Session) (v : Served) (cause : Cause) (stop : Stop) (before after : List ℕ) → Shows old mid v before after
+    → new ≡ record mid { stage = StageClosed cause } → stop ≡ Closed cause → (new.stage ≡ StageClosed cause → ClosesBy cause new) → Ends old new (closing cause v) before after (Err stop)
+ends_closed old mid new v cause stop before after (same, standing, sent) closed is closes =
+    subst (λ (x : Stop). Ends old new (closing cause v) before after (Err x)) (sym is) (
+      (
+        ap (λ (s : Session). s.framer) closed ∙ same,
+        ap standing_of closed ∙ ap (λ (t : Standing). record t { stage = StageClosed cause }) standing,
+        sent,
+      ),
+      closes (ap (λ (s : Session). s.stage) closed),
+    )
 
 -- only a welcome names the connection
 pub not_welcome : (m : Message) (s : Standing) (reply : ChangeReply) → ((conn : Conn) → reply ≡ Welcome conn → ⊥) → greeting m s reply ≡ turning_away m s

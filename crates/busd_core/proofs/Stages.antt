@@ -1,29 +1,35 @@
 -- A connection that has a name keeps it.
 use Rattle.std.proofs.Common.{◌≡◌, inl, inr, ℕ, Bool, true, false, ◌&&◌, List, Option, Some, None, Result, Ok, Err, refl, ap, subst}
+use Rattle.match_rules.specs.Kinds.{kind_of}
 use Rattle.seq_bus_core.specs.Answers.{Answer, answer}
 use Rattle.seq_bus_core.specs.declared.error_kind.ErrorKind.{ErrorKind}
 use Rattle.seq_bus_core.specs.declared.error_kind.ErrorKind.TheVariants.{NoMemory, NameHasNoOwner}
 use Rattle.seq_bus_core.specs.declared.change.Change.{Change}
 use Rattle.seq_bus_core.specs.declared.outcome.Outcome.{Outcome}
 use Rattle.seq_bus_core.specs.declared.outcome.Reply.{Reply as ChangeReply}
+use Rattle.seq_bus_core.specs.Recipients.{is_call}
 use Rattle.seq_bus_core.specs.Tickets.{bus_step}
 use Rattle.seq_bus.specs.declared.TheConstants.{SEAT}
 use Rattle.seq_bus.specs.PlainBus.{PlainBus, IsMade, bus_now}
 use Rattle.message_core.specs.Messages.{Message}
+use Rattle.driver.specs.declared.call.Call.{Call}
 use Rattle.driver.specs.declared.call.Call.TheVariants as call
 use Rattle.driver.specs.declared.method.Method.{Method}
 use Rattle.driver.specs.declared.method.Method.TheVariants as method
 use Rattle.driver.specs.Methods.{method_of}
 use Rattle.driver.specs.Calls.{Reading, IsCall, is_call_to_bus, is_hello, is_hello_method}
+use Rattle.busd_core.specs.declared.course.Course.{Course}
+use Rattle.busd_core.specs.declared.fault.Cause.TheVariants.{NotHello}
 use Rattle.busd_core.specs.declared.request.Request.{Request}
 use Rattle.busd_core.specs.declared.request.Request.TheVariants.{Ask, Make}
 use Rattle.busd_core.specs.declared.stage.Stage.TheVariants.{Unnamed, Named}
 use Rattle.busd_core.specs.declared.session.Session.{Session}
 use Rattle.busd_core.specs.declared.session.Stop.{Stop}
-use Rattle.busd_core.specs.Serving.{Standing, Known, quiet, error_by, refusing, answer_by, with_change, telling, request_in, error_told, done_by, answering, making, asking, serve_known, serve_named, serve_unnamed, serve}
+use Rattle.busd_core.specs.Serving.{Standing, Known, closing, losing, taking, passing, quiet, error_by, refusing, answer_by, with_change, telling, request_in, error_told, done_by, answering, making, asking, serve_known, serve_named, serve_unnamed, serve}
+use Rattle.busd_core.specs.Courses.{course_of}
 use Rattle.busd_core.specs.Runs.{IsOpen}
-use Rattle.busd_core.specs.Sessions.{standing_of, Stops, ReadsOrWants, StopsOrWants, ServesKnown}
-use Rattle.busd_core.proofs.Sending.{stage_replied, nothing_sent, ends_open, ends_stopped, stops_as}
+use Rattle.busd_core.specs.Sessions.{standing_of, Stops, Ends, ReadsOrWants, StopsOrWants, StopsOrLoses, ServesKnown}
+use Rattle.busd_core.proofs.Sending.{stage_of_either, stage_replied, ends_stopped, stops_as}
 
 pub stage_refused : (m : Message) (caller : Option ℕ) (error : ErrorKind) (s : Standing) → (refusing m caller error s).standing.stage ≡ s.stage
 stage_refused m caller error s = stage_replied m (error_by m caller error) s
@@ -61,10 +67,14 @@ pub served_unnamed : (old new : Session) (m : Message) (before after : List ℕ)
     → ServesKnown (λ known. serve_unnamed known (standing_of old) m) m old new before after result → ServesKnown (λ known. serve known (standing_of old) m) m old new before after result
 served_unnamed old new m before after result stage (known, is, ends) = (known, is, rw (serve_of_unnamed known (standing_of old) m stage) ends)
 
--- ## A connection that has a name
+-- ## A connection that has no name
 
-pub not_for_it : (old : Session) (m : Message) (number : ℕ) (x : List ℕ) → IsOpen (standing_of old) → is_call_to_bus m ≡ false → ServesKnown (λ known. serve_named known number (standing_of old) m) m old old x x (Ok tt)
-not_for_it old m number x is_open other = (None, tt, rw other (ends_open old old (quiet (standing_of old)) x x is_open refl (nothing_sent old x)))
+-- its first message is not the call of Hello
+pub not_hello : (old new : Session) (m : Message) (before after : List ℕ) (result : Result (Unit {0}) Stop) → is_hello m ≡ false → Ends old new (closing NotHello (quiet (standing_of old))) before after result
+    → ServesKnown (λ known. serve_unnamed known (standing_of old) m) m old new before after result
+not_hello old new m before after result other ends = (None, tt, rw other ends)
+
+-- ## A connection that has a name
 
 -- there was no memory, and nothing had changed
 pub wants_still : (old mid new : Session) (m : Message) (number : ℕ) (before held after : List ℕ) (result : Result (Unit {0}) Stop) → mid ≡ old → held ≡ before
@@ -97,6 +107,31 @@ change_made old new m number change bus outcome before after result made stops =
     let here = stops_as (record old { bus = bus }) old new (answering m number (record (standing_of old) { bus = bus }) (error_told outcome.reply)) before after result refl stops in
     subst (λ (r : ChangeReply). Stops old new (answering m number (record (standing_of old) { bus = with_change old.bus change }) (error_told r)) before after result) (ap (λ (o : Outcome). o.reply) made.told)
     (subst (λ (b : PlainBus). Stops old new (answering m number (record (standing_of old) { bus = b }) (error_told outcome.reply)) before after result) made.published here)
+
+-- ## A message that is no call to the bus
+
+-- whatever it would be read as
+not_read : (m : Message) (reading : Reading Call) → is_call_to_bus m ≡ false → is_call_to_bus m ≡ true → IsCall m reading
+not_read m reading other call = cc
+
+-- it went the way that it goes
+pub passed : (old new : Session) (m : Message) (number : ℕ) (course : Course) (before after : List ℕ) (result : Result (Unit {0}) Stop) → is_call_to_bus m ≡ false
+    → course ≡ course_of (bus_now old.bus).state number m → Ends old new (taking m number (standing_of old) course) before after result
+    → ServesKnown (λ known. passing m number (standing_of old) known) m old new before after result
+passed old new m number course before after result other is ends =
+    (Some (Ok call.Hello), not_read m (Ok call.Hello) other, subst (λ (c : Course). Ends old new (taking m number (standing_of old) c) before after result) is ends)
+
+stage_lost : (m : Message) (number : ℕ) (s : Standing) → (losing m number s).standing.stage ≡ s.stage
+stage_lost m number s = stage_of_either (is_call (kind_of m.kind)) (refusing m (Some number) NoMemory s) (quiet s) s.stage (stage_refused m (Some number) NoMemory s) refl
+
+-- it went so, and the connection stays open, or there was no memory for it
+pub went : (old new : Session) (m : Message) (number : ℕ) (course : Course) (before after : List ℕ) (result : Result (Unit {0}) Stop) → IsOpen (standing_of old) → is_call_to_bus m ≡ false
+    → course ≡ course_of (bus_now old.bus).state number m → (taking m number (standing_of old) course).standing.stage ≡ old.stage
+    → StopsOrLoses m number old new (taking m number (standing_of old) course) before after result → ServesKnown (λ known. passing m number (standing_of old) known) m old new before after result
+went old new m number course before after result is_open other is stage (inl stops) =
+    passed old new m number course before after result other is (ends_stopped old new (taking m number (standing_of old) course) before after result is_open stage stops)
+went old new m number course before after result is_open other is stage (inr loses) =
+    (None, tt, ends_stopped old new (losing m number (standing_of old)) before after result is_open (stage_lost m number (standing_of old)) loses)
 
 -- ## The call of Hello
 

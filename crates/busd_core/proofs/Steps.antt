@@ -5,7 +5,7 @@ use Rattle.message_core.specs.Said.{said}
 use Rattle.busd_core.specs.declared.session.Session.{Session}
 use Rattle.busd_core.specs.declared.session.Stop.{Stop}
 use Rattle.busd_core.specs.declared.session.Stop.TheVariants.{Closed, Memory}
-use Rattle.busd_core.specs.declared.fault.Cause.TheVariants.{NotHello, LimitsExceeded, Faulty}
+use Rattle.busd_core.specs.declared.fault.Cause.TheVariants.{NotHello, Left, LimitsExceeded, TooLong, Faulty}
 use Rattle.busd_core.specs.Serving.{Standing, Known, serve}
 use Rattle.busd_core.specs.Runs.{IsKnown, Serves}
 use Rattle.busd_core.specs.Sessions.{standing_of, TakesOff, Shows, ServesOne, Receives}
@@ -33,7 +33,13 @@ stops old l n v piece m before held after Memory (written, served, kept) t ((kno
 stops old l n v piece m before held after (Closed NotHello) h t ((known, is, (s, stage)), restored) =
     let (written, served, kept) = serves_next _ _ l n v m before held after known is h t s in
     (written, served, kept, stage)
+stops old l n v piece m before held after (Closed Left) h t ((known, is, (s, stage)), restored) =
+    let (written, served, kept) = serves_next _ _ l n v m before held after known is h t s in
+    (written, served, kept, stage)
 stops old l n v piece m before held after (Closed LimitsExceeded) h t ((known, is, (s, stage)), restored) =
+    let (written, served, kept) = serves_next _ _ l n v m before held after known is h t s in
+    (written, served, kept, stage)
+stops old l n v piece m before held after (Closed TooLong) h t ((known, is, (s, stage)), restored) =
     let (written, served, kept) = serves_next _ _ l n v m before held after known is h t s in
     (written, served, kept, stage)
 stops old l n v piece m before held after (Closed (Faulty f)) h t ((known, is, (s, nothing)), restored) = absurd nothing

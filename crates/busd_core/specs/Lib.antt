@@ -1,3 +1,4 @@
+pub mod Courses
 pub mod Serving
 pub mod Runs
 pub mod Transfers

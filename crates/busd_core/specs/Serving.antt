@@ -4,11 +4,13 @@ use Rattle.names.specs.UniqueName.{unique_text}
 use Rattle.marshal_core.specs.Types.{no_types, one_type}
 use Rattle.marshal_core.specs.Values.{no_values, values}
 use Rattle.owner_queues.specs.declared.request.Profile.TheVariants.{Two}
+use Rattle.match_rules.specs.Kinds.{kind_of}
 use Rattle.seq_bus_core.specs.Answers.{Answer, answer}
+use Rattle.seq_bus_core.specs.Recipients.{is_call}
 use Rattle.seq_bus_core.specs.declared.change.Change.{Change}
 use Rattle.seq_bus_core.specs.declared.change.Change.TheVariants.{Hello as SaysHello, AddMatch, RemoveMatch}
 use Rattle.seq_bus_core.specs.declared.error_kind.ErrorKind.{ErrorKind}
-use Rattle.seq_bus_core.specs.declared.error_kind.ErrorKind.TheVariants.{Failed, NoMemory, NameHasNoOwner, UnknownMethod, MatchRuleNotFound, LimitsExceeded as LimitsError}
+use Rattle.seq_bus_core.specs.declared.error_kind.ErrorKind.TheVariants.{Failed, NoMemory, NameHasNoOwner, ServiceUnknown, UnknownMethod, MatchRuleNotFound, LimitsExceeded as LimitsError}
 use Rattle.seq_bus_core.specs.declared.outcome.Reply.{Reply as ChangeReply}
 use Rattle.seq_bus_core.specs.declared.outcome.Reply.TheVariants.{Welcome, Done, RuleNotFound}
 use Rattle.seq_bus_core.specs.declared.outcome.Reply.TheVariants as of_change
@@ -26,11 +28,15 @@ use Rattle.driver.specs.declared.reply.ReplyTo.{ReplyTo}
 use Rattle.driver.specs.Calls.{Reading, is_call_to_bus, expects_reply, is_hello, error_of}
 use Rattle.driver.specs.OwnMessages.{reply_header, of_strings, error_message, signal_message}
 use Rattle.busd_core.specs.declared.fault.Cause.{Cause}
+use Rattle.busd_core.specs.declared.course.Course.{Course}
+use Rattle.busd_core.specs.declared.course.Course.TheVariants.{Dropped, Returned, Undeliverable, TooLong, Left}
 use Rattle.busd_core.specs.declared.fault.Cause.TheVariants.{NotHello, LimitsExceeded}
+use Rattle.busd_core.specs.declared.fault.Cause.TheVariants as cause
 use Rattle.busd_core.specs.declared.request.Request.{Request}
 use Rattle.busd_core.specs.declared.request.Request.TheVariants.{Ask, Make}
 use Rattle.busd_core.specs.declared.stage.Stage.{Stage}
 use Rattle.busd_core.specs.declared.stage.Stage.TheVariants.{Unnamed, Named, Closed}
+use Rattle.busd_core.specs.Courses.{relayed, course_of}
 
 -- a connection: how far it has come, the serial of the last message that the bus sent it, and the bus
 pub record Standing : Type 0 where
@@ -42,7 +48,7 @@ pub record Standing : Type 0 where
 abbrev pub opening : Standing
 opening = record { stage = Unnamed; serial = 0; bus = record { opening = opening_bus Two 1 []; seen = [] } }
 
--- the standing after a message, and the messages of the bus that it brought
+-- the standing after a message, and the messages that it brought: those of the bus, and what is relayed
 pub record Served : Type 0 where
   pub standing : Standing
   pub sent : List Message
@@ -111,7 +117,7 @@ greeting m s reply = turning_away m s
 abbrev pub welcoming : Message → Standing → Served
 welcoming m s = greeting m (record s { bus = with_change s.bus hello_change }) (bus_step (bus_now s.bus) SEAT hello_change).1.reply
 
--- What a call is read as; none where there is no memory to serve it.
+-- What a call is read as; none where there is no memory to serve the message.
 abbrev pub Known : Type 0
 Known = Option (Reading Call)
 
@@ -172,9 +178,29 @@ abbrev pub serve_known : Message → ℕ → Standing → Known → Served
 serve_known m number s None = refusing m (Some number) NoMemory s
 serve_known m number s (Some reading) = asking m number s (request_in number reading)
 
--- A message that is no call to the bus is for nobody.
+-- a message that was relayed
+abbrev pub relaying : Message → Served → Served
+relaying m v = record v { sent = v.sent ++ m ∷ [] }
+
+-- without memory for it a message is dropped, and a call answered so
+abbrev pub losing : Message → ℕ → Standing → Served
+losing m number s = if is_call (kind_of m.kind) then refusing m (Some number) NoMemory s else quiet s
+
+-- what becomes of a message of the connection of this number
+abbrev pub taking : Message → ℕ → Standing → Course → Served
+taking m number s Dropped = quiet s
+taking m number s Returned = relaying (relayed number m) (quiet s)
+taking m number s Undeliverable = refusing m (Some number) ServiceUnknown s
+taking m number s TooLong = closing cause.TooLong (quiet s)
+taking m number s Left = closing cause.Left (quiet s)
+
+-- A message that is no call to the bus goes where the bus routes it. What it would be read as is not looked at.
+abbrev pub passing : Message → ℕ → Standing → Known → Served
+passing m number s None = losing m number s
+passing m number s (Some reading) = taking m number s (course_of (bus_now s.bus).state number m)
+
 abbrev pub serve_named : Known → ℕ → Standing → Message → Served
-serve_named known number s m = if is_call_to_bus m then serve_known m number s known else quiet s
+serve_named known number s m = if is_call_to_bus m then serve_known m number s known else passing m number s known
 
 -- ## At each stage
 
@@ -183,6 +209,6 @@ serve_at Unnamed known s m = serve_unnamed known s m
 serve_at (Named number) known s m = serve_named known number s m
 serve_at (Closed cause) known s m = quiet s
 
--- Serves a message. Without memory for it a call is answered NoMemory, and nothing changes.
+-- Serves a message. Without memory for it a call is answered NoMemory, another message is dropped, and nothing changes.
 unfoldable pub serve : Known → Standing → Message → Served
 serve known s m = serve_at s.stage known s m

@@ -19,7 +19,7 @@ use Rattle.busd_core.specs.declared.stage.Stage.TheVariants.{Named, Closed}
 use Rattle.busd_core.specs.declared.session.Stop.{Stop}
 use Rattle.busd_core.specs.declared.session.Stop.TheVariants.{Closed as StopClosed, Memory}
 use Rattle.busd_core.specs.declared.session.Session.{Session}
-use Rattle.busd_core.specs.Serving.{Standing, Served, Known, opening, with_change, refusing, request_in, serve}
+use Rattle.busd_core.specs.Serving.{Standing, Served, Known, opening, with_change, refusing, losing, request_in, serve}
 use Rattle.busd_core.specs.Runs.{limit, Serves, IsKnown, IsOpen, ClosesFor, AreWritten}
 
 abbrev pub standing_of : Session → Standing
@@ -94,7 +94,12 @@ abbrev pub StopsOrWants : Message → ℕ → Session → Session → Served →
 StopsOrWants m number old new served before after result =
     Stops old new served before after result ⊎ Stops old new (refusing m (Some number) NoMemory (standing_of old)) before after result
 
--- a call is served, whatever there is memory for
+-- a message of the connection of this number goes its way, or there was no memory for it
+abbrev pub StopsOrLoses : Message → ℕ → Session → Session → Served → (before after : List ℕ) → Result (Unit {0}) Stop → Type 0
+StopsOrLoses m number old new served before after result =
+    Stops old new served before after result ⊎ Stops old new (losing m number (standing_of old)) before after result
+
+-- a message is served, whatever there is memory for
 abbrev pub ServesKnown : (Known → Served) → Message → Session → Session → (before after : List ℕ) → Result (Unit {0}) Stop → Type 0
 ServesKnown served m old new before after result = (known : Known) × IsKnown m known × Ends old new (served known) before after result
 

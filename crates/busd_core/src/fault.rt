@@ -6,13 +6,18 @@ use message::FrameFault;
 use std::fmt;
 use thiserror::Error;
 
-/// Why the bus closes a connection. It is shown as its code: `64`, `68`, or that of the fault, as `28` or `25/9`.
+/// Why the bus closes a connection. It is shown as its code: `64`, `66`, `68`, `27`, or that of the fault, as `28` or
+/// `25/9`.
 #[derive(Clone, Copy, Debug, PartialEq, Eq)]
 pub enum Cause {
     /// Its first message is not the call of Hello.
     NotHello,
+    /// It has left the bus.
+    Left,
     /// Its Hello would exceed a limit of the bus.
     LimitsExceeded,
+    /// What it sent would be too long with its name as the sender.
+    TooLong,
     /// What it sent is no message.
     Faulty(FrameFault),
 }
@@ -21,7 +26,9 @@ impl fmt::Display for Cause {
     fn fmt<W: fmt::Write>(&self, f: &mut fmt::Formatter<W>) -> fmt::Result {
         match self {
             Cause::NotHello => write!(f, "64"),
+            Cause::Left => write!(f, "66"),
             Cause::LimitsExceeded => write!(f, "68"),
+            Cause::TooLong => write!(f, "27"),
             Cause::Faulty(fault) => write!(f, "{}", fault.code()),
         }
     }

@@ -4,6 +4,7 @@
 //! for a stream.
 #![tactic(auto)]
 
+mod course;
 mod fault;
 mod request;
 mod session;

@@ -1,20 +1,24 @@
 //! The bus's side of one connection.
 
-ghost use Rattle.std.specs.Prelude.{◌≡◌, ◌<◌, ◌++◌, true, Some, None, IfOk, IfErr, IfSome, IfNone, OnErr};
+ghost use Rattle.std.specs.Prelude.{◌≡◌, ◌<◌, ◌++◌, true, false, Some, None, IfOk, IfErr, IfSome, IfNone, OnErr};
 ghost use Rattle.marshal_core.specs.Types.{Tys};
 ghost use Rattle.marshal_core.specs.Values.{Vals};
 ghost use Rattle.seq_bus_core.specs.Answers.{answer};
-ghost use Rattle.seq_bus_core.specs.declared.error_kind.ErrorKind.TheVariants.{NoMemory};
+ghost use Rattle.seq_bus_core.specs.declared.error_kind.ErrorKind.TheVariants.{NoMemory, ServiceUnknown};
 ghost use Rattle.seq_bus.specs.PlainBus.{bus_now};
 ghost use Rattle.seq_bus.specs.Served.{IsServedChange, IsServedQuery};
 ghost use Rattle.message_core.specs.Headers.{message_of};
 ghost use Rattle.message_core.specs.Said.{said};
-ghost use Rattle.driver.specs.Calls.{is_hello};
+ghost use Rattle.driver.specs.Calls.{is_hello, is_call_to_bus};
 ghost use Rattle.driver.specs.OwnMessages.{reply_header, IsReplyBody};
-ghost use Rattle.busd_core.specs.Serving.{quiet, next_serial, sending, replying, reply_to, refusing, acquired_by, naming, turning_away, hello, telling, answering, making, serve_unnamed, serve_named, serve};
+ghost use Rattle.busd_core.specs.Courses.{relayed};
+ghost use Rattle.busd_core.specs.Serving.{quiet, next_serial, sending, replying, reply_to, refusing, acquired_by, naming, turning_away, hello, telling, answering, making, relaying, losing, passing, serve_unnamed, serve_named, serve};
 ghost use Rattle.busd_core.specs.Runs.{IsOpen};
-ghost use Rattle.busd_core.specs.Sessions.{standing_of, IsFresh, IsReady, TakesOff, IsAtRest, StopsReading, Does, Ends, Stops, StopsOrWants, ServesKnown, ServesOne, Leaves, Receives};
+ghost use Rattle.busd_core.specs.declared.stage.Stage.TheVariants.{Closed};
+ghost use Rattle.busd_core.specs.declared.session.Stop.TheVariants.{Closed as StopClosed};
+ghost use Rattle.busd_core.specs.Sessions.{standing_of, IsFresh, IsReady, TakesOff, IsAtRest, StopsReading, Does, Ends, Stops, StopsOrWants, StopsOrLoses, ServesKnown, ServesOne, Leaves, Receives};
 
+use crate::course::{Course, course_of, is_call};
 use crate::fault::{Cause, RunFault};
 use crate::request::{Request, body_of, error_told, reply_to, request_in};
 use crate::stage::Stage;
@@ -22,6 +26,7 @@ use driver::{
     ReplyBody, expects_reply, is_call_to_bus, is_hello, write_error, write_reply, write_signal,
 };
 use message::{FrameFault, Framer, Message};
+use message_relay::with_sender;
 use names::{BusName, UniqueName};
 use owner_queues::Profile;
 use seq_bus::{Asked, SeqBus};
@@ -125,6 +130,15 @@ impl Session {
         }
     }
 
+    /// Closes the connection.
+    fn close(&mut self, cause: Cause) -> Stop
+        ensures closed { self.new ≡ record self.old { stage = Closed cause } }
+        ensures stop { result ≡ StopClosed cause }
+    {
+        self.stage = Stage::Closed(cause);
+        Stop::Closed(cause)
+    }
+
     /// The next message of the bus was appended.
     fn count(&mut self)
         ensures { self.new ≡ record self.old { serial = next_serial self.old.serial } }
@@ -224,10 +238,7 @@ impl Session {
         ensures { Ends self.old self.new (turning_away (said call.now) (standing_of self.old)) out.old.items out.new.items result }
     {
         match self.refuse(call, None, ErrorKind::LimitsExceeded, out) {
-            Ok(()) => {
-                self.stage = Stage::Closed(Cause::LimitsExceeded);
-                Err(Stop::Closed(Cause::LimitsExceeded))
-            }
+            Ok(()) => Err(self.close(Cause::LimitsExceeded)),
             Err(_) => Err(Stop::Memory),
         }
     }
@@ -258,8 +269,7 @@ impl Session {
         if is_hello(message) {
             return self.hello(message, out);
         }
-        self.stage = Stage::Closed(Cause::NotHello);
-        Err(Stop::Closed(Cause::NotHello))
+        Err(self.close(Cause::NotHello))
     }
 
     /// Replies with the answer to a query.
@@ -355,13 +365,58 @@ impl Session {
         }
     }
 
+    /// Drops a message for which there is no memory. A call is answered so.
+    fn lose(&mut self, message: &Message, sender: u64, out: &mut Vec<u8>) -> Result<(), Stop>
+        ensures { Stops self.old self.new (losing (said message.now) sender (standing_of self.old)) out.old.items out.new.items result }
+    {
+        if is_call(message.kind()) {
+            return self.want(message, Some(sender), out);
+        }
+        Ok(())
+    }
+
+    /// Writes a message back to the connection that sent it, with its name as the sender.
+    fn relay(&mut self, message: &Message, sender: u64, out: &mut Vec<u8>) -> Result<(), Stop>
+        ensures { StopsOrLoses (said message.now) sender self.old self.new (relaying (relayed sender (said message.now)) (quiet (standing_of self.old))) out.old.items out.new.items result }
+    {
+        match with_sender(message, &UniqueName::of(sender), out) {
+            Ok(()) => Ok(()),
+            Err(_) => self.lose(message, sender, out),
+        }
+    }
+
+    /// Answers a call to a name that has no owner and no service.
+    fn bounce(&mut self, call: &Message, sender: u64, out: &mut Vec<u8>) -> Result<(), Stop>
+        ensures { StopsOrLoses (said call.now) sender self.old self.new (refusing (said call.now) (Some sender) ServiceUnknown (standing_of self.old)) out.old.items out.new.items result }
+    {
+        match self.refuse(call, Some(sender), ErrorKind::ServiceUnknown, out) {
+            Ok(()) => Ok(()),
+            Err(_) => self.lose(call, sender, out),
+        }
+    }
+
+    /// Serves a message that is no call to the bus: it goes where the bus routes it.
+    fn pass_on(&mut self, message: &Message, sender: u64, out: &mut Vec<u8>) -> Result<(), Stop>
+        requires open { IsOpen (standing_of self.old) }
+        requires other { is_call_to_bus (said message.now) ≡ false }
+        ensures { ServesKnown (λ known. passing (said message.now) sender (standing_of self.old) known) (said message.now) self.old self.new out.old.items out.new.items result }
+    {
+        match course_of(&self.bus, sender, message) {
+            Course::Dropped => Ok(()),
+            Course::Returned => self.relay(message, sender, out),
+            Course::Undeliverable => self.bounce(message, sender, out),
+            Course::TooLong => Err(self.close(Cause::TooLong)),
+            Course::Left => Err(self.close(Cause::Left)),
+        }
+    }
+
     /// Serves a message of a connection that has this number.
     fn serve_named(&mut self, number: u64, message: &Message, out: &mut Vec<u8>) -> Result<(), Stop>
         requires { IsOpen (standing_of self.old) }
         ensures { ServesKnown (λ known. serve_named known number (standing_of self.old) (said message.now)) (said message.now) self.old self.new out.old.items out.new.items result }
     {
         if !is_call_to_bus(message) {
-            return Ok(());
+            return self.pass_on(message, number, out);
         }
         match request_in(self.alloc, number, message) {
             Ok(Request::Ask(query)) => self.ask(message, number, &query, out),

@@ -87,7 +87,11 @@ fn calls_after_hello(rt: HostRuntime) -> Result<(), Fail> {
         (REMOVE_MATCH, RULE_NOT_FOUND),
         (SILENT, none),
         (SIGNAL, none),
-        (ELSEWHERE, none),
+        (ELSEWHERE, SERVICE_UNKNOWN),
+        (ELSEWHERE_SILENT, none),
+        (TO_ITSELF, TO_ITSELF_RELAYED),
+        (TO_NOBODY, none),
+        (SIGNAL_TO_BUS, none),
         (UNKNOWN_KIND, none),
     ];
     for (sent, answer) in cases {
@@ -107,6 +111,18 @@ fn rule_that_is_added_and_removed(rt: HostRuntime) -> Result<(), Fail> {
     let mut output = Vec::new(rt.alloc());
     assert_eq!(rt; run(rt.alloc(), &mut input.as_slice(), &mut output), Ok(()));
     assert_eq!(rt; output.as_slice(), expected.as_slice());
+    Ok(())
+}
+
+#[test]
+fn signal_that_comes_back(rt: HostRuntime) -> Result<(), Fail> {
+    let input = joined(rt.alloc(), &[HELLO, ADD_MATCH, BROADCAST])?;
+    let parts = [WELCOME, ACQUIRED, ADDED, BROADCAST_RELAYED];
+    let expected = joined(rt.alloc(), &parts)?;
+    let mut output = Vec::new(rt.alloc());
+    assert_eq!(rt; run(rt.alloc(), &mut input.as_slice(), &mut output), Ok(()));
+    assert_eq!(rt; output.as_slice(), expected.as_slice());
+    assert_eq!(rt; output.len(), 410);
     Ok(())
 }
 
@@ -217,11 +233,18 @@ fn bytes_set_to_others(rt: HostRuntime) -> Result<(), Fail> {
 #[test]
 fn memory_that_runs_out(rt: HostRuntime) -> Result<(), Fail> {
     let alloc = rt.alloc();
-    for (call, reply) in [(GET_NAME_OWNER, OWNER), (ADD_MATCH, ADDED)] {
+    let none: &[u8] = b"";
+    for (call, reply, lost) in [
+        (GET_NAME_OWNER, OWNER, NO_MEMORY),
+        (ADD_MATCH, ADDED, NO_MEMORY),
+        (ELSEWHERE, SERVICE_UNKNOWN, NO_MEMORY),
+        (TO_ITSELF, TO_ITSELF_RELAYED, NO_MEMORY),
+        (SIGNAL, none, none),
+    ] {
         let input = joined(alloc, &[HELLO, call])?;
         let whole = joined(alloc, &[WELCOME, ACQUIRED, reply])?;
         let greeted = joined(alloc, &[WELCOME, ACQUIRED])?;
-        let unanswered = joined(alloc, &[WELCOME, ACQUIRED, NO_MEMORY])?;
+        let unanswered = joined(alloc, &[WELCOME, ACQUIRED, lost])?;
         let mut output = Vec::new(alloc);
         let end = run(alloc, &mut input.as_slice(), &mut output);
         let written = output.as_slice();
@@ -242,7 +265,9 @@ fn memory_that_runs_out(rt: HostRuntime) -> Result<(), Fail> {
 fn texts_and_statuses(rt: HostRuntime) -> Result<(), Fail> {
     let faults = [
         (RunFault::Closed(Cause::NotHello), "closed: 64", 3),
+        (RunFault::Closed(Cause::Left), "closed: 66", 3),
         (RunFault::Closed(Cause::LimitsExceeded), "closed: 68", 3),
+        (RunFault::Closed(Cause::TooLong), "closed: 27", 3),
         (RunFault::Input, "device: input", 4),
         (RunFault::Output, "device: output", 4),
         (RunFault::Memory, "memory", 5),

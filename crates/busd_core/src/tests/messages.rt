@@ -91,11 +91,11 @@ pub const SILENT_HELLO: &[u8] =
 pub const ACQUIRED_FIRST: &[u8] =
     b"l\x04\x01\x01\x09\0\0\0\x01\0\0\0\x8f\0\0\0\x01\x01o\0\x15\0\0\0/org/freedesktop/DBus\0\0\0\x02\x01s\0\x14\0\0\0org.freedesktop.DBus\0\0\0\0\x03\x01s\0\x0c\0\0\0NameAcquired\0\0\0\0\x06\x01s\0\x04\0\0\0:1.1\0\0\0\0\x07\x01s\0\x14\0\0\0org.freedesktop.DBus\0\0\0\0\x08\x01g\0\x01s\0\0\x04\0\0\0:1.1\0";
 
-/// A signal, which is for nobody.
+/// A signal that no rule asks for.
 pub const SIGNAL: &[u8] =
     b"l\x04\0\x01\0\0\0\0\x02\0\0\0*\0\0\0\x01\x01o\0\x02\0\0\0/a\0\0\0\0\0\0\x02\x01s\0\x03\0\0\0a.b\0\0\0\0\0\x03\x01s\0\x01\0\0\0C\0\0\0\0\0\0\0";
 
-/// A call to another name, which is for nobody.
+/// A call to a name that has no owner.
 pub const ELSEWHERE: &[u8] =
     b"l\x01\0\x01\0\0\0\0\x02\0\0\0f\0\0\0\x01\x01o\0\x15\0\0\0/org/freedesktop/DBus\0\0\0\x02\x01s\0\x14\0\0\0org.freedesktop.DBus\0\0\0\0\x03\x01s\0\x04\0\0\0Ping\0\0\0\0\x06\x01s\0\x0d\0\0\0com.example.A\0\0\0";
 
@@ -146,3 +146,35 @@ pub const REMOVED: &[u8] =
 
 pub const RULE_NOT_FOUND: &[u8] =
     b"l\x03\x01\x01\x17\0\0\0\x03\0\0\0w\0\0\0\x04\x01s\0,\0\0\0org.freedesktop.DBus.Error.MatchRuleNotFound\0\0\0\0\x05\x01u\0\x02\0\0\0\x06\x01s\0\x04\0\0\0:1.1\0\0\0\0\x07\x01s\0\x14\0\0\0org.freedesktop.DBus\0\0\0\0\x08\x01g\0\x01s\0\0\x12\0\0\0No such match rule\0";
+
+/// The error that `ELSEWHERE` gets.
+pub const SERVICE_UNKNOWN: &[u8] =
+    b"l\x03\x01\x01)\0\0\0\x03\0\0\0w\0\0\0\x04\x01s\0)\0\0\0org.freedesktop.DBus.Error.ServiceUnknown\0\0\0\0\0\0\0\x05\x01u\0\x02\0\0\0\x06\x01s\0\x04\0\0\0:1.1\0\0\0\0\x07\x01s\0\x14\0\0\0org.freedesktop.DBus\0\0\0\0\x08\x01g\0\x01s\0\0$\0\0\0The name has no owner and no service\0";
+
+/// A call to a name that has no owner, which expects no reply.
+pub const ELSEWHERE_SILENT: &[u8] =
+    b"l\x01\x01\x01\0\0\0\0\x02\0\0\0f\0\0\0\x01\x01o\0\x15\0\0\0/org/freedesktop/DBus\0\0\0\x02\x01s\0\x14\0\0\0org.freedesktop.DBus\0\0\0\0\x03\x01s\0\x04\0\0\0Ping\0\0\0\0\x06\x01s\0\x0d\0\0\0com.example.A\0\0\0";
+
+/// A call of the connection to itself, big-endian, with an unknown field and the name of another sender.
+pub const TO_ITSELF: &[u8] =
+    b"B\x01\0\x01\0\0\0\x06\0\0\0\x02\0\0\0O\xc8\x01y\0\x07\0\0\0\x01\x01o\0\0\0\0\x02/a\0\0\0\0\0\0\x03\x01s\0\0\0\0\x04Ping\0\0\0\0\x06\x01s\0\0\0\0\x04:1.1\0\0\0\0\x07\x01s\0\0\0\0\x04:1.9\0\0\0\0\x08\x01g\0\x01s\0\0\0\0\0\x01x\0";
+
+/// The same as it is relayed.
+pub const TO_ITSELF_RELAYED: &[u8] =
+    b"B\x01\0\x01\0\0\0\x06\0\0\0\x02\0\0\0M\x01\x01o\0\0\0\0\x02/a\0\0\0\0\0\0\x03\x01s\0\0\0\0\x04Ping\0\0\0\0\x06\x01s\0\0\0\0\x04:1.1\0\0\0\0\x07\x01s\0\0\0\0\x04:1.1\0\0\0\0\x08\x01g\0\x01s\0\0\xc8\x01y\0\x07\0\0\0\0\0\0\x01x\0";
+
+/// A reply to a connection that is not there.
+pub const TO_NOBODY: &[u8] =
+    b"l\x02\x01\x01\0\0\0\0\x02\0\0\0\x15\0\0\0\x05\x01u\0\x09\0\0\0\x06\x01s\0\x04\0\0\0:1.7\0\0\0\0";
+
+/// A signal to the bus.
+pub const SIGNAL_TO_BUS: &[u8] =
+    b"l\x04\0\x01\0\0\0\0\x02\0\0\0M\0\0\0\x01\x01o\0\x02\0\0\0/a\0\0\0\0\0\0\x02\x01s\0\x03\0\0\0a.b\0\0\0\0\0\x03\x01s\0\x01\0\0\0C\0\0\0\0\0\0\0\x06\x01s\0\x14\0\0\0org.freedesktop.DBus\0\0\0\0";
+
+/// A signal, serial 3.
+pub const BROADCAST: &[u8] =
+    b"l\x04\0\x01\0\0\0\0\x03\0\0\0*\0\0\0\x01\x01o\0\x02\0\0\0/a\0\0\0\0\0\0\x02\x01s\0\x03\0\0\0a.b\0\0\0\0\0\x03\x01s\0\x01\0\0\0C\0\0\0\0\0\0\0";
+
+/// The same as it is relayed.
+pub const BROADCAST_RELAYED: &[u8] =
+    b"l\x04\0\x01\0\0\0\0\x03\0\0\0=\0\0\0\x01\x01o\0\x02\0\0\0/a\0\0\0\0\0\0\x02\x01s\0\x03\0\0\0a.b\0\0\0\0\0\x03\x01s\0\x01\0\0\0C\0\0\0\0\0\0\0\x07\x01s\0\x04\0\0\0:1.1\0\0\0\0";

@@ -3,11 +3,11 @@ use Rattle.message_core.specs.Said.{said}
 use Rattle.busd_core.specs.declared.request.Request.{Request}
 use Rattle.busd_core.specs.declared.request.Request.TheVariants.{Ask, Make}
 use Rattle.busd_core.specs.Sessions.{ReadsOrWants}
-use Rattle.busd_core.proofs.Stages.{not_for_it, call_served}
+use Rattle.busd_core.proofs.Stages.{call_served}
 use Rattle.busd_core.proofs.session.Session.serve_named.Goals as goal
 
 pub returns-then-not-is_call_to_bus : goal.returns-then-not-is_call_to_bus
-returns-then-not-is_call_to_bus c = not_for_it c.args.self.now (said c.args.message.now) c.args.number c.args.out.now.items c.requires (sym c.if-not-is_call_to_bus.ensures)
+returns-then-not-is_call_to_bus c = let (known, is, ends) = c.pass_on.ensures in (known, is, rw (sym c.if-not-is_call_to_bus.ensures) ends)
 
 pub returns-in-Ok-Ask : goal.returns-in-Ok-Ask
 returns-in-Ok-Ask c =

@@ -1,0 +1,22 @@
+use Rattle.std.proofs.Common.{◌≡◌, ℕ, List, ◌++◌, inl, inr, subst}
+use Rattle.message_core.specs.Messages.{Message, IsWritten}
+use Rattle.message_core.specs.Said.{said}
+use Rattle.message_relay.specs.MessageBytes.{message_bytes}
+use Rattle.message_relay.specs.Senders.{sent_by}
+use Rattle.busd_core.specs.Courses.{relayed}
+use Rattle.busd_core.proofs.Sending.{one_relayed}
+use Rattle.busd_core.proofs.session.Session.relay.Goals as goal
+
+abbrev IsRelayed : Message → (before after : List ℕ) → Type 0
+IsRelayed sent before after = IsWritten (message_bytes sent) sent × (after ≡ before ++ message_bytes sent)
+
+pub returns-in-Ok : goal.returns-in-Ok
+returns-in-Ok c =
+    let m = said c.args.message.now in
+    let out = c.args.out.now.items in
+    let written = c.with_sender.new.output.items in
+    let (is, grown) = subst (λ (name : List ℕ). IsRelayed (sent_by name m) out written) c.of.ensures (c.in-Ok.ensures.written, c.in-Ok.ensures.appended) in
+    inl (one_relayed c.args.self.now (relayed c.args.sender m) (message_bytes (relayed c.args.sender m)) out written is grown)
+
+pub returns-in-Err : goal.returns-in-Err
+returns-in-Err c = inr (rw (← c.in-Err.ensures.kept) c.lose.ensures)
