@@ -3,14 +3,15 @@ use Rattle.std.proofs.Common.{◌≡◌, ℕ, ℤ, pos, negsuc, ◌<◌, ◌^◌
 use Rattle.std.specs.Prelude.{FitsSigned}
 use Rattle.std.specs.Int.{w16, w32, w64}
 use Rattle.std.proofs.lemmas.Bool.{ltb-true, lt-ltb}
-use Rattle.std.proofs.lemmas.Str.{is_utf8-from_IsUtf8, IsUtf8-from_is_utf8}
+use Rattle.std.proofs.lemmas.Str.{IsUtf8-from_is_utf8}
 use Rattle.names.specs.declared.fault.NameFault.{NameFault}
 use Rattle.names.specs.ObjectPath.{object_path_fault}
 use Rattle.names.proofs.Faults.{none_object_path, object_path_none}
 use Rattle.marshal_core.specs.declared.fault.MarshalFault.{MarshalFault}
 use Rattle.marshal_core.specs.Values.{BasicVal, a_byte, a_boolean, an_int16, a_uint16, an_int32, a_uint32, an_int64, a_uint64, a_double, a_string, an_object_path, a_signature}
 use Rattle.marshal_core.specs.Spelling.{IsString, IsBasicValue}
-use Rattle.marshal_core.proofs.Results.{eqb-yes, leb-no, leb_false}
+use Rattle.marshal_core.proofs.Results.{eqb-yes, leb-no}
+use Rattle.marshal_core.proofs.StringFaults.{string_none}
 use Rattle.marshal.specs.Writing.{number_fault, signed_fault, string_fault, path_named, path_fault_after, basic_fault}
 
 passed : (b : Bool) (e : MarshalFault) → cond b None (Some e) ≡ None → b ≡ true
@@ -56,9 +57,6 @@ string_is text h =
     let a = skipped _ _ _ h in
     let b = skipped _ _ _ a.1 in
     (leb-no _ _ a.0, IsUtf8-from_is_utf8 text (passed _ _ b.1), b.0)
-
-pub string_none : (text : List ℕ) → IsString text → string_fault text ≡ None
-string_none text h = rw (leb_false (2 ^ 32) (length text) h.0, h.2, is_utf8-from_IsUtf8 text h.1) refl
 
 named_none : (f : Option NameFault) → path_named f ≡ None → f ≡ None
 named_none None h = refl

@@ -1,19 +1,17 @@
 -- Writing values from left to right, with the first fault that is met, after "Marshaling (Wire Format)" of the D-Bus Specification.
 -- Each writer is given the place where the bytes begin and those that stand there so far, and gives all of them.
-use Rattle.std.specs.Prelude.{ℕ, ◌+◌, ◌-◌, ◌%◌, ◌^◌, ℤ, pos, negsuc, List, [], ◌++◌, length, Option, Some, None, Result, Ok, Err, nat_lt, nat_le, ◌==◌, if◌then◌else◌}
+use Rattle.std.specs.Prelude.{ℕ, ◌+◌, ◌-◌, ◌%◌, ◌^◌, ℤ, pos, negsuc, List, [], ◌++◌, length, Option, Some, None, Result, Ok, Err, nat_lt, ◌==◌, if◌then◌else◌}
 use Rattle.std.specs.Int.{w32}
-use Rattle.std.specs.Str.{is_utf8}
-use Rattle.names.specs.Texts.{Text, text_eq}
-use Rattle.names.specs.declared.fault.NameFault.{NameFault}
-use Rattle.names.specs.ObjectPath.{object_path_fault}
+use Rattle.names.specs.Texts.{text_eq}
 use Rattle.marshal_core.specs.declared.fault.MarshalFault.{MarshalFault}
-use Rattle.marshal_core.specs.declared.fault.MarshalFault.TheVariants.{Utf8, NulInText, Path, Signature, ArrayLength, Depth}
+use Rattle.marshal_core.specs.declared.fault.MarshalFault.TheVariants.{Signature, ArrayLength, Depth}
 use Rattle.marshal_core.specs.declared.order.Order.{Order}
 use Rattle.marshal_core.specs.Types.{Ty, basic, variant, array, entry, struct, Tys, no_types, more_types, one_type}
 use Rattle.marshal_core.specs.Values.{BasicVal, a_byte, a_boolean, an_int16, a_uint16, an_int32, a_uint32, an_int64, a_uint64, a_double, a_string, an_object_path, a_signature, basic_type, Val, a_basic, a_variant, an_array, an_entry, a_struct, Vals, no_values, more_values}
 use Rattle.marshal_core.specs.Faults.{◌>>=◌}
+pub use Rattle.marshal_core.specs.TextFaults.{string_fault, path_named, path_fault_after}
 use Rattle.marshal_core.specs.Signatures.{code, codes, has_types, is_signature, signature_of}
-use Rattle.marshal_core.specs.Spelling.{alignment, pads, has_zero, number_spelling, signature_spelling, after_length, first_place, basic_spelling, max_array_length, max_container_depth}
+use Rattle.marshal_core.specs.Spelling.{alignment, pads, number_spelling, signature_spelling, after_length, first_place, basic_spelling, max_array_length, max_container_depth}
 
 abbrev pub Written : Type 0
 Written = Result (List ℕ) MarshalFault
@@ -45,22 +43,6 @@ number_fault limit n = if nat_lt n limit then None else Some Signature
 abbrev pub signed_fault : ℕ → ℤ → Option MarshalFault
 signed_fault limit (pos n) = number_fault limit n
 signed_fault limit (negsuc n) = number_fault limit n
-
-abbrev pub string_fault : Text → Option MarshalFault
-string_fault text =
-    if nat_le (2 ^ 32) (length text) then Some ArrayLength
-    else if has_zero text then Some NulInText
-    else if is_utf8 text then None
-    else Some Utf8
-
-abbrev pub path_named : Option NameFault → Option MarshalFault
-path_named None = None
-path_named (Some fault) = Some Path
-
--- a path is a string first
-abbrev pub path_fault_after : Option MarshalFault → Text → Option MarshalFault
-path_fault_after None text = path_named (object_path_fault text)
-path_fault_after (Some fault) text = Some fault
 
 -- why the value is none that its type has
 abbrev pub basic_fault : BasicVal → Option MarshalFault

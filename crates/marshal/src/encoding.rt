@@ -303,6 +303,9 @@ fn sized(
 fn has_code(alloc: Global, value: &Value, wanted: &[u8]) -> Result<bool, AllocError>
     ensures { IfOk result (λ b. b ≡ text_eq (code (type_of (val_of value.now))) wanted.now) }
 {
+    if let Value::Basic(basic) = value {
+        return Ok([basic_type(basic).code()].as_slice() == wanted);
+    }
     let mut own = Vec::new(alloc);
     value_code(value, &mut own)?;
     Ok(own.as_slice() == wanted)
@@ -489,6 +492,10 @@ fn entry_has_code(
 ) -> Result<bool, AllocError>
     ensures { IfOk result (λ b. b ≡ text_eq (code (type_of (an_entry (basic_of key.now) (val_of held.now)))) wanted.now) }
 {
+    if let Value::Basic(basic) = held {
+        let own = [b'{', basic_type(key).code(), basic_type(basic).code(), b'}'];
+        return Ok(own.as_slice() == wanted);
+    }
     let mut of = Vec::new(alloc);
     value_code(held, &mut of)?;
     let mut own = Vec::new(alloc);

@@ -1,6 +1,6 @@
 use Rattle.std.proofs.Common.{ap, sym, ◌∙◌}
 use Rattle.marshal_core.specs.Spelling.{has_zero}
-use Rattle.marshal.proofs.WrittenBasics.{string_none}
+use Rattle.marshal_core.proofs.StringFaults.{string_none}
 use Rattle.marshal.proofs.encoding.string_length.Goals as goal
 
 pub returns-clause-fine : goal.returns-clause-fine
