@@ -110,3 +110,41 @@ announced_from limit bytes n e = at (order_of bytes) e where
   at : (order : Order) → IsAnnounced limit order bytes n → announced limit bytes ≡ Ok n
   at Little a = rw a.first (again_in limit Little bytes n (omega (arith, a.within)) limit a)
   at Big a = rw a.first (again_in limit Big bytes n (omega (arith, a.within)) limit a)
+
+-- ---- only the length is at fault where all else is as it must be
+
+pub record Starts (order : Order) (bytes : List ℕ) : Type 0 where
+  pub first : get_or bytes 0 0 ≡ order_byte order
+  pub kind : 0 < get_or bytes 1 0
+  pub version : get_or bytes 3 0 ≡ protocol_version
+  pub serial : 0 < number order serial_place bytes
+
+abbrev fit : ℕ → Order → List ℕ → Result ℕ FrameFault
+fit limit order bytes =
+    if nat_lt max_fields_length (number order fields_place bytes) then bad fault.TooLong
+    else if nat_lt limit (whole_length order bytes) then bad fault.TooLong
+    else good (whole_length order bytes)
+
+starts_in : (limit : ℕ) (order : Order) (bytes : List ℕ) → Starts order bytes → announced_in limit order bytes ≡ fit limit order bytes
+starts_in limit order bytes s = rw (not_zero_is (get_or bytes 1 0) s.kind, s.version, not_zero_is (number order serial_place bytes) s.serial) refl
+
+bad_is : (f g : FrameFault) → bad f ≡ bad g → g ≡ f
+bad_is f g e = cc
+
+good_bad : {A : Type 0} (n : ℕ) (f : FrameFault) → good n ≡ bad f → A
+good_bad n f e = absurd cc
+
+only_fit : (b c : Bool) (n : ℕ) (f : FrameFault) → cond b (bad fault.TooLong) (cond c (bad fault.TooLong) (good n)) ≡ bad f → f ≡ fault.TooLong
+only_fit true c n f e = bad_is fault.TooLong f e
+only_fit false true n f e = bad_is fault.TooLong f e
+only_fit false false n f e = good_bad n f e
+
+pub only_too_long : (limit : ℕ) (bytes : List ℕ) (f : FrameFault) → Starts (order_of bytes) bytes → announced limit bytes ≡ Err f → f ≡ fault.TooLong
+unfolding announced
+only_too_long limit bytes f s e = at (order_of bytes) s where
+  told : (order : Order) → announced_in limit order bytes ≡ bad f → Starts order bytes → f ≡ fault.TooLong
+  told order h t = only_fit (nat_lt max_fields_length (number order fields_place bytes)) (nat_lt limit (whole_length order bytes)) (whole_length order bytes) f (sym (starts_in limit order bytes t) ∙ h)
+
+  at : (order : Order) → Starts order bytes → f ≡ fault.TooLong
+  at Little t = told Little (sym (rw t.first refl) ∙ e) t
+  at Big t = told Big (sym (rw t.first refl) ∙ e) t

@@ -12,7 +12,9 @@ pub mod Wholes
 pub mod Refused
 pub mod NoMessages
 pub mod Lending
+pub mod NameTexts
 pub mod Putting
 pub mod Own
 pub mod OwnRefused
 pub mod Arguments
+pub mod OwnFaults

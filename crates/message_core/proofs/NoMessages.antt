@@ -7,7 +7,7 @@ use Rattle.marshal_core.specs.declared.fault.MarshalFault.{MarshalFault}
 use Rattle.marshal_core.specs.declared.order.Order.{Order}
 use Rattle.marshal_core.specs.Types.{Tys}
 use Rattle.marshal_core.specs.Values.{values, Vals}
-use Rattle.marshal_core.specs.Spelling.{number_bytes, pad_len, pads, SpellElements}
+use Rattle.marshal_core.specs.Spelling.{number_bytes, pad_len, pads, SpellElements, Spells}
 use Rattle.marshal_core.specs.Reading.{decode_at}
 use Rattle.marshal_core.proofs.Results.{ok_is}
 use Rattle.marshal.proofs.Decoded.{is_read as is_decoded}
@@ -27,12 +27,12 @@ use Rattle.message_core.specs.Refusals.{behind_fields, HasLoosePadding, HasField
 use Rattle.message_core.proofs.Strings.{length-number}
 use Rattle.message_core.proofs.FieldReading.{part_join, length_part}
 use Rattle.message_core.proofs.Announced.{announced_from}
-use Rattle.message_core.proofs.Said.{parts}
+use Rattle.message_core.proofs.Said.{Parts, parts}
 use Rattle.message_core.proofs.Unread.{one_field, zeros_are, not_so}
 
 -- ---- fields one after the other
 
-abbrev AreElements : Order → ℕ → List Field → List ℕ → Type 0
+abbrev pub AreElements : Order → ℕ → List Field → List ℕ → Type 0
 AreElements order at fs bytes = SpellElements (values (map field_value fs)) field_depth order at field_type bytes
 
 -- what is spelled after fields that begin the bytes
@@ -77,36 +77,37 @@ pub record Stand (bytes : List ℕ) (m : Message) (sent : List Field) (content :
   pub gap : all_zero (behind_fields bytes) ≡ true
   pub body : body_part bytes ≡ content
 
-stands : (bytes : List ℕ) (m : Message) (h : IsMessage bytes m) → Stand bytes m h.sent h.is_sent.body_bytes
-stands bytes m h =
-    let s = h.is_sent in
-    let p = parts h.sent bytes m s in
-    let inside : List ℕ = s.array_spelled.2 in
+pub stands_of : (bytes : List ℕ) (m : Message) (sent : List Field) (array inside content : List ℕ) → Parts bytes m array content (length inside) → array ≡ number_bytes m.order w32 (length inside) ++ inside → AreElements m.order fixed_length sent inside
+    → Stand bytes m sent content
+stands_of bytes m sent array inside content p layout spelled =
     let n : ℕ = length inside in
-    let array : List ℕ = s.array_bytes in
     let gap : List ℕ = pads 8 (fields_place + length array) in
-    let rest : List ℕ = gap ++ s.body_bytes in
+    let rest : List ℕ = gap ++ content in
     let word : List ℕ = number_bytes m.order w32 n in
     let told : number (order_of bytes) fields_place bytes ≡ n = ap (λ (o : Order). number o fields_place bytes) p.order ∙ p.fields in
     let end : fields_end bytes ≡ 16 + n = ap (λ (k : ℕ). 16 + k) told in
     let begin : body_begin bytes ≡ 16 + padded n = ap (λ (k : ℕ). 16 + padded k) told in
-    let layout : array ≡ word ++ inside = s.array_spelled.5 in
     let size : length array ≡ 4 + n = ap length layout ∙ length-append word inside ∙ ap (λ (k : ℕ). k + n) (length-number m.order n) in
     let gap_size : length gap ≡ pad_len 8 (fields_place + length array) = length-replicate (pad_len 8 (fields_place + length array)) 0 in
     let from : drop 16 bytes ≡ inside ++ rest =
     sym (drop-drop 4 12 bytes) ∙ ap (drop 4) (p.from_array ∙ ap (λ (x : List ℕ). x ++ rest) layout ∙ append_assoc word inside rest) ∙ drop_at word (inside ++ rest) 4 (length-number m.order n) in
     let fields : part 16 (16 + n) bytes ≡ inside = ap (λ (k : ℕ). take k (drop 16 bytes)) (omega arith) ∙ ap (take n) from ∙ take_at inside rest n refl in
     let behind : part (16 + n) (16 + padded n) bytes ≡ gap =
-    ap (λ (k : ℕ). take k (drop (16 + n) bytes)) (omega (arith, size, gap_size)) ∙ ap (take (length gap)) (sym (drop-drop n 16 bytes) ∙ ap (drop n) from ∙ drop_at inside rest n refl) ∙ take_at gap s.body_bytes (length gap) refl in
+    ap (λ (k : ℕ). take k (drop (16 + n) bytes)) (omega (arith, size, gap_size)) ∙ ap (take (length gap)) (sym (drop-drop n 16 bytes) ∙ ap (drop n) from ∙ drop_at inside rest n refl) ∙ take_at gap content (length gap) refl in
     record {
       order = p.order;
       kind = p.kind;
-      spelled = subst (λ (o : Order). AreElements o 16 h.sent (part 16 (fields_end bytes) bytes)) (sym p.order)
-          (subst (λ (k : ℕ). AreElements m.order 16 h.sent (part 16 k bytes)) (sym end) (subst (AreElements m.order 16 h.sent) (sym fields) s.array_spelled.4));
+      spelled = subst (λ (o : Order). AreElements o 16 sent (part 16 (fields_end bytes) bytes)) (sym p.order)
+          (subst (λ (k : ℕ). AreElements m.order 16 sent (part 16 k bytes)) (sym end) (subst (AreElements m.order 16 sent) (sym fields) spelled));
       ends = omega (arith, end, p.long);
       gap = ap (λ (k : ℕ). all_zero (part k (body_begin bytes) bytes)) end ∙ ap (λ (k : ℕ). all_zero (part (16 + n) k bytes)) begin ∙ ap all_zero behind ∙ zeros_are (pad_len 8 (fields_place + length array));
       body = ap (λ (k : ℕ). drop k bytes) begin ∙ p.from_body;
     }
+
+stands : (bytes : List ℕ) (m : Message) (h : IsMessage bytes m) → Stand bytes m h.sent h.is_sent.body_bytes
+stands bytes m h =
+    let s = h.is_sent in
+    stands_of bytes m h.sent s.array_bytes s.array_spelled.2 s.body_bytes (parts h.sent bytes m s) s.array_spelled.5 s.array_spelled.4
 
 -- ---- the faults
 
@@ -115,15 +116,21 @@ follower : (order : Order) (bytes : List ℕ) (at end : ℕ) (sent zs : List Fie
 follower order bytes at end sent [] begins before ends none h permitted = omega (arith, ap length h, length_part bytes at end (omega (arith, before)) ends)
 follower order bytes at end sent (f ∷ fs) begins before ends none h permitted = none f h.0 h.1 h.4 h.2 (may_follow [] sent fs f permitted)
 
+-- the fields from the fault on
+pub fields_behind : (bytes : List ℕ) (m : Message) (fs : List Field) (content : List ℕ) (code : ℕ) → Stand bytes m fs content → (f : FaultyFields (order_of bytes) bytes (fields_end bytes) code)
+    → (zs : List Field) × (fs ≡ f.sent ++ zs) × AreElements (order_of bytes) f.at zs (part f.at (fields_end bytes) bytes)
+fields_behind bytes m fs content code s f =
+    let whole : part 16 (fields_end bytes) bytes ≡ part 16 f.at bytes ++ part f.at (fields_end bytes) bytes = part_join bytes 16 f.at (fields_end bytes) f.within.0 (omega (arith, f.within.1)) in
+    let after = follows (order_of bytes) 16 f.sent fs (part 16 f.at bytes) (part 16 (fields_end bytes) bytes) (part f.at (fields_end bytes) bytes) f.before.spelled s.spelled whole in
+    let size : length (part 16 f.at bytes) ≡ f.at - 16 = length_part bytes 16 f.at f.within.0 (omega (arith, f.within.1, s.ends)) in
+    let place : 16 + length (part 16 f.at bytes) ≡ f.at = omega (arith, size, f.within.0) in
+    (after.0, after.1, subst (λ (n : ℕ). AreElements (order_of bytes) n after.0 (part f.at (fields_end bytes) bytes)) place after.2)
+
 fields_none : (bytes : List ℕ) (m : Message) (code : ℕ) (h : IsMessage bytes m) → FaultyFields (order_of bytes) bytes (fields_end bytes) code → ⊥
 fields_none bytes m code h f =
     let s = stands bytes m h in
-    let whole : part 16 (fields_end bytes) bytes ≡ part 16 f.at bytes ++ part f.at (fields_end bytes) bytes = part_join bytes 16 f.at (fields_end bytes) f.within.0 (omega (arith, f.within.1)) in
-    let after = follows (order_of bytes) 16 f.sent h.sent (part 16 f.at bytes) (part 16 (fields_end bytes) bytes) (part f.at (fields_end bytes) bytes) f.before.spelled s.spelled whole in
-    let size : length (part 16 f.at bytes) ≡ f.at - 16 = length_part bytes 16 f.at f.within.0 (omega (arith, f.within.1, s.ends)) in
-    let place : 16 + length (part 16 f.at bytes) ≡ f.at = omega (arith, size, f.within.0) in
-    follower (order_of bytes) bytes f.at (fields_end bytes) f.sent after.0 f.within.0 f.within.1 s.ends f.none (subst (λ (n : ℕ). AreElements (order_of bytes) n after.0 (part f.at (fields_end bytes) bytes)) place after.2)
-    (subst (AreFields []) after.1 h.is_sent.permitted)
+    let after = fields_behind bytes m h.sent h.is_sent.body_bytes code s f in
+    follower (order_of bytes) bytes f.at (fields_end bytes) f.sent after.0 f.within.0 f.within.1 s.ends f.none after.2 (subst (AreFields []) after.1 h.is_sent.permitted)
 
 padding_none : (bytes : List ℕ) (m : Message) → IsMessage bytes m → HasLoosePadding bytes → ⊥
 padding_none bytes m h f = not_so (all_zero (behind_fields bytes)) (stands bytes m h).gap f.loose
@@ -153,14 +160,19 @@ body_none order types body vs fault.BodyLength read h =
     not_below h.1 (length body) (ap (λ (z : Vals × ℕ). z.1) same) h.3
 body_none order types body vs f read h = absurd h
 
+-- a body that is spelled has no fault
+pub body_fits : (order : Order) (types : Tys) (vs : Vals) (body : List ℕ) (f : FrameFault) → Spells order 0 types vs body → IsBodyFault order types body f → ⊥
+body_fits order types vs body f spelled h = body_none order types body vs f (is_decoded order types 0 body body [] vs (sym (append-nil body)) spelled) h
+
+pub body_stands : (bytes : List ℕ) (m : Message) (sent : List Field) (content : List ℕ) (f : FrameFault) → Stand bytes m sent content → m.types ≡ body_types sent → Spells m.order 0 m.types m.body content → HasBodyFault bytes f → ⊥
+body_stands bytes m sent content f st signed spelled b =
+    let same : sent ≡ b.header.sent = same_fields (order_of bytes) 16 b.header.sent sent (part 16 (fields_end bytes) bytes) b.header.stand.spelled.spelled st.spelled in
+    let types : b.types ≡ m.types = b.header.signed ∙ ap body_types (sym same) ∙ sym signed in
+    body_fits m.order m.types m.body content f spelled
+    (subst (λ (o : Order). IsBodyFault o m.types content f) st.order (subst (λ (ts : Tys). IsBodyFault (order_of bytes) ts content f) types (subst (λ (x : List ℕ). IsBodyFault (order_of bytes) b.types x f) st.body b.at_fault)))
+
 body_fault_none : (bytes : List ℕ) (m : Message) (f : FrameFault) → IsMessage bytes m → HasBodyFault bytes f → ⊥
-body_fault_none bytes m f h b =
-    let s = h.is_sent in
-    let st = stands bytes m h in
-    let types : b.types ≡ m.types = b.header.signed ∙ ap body_types (sym (sent_are bytes m b.header.sent h b.header.stand)) ∙ sym s.signed in
-    let read : decode_at m.order m.types 0 s.body_bytes ≡ Ok (m.body, length s.body_bytes) = is_decoded m.order m.types 0 s.body_bytes s.body_bytes [] m.body (sym (append-nil s.body_bytes)) s.body_spelled in
-    body_none m.order m.types s.body_bytes m.body f read
-    (subst (λ (o : Order). IsBodyFault o m.types s.body_bytes f) st.order (subst (λ (ts : Tys). IsBodyFault (order_of bytes) ts s.body_bytes f) types (subst (λ (x : List ℕ). IsBodyFault (order_of bytes) b.types x f) st.body b.at_fault)))
+body_fault_none bytes m f h b = body_stands bytes m h.sent h.is_sent.body_bytes f (stands bytes m h) h.is_sent.signed h.is_sent.body_spelled b
 
 field_none : (bytes : List ℕ) (m : Message) (code : ℕ) → IsMessage bytes m → IsRefused bytes (fault.Field code) → ⊥
 field_none bytes m code h (inl f) = fields_none bytes m code h f

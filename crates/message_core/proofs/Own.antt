@@ -1,5 +1,5 @@
 -- A message that was put together from a header and a body.
-use Rattle.std.proofs.Common.{◌≡◌, ℕ, ◌+◌, ◌-◌, ◌%◌, ◌≤◌, ◌<◌, Bool, true, false, List, [], ◌∷◌, ◌++◌, length, Option, Some, None, Result, Ok, Err, IfOk, refl, sym, ap, subst, ◌∙◌, arith, lit<}
+use Rattle.std.proofs.Common.{◌≡◌, ℕ, ◌+◌, ◌-◌, ◌%◌, ◌≤◌, ◌<◌, Bool, true, false, List, [], ◌∷◌, ◌++◌, length, Option, Some, None, Result, Ok, Err, IfOk, refl, sym, ap, subst, ◌∙◌, append_assoc, arith, lit<}
 use Rattle.std.specs.Prelude.{◌==◌, if◌then◌else◌}
 use Rattle.std.specs.Int.{w32}
 use Rattle.marshal_core.specs.declared.order.Order.{Order}
@@ -108,19 +108,21 @@ signature_there : (types : Tys) → types ≡ types_in (value_of field.Signature
 signature_there no_types = refl
 signature_there (more_types t ts) = refl
 
-fields_signed : (header : Header) (types : Tys) → types ≡ body_types (fields_of header types)
+pub fields_signed : (header : Header) (types : Tys) → types ≡ body_types (fields_of header types)
 fields_signed header types =
     signature_there types ∙ ap types_in (sym (value_behind field.Signature (front header) (signature_field types) (none_above field.Signature 1 7 (front header) (front_between header) (omega arith))))
 
 -- ---- the whole
 
-laid_parts : (m : Message) (array body bytes : List ℕ) → IsLaidOut m array body bytes → Parts bytes m (number_bytes m.order w32 (length array) ++ array) body (length array)
+pub laid_parts : (m : Message) (array body bytes : List ℕ) → IsLaidOut m array body bytes → Parts bytes m (number_bytes m.order w32 (length array) ++ array) body (length array)
 laid_parts m array body bytes h =
-    let A : List ℕ = number_bytes m.order w32 (length array) ++ array in
-    let size : length A ≡ 4 + length array = length-append (number_bytes m.order w32 (length array)) array ∙ ap (λ (k : ℕ). k + length array) (length-number m.order (length array)) in
+    let word : List ℕ = number_bytes m.order w32 (length array) in
+    let A : List ℕ = word ++ array in
+    let size : length A ≡ 4 + length array = length-append word array ∙ ap (λ (k : ℕ). k + length array) (length-number m.order (length array)) in
     let place : 16 + length array ≡ fields_place + length A = omega (arith, size) in
-    parts_of m A array body bytes refl h.array_fits h.serial_fits h.body_fits
-    (h.whole ∙ ap (λ (n : ℕ). (order_byte m.order ∷ m.kind ∷ m.flags ∷ protocol_version ∷ []) ++ (number_bytes m.order w32 (length body) ++ (number_bytes m.order w32 m.serial ++ (A ++ (pads 8 n ++ body))))) place)
+    let behind : List ℕ → List ℕ = λ x. (order_byte m.order ∷ m.kind ∷ m.flags ∷ protocol_version ∷ []) ++ (number_bytes m.order w32 (length body) ++ (number_bytes m.order w32 m.serial ++ x)) in
+    parts_of m A array body bytes refl h.fields_fit h.serial_fits h.body_fits
+    (h.whole ∙ ap behind (sym (append_assoc word array (pads 8 (16 + length array) ++ body))) ∙ ap (λ (n : ℕ). behind (A ++ (pads 8 n ++ body))) place)
 
 pub laid_long : (m : Message) (array body bytes : List ℕ) → IsLaidOut m array body bytes → (16 ≤ length bytes) × (whole_length (order_of bytes) bytes ≡ length bytes)
 laid_long m array body bytes h =

@@ -1,5 +1,5 @@
 -- Messages of one's own that cannot be written.
-use Rattle.std.proofs.Common.{◌≡◌, ℕ, ◌+◌, ◌≤◌, ◌^◌, List, [], ◌∷◌, ◌++◌, length, Result, Ok, Err, refl, sym, ap, subst, ◌∙◌, arith, inl, inr}
+use Rattle.std.proofs.Common.{◌≡◌, ℕ, ◌+◌, ◌≤◌, ◌^◌, List, [], ◌∷◌, ◌++◌, length, Result, Ok, Err, refl, sym, ap, subst, ◌∙◌, append_assoc, arith, inl, inr}
 use Rattle.std.specs.Prelude.{◌⊎◌, map}
 use Rattle.std.specs.Int.{w32}
 use Rattle.std.proofs.lemmas.List.{append-nil, length-append}
@@ -7,7 +7,10 @@ use Rattle.marshal_core.specs.declared.order.Order.{Order}
 use Rattle.marshal_core.specs.Types.{Ty, one_type}
 use Rattle.marshal_core.specs.Values.{Val, a_basic, a_variant, an_array, an_entry, a_struct, values, no_values, more_values}
 use Rattle.marshal_core.specs.Spelling.{number_bytes, pads, SpellValue, SpellElements, Spells}
+use Rattle.marshal.specs.Writing.{encode_at}
 use Rattle.marshal.proofs.Once.{one_fields}
+use Rattle.marshal.proofs.WrittenAgain.{is_written}
+use Rattle.marshal_core.specs.declared.fault.MarshalFault.{MarshalFault}
 use Rattle.message_core.specs.declared.fault.FrameFault.{FrameFault}
 use Rattle.message_core.specs.Announcements.{announced, fields_place, max_message_length, order_byte, protocol_version}
 use Rattle.message_core.specs.HeaderFields.{Field, field_type, field_value}
@@ -44,12 +47,12 @@ value_known (a_struct vs) d order at t bytes h = tt
 field_known : (order : Order) (at : ℕ) (f : Field) (bytes : List ℕ) → SpellField order at f bytes → IsKnownValue f.value
 field_known order at f bytes h = let boxed = h.3.3.2 in value_known f.value _ order _ boxed.1 boxed.2 boxed.4
 
-known : (order : Order) (at : ℕ) (fs : List Field) (bytes : List ℕ) → SpellElements (values (map field_value fs)) field_depth order at field_type bytes → AreKnownValues fs
+pub known : (order : Order) (at : ℕ) (fs : List Field) (bytes : List ℕ) → SpellElements (values (map field_value fs)) field_depth order at field_type bytes → AreKnownValues fs
 known order at [] bytes h = tt
 known order at (f ∷ fs) bytes h = (field_known order at f h.0 h.2, known order (at + length h.0) fs h.1 h.3)
 
 -- fields have one spelling
-one_spelling : (order : Order) (at : ℕ) (fs : List Field) (a b : List ℕ) → SpellElements (values (map field_value fs)) field_depth order at field_type a → SpellElements (values (map field_value fs)) field_depth order at field_type b → a ≡ b
+pub one_spelling : (order : Order) (at : ℕ) (fs : List Field) (a b : List ℕ) → SpellElements (values (map field_value fs)) field_depth order at field_type a → SpellElements (values (map field_value fs)) field_depth order at field_type b → a ≡ b
 one_spelling order at [] a b h k = h ∙ sym k
 one_spelling order at (f ∷ fs) a b h k =
     let first : h.0 ≡ k.0 = one_fields (more_values (field_value f) no_values) field_depth order at (one_type field_type) h.0 k.0 (h.0, [], h.2, refl, sym (append-nil h.0)) (k.0, [], k.2, refl, sym (append-nil k.0)) in
@@ -57,6 +60,25 @@ one_spelling order at (f ∷ fs) a b h k =
     h.4 ∙ ap (λ (x : List ℕ). x ++ h.1) first ∙ ap (λ (x : List ℕ). k.0 ++ x) others ∙ sym k.4
 
 -- ---- why there are no bytes
+
+pub none_of_kind : (m : Message) → m.kind ≡ 0 → HasNoWriting m
+none_of_kind m none = λ bytes within w. omega (arith, none, w.is_sent.kind.0)
+
+abbrev written : List ℕ → Result (List ℕ) MarshalFault
+written bytes = Ok bytes
+
+abbrev unwritten : MarshalFault → Result (List ℕ) MarshalFault
+unwritten e = Err e
+
+not_written : (bytes : List ℕ) (e : MarshalFault) → written bytes ≡ unwritten e → ⊥
+not_written bytes e h = cc
+
+-- values that cannot be written
+pub none_encoded : (m : Message) (e : MarshalFault) → encode_at m.order 0 m.body ≡ Err e → HasNoWriting m
+none_encoded m e h = λ bytes within w. not_written w.is_sent.body_bytes e (sym (is_written m.order 0 m.types m.body w.is_sent.body_bytes w.is_sent.body_spelled) ∙ h)
+
+pub none_of_serial : (m : Message) → m.serial ≡ 0 → HasNoWriting m
+none_of_serial m none = λ bytes within w. omega (arith, none, w.is_sent.serial.0)
 
 pub none_of_values : (m : Message) → (AreKnownValues m.fields → ⊥) → HasNoWriting m
 none_of_values m wrong = λ bytes within w. wrong (known m.order 16 m.fields w.is_sent.array_spelled.2 w.is_sent.array_spelled.4)
@@ -89,6 +111,7 @@ laid_is m array body bytes b written spelled laid w =
     ∙ ap (λ (x : List ℕ). start ++ (number_bytes m.order w32 (length s.body_bytes) ++ (number_bytes m.order w32 m.serial ++ (x ++ (pads 8 (fields_place + length x) ++ s.body_bytes))))) arrays
     ∙ ap (λ (x : List ℕ). start ++ (number_bytes m.order w32 (length x) ++ (number_bytes m.order w32 m.serial ++ (A ++ (pads 8 (fields_place + length A) ++ x))))) bodies
     ∙ ap (λ (n : ℕ). start ++ (number_bytes m.order w32 (length body) ++ (number_bytes m.order w32 m.serial ++ (A ++ (pads 8 n ++ body))))) place
+    ∙ ap (λ (x : List ℕ). start ++ (number_bytes m.order w32 (length body) ++ (number_bytes m.order w32 m.serial ++ x))) (append_assoc (number_bytes m.order w32 (length array)) array (pads 8 (16 + length array) ++ body))
     ∙ sym laid.whole
 
 is_message : (bytes : List ℕ) (m : Message) → IsWritten bytes m → IsMessage bytes m

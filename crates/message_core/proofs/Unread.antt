@@ -88,7 +88,7 @@ no_other order at bytes ts e aligned signed wrong = λ f front more whole spelle
 
 -- ---- a field behind its padding
 
-unpadded : (order : Order) (at : ℕ) (f : Field) (front : List ℕ) → SpellField order at f front → (inside : List ℕ) × SpellField order (at + pad_len 8 at) f inside × (front ≡ pads 8 at ++ inside)
+pub unpadded : (order : Order) (at : ℕ) (f : Field) (front : List ℕ) → SpellField order at f front → (inside : List ℕ) × SpellField order (at + pad_len 8 at) f inside × (front ≡ pads 8 at ++ inside)
 unpadded order at f front h =
     let place : at + pad_len 8 at ≡ at + pad_len 8 at + pad_len 8 (at + pad_len 8 at) = omega arith in
     let none : 0 ≡ pad_len 8 (at + pad_len 8 at) = omega arith in (
@@ -144,6 +144,16 @@ told_loose at rest e = rw e refl
 
 pub told_code : (at code : ℕ) (rest : List ℕ) → all_zero (take (pad_len 8 at) rest) ≡ true → code ≡ get_or (drop (pad_len 8 at) rest) 0 0 → code ≡ code_at at rest
 told_code at code rest e first = rw e (first ∙ get_or-drop (pad_len 8 at) rest 0 0 ∙ ap (λ (i : ℕ). get_or rest i 0) (add-zero (pad_len 8 at)))
+
+-- the code of a field that begins the bytes
+pub spelled_code : (order : Order) (at : ℕ) (f : Field) (bytes front more : List ℕ) → bytes ≡ front ++ more → SpellField order at f front → f.code ≡ code_at at bytes
+spelled_code order at f bytes front more e spelled =
+    let u = unpadded order at f front spelled in
+    let whole : bytes ≡ pads 8 at ++ (u.0 ++ more) = e ∙ ap (λ (x : List ℕ). x ++ more) u.2 ∙ append_assoc (pads 8 at) u.0 more in
+    let gap : take (pad_len 8 at) bytes ≡ pads 8 at = ap (take (pad_len 8 at)) whole ∙ take_at (pads 8 at) (u.0 ++ more) (pad_len 8 at) (length-pads at) in
+    let behind : drop (pad_len 8 at) bytes ≡ u.0 ++ more = ap (drop (pad_len 8 at)) whole ∙ drop_at (pads 8 at) (u.0 ++ more) (pad_len 8 at) (length-pads at) in
+    let first : get_or (drop (pad_len 8 at) bytes) 0 0 ≡ f.code = first_code order (at + pad_len 8 at) f (drop (pad_len 8 at) bytes) u.0 more (omega arith) behind u.1 in
+    told_code at f.code bytes (ap all_zero gap ∙ zeros_are (pad_len 8 at)) (sym first)
 
 -- ---- parts of the bytes
 

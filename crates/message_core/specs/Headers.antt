@@ -73,11 +73,16 @@ AreWritten order sent bytes = SpellElements (values (map field_value sent)) fiel
 
 -- ---- putting a message together
 
--- The bytes are these parts of a message one after the other, each number in its order.
-pub record IsLaidOut (m : Message) (array body bytes : List ℕ) : Type 0 where
-  pub array_fits : length array < 2 ^ 32
+-- the fixed part, the elements of the field array, the padding to a multiple of eight, the body
+abbrev pub laid_out : Message → List ℕ → List ℕ → List ℕ
+laid_out m fields body =
+    (order_byte m.order ∷ m.kind ∷ m.flags ∷ protocol_version ∷ [])
+    ++ (number_bytes m.order w32 (length body) ++ (number_bytes m.order w32 m.serial
+    ++ (number_bytes m.order w32 (length fields) ++ (fields ++ (pads 8 (fixed_length + length fields) ++ body)))))
+
+-- The bytes are these parts of a message one after the other, and each number fits its four bytes.
+pub record IsLaidOut (m : Message) (fields body bytes : List ℕ) : Type 0 where
+  pub fields_fit : length fields < 2 ^ 32
   pub body_fits : length body < 2 ^ 32
   pub serial_fits : m.serial < 2 ^ 32
-  pub whole : bytes ≡ (order_byte m.order ∷ m.kind ∷ m.flags ∷ protocol_version ∷ [])
-      ++ (number_bytes m.order w32 (length body) ++ (number_bytes m.order w32 m.serial
-      ++ ((number_bytes m.order w32 (length array) ++ array) ++ (pads 8 (fixed_length + length array) ++ body))))
+  pub whole : bytes ≡ laid_out m fields body

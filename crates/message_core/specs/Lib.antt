@@ -10,3 +10,4 @@ pub mod Headers
 pub mod Places
 pub mod Whole
 pub mod Refusals
+pub mod OwnFaults

@@ -12,7 +12,10 @@ mod header;
 mod header_field;
 mod header_fields;
 mod message;
+mod own_message;
+mod printing;
 mod reading;
+mod value_types;
 mod writing;
 
 pub use announcement::{FIXED_LENGTH, MAXIMUM_LENGTH, MESSAGE_LIMIT, announced_length};
@@ -20,4 +23,5 @@ pub use fault::{FaultCode, FrameFault};
 pub use field_place::FieldPlace;
 pub use header::{ALLOW_INTERACTIVE_AUTHORIZATION, Header, NO_AUTO_START, NO_REPLY_EXPECTED};
 pub use header_field::HeaderField;
-pub use message::{Message, one_reading, one_writing};
+pub use message::{Message, one_reading};
+pub use own_message::one_writing;

@@ -1,6 +1,6 @@
 //! Whole messages.
 
-ghost use Rattle.std.specs.Prelude.{◌≡◌, ◌≢◌, ◌≤◌, ℕ, List, Ok, IfOk, IfErr, MatchResult, length, true};
+ghost use Rattle.std.specs.Prelude.{◌≡◌, ◌≢◌, ◌≤◌, ℕ, List, Ok, IfOk, IfErr, length, true};
 ghost use Rattle.marshal_core.specs.Signatures.{codes};
 ghost use Rattle.marshal_core.specs.declared.fault.MarshalFault.TheVariants.{NoMemory};
 ghost use Rattle.marshal_core.specs.Spelling.{Spells};
@@ -11,20 +11,17 @@ ghost use Rattle.message_core.specs.declared.fault.FrameFault.TheVariants.{NoMem
 ghost use Rattle.message_core.specs.declared.header_field.HeaderField.TheVariants as field_of;
 ghost use Rattle.message_core.specs.Announcements.{announced};
 ghost use Rattle.message_core.specs.HeaderFields.{text_field, number_field};
-ghost use Rattle.message_core.specs.Messages.{Message as Record, IsMessage, IsWritten};
-ghost use Rattle.message_core.specs.Headers.{HasNoWriting, message_of};
+ghost use Rattle.message_core.specs.Messages.{Message as Record, IsMessage};
 ghost use Rattle.message_core.specs.Places.{ArePlaced};
 ghost use Rattle.message_core.specs.Refusals.{IsRefused, IsNoMessage};
 ghost use Rattle.message_core.specs.Said.{said};
 ghost use Rattle.message_core.specs.Whole.{is_text, Lends};
 
-use crate::announcement::{FIXED_LENGTH, MAXIMUM_LENGTH, announced_length, number};
+use crate::announcement::{FIXED_LENGTH, MAXIMUM_LENGTH, number};
 use crate::fault::FrameFault;
 use crate::field_place::FieldPlace;
-use crate::header::Header;
 use crate::header_field::HeaderField;
 use crate::reading::{number_at, order_of, place_of, places_of, signature_text, text_at};
-use crate::writing::{lay_out, put_fields};
 use marshal::decode;
 use marshal_core::{MarshalFault, Order, Signature, Value};
 use match_rules::MessageKind;
@@ -65,24 +62,9 @@ impl Message {
         Ok(Message { bytes, fields })
     }
 
-    /// A message of one's own: a header, the signature of the body as text, and the body's bytes in the
-    /// header's byte order. Its fields stand by rising code. `Field(8)` where the signature is none, and the
-    /// other faults where the header or the body is none of a message: where both make one of at most
-    /// `MAXIMUM_LENGTH` bytes, want of memory alone refuses it.
-    pub fn with_body(
-        alloc: Global,
-        header: &Header<'_>,
-        signature: &str,
-        body: &[u8],
-    ) -> Result<Message, FrameFault>
-        ensures { (types : Tys) (values : Vals) → signature.now ≡ codes types → Spells header.now.order 0 types values body.now
-            → MatchResult result (λ m. IsWritten m (message_of header.now types values)) (λ f. f ≢ WithoutMemory → HasNoWriting (message_of header.now types values)) }
-    {
-        let mut fields = Vec::new(alloc);
-        put_fields(&mut fields, header, signature.as_bytes())?;
-        let bytes = lay_out(alloc, header, &fields, body)?;
-        announced_length(MAXIMUM_LENGTH, &bytes)?;
-        Message::read(alloc, bytes)
+    /// What the message was made with.
+    pub(crate) fn allocator(&self) -> Global {
+        *self.bytes.allocator()
     }
 
     /// The bytes of the message.
@@ -219,11 +201,6 @@ impl Message {
         }
     }
 }
-
-/// A message is written in one way: the bytes of one's own message follow from its header and body.
-pub fn one_writing()
-    ensures { (m : Record) (a b : List ℕ) → IsWritten a m → IsWritten b m → a ≡ b }
-{}
 
 /// Bytes are one message at most, the one that they say.
 pub fn one_reading()

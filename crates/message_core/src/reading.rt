@@ -1,9 +1,9 @@
 //! Reading one whole message.
 
-ghost use Rattle.std.specs.Prelude.{◌≡◌, ◌≢◌, ◌≤◌, ◌+◌, ◌∷◌, [], Ok, Some, None, IfOk, OnOk, IfErr, length};
+ghost use Rattle.std.specs.Prelude.{◌≡◌, ◌≢◌, ◌≤◌, ◌+◌, ◌∷◌, [], Ok, Some, None, IfOk, OnOk, IfErr, is_ok, true, false, length};
 ghost use Rattle.marshal_core.specs.Signatures.{signature_of};
 ghost use Rattle.marshal_core.specs.Types.{Tys};
-ghost use Rattle.message_core.specs.declared.fault.FrameFault.TheVariants.{NoMemory, Missing};
+ghost use Rattle.message_core.specs.declared.fault.FrameFault.TheVariants.{NoMemory, Field, Missing};
 ghost use Rattle.message_core.specs.declared.header_field.HeaderField.{HeaderField};
 ghost use Rattle.message_core.specs.Announcements.{whole_length, announced};
 ghost use Rattle.message_core.specs.Kinds.{code_of, required as required_of};
@@ -76,7 +76,9 @@ fn check_required(kind: MessageKind, places: &[FieldPlace]) -> Result<(), FrameF
 }
 
 /// Checks that the body has the values that its signature says, and no byte more.
-fn check_body(order: Order, signature: &[u8], body: &[u8]) -> Result<(), FrameFault>
+pub fn check_body(order: Order, signature: &[u8], body: &[u8]) -> Result<(), FrameFault>
+    ensures signed { OnOk result (is_ok (signature_of signature.now) ≡ true) }
+    ensures unsigned { IfErr result (λ f. is_ok (signature_of signature.now) ≡ false → f ≡ Field 8) }
     ensures body { OnOk result ((types : Tys) → signature_of signature.now ≡ Ok types → IsBody order types body.now) }
     ensures fault { IfErr result (λ f. (types : Tys) → signature_of signature.now ≡ Ok types → IsBodyFault order types body.now f) }
 {

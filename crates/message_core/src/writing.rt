@@ -1,12 +1,12 @@
 //! Putting messages of one's own together.
 
-ghost use Rattle.std.specs.Prelude.{◌≡◌, ◌≢◌, ◌≤◌, ◌⊎◌, ◌^◌, ◌++◌, ◌∷◌, [], ℕ, List, length, OnOk, IfOk, IfErr};
+ghost use Rattle.std.specs.Prelude.{◌≡◌, ◌≢◌, ◌≤◌, ◌⊎◌, ◌^◌, ◌++◌, ◌∷◌, [], ℕ, List, length, OnOk, IfOk, IfErr, false};
 ghost use Rattle.std.specs.Int.{w32};
 ghost use Rattle.marshal_core.specs.Types.{Tys};
 ghost use Rattle.marshal_core.specs.Values.{Vals, a_string, an_object_path, a_uint32};
 ghost use Rattle.marshal_core.specs.Signatures.{codes, IsSignature};
-ghost use Rattle.marshal_core.specs.Spelling.{IsString, ended, number_bytes, pads};
-ghost use Rattle.message_core.specs.declared.fault.FrameFault.TheVariants.{NoMemory};
+ghost use Rattle.marshal_core.specs.Spelling.{IsString, ended, has_zero, number_bytes, pads};
+ghost use Rattle.message_core.specs.declared.fault.FrameFault.TheVariants.{NoMemory, TooLong};
 ghost use Rattle.message_core.specs.declared.header_field.HeaderField.TheVariants as field_of;
 ghost use Rattle.message_core.specs.HeaderFields.{Field};
 ghost use Rattle.message_core.specs.Headers.{AreWritten, AreKnownValues, IsLaidOut, optional_field, signature_field, fields_of, message_of};
@@ -26,7 +26,9 @@ trait Name {
     ghost text: { Self → List ℕ };
 
     fn as_text(&self) -> &str
-        ensures { result.now ≡ text self.now };
+        ensures value { result.now ≡ text self.now }
+        ensures short { length result.now ≤ 255 }
+        ensures clean { has_zero result.now ≡ false };
 }
 
 impl Name for Interface {
@@ -89,7 +91,7 @@ fn put_start(output: &mut Vec<u8>, field: HeaderField, letter: u8) -> Result<(),
     output.extend_from_slice(&start)
 }
 
-/// Puts a field of a text. A text with a zero byte within it is no string.
+/// Puts a field of a text.
 fn put_text(
     output: &mut Vec<u8>,
     order: Order,
@@ -97,16 +99,14 @@ fn put_text(
     letter: u8,
     text: &str,
 ) -> Result<(), FrameFault>
+    requires clean { has_zero text.now ≡ false }
     ensures put { OnOk result (output.new.items ≡ output.old.items ++ (pads 8 (length output.old.items) ++ (code_of field ∷ 1 ∷ letter ∷ 0 ∷ []) ++ (number_bytes order w32 (length text.now) ++ ended text.now))) }
     ensures string { OnOk result (IsString text.now) }
-    ensures refused { IfErr result (λ f. f ≢ NoMemory → IsString text.now → ⊥) }
+    ensures refused { IfErr result (λ f. f ≢ NoMemory → (f ≡ TooLong) × (2 ^ 32 ≤ length text.now)) }
 {
     let Ok(length) = u32::try_from(text.len()) else {
         return Err(FrameFault::TooLong);
     };
-    if text.as_bytes().contains(&0) {
-        return Err(FrameFault::Field(field.code()));
-    }
     put_start(output, field, letter)?;
     put_number(output, order, length)?;
     output.extend_from_slice(text.as_bytes())?;
@@ -122,7 +122,7 @@ fn put_name<N: Name>(
     name: &Option<N>,
 ) -> Result<(), FrameFault>
     ensures put { (sent : List Field) → AreWritten order sent output.old.items → OnOk result (AreWritten order (sent ++ optional_field field (λ n. a_string (N.text n)) name.now) output.new.items) }
-    ensures refused { IfErr result (λ f. f ≢ NoMemory → AreKnownValues (optional_field field (λ n. a_string (N.text n)) name.now) → ⊥) }
+    ensures memory { IfErr result (λ f. f ≡ NoMemory) }
 {
     match name {
         Some(name) => put_text(output, order, field, b's', name.as_text()),
@@ -137,7 +137,7 @@ fn put_path(
     path: &Option<ObjectPath<'_>>,
 ) -> Result<(), FrameFault>
     ensures put { (sent : List Field) → AreWritten order sent output.old.items → OnOk result (AreWritten order (sent ++ optional_field field_of.Path an_object_path path.now) output.new.items) }
-    ensures refused { IfErr result (λ f. f ≢ NoMemory → AreKnownValues (optional_field field_of.Path an_object_path path.now) → ⊥) }
+    ensures refused { IfErr result (λ f. f ≢ NoMemory → (f ≡ TooLong) × (AreKnownValues (optional_field field_of.Path an_object_path path.now) → ⊥)) }
 {
     match path {
         Some(path) => put_text(output, order, HeaderField::Path, b'o', path.as_str()),
@@ -189,7 +189,7 @@ pub fn put_fields(
     signature: &[u8],
 ) -> Result<(), FrameFault>
     ensures put { (types : Tys) → signature.now ≡ codes types → IsSignature types → output.old.items ≡ [] → OnOk result (AreWritten header.now.order (fields_of header.now types) output.new.items) }
-    ensures refused { IfErr result (λ f. f ≢ NoMemory → (types : Tys) → signature.now ≡ codes types → IsSignature types → AreKnownValues (fields_of header.now types) → ⊥) }
+    ensures refused { IfErr result (λ f. f ≢ NoMemory → (types : Tys) → signature.now ≡ codes types → IsSignature types → (f ≡ TooLong) × (AreKnownValues (fields_of header.now types) → ⊥)) }
 {
     let order = header.order;
     put_path(output, order, &header.path)?;
@@ -219,7 +219,7 @@ pub fn lay_out(
     body: &[u8],
 ) -> Result<Vec<u8>, FrameFault>
     ensures laid { IfOk result (λ bytes. (types : Tys) (values : Vals) → IsLaidOut (message_of header.now types values) fields.now body.now bytes.items) }
-    ensures refused { IfErr result (λ f. f ≢ NoMemory → (2 ^ 32 ≤ length fields.now) ⊎ (2 ^ 32 ≤ length body.now)) }
+    ensures refused { IfErr result (λ f. f ≢ NoMemory → (f ≡ TooLong) × ((2 ^ 32 ≤ length fields.now) ⊎ (2 ^ 32 ≤ length body.now))) }
 {
     let (Ok(fields_length), Ok(body_length)) = (
         u32::try_from(fields.len()),

@@ -1,5 +1,5 @@
 use Rattle.message_core.proofs.Own.{one_writing}
-use Rattle.message_core.proofs.message.one_writing.Goals as goal
+use Rattle.message_core.proofs.own_message.one_writing.Goals as goal
 
 pub returns : goal.returns
 returns c = one_writing
