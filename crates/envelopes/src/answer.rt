@@ -1,0 +1,90 @@
+//! Answers to queries.
+
+ghost use Rattle.std.specs.Prelude.{◌≡◌, Some, IfOk};
+ghost use Rattle.seq_bus_core.specs.Answers.{Answer, answer};
+ghost use Rattle.seq_bus_core.specs.BusState.{BusState};
+ghost use Rattle.envelopes.specs.Answers.{Carries, kind_of};
+
+use crate::shared::SharedBytes;
+use seq_bus_core::Query;
+use std::alloc::AllocError;
+use std::marker::Model;
+
+/// What the body of a reply to a query is.
+#[derive(Clone, Copy, Debug, PartialEq, Eq)]
+pub enum BodyKind {
+    /// One string.
+    Text,
+    /// One boolean.
+    Boolean,
+    /// One array of strings.
+    Texts,
+}
+
+impl BodyKind {
+    /// What the body of the reply to this query is, where there is an answer.
+    pub fn of(query: &Query) -> BodyKind
+        ensures { (state : BusState) (told : Answer) → answer state query.now ≡ Some told → result ≡ kind_of told }
+    {
+        match query {
+            Query::GetNameOwner(_) => BodyKind::Text,
+            Query::NameHasOwner(_) => BodyKind::Boolean,
+            Query::ListNames | Query::ListActivatableNames | Query::ListQueuedOwners(_) => {
+                BodyKind::Texts
+            }
+        }
+    }
+}
+
+/// The body of the reply to a query, as the bus appends it: in little-endian order, as from offset 0 on.
+#[derive(Debug, Drop)]
+pub struct AnswerBody {
+    kind: BodyKind,
+    bytes: SharedBytes,
+}
+
+impl Model for AnswerBody {
+    ghost use Rattle.seq_bus_core.specs.Answers.{Answer};
+    ghost use Rattle.envelopes.specs.Answers.{SpelledAnswer, Carries};
+
+    ghost Value = { SpelledAnswer };
+
+    ghost view = { λ b. record { kind = b.kind; bytes = b.bytes } };
+
+    ghost invariant = { λ b. (answer : Answer) × Carries (record { kind = b.kind; bytes = b.bytes }) answer };
+}
+
+impl AnswerBody {
+    /// The body of an answer.
+    pub fn new(kind: BodyKind, bytes: SharedBytes) -> Self
+        requires { (answer : Answer) × Carries (record { kind = kind; bytes = bytes }) answer }
+        ensures { result ≡ record { kind = kind; bytes = bytes } }
+    {
+        AnswerBody { kind, bytes }
+    }
+
+    pub fn kind(&self) -> BodyKind
+        ensures { result ≡ self.now.kind }
+    {
+        self.kind
+    }
+
+    /// The bytes of the body, which are those of an answer.
+    pub fn bytes(&self) -> &[u8]
+        ensures value { result.now ≡ self.now.bytes }
+        ensures answered { (answer : Answer) × Carries self.now answer }
+    {
+        self.bytes.as_slice()
+    }
+
+    /// The same answer once more. No bytes are copied; it fails where too many share them already.
+    pub fn again(&self) -> Result<AnswerBody, AllocError>
+        ensures { IfOk result (λ body. body ≡ self.now) }
+    {
+        let bytes = self.bytes.again()?;
+        Ok(AnswerBody {
+            kind: self.kind,
+            bytes,
+        })
+    }
+}
