@@ -6,6 +6,8 @@
 
 mod framer;
 #[cfg(test)]
+mod own_message_tests;
+#[cfg(test)]
 mod tests;
 
 pub use framer::{Framer, one_stream};
@@ -13,3 +15,4 @@ pub use message_core::{
     ALLOW_INTERACTIVE_AUTHORIZATION, FaultCode, FrameFault, Header, HeaderField, MAXIMUM_LENGTH,
     MESSAGE_LIMIT, Message, NO_AUTO_START, NO_REPLY_EXPECTED,
 };
+pub use message_relay::{RelayFault, facts, relayed_length, with_sender, write};

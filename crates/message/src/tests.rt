@@ -41,7 +41,7 @@ const UNKNOWN_FIELD: &[u8] =
     .2\0\0\0\0\xc8\x01y\0\x07\0\0\0";
 
 /// The one message that the bytes are.
-fn only(rt: &impl Abort, alloc: Global, bytes: &[u8]) -> Result<Message, Fail> {
+pub fn only(rt: &impl Abort, alloc: Global, bytes: &[u8]) -> Result<Message, Fail> {
     let mut framer = Framer::new(alloc);
     framer.feed(bytes)?;
     let message = framer.next()?.ok_or("no message")?;
@@ -107,7 +107,7 @@ fn replies_and_signals_are_read(rt: HostRuntime) -> Result<(), Fail> {
 }
 
 /// The header of one of the bus's own messages to the first connection.
-fn own_header(kind: MessageKind, serial: u32) -> Result<Header<'static>, NameFault> {
+pub fn own_header(kind: MessageKind, serial: u32) -> Result<Header<'static>, NameFault> {
     Ok(Header {
         order: Order::Little,
         kind,
@@ -208,6 +208,26 @@ fn fault_with(
 }
 
 #[test]
+fn longest_message(rt: HostRuntime) -> Result<(), Fail> {
+    // A call with an array of bytes, 1,048,576 bytes in all.
+    let mut bytes = Vec::from_slice(
+        rt.alloc(),
+        b"l\x01\0\x01\xc8\xff\x0f\0\x01\0\0\0\x28\0\0\0\x01\x01o\0\x01\0\0\0/\0\0\0\0\0\0\0\
+        \x03\x01s\0\x01\0\0\0M\0\0\0\0\0\0\0\x08\x01g\0\x02ay\0\xc4\xff\x0f\0",
+    )?;
+    bytes.resize(1_048_576, 7)?;
+    let mut framer = Framer::new(rt.alloc());
+    for piece in bytes.chunks(65_536) {
+        assert!(rt; framer.next()?.is_none());
+        framer.feed(piece)?;
+    }
+    let message = framer.next()?.ok_or("no message")?;
+    assert_eq!(rt; message.as_bytes(), bytes.as_slice());
+    assert_eq!(rt; message.body().len(), 1_048_520);
+    Ok(())
+}
+
+#[test]
 fn faults_of_the_header(rt: HostRuntime) -> Result<(), Fail> {
     for (place, byte, fault) in [
         (0, b'x', FrameFault::Order),
@@ -223,9 +243,42 @@ fn faults_of_the_header(rt: HostRuntime) -> Result<(), Fail> {
         (80, 10, FrameFault::Missing(3)),
         (96, 9, FrameFault::Field(9)),
         (126, 1, FrameFault::Field(0)),
+        (56, b'1', FrameFault::Field(2)),
+        (88, b'1', FrameFault::Field(3)),
+        (104, b'.', FrameFault::Field(6)),
     ] {
         assert_eq!(rt;
             fault_with(&rt, rt.alloc(), HELLO, place, byte)?,
+            fault,
+            "at {place}"
+        );
+    }
+    Ok(())
+}
+
+#[test]
+fn faults_of_the_header_in_the_other_order(rt: HostRuntime) -> Result<(), Fail> {
+    for (place, byte, fault) in [
+        (0, b'b', FrameFault::Order),
+        (1, 0, FrameFault::Kind),
+        (3, 2, FrameFault::Version),
+        (11, 0, FrameFault::Serial),
+        (12, 4, FrameFault::TooLong),
+        (16, 0, FrameFault::Field(0)),
+        (16, 2, FrameFault::Field(2)),
+        (18, b's', FrameFault::Field(1)),
+        (24, b'x', FrameFault::Field(1)),
+        (46, 1, FrameFault::Field(0)),
+        (48, 1, FrameFault::Field(1)),
+        (56, b'1', FrameFault::Field(2)),
+        (80, 10, FrameFault::Missing(3)),
+        (88, b'1', FrameFault::Field(3)),
+        (112, b'.', FrameFault::Field(6)),
+        (141, b'h', FrameFault::Field(8)),
+        (143, 1, FrameFault::Field(0)),
+    ] {
+        assert_eq!(rt;
+            fault_with(&rt, rt.alloc(), GET_NAME_OWNER, place, byte)?,
             fault,
             "at {place}"
         );
@@ -240,6 +293,9 @@ fn faults_of_numbers(rt: HostRuntime) -> Result<(), Fail> {
         (HELLO_REPLY, 20, 0, FrameFault::Field(5)),
         (HELLO_REPLY, 16, 9, FrameFault::Field(9)),
         (UNKNOWN_FIELD, 40, 9, FrameFault::Field(9)),
+        // SENDER is no bus name, and stands twice.
+        (HELLO_REPLY, 48, b'.', FrameFault::Field(7)),
+        (HELLO_REPLY, 24, 7, FrameFault::Field(7)),
     ] {
         assert_eq!(rt; fault_with(&rt, rt.alloc(), original, place, byte)?, fault);
     }
@@ -317,8 +373,7 @@ fn cuts_do_not_matter(rt: HostRuntime) -> Result<(), Fail> {
                     *slot = byte;
                 }
                 let whole = cut_at(rt.alloc(), &changed, 0)?;
-                // Before the byte that was changed, and in the midst.
-                for cut in [place, 64] {
+                for cut in 0..bytes.len() {
                     let cut_answer = cut_at(rt.alloc(), &changed, cut)?;
                     assert_eq!(rt; cut_answer, whole, "{place}, {byte}, {cut}");
                 }
