@@ -58,6 +58,45 @@ fn one_rule_in_two_spellings(rt: HostRuntime) {
 }
 
 #[test]
+fn values_as_they_are_meant(rt: HostRuntime) {
+    let quoted = Rule::parse("arg0=''\\''',arg1='\\',arg2=',',arg3='\\\\'").expect(
+        &rt,
+        "it is a rule",
+    );
+    let plain = Rule::parse("arg0=\\',arg1=\\,arg2=',',arg3=\\\\").expect(&rt, "it is a rule");
+    for (last, fits) in [("\\\\", true), ("\\", false)] {
+        let mut arguments = ArrayVec::new();
+        arguments.push(Argument::String("'"));
+        arguments.push(Argument::String("\\"));
+        arguments.push(Argument::String(","));
+        arguments.push(Argument::String(last));
+        let mut facts = signal(Argument::Other);
+        facts.arguments = arguments;
+        assert_eq!(rt; quoted.fits(&facts, &OwnedBy(1)), fits, "at {last}");
+        assert_eq!(rt; plain.fits(&facts, &OwnedBy(1)), fits, "at {last}");
+    }
+}
+
+#[test]
+fn each_type_of_message(rt: HostRuntime) {
+    let kinds = [
+        ("type='signal'", MessageKind::Signal),
+        ("type='method_call'", MessageKind::MethodCall),
+        ("type='method_return'", MessageKind::MethodReturn),
+        ("type='error'", MessageKind::Error),
+    ];
+    for (text, kind) in kinds {
+        let rule = Rule::parse(text).expect(&rt, "it is a rule");
+        assert_eq!(rt; rule.kind(), Some(kind), "at {text}");
+        for (_, other) in kinds {
+            let mut facts = signal(Argument::Other);
+            facts.kind = other;
+            assert_eq!(rt; rule.fits(&facts, &OwnedBy(1)), kind == other, "at {text}");
+        }
+    }
+}
+
+#[test]
 fn keys_in_any_order(rt: HostRuntime) {
     let first = Rule::parse("type='signal',member='M',arg2='b',arg1path='/c/'").expect(
         &rt,
@@ -131,6 +170,14 @@ fn faults(rt: HostRuntime) {
         ("arg1namespace='a.b'", Some(RuleFault::Key)),
         ("member='M',", Some(RuleFault::Key)),
         ("member='M', path='/a'", Some(RuleFault::Key)),
+        (",", Some(RuleFault::Key)),
+        ("member='M',,path='/a'", Some(RuleFault::Key)),
+        (" member='M'", Some(RuleFault::Key)),
+        ("Member='M'", Some(RuleFault::Key)),
+        ("=", Some(RuleFault::Key)),
+        ("arg='a'", Some(RuleFault::Key)),
+        ("arg01path='a'", Some(RuleFault::Key)),
+        ("member=", Some(RuleFault::Value)),
         ("member", Some(RuleFault::Key)),
         ("type='x'", Some(RuleFault::Value)),
         ("destination='com.example.A'", Some(RuleFault::Value)),
@@ -190,6 +237,10 @@ fn each_key_with_a_text_that_fits_and_one_that_does_not(rt: HostRuntime) {
         ("arg0namespace='com.example.backend1'", true),
         ("arg0namespace='com.example.backend'", false),
         ("eavesdrop='true'", true),
+        ("eavesdrop='false'", true),
+        ("arg2='x'", false),
+        ("arg2path='/'", false),
+        ("arg63='a'", false),
         ("type='signal',member='Change'", false),
     ];
     for (text, fits) in cases {
