@@ -1,0 +1,4 @@
+pub mod Knowing
+pub mod Asked
+pub mod Functions
+pub mod FirstMessages

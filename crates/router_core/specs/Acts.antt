@@ -1,0 +1,116 @@
+-- What an event brings, for some answers that the bus may give.
+use Rattle.std.specs.Prelude.{◌≡◌, ℕ, Bool, false, Option, List, [], ◌∷◌, ◌++◌}
+use Rattle.std.specs.List.{flat_map}
+use Rattle.match_rules.specs.Facts.{Facts}
+use Rattle.seq_bus_core.specs.Answers.{Answer}
+use Rattle.seq_bus_core.specs.Histories.{History}
+use Rattle.seq_bus_core.specs.declared.change.Change.{Change}
+use Rattle.seq_bus_core.specs.declared.outcome.Outcome.{Outcome}
+use Rattle.seq_bus_core.specs.declared.query.Query.{Query}
+use Rattle.seq_bus_core.specs.declared.verdict.Verdict.{Verdict}
+use Rattle.message_core.specs.Messages.{Message}
+use Rattle.driver.specs.declared.call.Call.{Call}
+use Rattle.driver.specs.Calls.{Reading, IsCall}
+use Rattle.bus_view.specs.Views.{Knowledge, IsNoted}
+use Rattle.router_core.specs.declared.action.Action.{Action}
+use Rattle.router_core.specs.declared.event.Event.{Event}
+use Rattle.router_core.specs.Answers.{Heard, Refuses, HearsChange, HearsAnswer, HearsVerdict, HearsPresent}
+use Rattle.router_core.specs.Deeds.{Deed, GatedCall, AreDoneBy, notes_of}
+use Rattle.router_core.specs.Events.{Occasion, IsOccasion, script}
+use Rattle.router_core.specs.Fronts.{Front, IsFront}
+use Rattle.router_core.specs.Scripts.{Script, Gives, Changing, Asking, Routing, Looking, Noting, Fronting, Calling, Gating, Wanting, Doing, World, Comes}
+use Rattle.router_core.specs.Standing.{Standing}
+
+-- ## What was asked and answered
+
+pub data Exchange : Type 0 where
+  Changed : Change → Heard Outcome → Exchange
+  Asked : Query → Heard (Option Answer) → Exchange
+  Routed : (from : ℕ) → Facts → Heard Verdict → Exchange
+  Looked : (number : ℕ) → Heard Bool → Exchange
+  Noted : History → Exchange
+  Fronted : (bytes : List ℕ) → Front → Exchange
+  Called : Message → Reading Call → Exchange
+  Gated : Call → Exchange
+  Wanted : Bool → Exchange
+
+-- The script asks this, is answered so, does these deeds, and comes to this result.
+abbrev pub Goes : {X : Type 0} → Script X → List Exchange → List Deed → X → Type 0
+Goes (Gives y) asked deeds x = (asked ≡ []) × (deeds ≡ []) × (x ≡ y)
+Goes (Changing change goes_on) asked deeds x = (heard : Heard Outcome) × (later : List Exchange) × (asked ≡ Changed change heard ∷ later) × Goes (goes_on heard) later deeds x
+Goes (Asking query goes_on) asked deeds x = (heard : Heard (Option Answer)) × (later : List Exchange) × (asked ≡ Asked query heard ∷ later) × Goes (goes_on heard) later deeds x
+Goes (Routing from facts goes_on) asked deeds x = (heard : Heard Verdict) × (later : List Exchange) × (asked ≡ Routed from facts heard ∷ later) × Goes (goes_on heard) later deeds x
+Goes (Looking number goes_on) asked deeds x = (heard : Heard Bool) × (later : List Exchange) × (asked ≡ Looked number heard ∷ later) × Goes (goes_on heard) later deeds x
+Goes (Noting told s) asked deeds x = (later : List Exchange) × (asked ≡ Noted told ∷ later) × Goes s later deeds x
+Goes (Fronting bytes goes_on) asked deeds x = (front : Front) × (later : List Exchange) × (asked ≡ Fronted bytes front ∷ later) × Goes (goes_on front) later deeds x
+Goes (Calling m goes_on) asked deeds x = (reading : Reading Call) × (later : List Exchange) × (asked ≡ Called m reading ∷ later) × Goes (goes_on reading) later deeds x
+Goes (Gating call s) asked deeds x = (later : List Exchange) × (asked ≡ Gated call ∷ later) × Goes s later deeds x
+Goes (Wanting goes_on) asked deeds x = (granted : Bool) × (later : List Exchange) × (asked ≡ Wanted granted ∷ later) × Goes (goes_on granted) later deeds x
+Goes (Doing deed s) asked deeds x = (later : List Deed) × (deeds ≡ deed ∷ later) × Goes s asked later x
+
+-- The bus may answer so, one after the other, from what the view knew before to what it knows then.
+abbrev pub IsLawful : Bool → Knowledge → List Exchange → Knowledge → Type 0
+IsLawful alone before [] after = after ≡ before
+IsLawful alone before (Changed change heard ∷ later) after = (k : Knowledge) × HearsChange alone change before heard k × IsLawful alone k later after
+IsLawful alone before (Asked query heard ∷ later) after = (k : Knowledge) × HearsAnswer alone query before heard k × IsLawful alone k later after
+IsLawful alone before (Routed from facts heard ∷ later) after = (k : Knowledge) × HearsVerdict alone from facts before heard k × IsLawful alone k later after
+IsLawful alone before (Looked number heard ∷ later) after = (k : Knowledge) × HearsPresent alone number before heard k × IsLawful alone k later after
+IsLawful alone before (Noted told ∷ later) after = (k : Knowledge) × IsNoted alone before told k × IsLawful alone k later after
+IsLawful alone before (Fronted bytes front ∷ later) after = IsFront bytes front × IsLawful alone before later after
+IsLawful alone before (Called m reading ∷ later) after = IsCall m reading × IsLawful alone before later after
+IsLawful alone before (Gated call ∷ later) after = IsLawful alone before later after
+IsLawful alone before (Wanted granted ∷ later) after = IsLawful alone before later after
+
+-- the calls that the gate was shown, in order, by the seat that serves them
+abbrev pub gated_in : ℕ → List Exchange → List GatedCall
+gated_in seat [] = []
+gated_in seat (Gated call ∷ later) = record { seat = seat; call = call } ∷ gated_in seat later
+gated_in seat (other ∷ later) = gated_in seat later
+
+-- Nothing was refused.
+abbrev pub IsGranted : List Exchange → Type 0
+IsGranted [] = Unit {0}
+IsGranted (Changed change (Refuses refusal) ∷ later) = ⊥
+IsGranted (Asked query (Refuses refusal) ∷ later) = ⊥
+IsGranted (Routed from facts (Refuses refusal) ∷ later) = ⊥
+IsGranted (Looked number (Refuses refusal) ∷ later) = ⊥
+IsGranted (Wanted false ∷ later) = ⊥
+IsGranted (other ∷ later) = IsGranted later
+
+-- ## Events
+
+-- an engine between events: its connections, what its view knows, and the calls that its gate was shown
+pub record Rest : Type 0 where
+  pub standing : Standing
+  pub view : Knowledge
+  pub gated : List GatedCall
+
+-- at the beginning of an event nothing was done yet
+abbrev pub world_of : Rest → World
+world_of r = record { view = r.view; gated = r.gated; deeds = []; notes = [] }
+
+-- The occasion brings these deeds, with these notes, and leaves the engine so.
+pub record Acts (alone : Bool) (before : Rest) (occasion : Occasion) (deeds : List Deed) (notes : List (Option History)) (after : Rest) : Type 0 where
+  pub ends : World
+  pub comes : Comes alone (script before.standing occasion) (world_of before) after.standing ends
+  pub view : after.view ≡ ends.view
+  pub gated : after.gated ≡ ends.gated
+  pub done : deeds ≡ ends.deeds
+  pub carried : notes ≡ ends.notes
+
+-- The event brings these actions. Where others make changes too, each message that is put carries the furthest note that the view
+-- held.
+pub record Brings {N : Type 0} (told : N → History) (alone : Bool) (before : Rest) (event : Event N) (actions : List (Action N)) (after : Rest) : Type 0 where
+  pub occasion : Occasion
+  pub deeds : List Deed
+  pub notes : List (Option History)
+  pub happened : IsOccasion told event occasion
+  pub acts : Acts alone before occasion deeds notes after
+  pub done : AreDoneBy actions deeds
+  pub noted : alone ≡ false → flat_map (notes_of told) actions ≡ notes
+
+-- The same, with all that was asked and answered.
+pub record IsServedBy (alone : Bool) (before : Rest) (occasion : Occasion) (asked : List Exchange) (deeds : List Deed) (after : Rest) : Type 0 where
+  pub goes : Goes (script before.standing occasion) asked deeds after.standing
+  pub lawful : IsLawful alone before.view asked after.view
+  pub gated : after.gated ≡ before.gated ++ gated_in before.view.seat asked

@@ -1,0 +1,67 @@
+-- What a router hears from its view of a bus.
+use Rattle.std.specs.Prelude.{◌≡◌, ℕ, Bool, true, Option, is_some}
+use Rattle.match_rules.specs.Facts.{Facts}
+use Rattle.seq_bus_core.specs.Answers.{Answer, answer}
+use Rattle.seq_bus_core.specs.BusState.{connection_of}
+use Rattle.seq_bus_core.specs.Recipients.{recipients}
+use Rattle.seq_bus_core.specs.declared.change.Change.{Change}
+use Rattle.seq_bus_core.specs.declared.error_kind.ErrorKind.{ErrorKind}
+use Rattle.seq_bus_core.specs.declared.error_kind.ErrorKind.TheVariants.{Failed, NoMemory as NoMemoryError}
+use Rattle.seq_bus_core.specs.declared.outcome.Outcome.{Outcome}
+use Rattle.seq_bus_core.specs.declared.query.Query.{Query}
+use Rattle.seq_bus_core.specs.declared.verdict.Verdict.{Verdict}
+use Rattle.bus_view.specs.Views.{Knowledge, bus_seen, IsChanged, IsRead, IsUnread}
+use Rattle.bus_view.specs.declared.refusal.Cause.{Cause}
+use Rattle.bus_view.specs.declared.refusal.Cause.TheVariants as cause
+use Rattle.seq_bus.specs.declared.answer.AskFault.{AskFault}
+use Rattle.seq_bus.specs.declared.answer.AskFault.TheVariants as fault
+
+-- why a call of the bus is not answered: for want of memory, or as the bus is gone or the router no part of it
+pub data Refusal : Type 0 where
+  NoMemory : Refusal
+  Lost : Refusal
+
+-- an answer, or why there is none
+pub data Heard (X : Type 0) : Type 0 where
+  Says : X → Heard X
+  Refuses : Refusal → Heard X
+
+abbrev pub refusal_of : Cause → Refusal
+refusal_of cause.NoMemory = NoMemory
+refusal_of cause.ForeignSeat = Lost
+refusal_of cause.HistoryFull = Lost
+refusal_of cause.Gone = Lost
+
+abbrev pub unanswered_for : AskFault → Refusal
+unanswered_for fault.NoMemory = NoMemory
+unanswered_for fault.Gone = Lost
+
+-- the error that a call is answered for it
+abbrev pub error_for : Refusal → ErrorKind
+error_for NoMemory = NoMemoryError
+error_for Lost = Failed
+
+-- ## What may be heard, from what was known before to what is known then
+
+-- A bus that is alone is never lost.
+abbrev pub IsLost : Bool → Refusal → Type 0
+IsLost alone NoMemory = Unit {0}
+IsLost alone Lost = alone ≡ true → ⊥
+
+-- A change that is refused is not made.
+abbrev pub HearsChange : Bool → Change → Knowledge → Heard Outcome → Knowledge → Type 0
+HearsChange alone change before (Says outcome) after = IsChanged alone before change outcome after
+HearsChange alone change before (Refuses refusal) after = (after ≡ before) × IsLost alone refusal
+
+abbrev pub HearsAnswer : Bool → Query → Knowledge → Heard (Option Answer) → Knowledge → Type 0
+HearsAnswer alone query before (Says told) after = IsRead alone before after × (told ≡ answer (bus_seen after).state query)
+HearsAnswer alone query before (Refuses refusal) after = IsUnread alone before after × IsLost alone refusal
+
+abbrev pub HearsVerdict : Bool → ℕ → Facts → Knowledge → Heard Verdict → Knowledge → Type 0
+HearsVerdict alone from facts before (Says verdict) after = IsRead alone before after × (verdict ≡ recipients (bus_seen after).state from facts)
+HearsVerdict alone from facts before (Refuses refusal) after = (after ≡ before) × (alone ≡ true → ⊥) × (refusal ≡ Lost)
+
+-- whether a connection of this number is there
+abbrev pub HearsPresent : Bool → ℕ → Knowledge → Heard Bool → Knowledge → Type 0
+HearsPresent alone number before (Says present) after = IsRead alone before after × (present ≡ is_some (connection_of (bus_seen after).state number))
+HearsPresent alone number before (Refuses refusal) after = (after ≡ before) × (alone ≡ true → ⊥) × (refusal ≡ Lost)

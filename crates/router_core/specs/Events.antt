@@ -1,0 +1,232 @@
+-- What is done at an event. (D-Bus Specification: "Message Bus Messages", "org.freedesktop.DBus.Hello")
+use Rattle.std.specs.Prelude.{◌≡◌, ℕ, ◌≤◌, Bool, true, false, Option, Some, None, List, [], ◌∷◌, ◌++◌, length, position, if◌then◌else◌}
+use Rattle.seq_bus_core.specs.Histories.{History}
+use Rattle.seq_bus_core.specs.declared.change.Change.TheVariants.{Hello, Leave}
+use Rattle.seq_bus_core.specs.declared.connection.Conn.{Conn}
+use Rattle.seq_bus_core.specs.declared.error_kind.ErrorKind.{ErrorKind}
+use Rattle.seq_bus_core.specs.declared.error_kind.ErrorKind.TheVariants as error
+use Rattle.seq_bus_core.specs.declared.outcome.Outcome.{Outcome}
+use Rattle.seq_bus_core.specs.declared.outcome.Reply.{Reply}
+use Rattle.seq_bus_core.specs.declared.outcome.Reply.TheVariants.{Welcome}
+use Rattle.seq_bus_core.specs.declared.verdict.Verdict.{Verdict}
+use Rattle.message_core.specs.Messages.{Message}
+use Rattle.message_core.specs.Said.{said as message_said}
+use Rattle.message_relay.specs.FactsOf.{facts_of}
+use Rattle.driver.specs.declared.call.Call.TheVariants as call
+use Rattle.driver.specs.Calls.{expects_reply, is_hello}
+use Rattle.envelopes.specs.Contents.{Said, Relays, Tells, Own, Errs, UniqueName, own_message, IsSaid}
+use Rattle.router_core.specs.declared.cause.CloseCause.{CloseCause}
+use Rattle.router_core.specs.declared.cause.CloseCause.TheVariants as cause
+use Rattle.router_core.specs.declared.event.Event.{Event}
+use Rattle.router_core.specs.declared.event.Event.TheVariants as event
+use Rattle.router_core.specs.Answers.{Heard, Says, Refuses, error_for}
+use Rattle.router_core.specs.Deeds.{Writes, Sends, Closes, put_to, announced}
+use Rattle.router_core.specs.Fronts.{Front, Waits, Whole, Faulty}
+use Rattle.router_core.specs.Scripts.{Script, Gives, Changing, Routing, Looking, Noting, Fronting, Gating, Doing, and_then, doing_all}
+use Rattle.router_core.specs.Serving.{monitors_in, reply_with, serve}
+use Rattle.router_core.specs.Standing.{Stage, Unnamed, Named, Shut, Peer, Standing, peer_at, with_peer, opened, conn_of, next_serial, shut, has_slot, is_conn}
+
+-- what happens, in the terms of the definitions; a note is there by the history that it tells
+pub data Occasion : Type 0 where
+  Opened : (key : ℕ) → Occasion
+  Bytes : (key : ℕ) → (piece : List ℕ) → Occasion
+  Next : (key : ℕ) → Occasion
+  Mail : (slot number : ℕ) → (note : Option History) → Said → Occasion
+  Closed : (key : ℕ) → Occasion
+  Tick : Occasion
+
+-- a script that leaves a connection so
+abbrev pub OfPeer : Type 0
+OfPeer = Script Peer
+
+abbrev pub Stands : Type 0
+Stands = Script Standing
+
+-- ## One connection
+
+abbrev pub closing : ℕ → CloseCause → Peer → OfPeer
+closing key cause p = Doing (Closes key cause) (Gives (shut p))
+
+abbrev pub close_if : ℕ → Option CloseCause → Peer → OfPeer
+close_if key None p = Gives p
+close_if key (Some cause) p = closing key cause p
+
+-- a message of the bus, numbered and written
+abbrev pub send : ℕ → Own → Peer → OfPeer
+send key own p = Doing (Sends key (own_message (next_serial p.serial) own)) (Gives (record p { serial = next_serial p.serial }))
+
+abbrev pub write : ℕ → Said → Peer → OfPeer
+write key (Relays bytes) p = Doing (Writes key bytes) (Gives p)
+write key (Tells own) p = send key own p
+
+-- what is done for a connection, if it is there
+abbrev pub for_slot : Option Peer → (Peer → OfPeer) → Script (Option Peer)
+for_slot None work = Gives None
+for_slot (Some p) work = and_then (work p) (λ q. Gives (Some q))
+
+abbrev pub for_peer : Standing → ℕ → Option Peer → (Peer → OfPeer) → Stands
+for_peer s key peer work = and_then (for_slot peer work) (λ q. Gives (with_peer s key q))
+
+abbrev pub fed : List ℕ → Peer → Stage → Peer
+fed piece p (Shut conn) = p
+fed piece p stage = record p { unread = p.unread ++ piece }
+
+-- ## Hello
+
+-- The error in place of the reply is written to the connection, which has no name yet, and put to the monitors.
+abbrev pub refuse : ℕ → Own → Peer → Heard Verdict → OfPeer
+refuse key own p heard = and_then (send key own p) (λ q. doing_all (put_to (monitors_in heard) (Tells own)) (Gives q))
+
+abbrev pub refuse_with : ℕ → Message → ErrorKind → Peer → OfPeer
+refuse_with key m error p =
+    if expects_reply m then Routing 0 (facts_of (own_message 1 (Errs (record { caller = None; call = m.serial }) error))) (λ heard. refuse key (Errs (record { caller = None; call = m.serial }) error) p heard)
+    else Gives p
+
+abbrev pub close_at : Standing → ℕ → Option Peer → Stands
+close_at s key peer = for_peer s key peer (λ p. closing key cause.Left p)
+
+abbrev pub close_found : Standing → Option ℕ → Stands
+close_found s None = Gives s
+close_found s (Some key) = close_at s key (peer_at s key)
+
+-- Whoever had the slot before has left, though its connection is not gone yet: it is closed.
+abbrev pub close_former : Standing → Conn → Stands
+close_former s conn = close_found s (position (has_slot conn.slot) s.peers)
+
+-- The connection has its name: the reply comes first, then the signals.
+abbrev pub welcome : ℕ → Message → Peer → Outcome → Conn → Standing → Stands
+welcome key m p o conn s =
+    and_then (reply_with m conn (UniqueName conn.number))
+    (λ done. doing_all (announced o.signals) (Gives (with_peer s key (Some (record p { stage = Named conn })))))
+
+abbrev pub turn_away : ℕ → Message → Peer → OfPeer
+turn_away key m p = and_then (refuse_with key m error.LimitsExceeded p) (λ q. closing key cause.LimitsExceeded q)
+
+abbrev pub greeted_by : Standing → ℕ → Message → Peer → Outcome → Reply → Stands
+greeted_by s key m p o (Welcome conn) = and_then (close_former s conn) (λ t. welcome key m p o conn t)
+greeted_by s key m p o other = for_peer s key (Some p) (turn_away key m)
+
+-- A Hello that is refused leaves the connection without a name: it may say Hello again.
+abbrev pub greeted : Standing → ℕ → Message → Peer → Heard Outcome → Stands
+greeted s key m p (Refuses refusal) = for_peer s key (Some p) (refuse_with key m (error_for refusal))
+greeted s key m p (Says o) = greeted_by s key m p o o.reply
+
+abbrev pub greet : Standing → ℕ → Message → Peer → Bool → Stands
+greet s key m p privileged = Gating call.Hello (Changing (Hello privileged) (λ heard. greeted s key m p heard))
+
+-- ## The next message
+
+abbrev pub serve_at : Standing → ℕ → Message → Peer → Stage → Stands
+serve_at s key m p (Unnamed privileged) = if is_hello m then greet s key m p privileged else for_peer s key (Some p) (closing key cause.NotHello)
+serve_at s key m p (Named conn) = for_peer s key (Some p) (λ q. and_then (serve m conn) (λ fate. close_if key fate q))
+serve_at s key m p (Shut conn) = Gives s
+
+abbrev pub read : Standing → ℕ → Peer → Front → Stands
+read s key p Waits = Gives s
+read s key p (Faulty fault) = for_peer s key (Some p) (closing key (cause.Faulty fault))
+read s key p (Whole bytes rest) = serve_at s key (message_said bytes) (record p { unread = rest }) p.stage
+
+abbrev pub next_at : Standing → ℕ → Peer → Stage → Stands
+next_at s key p (Shut conn) = Gives s
+next_at s key p stage = Fronting p.unread (λ front. read s key p front)
+
+abbrev pub next : Standing → ℕ → Option Peer → Stands
+next s key None = Gives s
+next s key (Some p) = next_at s key p p.stage
+
+-- ## Mail
+
+abbrev pub mail_found : Standing → Said → Option ℕ → Stands
+mail_found s said None = Gives s
+mail_found s said (Some key) = for_peer s key (peer_at s key) (write key said)
+
+-- what came with a note is served once the note was taken
+abbrev pub noted : Option History → Stands → Stands
+noted None script = script
+noted (Some told) script = Noting told script
+
+-- ## Leaves
+
+-- A Leave that was refused is made later.
+abbrev pub left : Standing → ℕ → Heard Outcome → Stands
+left s number (Says o) = doing_all (announced o.signals) (Gives s)
+left s number (Refuses refusal) = Gives (record s { leaves = s.leaves ++ number ∷ [] })
+
+abbrev pub leave : Standing → ℕ → Stands
+leave s number = Changing (Leave number) (λ heard. left s number heard)
+
+abbrev pub leave_of : Standing → Option Conn → Stands
+leave_of s None = Gives s
+leave_of s (Some conn) = leave s conn.number
+
+abbrev pub closed : Standing → ℕ → Option Peer → Stands
+closed s key None = Gives s
+closed s key (Some p) = leave_of (with_peer s key None) (conn_of p.stage)
+
+-- ## Time
+
+-- Leaves that were refused, in order
+abbrev pub leave_all : List ℕ → Standing → Stands
+leave_all [] s = Gives s
+leave_all (number ∷ numbers) s = and_then (leave s number) (λ t. leave_all numbers t)
+
+abbrev pub looked : ℕ → Peer → Heard Bool → OfPeer
+looked key p (Says false) = closing key cause.Left p
+looked key p (Says true) = Gives p
+looked key p (Refuses refusal) = Gives p
+
+-- A connection that has left is closed.
+abbrev pub look : ℕ → Peer → Stage → OfPeer
+look key p (Named conn) = Looking conn.number (λ heard. looked key p heard)
+look key p (Unnamed privileged) = Gives p
+look key p (Shut conn) = Gives p
+
+-- by rising key; those so far are as they are then
+abbrev pub look_all : List (Option Peer) → List (Option Peer) → Script (List (Option Peer))
+look_all done [] = Gives done
+look_all done (peer ∷ peers) = and_then (for_slot peer (λ p. look (length done) p p.stage)) (λ q. look_all (done ++ q ∷ []) peers)
+
+abbrev pub look_at_all : Standing → Stands
+look_at_all s = and_then (look_all [] s.peers) (λ peers. Gives (record s { peers = peers }))
+
+abbrev pub tick : Standing → Stands
+tick s = and_then (leave_all s.leaves (record s { leaves = [] })) look_at_all
+
+-- ## Events
+
+abbrev pub script : Standing → Occasion → Stands
+script s (Opened key) = Gives (opened s key)
+script s (Bytes key piece) = for_peer s key (peer_at s key) (λ p. Gives (fed piece p p.stage))
+script s (Next key) = next s key (peer_at s key)
+script s (Mail slot number told said) = noted told (mail_found s said (position (is_conn slot number) s.peers))
+script s (Closed key) = closed s key (peer_at s key)
+script s Tick = tick s
+
+-- the event is this occasion; `told` says which history a note tells
+abbrev pub IsOccasion : {N : Type 0} → (N → History) → Event N → Occasion → Type 0
+IsOccasion told (event.Opened key) o = o ≡ Opened key
+IsOccasion told (event.Bytes key piece) o = o ≡ Bytes key piece.items
+IsOccasion told (event.Next key) o = o ≡ Next key
+IsOccasion told (event.Mail slot envelope) o = (said : Said) × IsSaid envelope.content said × (o ≡ Mail slot envelope.number (note_told told envelope.note) said)
+  where
+    note_told : {N : Type 0} → (N → History) → Option N → Option History
+    note_told told None = None
+    note_told told (Some n) = Some (told n)
+IsOccasion told (event.Closed key) o = o ≡ Closed key
+IsOccasion told event.Tick o = o ≡ Tick
+
+-- ## What can happen
+
+-- no connection has the key, and none above it is left out
+abbrev pub IsFree : Standing → ℕ → Type 0
+IsFree s key = (peer_at s key ≡ None) × (key ≤ length s.peers)
+
+-- the note, if there is one, is of this registry
+abbrev pub IsOwnNote : {N : Type 0} → (N → ℕ) → ℕ → Option N → Type 0
+IsOwnNote registry_of registry None = Unit {0}
+IsOwnNote registry_of registry (Some n) = registry_of n ≡ registry
+
+abbrev pub CanHappen : {N : Type 0} → (N → ℕ) → ℕ → Standing → Event N → Type 0
+CanHappen registry_of registry s (event.Opened key) = IsFree s key
+CanHappen registry_of registry s (event.Mail slot envelope) = IsOwnNote registry_of registry envelope.note
+CanHappen registry_of registry s other = Unit {0}

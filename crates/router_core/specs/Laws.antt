@@ -1,0 +1,58 @@
+-- Laws of what a router does.
+use Rattle.std.specs.Prelude.{◌≡◌, ℕ, Bool, true, false, Option, Some, List, [], ◌∷◌, ◌++◌}
+use Rattle.match_rules.specs.Kinds.{kind_of}
+use Rattle.seq_bus_core.specs.Histories.{History}
+use Rattle.seq_bus_core.specs.declared.connection.Conn.{Conn}
+use Rattle.message_core.specs.Messages.{Message}
+use Rattle.driver.specs.Calls.{is_hello}
+use Rattle.router_core.specs.declared.cause.CloseCause.TheVariants.{NotHello}
+use Rattle.router_core.specs.Acts.{Rest, Acts, IsServedBy, Exchange, IsGranted}
+use Rattle.router_core.specs.Deeds.{Deed, Closes}
+use Rattle.router_core.specs.Events.{Occasion, Bytes, Next, script, serve_at}
+use Rattle.router_core.specs.OneThread.{Readers, given, rest_after, bus_bytes, AreReadBy, IsRun}
+use Rattle.router_core.specs.Scripts.{Gives, World, Comes}
+use Rattle.router_core.specs.Serving.{serve, is_unknown, stays_open}
+use Rattle.router_core.specs.Standing.{Unnamed, Shut, Peer, Standing, peer_at, with_peer, shut, is_conn}
+
+-- the bus closed the connection of this key, and it is not gone yet
+abbrev pub IsShut : Standing → ℕ → Peer → Type 0
+IsShut s key p = (peer_at s key ≡ Some p) × ((conn : Option Conn) × (p.stage ≡ Shut conn))
+
+-- A connection that was closed is not served again.
+abbrev pub ClosedAreNotServed : Type 0
+ClosedAreNotServed = (s : Standing) (key : ℕ) (p : Peer) → IsShut s key p → script s (Next key) ≡ Gives s
+
+-- Its bytes are let go.
+abbrev pub ClosedTakeNothing : Type 0
+ClosedTakeNothing = (s : Standing) (key : ℕ) (piece : List ℕ) (p : Peer) → IsShut s key p → script s (Bytes key piece) ≡ Gives (with_peer s key (Some p))
+
+-- No mail is written to it.
+abbrev pub ClosedGetNoMail : Type 0
+ClosedGetNoMail = (slot number : ℕ) (p : Peer) (conn : Option Conn) → p.stage ≡ Shut conn → is_conn slot number (Some p) ≡ false
+
+-- A message of a type that the standard does not define brings nothing.
+abbrev pub UnknownTypesBringNothing : Type 0
+UnknownTypesBringNothing = (m : Message) (sender : Conn) → is_unknown (kind_of m.kind) ≡ true → serve m sender ≡ stays_open
+
+-- Before its Hello a connection is closed for anything else.
+abbrev pub OnlyHelloGreets : Type 0
+OnlyHelloGreets = (alone : Bool) (s t : Standing) (key : ℕ) (m : Message) (p : Peer) (privileged : Bool) (w v : World) →
+    is_hello m ≡ false → Comes alone (serve_at s key m p (Unnamed privileged)) w t v →
+    (v.deeds ≡ w.deeds ++ Closes key NotHello ∷ []) × (v.view ≡ w.view) × (v.gated ≡ w.gated) × (t ≡ with_peer s key (Some (shut p)))
+
+-- What an occasion brings is what it brings for some answers that the bus may give, one after the other, and the gate is shown
+-- the calls among them.
+abbrev pub AnswersAreLawful : Type 0
+AnswersAreLawful = (alone : Bool) (before after : Rest) (occasion : Occasion) (deeds : List Deed) (notes : List (Option History)) →
+    Acts alone before occasion deeds notes after → (asked : List Exchange) × IsServedBy alone before occasion asked deeds after
+
+-- Over a bus of one thread, where nothing is refused, what an occasion brings is a function of it and of what was read.
+abbrev pub OneThreadIsAFunction : Type 0
+OneThreadIsAFunction = (readers : Readers) (before after : Rest) (occasion : Occasion) (asked : List Exchange) (deeds : List Deed) →
+    IsServedBy true before occasion asked deeds after → IsGranted asked → AreReadBy readers asked →
+    (deeds ≡ (given readers before occasion).0) × (after ≡ (given readers before occasion).1)
+
+-- So for every list of occasions the bytes that go to each connection are a function of the occasions and of what was read.
+abbrev pub BytesAreAFunction : Type 0
+BytesAreAFunction = (readers : Readers) (opening : ℕ) (before after : Rest) (occasions : List Occasion) (bytes : List ℕ) →
+    IsRun readers opening before occasions bytes after → (bytes ≡ bus_bytes readers opening before occasions) × (after ≡ rest_after readers before occasions)

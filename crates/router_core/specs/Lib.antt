@@ -1,0 +1,11 @@
+pub mod Addressed
+pub mod Deeds
+pub mod Answers
+pub mod Fronts
+pub mod Scripts
+pub mod Serving
+pub mod Standing
+pub mod Events
+pub mod Acts
+pub mod OneThread
+pub mod Laws

@@ -1,0 +1,266 @@
+-- What is done for a message of a connection that has its name. (D-Bus Specification: "Message Bus Message Routing",
+-- "Message Bus Messages")
+use Rattle.std.specs.Prelude.{ℕ, Bool, true, false, bit_and, ◌==◌, Option, Some, None, Result, Ok, Err, List, [], ◌∷◌, if◌then◌else◌}
+use Rattle.names.specs.Texts.{Text}
+use Rattle.names.specs.UniqueName.{unique_text}
+use Rattle.match_rules.specs.declared.kind.MessageKind.{MessageKind}
+use Rattle.match_rules.specs.declared.kind.MessageKind.TheVariants.{Unknown}
+use Rattle.match_rules.specs.Kinds.{kind_of}
+use Rattle.owner_queues.specs.Replies.{code_of}
+use Rattle.seq_bus_core.specs.Answers.{Answer}
+use Rattle.seq_bus_core.specs.Recipients.{is_call}
+use Rattle.seq_bus_core.specs.declared.change.Change.{Change}
+use Rattle.seq_bus_core.specs.declared.change.Change.TheVariants as change
+use Rattle.seq_bus_core.specs.declared.connection.Conn.{Conn}
+use Rattle.seq_bus_core.specs.declared.error_kind.ErrorKind.{ErrorKind}
+use Rattle.seq_bus_core.specs.declared.error_kind.ErrorKind.TheVariants as error
+use Rattle.seq_bus_core.specs.declared.outcome.Outcome.{Outcome}
+use Rattle.seq_bus_core.specs.declared.outcome.Reply.{Reply}
+use Rattle.seq_bus_core.specs.declared.outcome.Reply.TheVariants as reply
+use Rattle.seq_bus_core.specs.declared.query.Query.{Query}
+use Rattle.seq_bus_core.specs.declared.query.Query.TheVariants as query
+use Rattle.seq_bus_core.specs.declared.ticket.SettledTicket.{SettledTicket}
+use Rattle.seq_bus_core.specs.declared.ticket.Ticket.{Ticket}
+use Rattle.seq_bus_core.specs.declared.verdict.Verdict.{Verdict}
+use Rattle.seq_bus_core.specs.declared.verdict.VerdictKind.{VerdictKind}
+use Rattle.seq_bus_core.specs.declared.verdict.VerdictKind.TheVariants as verdict
+use Rattle.message_core.specs.declared.header.TheConstants.{NO_REPLY_EXPECTED}
+use Rattle.message_core.specs.declared.header_field.HeaderField.TheVariants as field
+use Rattle.message_core.specs.HeaderFields.{text_field}
+use Rattle.message_core.specs.Messages.{Message}
+use Rattle.message_relay.specs.FactsOf.{facts_of}
+use Rattle.message_relay.specs.MessageBytes.{message_bytes, is_too_long}
+use Rattle.message_relay.specs.Senders.{sent_by}
+use Rattle.driver.specs.declared.call.Call.{Call}
+use Rattle.driver.specs.declared.call.Call.TheVariants as call
+use Rattle.driver.specs.declared.reply.ReplyTo.{ReplyTo}
+use Rattle.driver.specs.Calls.{Reading, expects_reply, error_of}
+use Rattle.envelopes.specs.Contents.{Own, Replies, Errs, Carried, Nothing, Number, Answered, Relays, Tells, own_message}
+use Rattle.router_core.specs.declared.cause.CloseCause.{CloseCause}
+use Rattle.router_core.specs.declared.cause.CloseCause.TheVariants.{TooLong, Left}
+use Rattle.router_core.specs.Answers.{Heard, Says, Refuses, error_for}
+use Rattle.router_core.specs.Deeds.{Puts, Runs, all_of, put_to, announced}
+use Rattle.router_core.specs.Scripts.{Script, Gives, Changing, Asking, Routing, Calling, Gating, Wanting, Doing, and_then, doing_all}
+
+-- a script that only does things
+abbrev pub Work : Type 0
+Work = Script (Unit {0})
+
+-- why the connection is to be closed once its message was served; none where it stays open
+abbrev pub Fated : Type 0
+Fated = Script (Option CloseCause)
+
+abbrev pub nothing : Work
+nothing = Gives tt
+
+abbrev pub stays_open : Fated
+stays_open = Gives None
+
+-- a piece of work, after which the connection stays open
+abbrev pub and_stays : Work → Fated
+and_stays work = and_then work (λ done. stays_open)
+
+-- ## Messages of the bus
+
+abbrev pub monitors_in : Heard Verdict → List Conn
+monitors_in (Says v) = v.monitors
+monitors_in (Refuses refusal) = []
+
+-- to a connection, and to the monitors that are shown it
+abbrev pub tell : Conn → Own → Work
+tell conn own = Routing 0 (facts_of (own_message 1 own)) (λ heard. doing_all (put_to (all_of (conn ∷ []) (monitors_in heard)) (Tells own)) nothing)
+
+abbrev pub call_of : Message → Conn → ReplyTo
+call_of m caller = record { caller = Some caller.number; call = m.serial }
+
+-- A call that wants no reply gets none, and no error.
+abbrev pub reply_with : Message → Conn → Carried → Work
+reply_with m caller carried = if expects_reply m then tell caller (Replies (call_of m caller) carried) else nothing
+
+abbrev pub err_with : Message → Conn → ErrorKind → Work
+err_with m caller error = if expects_reply m then tell caller (Errs (call_of m caller) error) else nothing
+
+abbrev pub is_method_call : Message → Bool
+is_method_call m = is_call (kind_of m.kind)
+
+-- A call is answered an error; another message is dropped.
+abbrev pub err_if_call : Message → Conn → ErrorKind → Work
+err_if_call m caller error = if is_method_call m then err_with m caller error else nothing
+
+-- ## Tickets
+
+abbrev pub ticket_wants_reply : Ticket → Bool
+ticket_wants_reply t = bit_and t.call.flags NO_REPLY_EXPECTED == 0
+
+abbrev pub call_of_ticket : Ticket → ReplyTo
+call_of_ticket t = record { caller = Some t.caller.number; call = t.call.serial }
+
+-- StartServiceByName is answered 1: the service was started.
+abbrev pub started : Carried
+started = Number 1
+
+-- A call that waited is delivered to the owner of the name; StartServiceByName is answered.
+abbrev pub release : Conn → Ticket → Option (List ℕ) → Work
+release owner t (Some bytes) = doing_all (put_to (owner ∷ []) (Relays bytes)) nothing
+release owner t None = if ticket_wants_reply t then tell t.caller (Replies (call_of_ticket t) started) else nothing
+
+abbrev pub release_all : Conn → List SettledTicket → Work
+release_all owner [] = nothing
+release_all owner (t ∷ tickets) = and_then (release owner t.ticket t.ticket.message) (λ done. release_all owner tickets)
+
+-- ## Calls to the bus
+
+-- what a call asks of the bus: a query, or a change
+pub data Request : Type 0 where
+  Asks : Query → Request
+  Makes : Change → Request
+
+-- What a call of the connection of this number asks, or the error that it is answered. Two methods are not served yet.
+abbrev pub request_of : ℕ → Call → Result Request ErrorKind
+request_of number call.Hello = Err error.Failed
+request_of number (call.RequestName name flags) = Ok (Makes (change.Request number name flags))
+request_of number (call.ReleaseName name) = Ok (Makes (change.Release number name))
+request_of number (call.GetNameOwner name) = Ok (Asks (query.GetNameOwner name))
+request_of number (call.NameHasOwner name) = Ok (Asks (query.NameHasOwner name))
+request_of number call.ListNames = Ok (Asks query.ListNames)
+request_of number call.ListActivatableNames = Ok (Asks query.ListActivatableNames)
+request_of number (call.ListQueuedOwners name) = Ok (Asks (query.ListQueuedOwners name))
+request_of number (call.AddMatch rule) = Ok (Makes (change.AddMatch number rule))
+request_of number (call.RemoveMatch rule) = Ok (Makes (change.RemoveMatch number rule))
+request_of number (call.StartServiceByName name) = Err error.UnknownMethod
+request_of number (call.BecomeMonitor rules) = Err error.UnknownMethod
+
+-- the answer to a call whose change was told so
+abbrev pub answer_told : Reply → Result Carried ErrorKind
+answer_told reply.Done = Ok Nothing
+answer_told (reply.OfQueue r) = Ok (Number (code_of r))
+answer_told reply.InvalidName = Err error.InvalidArgs
+answer_told reply.RuleNotFound = Err error.MatchRuleNotFound
+answer_told reply.LimitsExceeded = Err error.LimitsExceeded
+answer_told reply.ServiceUnknown = Err error.ServiceUnknown
+answer_told other = Err error.Failed
+
+abbrev pub answer_with : Message → Conn → Result Carried ErrorKind → Work
+answer_with m caller (Ok carried) = reply_with m caller carried
+answer_with m caller (Err error) = err_with m caller error
+
+-- The signals come first, then the reply, then the calls that waited for the name.
+abbrev pub tell_change : Message → Conn → Outcome → Work
+tell_change m caller o = doing_all (announced o.signals) (and_then (answer_with m caller (answer_told o.reply)) (λ done. release_all caller o.tickets))
+
+-- A change of a connection that left in the meantime is made by nobody: the connection is closed.
+abbrev pub made_by : Message → Conn → Outcome → Reply → Fated
+made_by m caller o reply.Gone = Gives (Some Left)
+made_by m caller o other = and_stays (tell_change m caller o)
+
+abbrev pub made : Message → Conn → Heard Outcome → Fated
+made m caller (Refuses refusal) = and_stays (err_with m caller (error_for refusal))
+made m caller (Says o) = made_by m caller o o.reply
+
+abbrev pub answered_if : Message → Conn → Answer → Bool → Work
+answered_if m caller told true = reply_with m caller (Answered told)
+answered_if m caller told false = err_with m caller error.NoMemory
+
+abbrev pub answered : Message → Conn → Heard (Option Answer) → Work
+answered m caller (Refuses refusal) = err_with m caller (error_for refusal)
+answered m caller (Says None) = err_with m caller error.NameHasNoOwner
+answered m caller (Says (Some told)) = Wanting (λ granted. answered_if m caller told granted)
+
+abbrev pub serve_request : Message → Conn → Result Request ErrorKind → Fated
+serve_request m caller (Err error) = and_stays (err_with m caller error)
+serve_request m caller (Ok (Asks q)) = Asking q (λ heard. and_stays (answered m caller heard))
+serve_request m caller (Ok (Makes c)) = Changing c (λ heard. made m caller heard)
+
+-- Each call that reads well is shown to the gate before it is served.
+abbrev pub serve_reading : Message → Conn → Reading Call → Fated
+serve_reading m caller (Err fault) = and_stays (err_with m caller (error_of fault))
+serve_reading m caller (Ok c) = Gating c (serve_request m caller (request_of caller.number c))
+
+abbrev pub read_if : Message → Conn → Bool → Fated
+read_if m caller true = Calling m (λ reading. serve_reading m caller reading)
+read_if m caller false = and_stays (err_with m caller error.NoMemory)
+
+abbrev pub serve_call : Message → Conn → Fated
+serve_call m caller = Wanting (λ granted. read_if m caller granted)
+
+-- Other messages to the bus are ignored.
+abbrev pub serve_bus : Message → Conn → Fated
+serve_bus m caller = if is_method_call m then serve_call m caller else stays_open
+
+-- ## Messages to others
+
+-- the message with its sender's name
+abbrev pub signed : Message → Conn → Message
+signed m sender = sent_by (unique_text sender.number) m
+
+-- Without memory the message is dropped whole, and a call is answered so.
+abbrev pub copied_if : Message → Conn → List Conn → Fated → Bool → Fated
+copied_if m sender to goes_on true = Doing (Puts to (Relays (message_bytes (signed m sender)))) goes_on
+copied_if m sender to goes_on false = and_stays (err_if_call m sender error.NoMemory)
+
+-- The message is put to these connections.
+abbrev pub copied : Message → Conn → List Conn → Fated → Fated
+copied m sender [] goes_on = goes_on
+copied m sender (conn ∷ conns) goes_on = Wanting (λ granted. copied_if m sender (conn ∷ conns) goes_on granted)
+
+-- Whoever sends a message that is too long once it has its sender's name is closed.
+abbrev pub relayed : Message → Conn → List Conn → Fated → Fated
+relayed m sender to goes_on = if is_too_long (signed m sender) then Gives (Some TooLong) else copied m sender to goes_on
+
+-- A message to the bus is measured only where a monitor is shown it.
+abbrev pub shown : Message → Conn → List Conn → Fated → Fated
+shown m sender [] goes_on = goes_on
+shown m sender (conn ∷ conns) goes_on = relayed m sender (conn ∷ conns) goes_on
+
+-- ## Calls that wait for a service
+
+-- a start that is asked for
+abbrev pub run : Text → Option ℕ → Work
+run name None = nothing
+run name (Some start) = Doing (Runs name start) nothing
+
+-- By now the name has an owner, to which the call goes, or the call waits; or there is no service.
+abbrev pub held_by : Message → Conn → Text → Outcome → Reply → Fated
+held_by m caller name o reply.Gone = Gives (Some Left)
+held_by m caller name o (reply.Pass owner) = Doing (Puts (owner ∷ []) (Relays (message_bytes (signed m caller)))) stays_open
+held_by m caller name o (reply.Held ticket) = and_stays (run name o.start)
+held_by m caller name o reply.ServiceUnknown = and_stays (err_with m caller error.ServiceUnknown)
+held_by m caller name o reply.LimitsExceeded = and_stays (err_with m caller error.LimitsExceeded)
+held_by m caller name o other = stays_open
+
+abbrev pub held : Message → Conn → Text → Heard Outcome → Fated
+held m caller name (Refuses refusal) = and_stays (err_with m caller (error_for refusal))
+held m caller name (Says o) = held_by m caller name o o.reply
+
+abbrev pub hold_if : Message → Conn → Text → Bool → Fated
+hold_if m caller name true =
+    Changing (change.Hold caller.number name (record { serial = m.serial; flags = m.flags }) (message_bytes (signed m caller))) (λ heard. held m caller name heard)
+hold_if m caller name false = and_stays (err_with m caller error.NoMemory)
+
+abbrev pub hold : Message → Conn → Option Text → Fated
+hold m caller None = stays_open
+hold m caller (Some name) = Wanting (λ granted. hold_if m caller name granted)
+
+-- ## Where the message goes
+
+abbrev pub relay : Message → Conn → Verdict → VerdictKind → Fated
+relay m sender v verdict.Absent = Gives (Some Left)
+relay m sender v verdict.Bus = shown m sender v.monitors (serve_bus m sender)
+relay m sender v verdict.Plain = relayed m sender (all_of v.to v.monitors) stays_open
+relay m sender v verdict.Nobody = relayed m sender v.monitors (and_stays (err_if_call m sender error.ServiceUnknown))
+relay m sender v verdict.Start = relayed m sender v.monitors (hold m sender (text_field field.Destination m.fields))
+
+abbrev pub routed : Message → Conn → Heard Verdict → Fated
+routed m sender (Refuses refusal) = and_stays (err_if_call m sender (error_for refusal))
+routed m sender (Says v) = relay m sender v v.kind
+
+-- a type that the standard does not define
+abbrev pub is_unknown : MessageKind → Bool
+is_unknown (Unknown number) = true
+is_unknown other = false
+
+-- A message of a type that the standard does not define is dropped.
+abbrev pub serve : Message → Conn → Fated
+serve m sender =
+    if is_unknown (kind_of m.kind) then stays_open
+    else Routing sender.number (facts_of m) (λ heard. routed m sender heard)

@@ -1,0 +1,78 @@
+-- What a router keeps between events.
+use Rattle.std.specs.Prelude.{ℕ, ◌+◌, Bool, true, false, ◌==◌, ◌&&◌, Option, Some, None, List, [], ◌∷◌, ◌++◌, length, slice_index_or, slice_set, if◌then◌else◌}
+use Rattle.seq_bus_core.specs.declared.connection.Conn.{Conn}
+
+-- How far a connection has come. It is privileged where it proved to be its user's.
+pub data Stage : Type 0 where
+  -- it has no name yet
+  Unnamed : (privileged : Bool) → Stage
+  Named : Conn → Stage
+  -- the bus closed it, and it is not gone yet
+  Shut : Option Conn → Stage
+
+-- Which of the connections that came it is; how far it has come; its bytes behind the messages that were served; and the serial of
+-- the last message of the bus that was written to it.
+pub record Peer : Type 0 where
+  pub opening : ℕ
+  pub stage : Stage
+  pub unread : List ℕ
+  pub serial : ℕ
+
+-- The connections by their keys; the numbers of those that left, whose Leave is not made yet; and how many connections came.
+pub record Standing : Type 0 where
+  pub peers : List (Option Peer)
+  pub leaves : List ℕ
+  pub openings : ℕ
+
+abbrev pub fresh : Standing
+fresh = record { peers = []; leaves = []; openings = 0 }
+
+abbrev pub peer_at : Standing → ℕ → Option Peer
+peer_at s key = slice_index_or s.peers key None
+
+abbrev pub with_peer : Standing → ℕ → Option Peer → Standing
+with_peer s key peer = record s { peers = slice_set s.peers key peer }
+
+-- a connection that has sent nothing
+abbrev pub newcomer : ℕ → Peer
+newcomer opening = record { opening = opening; stage = Unnamed true; unread = []; serial = 0 }
+
+abbrev pub with_newcomer : Standing → ℕ → Option Peer → Standing
+with_newcomer s key peer = if key == length s.peers then record s { peers = s.peers ++ peer ∷ [] } else with_peer s key peer
+
+abbrev pub opened : Standing → ℕ → Standing
+opened s key = record (with_newcomer s key (Some (newcomer (s.openings + 1)))) { openings = s.openings + 1 }
+
+-- the number and the slot that its Hello gave it
+abbrev pub conn_of : Stage → Option Conn
+conn_of (Unnamed privileged) = None
+conn_of (Named conn) = Some conn
+conn_of (Shut conn) = conn
+
+-- The bus numbers the messages that it sends from 1, and begins again after the greatest serial.
+abbrev pub next_serial : ℕ → ℕ
+next_serial serial = if serial == 4294967295 then 1 else serial + 1
+
+-- A connection that was closed has no bytes left, and takes none.
+abbrev pub shut : Peer → Peer
+shut p = record p { stage = Shut (conn_of p.stage); unread = [] }
+
+-- it has a name, and this slot
+abbrev pub has_slot : ℕ → Option Peer → Bool
+has_slot slot None = false
+has_slot slot (Some p) = is_in p.stage
+  where
+    is_in : Stage → Bool
+    is_in (Named conn) = conn.slot == slot
+    is_in (Unnamed privileged) = false
+    is_in (Shut conn) = false
+
+-- it has a name, this slot and this number
+abbrev pub is_conn : (slot number : ℕ) → Option Peer → Bool
+is_conn slot number None = false
+is_conn slot number (Some p) = is_it p.stage
+  where
+    is_it : Stage → Bool
+    is_it (Named conn) = (conn.slot == slot) && (conn.number == number)
+    is_it (Unnamed privileged) = false
+    is_it (Shut conn) = false

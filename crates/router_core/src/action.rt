@@ -1,0 +1,38 @@
+//! What a router does.
+
+use crate::cause::CloseCause;
+use crate::recipients::Addressees;
+use envelopes::Content;
+use names::BusName;
+use seq_bus_core::Signals;
+
+/// What a router does to the world. What is put carries the furthest note that the router had made or taken.
+#[derive(Drop)]
+pub enum Action<N: Drop> {
+    /// Bytes are written to a connection.
+    Write {
+        key: usize,
+        bytes: Vec<u8>,
+    },
+    /// A message is put to connections, each in an envelope of its own.
+    Put {
+        to: Addressees,
+        note: Option<N>,
+        content: Content,
+    },
+    /// The signals of a change are put, in order, each to its recipients and to its monitors.
+    Announce {
+        signals: Signals,
+        note: Option<N>,
+    },
+    /// A connection is closed. Its key brings no more actions.
+    Close {
+        key: usize,
+        cause: CloseCause,
+    },
+    /// The program of a service is to be run.
+    Run {
+        name: BusName,
+        start: u64,
+    },
+}

@@ -1,0 +1,20 @@
+//! What happens to a router.
+
+use envelopes::Envelope;
+
+/// What happens to a router. A key is the place of a connection among those of the router.
+#[derive(Drop)]
+pub enum Event<N: Drop> {
+    /// A connection came, and has this key, which was free. Nobody asks who it is: it counts as the bus's own user's.
+    Opened { key: usize },
+    /// Bytes of a connection came.
+    Bytes { key: usize, piece: Vec<u8> },
+    /// The next whole message of a connection is to be served.
+    Next { key: usize },
+    /// An envelope came for the connection in a slot.
+    Mail { slot: u16, envelope: Envelope<N> },
+    /// A connection is gone, and its key is free.
+    Closed { key: usize },
+    /// Time has passed.
+    Tick,
+}

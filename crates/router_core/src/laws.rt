@@ -1,0 +1,49 @@
+//! Laws of the definitions.
+
+ghost use Rattle.std.specs.Prelude.{◌≡◌};
+ghost use Rattle.router_core.specs.Laws.{ClosedAreNotServed, ClosedTakeNothing, ClosedGetNoMail, UnknownTypesBringNothing, OnlyHelloGreets, AnswersAreLawful, OneThreadIsAFunction, BytesAreAFunction};
+ghost use Rattle.router_core.specs.Standing.{next_serial};
+
+/// After the greatest serial comes 1.
+pub fn serials_begin_again()
+    ensures { next_serial 4294967295 ≡ 1 }
+{}
+
+/// A connection that was closed brings no more actions: it is not served, its bytes are let go, and no mail is written to
+/// it.
+#[tactic(auto, using(crate::proofs::FirstMessages::closed_are_not_served, crate::proofs::FirstMessages::closed_take_nothing, crate::proofs::FirstMessages::closed_get_no_mail))]
+pub fn closed_connections_are_quiet()
+    ensures served { ClosedAreNotServed }
+    ensures fed { ClosedTakeNothing }
+    ensures mail { ClosedGetNoMail }
+{}
+
+/// A message of a type that the standard does not define brings nothing.
+#[tactic(auto, using(crate::proofs::FirstMessages::unknown_types_bring_nothing))]
+pub fn unknown_types_bring_nothing()
+    ensures { UnknownTypesBringNothing }
+{}
+
+/// A connection that sends anything before the call of Hello is closed for it, and nothing else is done.
+#[tactic(auto, using(crate::proofs::FirstMessages::only_hello_greets))]
+pub fn only_hello_greets()
+    ensures { OnlyHelloGreets }
+{}
+
+/// What an event brings is what it brings for some answers that the bus may give.
+pub fn answers_are_lawful()
+    ensures { AnswersAreLawful }
+{}
+
+/// Over a bus of one thread, where nothing is refused, what an event brings is a function of it and of what was read.
+#[tactic(auto, using(crate::proofs::Functions::one_thread_is_a_function))]
+pub fn one_thread_is_a_function()
+    ensures { OneThreadIsAFunction }
+{}
+
+/// Over a bus of one thread, where nothing is refused, the bytes that go to each connection are a function of the events
+/// and of what was read, however many events there are.
+#[tactic(auto, using(crate::proofs::Functions::bytes_are_a_function))]
+pub fn bytes_are_a_function()
+    ensures { BytesAreAFunction }
+{}

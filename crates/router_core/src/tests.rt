@@ -1,0 +1,56 @@
+//! What is shown of actions.
+
+use super::*;
+use driver::Call;
+use message_core::FrameFault;
+use seq_bus_core::{Conn, Recipients};
+use std::alloc::Global;
+use std::process::Abort;
+
+fn shown(rt: &impl Abort, alloc: Global, cause: CloseCause) -> String {
+    format!(in alloc; "{cause}").expect(rt, "there is memory")
+}
+
+#[test]
+fn causes_by_their_codes(rt: HostRuntime) {
+    for (cause, code) in [
+        (CloseCause::Faulty(FrameFault::BodyLength), "28"),
+        (CloseCause::Faulty(FrameFault::Field(9)), "25/9"),
+        (CloseCause::TooLong, "27"),
+        (CloseCause::NotHello, "64"),
+        (CloseCause::Left, "66"),
+        (CloseCause::LimitsExceeded, "68"),
+    ] {
+        assert_eq!(rt; shown(&rt, rt.alloc(), cause).as_str(), code);
+    }
+}
+
+fn conn(number: u64) -> Conn {
+    Conn {
+        number,
+        slot: 0,
+        router: 1,
+    }
+}
+
+#[test]
+fn one_addressee_and_several(rt: HostRuntime) {
+    let one = Addressees::one(conn(7));
+    assert_eq!(rt; one.as_slice(), [conn(7)].as_slice());
+    let mut conns = Box::new(rt.alloc(), Recipients::new())
+        .ok()
+        .expect(&rt, "there is memory");
+    conns.push(conn(1));
+    conns.push(conn(2));
+    let several = Addressees::many(conns);
+    assert_eq!(rt; several.as_slice(), [conn(1), conn(2)].as_slice());
+}
+
+fn show<G: Gate>(gate: &mut G, call: &Call) {
+    gate.before(1, call);
+}
+
+#[test]
+fn open_gate_lets_calls_pass(_rt: HostRuntime) {
+    show(&mut OpenGate, &Call::ListNames);
+}
