@@ -15,11 +15,16 @@ const PIECE: usize = 4096;
 /// connection needs no authentication, and counts as the bus's own user ("Message Bus Messages" of the D-Bus
 /// Specification).
 ///
+/// Calls to the bus are answered, and other messages go where the bus routes them: one whose recipients include the
+/// connection itself is relayed to it, with its unique name as the sender, and a call to a name that has no owner is
+/// answered ServiceUnknown ("Message Bus Message Routing").
+///
 /// However the reader cuts the stream, what is written is the answer to what was read, message after message. At the
 /// end of the input the connection leaves, and a rest that is no whole message is ignored. The run ends earlier where
 /// the bus closes the connection, with all replies up to there written; where the reader or the writer fails; and
 /// where there is not enough memory to go on. A call that finds no memory, be it for its reply, is answered NoMemory,
-/// and changes nothing; the run ends where there is no memory for that either.
+/// and changes nothing; the run ends where there is no memory for that either. Another message that finds none is
+/// dropped.
 pub fn run<R: Read, W: Write>(alloc: Global, reader: &mut R, writer: &mut W) -> Result<(), RunFault>
     ensures { Runs (R.remaining reader.old) (R.remaining reader.new) (W.contents writer.old) (W.contents writer.new) result }
 {
