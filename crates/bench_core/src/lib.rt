@@ -1,0 +1,16 @@
+//! What the programs that measure the crates of the bus have in common.
+//!
+//! What is done once is a [`Work`]; what it finds is folded into a checksum, so that nothing is left out and two programs can
+//! be compared. A [`Report`] tells of works: without options their checksums; with `--time` what one turn takes, and
+//! with `--plain FILE` the ratio to the times in that file, which the same works in plain Rust have written.
+#![tactic(auto)]
+
+mod plain_times;
+mod program;
+mod report;
+mod work;
+
+pub use plain_times::PlainTimes;
+pub use program::{Opening, close, open};
+pub use report::Report;
+pub use work::{Work, checksum};

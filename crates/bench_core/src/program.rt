@@ -1,0 +1,91 @@
+//! A program that measures: its command line, its messages and its exit status.
+
+use crate::plain_times::PlainTimes;
+use crate::report::Report;
+use anyhow::{Context, Result};
+use clap::{Arg, ArgAction, ArgMatches, Command, Error};
+use std::alloc::{AllocError, Global};
+use std::process::ExitCode;
+use std::rt::{Env, Files};
+use std::{env, fs, io};
+
+/// What a command line asks for.
+#[derive(Drop)]
+pub enum Opening<'a, R> {
+    /// Works are measured.
+    Report(Report<'a, R>),
+    /// There is nothing more to do: the help was asked for, or the command line is wrong.
+    Ended(ExitCode),
+}
+
+fn command_line<'a>(
+    alloc: Global,
+    name: &'a str,
+    about: &'a str,
+) -> Result<Command<'a>, AllocError> {
+    let time = Arg::new(alloc, "time")
+        .long("time")
+        .action(ArgAction::SetTrue)
+        .help("Prints times in place of checksums");
+    let plain = Arg::new(alloc, "plain")
+        .long("plain")
+        .value_name("FILE")
+        .action(ArgAction::Set)
+        .help("The times of the same in plain Rust");
+    Command::new(alloc, name).about(about).arg(time)?.arg(plain)
+}
+
+fn words<R: Env + AllocGlobal>(rt: &R) -> io::Result<Vec<String>> {
+    Ok(env::args(rt)?.collect(rt.alloc())?)
+}
+
+fn refuse<R: Print + Eprint>(rt: &R, error: &Error) -> ExitCode {
+    let status = if error.use_stderr() { 2 } else { 0 };
+    if error.print(rt).is_err() {
+        return ExitCode::from(4);
+    }
+    ExitCode::from(status)
+}
+
+fn report<'a, R: Files + AllocGlobal>(
+    rt: &'a R,
+    matches: &ArgMatches<'_>,
+) -> Result<Report<'a, R>> {
+    let plain = match matches.get_str("plain") {
+        Some(file) => {
+            let text = fs::read_to_string(rt, file).context("the plain times")?;
+            PlainTimes::read(rt.alloc(), text.as_str())?
+        }
+        None => PlainTimes::new(rt.alloc()),
+    };
+    Ok(Report {
+        rt,
+        timed: matches.get_flag("time"),
+        plain,
+    })
+}
+
+/// Reads the command line of a program of this name.
+pub fn open<'a, R: Print + Eprint + Env + Files + AllocGlobal>(
+    rt: &'a R,
+    name: &str,
+    about: &str,
+) -> Result<Opening<'a, R>> {
+    let words = words(rt)?;
+    let command = command_line(rt.alloc(), name, about)?;
+    match command.try_get_matches_from(words.as_slice()) {
+        Ok(matches) => Ok(Opening::Report(report(rt, &matches)?)),
+        Err(error) => Ok(Opening::Ended(refuse(rt, &error))),
+    }
+}
+
+/// The exit status after so much was measured; a failure is told on standard error.
+pub fn close<R: Eprint>(rt: &R, name: &str, measured: Result<()>) -> ExitCode {
+    match measured {
+        Ok(()) => ExitCode::SUCCESS,
+        Err(error) => {
+            let _ = eprintln!(rt; "{name}: {error:#}");
+            ExitCode::from(1)
+        }
+    }
+}
