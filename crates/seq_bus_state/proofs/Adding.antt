@@ -16,7 +16,7 @@ take_one_more (y ∷ xs) (suc k) x h is =
     let more : suc k + 1 ≡ suc (k + 1) = omega arith in
     rw more (ap (λ rest. y ∷ rest) (take_one_more xs k x (omega (arith, h)) is))
 
-filter-append : {X : Type 0} (test : X → Bool) (xs ys : List X) → filter test (xs ++ ys) ≡ filter test xs ++ filter test ys
+pub filter-append : {X : Type 0} (test : X → Bool) (xs ys : List X) → filter test (xs ++ ys) ≡ filter test xs ++ filter test ys
 filter-append test [] ys = refl
 filter-append test (x ∷ xs) ys = by_test (test x) (filter-append test xs ys)
   where

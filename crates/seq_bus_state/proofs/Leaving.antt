@@ -1,27 +1,37 @@
 -- What a Leave does.
-use Rattle.std.proofs.Common.{◌≡◌, ℕ, suc, ◌+◌, ◌<◌, ◌==◌, Bool, true, false, not, ◌&&◌, ◌||◌, cond, Option, Some, None, List, [], ◌∷◌, map, filter, length, remove, get_or, refl, sym, ap, ◌∙◌, arith, if◌then◌else◌}
+use Rattle.std.proofs.Common.{◌≡◌, ℕ, zero, suc, ◌+◌, ◌<◌, ◌≤◌, ◌==◌, Bool, true, false, not, ◌&&◌, ◌||◌, cond, Option, Some, None, List, [], ◌∷◌, ◌++◌, map, filter, flat_map, length, take, remove, get_or, append_assoc, append-nil, refl, sym, ap, ◌∙◌, arith, if◌then◌else◌}
 use Rattle.std.specs.List.{list_any, find, position, position_or_len, AllByRecursion as Each}
 use Rattle.std.proofs.lemmas.Bool.Decides.{nat_tests}
 use Rattle.std.proofs.lemmas.Bool.{eqb-true}
+use Rattle.std.proofs.lemmas.Grind.{flat_map-append}
+use Rattle.std.proofs.lemmas.List.{map-append}
+use Rattle.names.specs.Texts.{Text}
+use Rattle.names.specs.BusName.{is_bus, is_unique}
+use Rattle.owner_queues.specs.Queues.{queue_head, without}
 use Rattle.match_rules.specs.Facts.{Facts}
 use Rattle.match_rules.specs.Fitting.{Heads, fits}
-use Rattle.seq_bus_core.specs.BusState.{BusState, Connection, AddedRule, is_monitor, conn_of, connection_of}
+use Rattle.seq_bus_core.specs.BusState.{BusState, Connection, OwnedName, AddedRule, is_monitor, conn_of, connection_of, client_named, head_of, queue_of}
 use Rattle.seq_bus_core.specs.Consistency.{Pairwise, IsConsistent}
-use Rattle.seq_bus_core.specs.Steps.{facts_of, addressed, rules_without, without_connection, signals_of_leave, leave}
+use Rattle.seq_bus_core.specs.Steps.{facts_of, addressed, is_owner, names_owned, names_without, rules_without, without_connection, signals_of_leave, leave}
 use Rattle.seq_bus_core.specs.Tickets.{bus_stepped}
 use Rattle.seq_bus_core.specs.declared.change.Change.TheVariants.{Leave}
 use Rattle.seq_bus_core.specs.declared.connection.Conn.{Conn}
 use Rattle.seq_bus_core.specs.declared.outcome.Outcome.{Outcome}
 use Rattle.seq_bus_core.specs.declared.outcome.Reply.TheVariants.{Gone, Done}
+use Rattle.seq_bus_core.specs.declared.signal.BusSignal.{BusSignal}
+use Rattle.seq_bus_core.specs.declared.signal.BusSignal.TheVariants.{NameOwnerChanged, NameLost, NameAcquired}
 use Rattle.seq_bus_core.specs.declared.signal.AddressedSignal.{AddressedSignal}
-use Rattle.seq_bus_state.specs.Audience.{Audience, wants_by, all_watching, addressed_by}
+use Rattle.seq_bus_names.proofs.NameLists.{left_queue}
+use Rattle.seq_bus_state.specs.Audience.{Audience, wants_by, all_watching, recipients_by, addressed_by}
 use Rattle.seq_bus_state.specs.Heads.{heads_then}
-use Rattle.seq_bus_state.specs.Leaving.{left_unique, left_signals}
+use Rattle.seq_bus_state.specs.Leaving.{left_name, left_names, left_unique, left_signals}
 use Rattle.seq_bus_state.specs.Steps.{idle, IsStepped}
 use Rattle.seq_bus_state.specs.declared.pending.Pending.TheVariants.{GivenUp}
+use Rattle.seq_bus_state.proofs.Adding.{take_one_more, filter-append}
 use Rattle.seq_bus_state.proofs.Addressing.{addressed_is}
 use Rattle.seq_bus_state.proofs.Firsts.{first_within, first_missed}
 use Rattle.seq_bus_state.proofs.Made.{told, find_nobody}
+use Rattle.seq_bus_state.proofs.NameSteps.{are_names}
 
 -- the rules of others are those that were there
 others_rules : (n m : ℕ) (test : AddedRule → Bool) → (m == n) ≡ false → (rules : List AddedRule) →
@@ -92,10 +102,6 @@ found_at n (d ∷ ds) c h is = by_test (d.number == n) refl (found_at n ds c)
         let there : c ≡ get_or ds (position_or_len (λ x. x.number == n) ds) c = rw (e, next) at is in
         rw e (others (omega (arith, later)) there)
 
--- a bus on which nobody owns a name
-abbrev pub nameless : BusState → BusState
-nameless s = record s { names = [] }
-
 pub leave_gone : (s : BusState) (number : ℕ) → ◌≡◌ {A = Option ℕ} (position (λ (c : Connection). c.number == number) s.connections) None →
     IsStepped (idle s) (idle s) (Leave number) (told Gone [])
 leave_gone s number h =
@@ -104,36 +110,79 @@ leave_gone s number h =
 
 -- whom messages can go to once a connection has left, its rules aside
 abbrev pub stayers : BusState → ℕ → List Connection → Audience
-stayers s number connections = record { connections = connections; rules = s.rules; heads = heads_then connections [] (GivenUp number) }
+stayers s number connections = record { connections = connections; rules = s.rules; heads = heads_then connections s.names (GivenUp number) }
 
-module _ (s : BusState) (number : ℕ) where
+module _ (s : BusState) (number : ℕ) (consistent : IsConsistent s) where
   abbrev pub staying : List Connection
   staying = filter (λ d. not (d.number == number)) s.connections
 
   abbrev pub after_leave : List Connection → BusState
-  after_leave connections = record (nameless s) { connections = connections; rules = rules_without number s.rules }
+  after_leave connections = record s { connections = connections; names = names_without number s.names; rules = rules_without number s.rules }
 
-  heard_by : addressed (without_connection (nameless s) number) (left_unique number) ≡ addressed_by (stayers (nameless s) number staying) (left_unique number)
-  heard_by =
-      addressed_is (after_leave staying) (left_unique number)
-      ∙ ap (λ (to : List Conn). record { signal = left_unique number; to = to; monitors = all_watching (stayers (nameless s) number staying) (facts_of (left_unique number)) to })
-      (ap (map conn_of) (stayers_want number (heads_then staying [] (GivenUp number)) (facts_of (left_unique number)) staying s.connections s.rules))
+  owners_left : (name : Text) → queue_head (queue_of (names_without number s.names) name) ≡ queue_head (without number (queue_of s.names name))
+  owners_left name = ap queue_head (left_queue number name s.names (are_names s consistent))
 
-  told_left : (monitor : Bool) → map (addressed (without_connection (nameless s) number)) (if monitor then [] else signals_of_leave (nameless s) number) ≡ left_signals monitor (stayers (nameless s) number staying) number
+  heads_left : head_of (after_leave staying) ≡ heads_then staying s.names (GivenUp number)
+  heads_left =
+      let owners : (λ name. queue_head (queue_of (names_without number s.names) name)) ≡ (λ name. queue_head (without number (queue_of s.names name))) = λ i name. owners_left name i in
+      let heads : (Text → Option ℕ) → Heads = λ owner name. if is_bus name then None else if is_unique name then client_named staying name else owner name in
+      ap heads owners
+
+  kept_recipients : (signal : BusSignal) →
+      recipients_by (record { connections = staying; rules = rules_without number s.rules; heads = heads_then staying s.names (GivenUp number) }) signal ≡ recipients_by (stayers s number staying) signal
+  kept_recipients (NameOwnerChanged name old new) =
+      ap (map conn_of) (stayers_want number (heads_then staying s.names (GivenUp number)) (facts_of (NameOwnerChanged name old new)) staying s.connections s.rules)
+  kept_recipients (NameLost name owner) = refl
+  kept_recipients (NameAcquired name owner) = refl
+
+  heard_by : (signal : BusSignal) → addressed (after_leave staying) signal ≡ addressed_by (stayers s number staying) signal
+  heard_by signal =
+      addressed_is (after_leave staying) signal
+      ∙ ap (λ (heads : Heads). addressed_by (record { connections = staying; rules = rules_without number s.rules; heads = heads }) signal) heads_left
+      ∙ ap (λ (to : List Conn). record { signal = signal; to = to; monitors = all_watching (stayers s number staying) (facts_of signal) to }) (kept_recipients signal)
+
+  all_heard : (signals : List BusSignal) → map (addressed (after_leave staying)) signals ≡ map (addressed_by (stayers s number staying)) signals
+  all_heard [] = refl
+  all_heard (signal ∷ signals) = λ i. heard_by signal i ∷ all_heard signals i
+
+  told_left : (monitor : Bool) → map (addressed (without_connection s number)) (if monitor then [] else signals_of_leave s number) ≡ left_signals monitor (stayers s number staying) number s.names
   told_left true = refl
-  told_left false = ap (λ first. first ∷ []) heard_by
+  told_left false = all_heard (left_names number s.names ++ left_unique number ∷ [])
 
-  pub leave_made : (place : ℕ) (c : Connection) (o : Outcome) → IsConsistent (nameless s) → ◌≡◌ {A = Option ℕ} (position (λ (d : Connection). d.number == number) s.connections) (Some place) →
-      c ≡ get_or s.connections place c → o ≡ told Done (left_signals (is_monitor c) (stayers (nameless s) number (remove s.connections place)) number) →
-      IsStepped (idle (nameless s)) (idle (after_leave (remove s.connections place))) (Leave number) o
-  leave_made place c o consistent at is e =
-      let t = nameless s in
+  pub leave_made : (place : ℕ) (c : Connection) (o : Outcome) → ◌≡◌ {A = Option ℕ} (position (λ (d : Connection). d.number == number) s.connections) (Some place) →
+      c ≡ get_or s.connections place c → o ≡ told Done (left_signals (is_monitor c) (stayers s number (remove s.connections place)) number s.names) →
+      IsStepped (idle s) (idle (after_leave (remove s.connections place))) (Leave number) o
+  leave_made place c o at is e =
       let within = first_within (λ (d : Connection). d.number == number) s.connections place at in
       let below : position_or_len (λ (d : Connection). d.number == number) s.connections < length s.connections = omega (arith, within.0, within.1) in
       let there : c ≡ get_or s.connections (position_or_len (λ (d : Connection). d.number == number) s.connections) c = rw (← within.0) is in
-      let found : connection_of t number ≡ Some c = found_at number s.connections c below there in
+      let found : connection_of s number ≡ Some c = found_at number s.connections c below there in
       let rest : staying ≡ remove s.connections place = taken_out number s.connections consistent.connections_rise below ∙ ap (remove s.connections) (sym within.0) in
-      ap (λ (p : Option Connection). bus_stepped (idle t) (Leave number) (leave t number p)) found
+      ap (λ (p : Option Connection). bus_stepped (idle s) (Leave number) (leave s number p)) found
       ∙ ap (λ (signals : List AddressedSignal). (idle (after_leave staying), told Done signals)) (told_left (is_monitor c))
-      ∙ ap (λ (connections : List Connection). (idle (after_leave connections), told Done (left_signals (is_monitor c) (stayers t number connections) number))) rest
+      ∙ ap (λ (connections : List Connection). (idle (after_leave connections), told Done (left_signals (is_monitor c) (stayers s number connections) number s.names))) rest
       ∙ ap (λ (p : Outcome). (idle (after_leave (remove s.connections place)), p)) (sym e)
+
+-- ## The signals of the names that a connection owned
+
+module _ (number k : ℕ) (ns : List OwnedName) (n : OwnedName) (h : k < length ns) (is : n ≡ get_or ns k n) where
+  next_left : left_names number (take (k + 1) ns) ≡ left_names number (take k ns) ++ left_names number (n ∷ [])
+  next_left = ap (left_names number) (take_one_more ns k n h is) ∙ ap (flat_map (left_name number)) (filter-append (λ (m : OwnedName). is_owner (queue_head m.queue) (Some number)) (take k ns) (n ∷ [])) ∙ flat_map-append (left_name number) (names_owned number (take k ns)) (names_owned number (n ∷ []))
+
+  module _ (f : BusSignal → AddressedSignal) (old signals : List AddressedSignal) (told_before : signals ≡ old ++ map f (left_names number (take k ns))) where
+    pub one_owned : (more : List AddressedSignal) → is_owner (queue_head n.queue) (Some number) ≡ true → more ≡ signals ++ map f (left_name number n) → more ≡ old ++ map f (left_names number (take (k + 1) ns))
+    one_owned more owns e =
+        let last : left_names number (n ∷ []) ≡ left_name number n = rw owns (append-nil (left_name number n)) in
+        e ∙ ap (λ front. front ++ map f (left_name number n)) told_before ∙ append_assoc old (map f (left_names number (take k ns))) (map f (left_name number n))
+        ∙ ap (λ rest. old ++ rest) (sym (map-append f (left_names number (take k ns)) (left_name number n)) ∙ ap (λ rest. map f (left_names number (take k ns) ++ rest)) (sym last) ∙ ap (map f) (sym next_left))
+
+    pub one_not_owned : is_owner (queue_head n.queue) (Some number) ≡ false → signals ≡ old ++ map f (left_names number (take (k + 1) ns))
+    one_not_owned owns =
+        let last : left_names number (n ∷ []) ≡ [] = rw owns refl in
+        told_before ∙ ap (λ rest. old ++ map f rest) (sym (append-nil (left_names number (take k ns))) ∙ ap (λ rest. left_names number (take k ns) ++ rest) (sym last) ∙ sym next_left)
+
+pub all_taken : (k : ℕ) (ns : List OwnedName) → length ns ≤ k → take k ns ≡ ns
+all_taken zero [] h = refl
+all_taken zero (n ∷ ns) h = absurd (omega (arith, h))
+all_taken (suc k) [] h = refl
+all_taken (suc k) (n ∷ ns) h = ap (λ rest. n ∷ rest) (all_taken k ns (omega (arith, h)))

@@ -4,6 +4,8 @@ pub mod Firsts
 pub mod FreeSlots
 pub mod Leaving
 pub mod Made
-pub mod Names
+pub mod NameSteps
+pub mod OtherPlaces
+pub mod Rooms
 pub mod Routing
 pub mod ServiceOrder

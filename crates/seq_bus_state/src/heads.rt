@@ -4,15 +4,15 @@ ghost use Rattle.std.specs.Prelude.{◌≡◌, ◌==◌, ◌&&◌, not, find, op
 ghost use Rattle.names.specs.Texts.{text_eq};
 ghost use Rattle.names.specs.UniqueName.{unique_text};
 ghost use Rattle.owner_queues.specs.Queues.{queue_head, without};
-ghost use Rattle.seq_bus_core.specs.BusState.{client_named, is_monitor, queue_of};
+ghost use Rattle.seq_bus_core.specs.BusState.{client_named, is_monitor};
 ghost use Rattle.seq_bus_state.specs.Heads.{heads_then, owner_then};
 
 use crate::member::Member;
-use crate::owned_name::{NameEntry, find_name};
 use crate::pending::Pending;
 use match_rules::Owners;
 use names::UniqueName;
 use owner_queues::{Queue, QueuedOwner};
+use seq_bus_names::Names;
 
 /// The name of the bus itself.
 const BUS: &str = "org.freedesktop.DBus";
@@ -21,7 +21,7 @@ const BUS: &str = "org.freedesktop.DBus";
 #[derive(Clone, Copy)]
 pub struct Heads<'a> {
     pub members: &'a [Member],
-    pub names: &'a [NameEntry],
+    pub names: &'a Names,
     pub pending: Pending<'a>,
 }
 
@@ -57,31 +57,22 @@ fn find_client<'a>(members: &'a [Member], name: &str) -> Option<&'a Member>
 }
 
 /// The connection that owns a well-known name.
-fn owner_then(pending: Pending<'_>, names: &[NameEntry], name: &str) -> Option<u64>
+fn owner_then(pending: Pending<'_>, names: &Names, name: &str) -> Option<u64>
     ensures { result ≡ owner_then pending.entry names.now name.now }
 {
     match pending {
-        Pending::Nothing => owner_of(names, name),
+        Pending::Nothing => names.owner(name),
         Pending::Owned(changed, owner) => {
             if changed.as_str() == name {
                 owner
             } else {
-                owner_of(names, name)
+                names.owner(name)
             }
         }
-        Pending::GivenUp(connection) => match find_name(names, name) {
-            Some(entry) => next_owner(entry.queue(), connection),
+        Pending::GivenUp(connection) => match names.queue(name) {
+            Some(queue) => next_owner(queue, connection),
             None => None,
         },
-    }
-}
-
-fn owner_of(names: &[NameEntry], name: &str) -> Option<u64>
-    ensures { result ≡ queue_head (queue_of names.now name.now) }
-{
-    match find_name(names, name) {
-        Some(entry) => entry.queue().head(),
-        None => None,
     }
 }
 

@@ -7,7 +7,7 @@ use names::BusName;
 pub enum Pending<'a> {
     /// Nothing.
     Nothing,
-    /// A well-known name has this owner, or none.
+    /// A well-known name has another owner, or none.
     Owned(&'a BusName, Option<u64>),
     /// A connection gives up its place in each queue.
     GivenUp(u64),

@@ -78,7 +78,7 @@ impl Listeners<'_> {
     }
 }
 
-fn is_owner(old: Option<u64>, new: Option<u64>) -> bool
+pub fn is_owner(old: Option<u64>, new: Option<u64>) -> bool
     ensures { result ≡ is_owner old new }
 {
     match old {

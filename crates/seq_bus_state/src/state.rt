@@ -12,10 +12,11 @@ use crate::pending::Pending;
 use crate::services::sorted;
 use names::WellKnown;
 use owner_queues::Profile;
+use seq_bus_names::Names;
 use std::alloc::{AllocError, Global};
 use std::marker::Model;
 
-/// The state of a bus on which nobody has requested a name or started a service, in plain lists.
+/// The state of a bus on which nobody has started a service, in plain lists.
 ///
 /// Contracts see the state and the tickets that wait.
 #[derive(Drop)]
@@ -27,6 +28,7 @@ pub struct State {
     pub(crate) services: Vec<WellKnown>,
     /// By rising number.
     pub(crate) members: Vec<Member>,
+    pub(crate) names: Names,
     /// In order of arrival.
     pub(crate) rules: Vec<RuleEntry>,
     pub(crate) next_number: u64,
@@ -58,6 +60,7 @@ impl State {
             routers,
             services: sorted(alloc, services)?,
             members: Vec::new(alloc),
+            names: Names::new(alloc),
             rules: Vec::new(alloc),
             next_number: 1,
         })
@@ -72,7 +75,7 @@ impl State {
             rules: &self.rules,
             heads: Heads {
                 members: &self.members,
-                names: &[],
+                names: &self.names,
                 pending,
             },
         }

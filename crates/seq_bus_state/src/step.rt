@@ -11,7 +11,7 @@ use std::alloc::AllocError;
 impl State {
     /// Makes a change, and says what it is told. Where memory is wanting, nothing changes.
     ///
-    /// Today a Hello, a Leave, an AddMatch and a RemoveMatch are served.
+    /// Today a Hello, a Leave, RequestName, ReleaseName, AddMatch and RemoveMatch are served.
     pub fn step(&mut self, change: &Change) -> Result<Outcome, AllocError>
         requires served { IsServedChange change.now }
         requires sound { IsSound self.old }
@@ -21,6 +21,12 @@ impl State {
         match change {
             Change::Hello { privileged } => self.hello(*privileged),
             Change::Leave { connection } => self.leave(*connection),
+            Change::Request {
+                connection,
+                name,
+                flags,
+            } => self.request(*connection, name, *flags),
+            Change::Release { connection, name } => self.release(*connection, name),
             Change::AddMatch { connection, rule } => self.add_match(*connection, rule),
             Change::RemoveMatch { connection, rule } => Ok(self.remove_match(*connection, rule)),
             _ => unreachable!(),

@@ -1,6 +1,6 @@
 use Rattle.std.proofs.Common.{◌≡◌, ◌==◌, not, Option, Some, None, option_map, find, sym, ap, ◌∙◌, rules}
 use Rattle.owner_queues.specs.declared.owner.QueuedOwner.{QueuedOwner}
-use Rattle.seq_bus_state.proofs.Names.{head_of_rest}
+use Rattle.seq_bus_state.proofs.OtherPlaces.{head_of_rest}
 use Rattle.seq_bus_state.proofs.heads.next_owner.Goals as goal
 
 pub returns-in-Some : goal.returns-in-Some

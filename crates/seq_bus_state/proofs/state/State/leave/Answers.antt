@@ -37,8 +37,8 @@ returns-in-Ok-clause-ok c =
     let kept : c.retain.new.self.items ≡ filter (λ (r : AddedRule). not (r.connection == n)) i.rules.items = filter_same _ _ _ (λ r b f k. search rules) _ _ c.retain.ensures.filtered in
     let heard : audience_of c.listeners-listeners.result ≡ stayers s n (remove i.members.items c.in-Some.place) =
     c.listeners-listeners.ensures ∙ ap (λ (connections : List Connection). stayers s n connections) rest in
-    let told_is : c.in-Ok.outcome ≡ told Done (left_signals (is_monitor member) (stayers s n (remove i.members.items c.in-Some.place)) n) =
-    c.in-Ok.ensures ∙ ap (λ (m : Bool). told Done (left_signals m (audience_of c.listeners-listeners.result) n)) c.is_monitor.ensures
-    ∙ ap (λ (a : Audience). told Done (left_signals (is_monitor member) a n)) heard in
-    stepped_as (Leave n) (leave_made s n c.in-Some.place member c.in-Ok.outcome sound.whole.consistent at is told_is) c.self.view_is
-    (λ k. idle (record s { connections = sym rest k; rules = sym kept k })) refl
+    let told_is : c.in-Ok.outcome ≡ told Done (left_signals (is_monitor member) (stayers s n (remove i.members.items c.in-Some.place)) n i.names) =
+    c.in-Ok.ensures ∙ ap (λ (m : Bool). told Done (left_signals m (audience_of c.listeners-listeners.result) n i.names)) c.is_monitor.ensures
+    ∙ ap (λ (a : Audience). told Done (left_signals (is_monitor member) a n i.names)) heard in
+    stepped_as (Leave n) (leave_made s n sound.whole.consistent c.in-Some.place member c.in-Ok.outcome at is told_is) c.self.view_is
+    (λ k. idle (record s { connections = sym rest k; names = sym c.give_up.ensures k; rules = sym kept k })) refl
