@@ -70,8 +70,8 @@ impl SeqBus {
 
     /// Makes a change, and says what it is told.
     ///
-    /// A change that is refused is handed back, and the bus is as it was. Today a Hello, a Leave, an AddMatch and a
-    /// RemoveMatch are served.
+    /// A change that is refused is handed back, and the bus is as it was. Today a Hello, a Leave, RequestName, ReleaseName,
+    /// AddMatch and RemoveMatch are served.
     pub fn change(&mut self, change: Change) -> Result<Outcome, Refused>
         requires { IsServedChange change }
         ensures made { IfOk result (λ outcome. IsMade self.old self.new change outcome) }

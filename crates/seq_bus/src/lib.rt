@@ -8,6 +8,8 @@
 mod answer;
 mod bodies;
 mod bus;
+#[cfg(test)]
+mod name_tests;
 mod opening;
 mod refusal;
 #[cfg(test)]

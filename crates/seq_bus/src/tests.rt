@@ -12,7 +12,7 @@ use seq_bus_core::{BusSignal, Change, Conn, Outcome, Query, Reply, VerdictKind};
 use std::alloc::Global;
 use std::process::Abort;
 
-fn open(rt: &impl Abort, alloc: Global, services: &[WellKnown], routers: u8) -> SeqBus {
+pub fn open(rt: &impl Abort, alloc: Global, services: &[WellKnown], routers: u8) -> SeqBus {
     assert!(rt; can_open(services, routers));
     match SeqBus::new(alloc, services, routers, Profile::One) {
         Ok(bus) => bus,
@@ -23,7 +23,7 @@ fn open(rt: &impl Abort, alloc: Global, services: &[WellKnown], routers: u8) -> 
     }
 }
 
-fn make(rt: &impl Abort, bus: &mut SeqBus, change: Change) -> Outcome
+pub fn make(rt: &impl Abort, bus: &mut SeqBus, change: Change) -> Outcome
     requires { IsServedChange change }
 {
     let count = bus.history().len();
@@ -39,7 +39,7 @@ fn make(rt: &impl Abort, bus: &mut SeqBus, change: Change) -> Outcome
     }
 }
 
-fn ask(rt: &impl Abort, bus: &mut SeqBus, query: &Query, body: &mut Vec<u8>) -> Asked
+pub fn ask(rt: &impl Abort, bus: &mut SeqBus, query: &Query, body: &mut Vec<u8>) -> Asked
     requires { IsServedQuery query.now }
 {
     let length = body.len();
@@ -52,7 +52,7 @@ fn ask(rt: &impl Abort, bus: &mut SeqBus, query: &Query, body: &mut Vec<u8>) -> 
     }
 }
 
-fn hello() -> Change
+pub fn hello() -> Change
     ensures { IsServedChange result }
 {
     Change::Hello { privileged: false }
