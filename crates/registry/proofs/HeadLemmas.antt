@@ -7,7 +7,7 @@ use Rattle.names.specs.Texts.{Text, text_eq}
 use Rattle.names.specs.BusName.{bus_text, is_bus, is_unique}
 use Rattle.names.specs.UniqueName.{unique_text}
 use Rattle.owner_queues.specs.Queues.{queue_head}
-use Rattle.seq_bus_core.specs.BusState.{BusState, OwnedName, Connection, is_client, is_monitor, client_named, head_of, queue_of}
+use Rattle.seq_bus_core.specs.BusState.{BusState, Connection, is_client, is_monitor, client_named, head_of, queue_of}
 use Rattle.seq_bus_core.specs.Steps.{with_connection}
 use Rattle.registry.proofs.Lists.{find_push}
 
@@ -101,14 +101,6 @@ head_of_unique s name h = rw (unique_not_bus name h, h) refl
 
 pub head_of_other : (s : BusState) (name : Text) → is_unique name ≡ false → head_of s name ≡ (if is_bus name then None else queue_head (queue_of s.names name))
 head_of_other s name h = rw h refl
-
-pub no_name_owned : (s : BusState) (name : Text) → s.names ≡ [] → is_unique name ≡ false → ◌≡◌ {A = Option ℕ} (head_of s name) None
-no_name_owned s name none h =
-    head_of_other s name h ∙ ap (λ (names : List OwnedName). if is_bus name then None else queue_head (queue_of names name)) none ∙ by_bus (is_bus name)
-  where
-    by_bus : (b : Bool) → ◌≡◌ {A = Option ℕ} (if b then None else None) None
-    by_bus true = refl
-    by_bus false = refl
 
 -- ## A connection that has said Hello
 

@@ -2,7 +2,9 @@ pub mod Lists
 pub mod Slots
 pub mod Kept
 pub mod HeadLemmas
+pub mod QueueLemmas
 pub mod ListeningLemmas
 pub mod HelloLemmas
 pub mod MatchLemmas
+pub mod RequestLemmas
 pub mod LeaveLemmas

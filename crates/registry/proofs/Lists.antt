@@ -1,5 +1,5 @@
 -- Lists of the tables, and what they stand for.
-use Rattle.std.proofs.Common.{Some, None, ◌++◌, filter, is_some, if◌then◌else◌, ◌≡◌, ℕ, suc, ◌+◌, Bool, true, false, cond, Some, List, [], ◌∷◌, length, take, take_while, insert, refl, ap, ◌∙◌, arith}
+use Rattle.std.proofs.Common.{zero, ◌<◌, map, flat_map, get_or, sym, add-one, append-nil, append_assoc, Some, None, ◌++◌, filter, is_some, if◌then◌else◌, ◌≡◌, ℕ, suc, ◌+◌, Bool, true, false, cond, Some, List, [], ◌∷◌, length, take, take_while, insert, refl, ap, ◌∙◌, arith}
 use Rattle.std.specs.List.{find, prefix_len, AllByRecursion}
 use Rattle.names.specs.Texts.{Text, text_lt}
 use Rattle.seq_bus_core.specs.Histories.{inserted}
@@ -38,3 +38,16 @@ find_push test (y ∷ xs) x = by_test (test y) (find_push test xs x)
         cond b (Some y) (find test (xs ++ x ∷ [])) ≡ (if is_some (cond b (Some y) (find test xs)) then cond b (Some y) (find test xs) else if test x then Some x else None)
     by_test true h = refl
     by_test false h = h
+
+-- one more element of what a list stands for
+pub take_next : {X Y : Type 0} (f : X → Y) (xs : List X) (i : ℕ) (d : X) → i < length xs → take (i + 1) (map f xs) ≡ take i (map f xs) ++ f (get_or xs i d) ∷ []
+take_next {X} {Y} f xs i d lt = ap (λ k. take k (map f xs)) (add-one i) ∙ next xs i lt
+  where
+    next : (ys : List X) (k : ℕ) → k < length ys → take (suc k) (map f ys) ≡ take k (map f ys) ++ f (get_or ys k d) ∷ []
+    next [] k h = absurd (omega (arith, h))
+    next (y ∷ ys) zero h = refl
+    next (y ∷ ys) (suc k) h = ap (λ rest. f y ∷ rest) (next ys k (omega (arith, h)))
+
+pub flat_push : {X Y : Type 0} (f : X → List Y) (xs : List X) (x : X) → flat_map f (xs ++ x ∷ []) ≡ flat_map f xs ++ f x
+flat_push f [] x = append-nil (f x)
+flat_push f (y ∷ xs) x = ap (λ rest. f y ++ rest) (flat_push f xs x) ∙ sym (append_assoc (f y) (flat_map f xs) (f x))

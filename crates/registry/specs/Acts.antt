@@ -1,11 +1,13 @@
 -- How a prepared change is kept.
 use Rattle.seq_bus_core.specs.declared.change.Change.{Change}
-use Rattle.seq_bus_core.specs.declared.change.Change.TheVariants.{Hello as SaysHello, Leave as Leaves, AddMatch as AddsMatch, RemoveMatch as RemovesMatch}
+use Rattle.seq_bus_core.specs.declared.change.Change.TheVariants.{Hello as SaysHello, Leave as Leaves, Request as Requests, Release as Releases, AddMatch as AddsMatch, RemoveMatch as RemovesMatch}
 use Rattle.registry.specs.declared.prepared.Act.{Act}
-use Rattle.registry.specs.declared.prepared.Act.TheVariants.{Hello, Leave, AddMatch, RemoveMatch}
+use Rattle.registry.specs.declared.prepared.Act.TheVariants.{Hello, Leave, Request, Release, AddMatch, RemoveMatch}
 
 abbrev pub change_of : Act → Change
 change_of (Hello privileged) = SaysHello privileged
 change_of (Leave connection) = Leaves connection
+change_of (Request connection name flags) = Requests connection name flags
+change_of (Release connection name) = Releases connection name
 change_of (AddMatch connection rule) = AddsMatch connection rule
 change_of (RemoveMatch connection rule) = RemovesMatch connection rule

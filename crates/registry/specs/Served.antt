@@ -5,8 +5,8 @@ use Rattle.seq_bus_core.specs.declared.change.Change.TheVariants.{Hello, Leave, 
 abbrev pub IsServedChange : Change → Type 0
 IsServedChange (Hello privileged) = Unit {0}
 IsServedChange (Leave connection) = Unit {0}
-IsServedChange (Request connection name flags) = ⊥
-IsServedChange (Release connection name) = ⊥
+IsServedChange (Request connection name flags) = Unit {0}
+IsServedChange (Release connection name) = Unit {0}
 IsServedChange (AddMatch connection rule) = Unit {0}
 IsServedChange (RemoveMatch connection rule) = Unit {0}
 IsServedChange (BecomeMonitor connection rules) = ⊥

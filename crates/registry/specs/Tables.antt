@@ -6,14 +6,14 @@ use Rattle.seq_bus_core.specs.Histories.{max_routers}
 use Rattle.registry_core.specs.Listening.{connection_of_member}
 use Rattle.registry.specs.declared.registry.Registry.TheInside.{Inside}
 
--- a bus on which nobody has requested a name or started a service
+-- a bus on which no start of a service runs
 abbrev pub state_of : Inside → BusState
 state_of r = record {
   profile = r.profile;
   routers = r.routers;
   services = r.services.items;
   connections = map (connection_of_member r.monitor_rules.rules) r.members.items;
-  names = [];
+  names = r.names;
   rules = r.rules.rules;
   starts = [];
   next_number = r.next_number;

@@ -1,18 +1,24 @@
 //! Leave: a connection is closed.
 
-ghost use Rattle.std.specs.Prelude.{◌≡◌, ◌==◌, ◌&&◌, not, IfOk};
-ghost use Rattle.seq_bus_core.specs.BusState.{head_of, is_client};
+ghost use Rattle.std.specs.Prelude.{◌≡◌, ◌==◌, ◌&&◌, ◌++◌, not, None, [], IfOk, OnOk, if◌then◌else◌};
+ghost use Rattle.names.specs.BusName.{is_bus};
+ghost use Rattle.owner_queues.specs.Queues.{queue_head, without};
+ghost use Rattle.seq_bus_core.specs.BusState.{head_of, is_client, queue_of};
 ghost use Rattle.seq_bus_core.specs.Steps.{step, without_connection};
 ghost use Rattle.seq_bus_core.specs.declared.change.Change.TheVariants.{Leave};
+ghost use Rattle.registry_core.specs.NameTables.{owned_name};
+ghost use Rattle.registry.specs.OwnerSignals.{name_left, signals_left};
 ghost use Rattle.registry.specs.PreparedChanges.{prepared_on};
 
-use crate::owners::is_unique;
+use crate::owners::{BUS, is_unique};
 use crate::prepared::{Act, Prepared, replied};
 use crate::registry::Registry;
+use crate::requests::is_owner;
 use match_rules::Owners;
 use names::{BusName, UniqueName};
-use registry_core::number_of;
-use seq_bus_core::{NumberedOutcome, Reply};
+use owner_queues::Queue;
+use registry_core::{NameEntry, number_of};
+use seq_bus_core::{NumberedOutcome, Reply, Signals};
 use std::alloc::{AllocError, Global};
 
 /// The registry as it will be once a connection has left.
@@ -65,19 +71,24 @@ impl Registry {
         if !self.is_client(connection) {
             return Ok(outcome);
         }
-        let name = BusName::from(UniqueName::of(connection));
+        self.tell_of_leave(connection, &mut outcome.signals)?;
+        Ok(outcome)
+    }
+
+    /// The signals of a connection that leaves: those of the names that it owns, and of its unique name.
+    fn tell_of_leave(&self, connection: u64, signals: &mut Signals) -> Result<(), AllocError>
+        requires { signals.old ≡ [] }
+        ensures { OnOk result (signals.new ≡ signals_left self.now connection) }
+    {
         let left = Left {
             registry: self,
             leaver: connection,
         };
-        outcome.signals.push(self.announced(
-            &left,
-            Some(connection),
-            name,
-            Some(connection),
-            None,
-        ))?;
-        Ok(outcome)
+        for entry in self.names.as_slice() {
+            left.tell_of_name(entry, signals)?;
+        }
+        let name = BusName::from(UniqueName::of(connection));
+        signals.push(self.announced(&left, Some(connection), name, Some(connection), None))
     }
 
     /// A connection leaves.
@@ -89,6 +100,7 @@ impl Registry {
         }
         self.members
             .retain(|member| member.conn.number != connection);
+        self.names.leave(connection);
         self.rules.remove_all(connection);
         self.monitor_rules.remove_all(connection);
     }
@@ -99,7 +111,7 @@ impl Registry {
     {
         let _ = &self.members;
         if !is_unique(name) {
-            return None;
+            return self.owner_without(leaver, name);
         }
         match number_of(name) {
             Some(number) => {
@@ -113,9 +125,53 @@ impl Registry {
         }
     }
 
+    /// The owner of a well-known name once a connection has left.
+    fn owner_without(&self, leaver: u64, name: &str) -> Option<u64>
+        ensures { result ≡ (if is_bus name.now then None else queue_head (without leaver (queue_of self.now.names name.now))) }
+    {
+        if name == BUS {
+            return None;
+        }
+        match self.names.queue(name) {
+            Some(queue) => next_owner(queue, leaver),
+            None => None,
+        }
+    }
+
     fn is_client_without(&self, leaver: u64, number: u64) -> bool
         ensures { result ≡ (not (number == leaver) && is_client self.now.connections number) }
     {
         number != leaver && self.is_client(number)
     }
+}
+
+impl<'a> Left<'a> {
+    /// The signals of a name, where the connection that leaves owns it.
+    fn tell_of_name(&self, entry: &NameEntry, signals: &mut Signals) -> Result<(), AllocError>
+        ensures { OnOk result (signals.new ≡ signals.old ++ name_left self.now.registry.now self.now.leaver (owned_name entry.now)) }
+    {
+        let leaver = Some(self.leaver);
+        if !is_owner(entry.queue.head(), leaver) {
+            return Ok(());
+        }
+        let owner = next_owner(&entry.queue, self.leaver);
+        signals.push(
+            self.registry
+                .announced(self, leaver, entry.name, leaver, owner),
+        )?;
+        self.registry
+            .push_acquired(self, leaver, entry.name, owner, signals)
+    }
+}
+
+/// Who owns a name once a connection stands in its queue no longer.
+fn next_owner(queue: &Queue, leaver: u64) -> Option<u64>
+    ensures { result ≡ queue_head (without leaver queue.now) }
+{
+    for place in queue.as_slice() {
+        if place.connection != leaver {
+            return Some(place.connection);
+        }
+    }
+    None
 }

@@ -13,6 +13,7 @@ mod matches;
 mod owners;
 mod prepared;
 mod registry;
+mod requests;
 mod routing;
 mod services;
 mod signals;

@@ -2,12 +2,17 @@
 
 ghost use Rattle.std.specs.Prelude.{◌≡◌};
 ghost use Rattle.names.specs.BusName.{is_unique};
+ghost use Rattle.seq_bus_core.specs.BusState.{client_named};
 
 use crate::registry::Registry;
 use match_rules::Owners;
-use names::UniqueName;
+use names::{BusName, UniqueName};
+use owner_queues::Queue;
 use registry_core::number_of;
 use seq_bus_core::Conn;
+
+/// The name of the bus itself.
+pub(crate) const BUS: &str = "org.freedesktop.DBus";
 
 impl Owners for Registry {
     ghost use Rattle.seq_bus_core.specs.BusState.{head_of};
@@ -16,9 +21,22 @@ impl Owners for Registry {
 
     fn head(&self, name: &str) -> Option<u64> {
         let _ = &self.members;
-        if !is_unique(name) {
+        if is_unique(name) {
+            return self.client_named(name);
+        }
+        if name == BUS {
             return None;
         }
+        self.names.head(name)
+    }
+}
+
+impl Registry {
+    /// The client whose unique name this is.
+    fn client_named(&self, name: &str) -> Option<u64>
+        ensures { result ≡ client_named self.now.connections name.now }
+    {
+        let _ = &self.members;
         match number_of(name) {
             Some(number) => {
                 if self.is_client(number) {
@@ -29,6 +47,34 @@ impl Owners for Registry {
             }
             None => None,
         }
+    }
+}
+
+/// The registry as it will be once a name has another queue.
+#[derive(Drop)]
+pub struct Requeued<'a> {
+    pub registry: &'a Registry,
+    pub name: BusName,
+    pub queue: &'a Queue,
+}
+
+impl<'a> Owners for Requeued<'a> {
+    ghost use Rattle.seq_bus_core.specs.BusState.{head_of};
+    ghost use Rattle.registry.specs.OwnerSignals.{requeued};
+
+    ghost heads = { λ o. head_of (requeued o.registry.now o.name o.queue.now) };
+
+    fn head(&self, name: &str) -> Option<u64> {
+        if is_unique(name) {
+            return self.registry.head(name);
+        }
+        if name == BUS {
+            return None;
+        }
+        if name == self.name.as_str() {
+            return self.queue.head();
+        }
+        self.registry.head(name)
     }
 }
 

@@ -3,6 +3,8 @@
 ghost use Rattle.std.specs.Prelude.{◌≡◌, [], None};
 
 use match_rules::Rule;
+use names::BusName;
+use owner_queues::RequestFlags;
 use seq_bus_core::{Change, NumberedOutcome, Reply, Signals, TicketNumbers};
 use std::alloc::Global;
 use std::marker::Model;
@@ -11,10 +13,29 @@ use std::mem::replace;
 /// A change by what its step looks at.
 #[derive(Drop)]
 pub enum Act {
-    Hello { privileged: bool },
-    Leave { connection: u64 },
-    AddMatch { connection: u64, rule: Rule },
-    RemoveMatch { connection: u64, rule: Rule },
+    Hello {
+        privileged: bool,
+    },
+    Leave {
+        connection: u64,
+    },
+    Request {
+        connection: u64,
+        name: BusName,
+        flags: RequestFlags,
+    },
+    Release {
+        connection: u64,
+        name: BusName,
+    },
+    AddMatch {
+        connection: u64,
+        rule: Rule,
+    },
+    RemoveMatch {
+        connection: u64,
+        rule: Rule,
+    },
 }
 
 /// A change that a seat makes, with all that it needs of memory. It can be made on any registry.

@@ -1,10 +1,12 @@
 //! The registry.
 
-ghost use Rattle.std.specs.Prelude.{◌≡◌, IfOk, is_some, option_map};
-ghost use Rattle.seq_bus_core.specs.BusState.{connection_of, conn_of, head_of, is_client};
+ghost use Rattle.std.specs.Prelude.{◌≡◌, IfOk, is_some, map, option_map};
+ghost use Rattle.seq_bus_core.specs.BusState.{connection_of, conn_of, head_of, is_client, queue_of};
 ghost use Rattle.seq_bus_core.specs.Consistency.{IsConsistent, IsWithinLimits};
 ghost use Rattle.seq_bus_core.specs.Histories.{CanOpen, opening};
 ghost use Rattle.seq_bus_core.specs.Steps.{step};
+ghost use Rattle.registry_core.specs.NameTables.{owned_name};
+ghost use Rattle.registry_core.specs.RuleTables.{added_rule};
 ghost use Rattle.registry.specs.PreparedChanges.{prepared_on};
 ghost use Rattle.registry.specs.Served.{IsServedChange};
 
@@ -12,8 +14,8 @@ use crate::prepared::{Act, Prepared};
 use crate::services::sorted;
 use match_rules::Owners;
 use names::{BusName, WellKnown};
-use owner_queues::Profile;
-use registry_core::{Member, RuleTable, place_of};
+use owner_queues::{Profile, QueuedOwner};
+use registry_core::{Member, NameEntry, NameTable, RuleEntry, RuleTable, place_of};
 use seq_bus_core::{Change, Conn};
 use std::alloc::{AllocError, Global};
 use std::marker::Model;
@@ -38,6 +40,7 @@ pub struct Registry {
     pub(crate) services: Vec<WellKnown>,
     /// By rising number.
     pub(crate) members: Vec<Member>,
+    pub(crate) names: NameTable,
     pub(crate) rules: RuleTable,
     pub(crate) monitor_rules: RuleTable,
     pub(crate) next_number: u64,
@@ -73,6 +76,7 @@ impl Registry {
             routers,
             services: sorted(alloc, services)?,
             members: Vec::with_capacity(alloc, MAX_CONNECTIONS)?,
+            names: NameTable::new(alloc)?,
             rules: RuleTable::new(alloc, MAX_RULES)?,
             monitor_rules: RuleTable::new(alloc, MAX_MONITOR_RULES)?,
             next_number: 1,
@@ -81,8 +85,8 @@ impl Registry {
 
     /// Prepares a change of a seat: says what it would be told, and makes all that needs memory. Nothing changes.
     ///
-    /// Seat 0 is the main thread's, the others are those of the routers, from 1. Today Hello, Leave, AddMatch and
-    /// RemoveMatch are served.
+    /// Seat 0 is the main thread's, the others are those of the routers, from 1. Today Hello, Leave, Request, Release,
+    /// AddMatch and RemoveMatch are served.
     pub fn prepare(&self, alloc: Global, seat: u8, change: &Change) -> Result<Prepared, AllocError>
         requires { IsServedChange change.now }
         ensures { IfOk result (λ prepared. prepared ≡ prepared_on self.now seat change.now) }
@@ -90,6 +94,14 @@ impl Registry {
         match change {
             Change::Hello { privileged } => self.prepare_hello(alloc, seat, *privileged),
             Change::Leave { connection } => self.prepare_leave(alloc, seat, *connection),
+            Change::Request {
+                connection,
+                name,
+                flags,
+            } => self.prepare_request(alloc, seat, *connection, name, *flags),
+            Change::Release { connection, name } => {
+                self.prepare_release(alloc, seat, *connection, name)
+            }
             Change::AddMatch { connection, rule } => {
                 Ok(self.prepare_add_match(alloc, seat, *connection, rule))
             }
@@ -107,6 +119,12 @@ impl Registry {
         match &prepared.act {
             Act::Hello { privileged } => self.say_hello(prepared.seat, *privileged),
             Act::Leave { connection } => self.leave(prepared.seat, *connection),
+            Act::Request {
+                connection,
+                name,
+                flags,
+            } => self.request(prepared.seat, *connection, name, *flags),
+            Act::Release { connection, name } => self.release(prepared.seat, *connection, name),
             Act::AddMatch { connection, rule } => {
                 self.add_match(prepared.seat, *connection, rule);
             }
@@ -149,6 +167,30 @@ impl Registry {
         ensures { result ≡ head_of self.now name.now }
     {
         self.head(name.as_str())
+    }
+
+    /// The names that have an owner, by rising bytes, each with its queue.
+    pub fn names(&self) -> &[Box<NameEntry>]
+        ensures { map (λ b. owned_name b.value) result.now ≡ self.now.names }
+    {
+        self.names.as_slice()
+    }
+
+    /// Who owns a well-known name and who waits for it, in order. It is empty where the name has no owner.
+    pub fn queue(&self, name: &str) -> &[QueuedOwner]
+        ensures { result.now ≡ queue_of self.now.names name.now }
+    {
+        match self.names.queue(name) {
+            Some(queue) => queue.as_slice(),
+            None => &[],
+        }
+    }
+
+    /// The rules that connections added, in order of arrival.
+    pub fn rules(&self) -> &[RuleEntry]
+        ensures { map added_rule result.now ≡ self.now.rules }
+    {
+        self.rules.as_slice()
     }
 
     /// The number of routers.

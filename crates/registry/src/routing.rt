@@ -4,13 +4,11 @@ ghost use Rattle.std.specs.Prelude.{◌≡◌, [], Some, is_some};
 ghost use Rattle.seq_bus_core.specs.BusState.{is_service};
 ghost use Rattle.seq_bus_core.specs.Recipients.{recipients, conn_at, verdict_of, is_call, is_signal, may_send, is_for_bus, destination_head, may_start};
 
+use crate::owners::BUS;
 use crate::registry::Registry;
 use arrayvec::ArrayVec;
 use match_rules::{Facts, MessageKind, Owners};
 use seq_bus_core::{Recipients, Verdict, VerdictKind};
-
-/// The name of the bus itself.
-const BUS: &str = "org.freedesktop.DBus";
 
 impl Registry {
     /// Where a message from this connection goes, 0 being the bus, whatever sender its facts name; and which monitors are
@@ -65,7 +63,7 @@ impl Registry {
     }
 
     /// Adds the connection of a number.
-    fn add_conn(&self, number: u64, to: &mut Recipients)
+    pub(crate) fn add_conn(&self, number: u64, to: &mut Recipients)
         requires { to.old ≡ [] }
         ensures { to.new ≡ conn_at self.now (Some number) }
     {

@@ -1,16 +1,18 @@
 //! The signals that a change sends.
 
-ghost use Rattle.std.specs.Prelude.{◌≡◌, ◌&&◌, []};
+ghost use Rattle.std.specs.Prelude.{◌≡◌, ◌&&◌, ◌++◌, [], None, OnOk};
 ghost use Rattle.registry_core.specs.Signals.{announced_to, told_to};
 ghost use Rattle.registry_core.specs.Listening.{conns_that, stays, wants_by, watches_by};
-ghost use Rattle.seq_bus_core.specs.declared.signal.BusSignal.TheVariants.{NameOwnerChanged, NameAcquired};
+ghost use Rattle.seq_bus_core.specs.declared.signal.BusSignal.TheVariants.{NameOwnerChanged, NameLost, NameAcquired};
+ghost use Rattle.registry.specs.OwnerSignals.{told_owner, lost_by, acquired_by};
 
 use crate::registry::Registry;
 use match_rules::{Facts, Owners};
 use names::{BusName, UniqueName};
 use registry_core::listening::{add_monitors_shown, add_those_that_want};
 use registry_core::signals::{owner_changed, owner_name, owner_text, owner_told};
-use seq_bus_core::{AddressedSignal, BusSignal, Conn, Recipients};
+use seq_bus_core::{AddressedSignal, BusSignal, Conn, Recipients, Signals};
+use std::alloc::AllocError;
 
 impl Registry {
     /// The signal NameOwnerChanged to all that want it, where names are owned as these owners say. A connection that
@@ -55,6 +57,69 @@ impl Registry {
             owner: conn.number,
         });
         addressed.to.push(conn);
+        self.add_monitors_shown(&facts, owners, leaver, &mut addressed.monitors);
+        addressed
+    }
+
+    /// The signal NameLost to an owner of a name, if it had one.
+    pub(crate) fn push_lost<O: Owners>(
+        &self,
+        owners: &O,
+        name: BusName,
+        owner: Option<u64>,
+        signals: &mut Signals,
+    ) -> Result<(), AllocError>
+        ensures { OnOk result (signals.new ≡ signals.old ++ lost_by (O.heads owners.now) self.now name owner) }
+    {
+        match owner {
+            Some(owner) => signals.push(self.lost(owners, name, owner)),
+            None => Ok(()),
+        }
+    }
+
+    /// The signal NameAcquired to an owner of a name, if it has one.
+    pub(crate) fn push_acquired<O: Owners>(
+        &self,
+        owners: &O,
+        leaver: Option<u64>,
+        name: BusName,
+        owner: Option<u64>,
+        signals: &mut Signals,
+    ) -> Result<(), AllocError>
+        ensures { OnOk result (signals.new ≡ signals.old ++ acquired_by (O.heads owners.now) leaver self.now name owner) }
+    {
+        match owner {
+            Some(owner) => signals.push(self.acquired_by(owners, leaver, name, owner)),
+            None => Ok(()),
+        }
+    }
+
+    /// The signal NameLost to the owner of a name.
+    fn lost<O: Owners>(&self, owners: &O, name: BusName, owner: u64) -> AddressedSignal
+        ensures { result ≡ told_owner (O.heads owners.now) None self.now owner (NameLost name owner) }
+    {
+        let owner_name = UniqueName::of(owner);
+        let facts = owner_told("NameLost", name.as_str(), owner_name.as_str());
+        let mut addressed = unheard(BusSignal::NameLost { name, owner });
+        self.add_conn(owner, &mut addressed.to);
+        self.add_monitors_shown(&facts, owners, None, &mut addressed.monitors);
+        addressed
+    }
+
+    /// The signal NameAcquired to the owner of a name.
+    fn acquired_by<O: Owners>(
+        &self,
+        owners: &O,
+        leaver: Option<u64>,
+        name: BusName,
+        owner: u64,
+    ) -> AddressedSignal
+        ensures { result ≡ told_owner (O.heads owners.now) leaver self.now owner (NameAcquired name owner) }
+    {
+        let owner_name = UniqueName::of(owner);
+        let facts = owner_told("NameAcquired", name.as_str(), owner_name.as_str());
+        let mut addressed = unheard(BusSignal::NameAcquired { name, owner });
+        self.add_conn(owner, &mut addressed.to);
         self.add_monitors_shown(&facts, owners, leaver, &mut addressed.monitors);
         addressed
     }

@@ -8,7 +8,7 @@ use super::Registry;
 use arrayvec::ArrayVec;
 use match_rules::{Facts, MessageKind, Rule};
 use names::{BusName, UniqueName};
-use owner_queues::Profile;
+use owner_queues::{Profile, Reply as QueueReply, RequestFlags};
 use seq_bus_core::{BusSignal, Change, Conn, NumberedOutcome, Reply, VerdictKind};
 use std::alloc::Global;
 use std::process::Abort;
@@ -227,4 +227,101 @@ fn leave(connection: u64) -> Change
     ensures { IsServedChange result }
 {
     Change::Leave { connection }
+}
+
+fn well_known(rt: &impl Abort, text: &str) -> BusName {
+    BusName::parse(text)
+        .ok()
+        .expect(rt, "the text is a bus name")
+}
+
+fn request(connection: u64, name: BusName, bits: u32) -> Change
+    ensures { IsServedChange result }
+{
+    Change::Request {
+        connection,
+        name,
+        flags: RequestFlags::from_bits(bits),
+    }
+}
+
+fn release(connection: u64, name: BusName) -> Change
+    ensures { IsServedChange result }
+{
+    Change::Release { connection, name }
+}
+
+/// A bus of one router with so many connections.
+fn open_with(rt: &impl Abort, alloc: Global, connections: usize) -> Registry {
+    let mut registry = open(rt, alloc, 1);
+    for _count in 0..connections {
+        make(rt, alloc, &mut registry, 1, &hello());
+    }
+    registry
+}
+
+/// Whether these connections stand in the queue of a name, in this order.
+fn has_queue(registry: &Registry, name: &str, connections: &[u64]) -> bool {
+    let queue = registry.queue(name);
+    queue.len() == connections.len()
+        && queue
+            .iter()
+            .zip(connections.iter())
+            .all(|(place, connection)| place.connection == *connection)
+}
+
+#[test]
+fn a_name_that_is_replaced(rt: HostRuntime) {
+    let alloc = rt.alloc();
+    let mut registry = open_with(&rt, alloc, 3);
+    let name = well_known(&rt, "com.example.A");
+    let first = make(&rt, alloc, &mut registry, 1, &request(1, name, 1));
+    assert_eq!(rt; first.reply, Reply::OfQueue(QueueReply::PrimaryOwner));
+    assert_eq!(rt; first.signals.as_slice().len(), 2);
+    let second = make(&rt, alloc, &mut registry, 1, &request(2, name, 0));
+    assert_eq!(rt; second.reply, Reply::OfQueue(QueueReply::InQueue));
+    assert!(rt; second.signals.as_slice().is_empty());
+    let third = make(&rt, alloc, &mut registry, 1, &request(3, name, 2));
+    assert_eq!(rt; third.reply, Reply::OfQueue(QueueReply::PrimaryOwner));
+    let [lost, changed, acquired] = third.signals.as_slice() else {
+        panic!(rt; "a name that goes to another owner has three signals");
+    };
+    assert_eq!(rt; lost.signal, BusSignal::NameLost { name, owner: 1 });
+    assert_eq!(rt;
+        changed.signal,
+        BusSignal::NameOwnerChanged {
+            name,
+            old_owner: Some(1),
+            new_owner: Some(3)
+        }
+    );
+    assert_eq!(rt; acquired.signal, BusSignal::NameAcquired { name, owner: 3 });
+    assert!(rt; has_queue(&registry, "com.example.A", &[3, 1, 2]));
+    assert!(rt; registry.owner(&name) == Some(3));
+}
+
+#[test]
+fn a_name_that_is_released(rt: HostRuntime) {
+    let alloc = rt.alloc();
+    let mut registry = open_with(&rt, alloc, 3);
+    let name = well_known(&rt, "com.example.A");
+    make(&rt, alloc, &mut registry, 1, &request(1, name, 5));
+    make(&rt, alloc, &mut registry, 1, &request(2, name, 0));
+    make(&rt, alloc, &mut registry, 1, &request(3, name, 2));
+    assert!(rt; has_queue(&registry, "com.example.A", &[3, 2]));
+    let changes = [
+        (request(2, name, 4), QueueReply::Exists),
+        (release(2, name), QueueReply::NotOwner),
+        (release(3, name), QueueReply::Released),
+        (release(3, name), QueueReply::NonExistent),
+    ];
+    for (change, reply) in &changes {
+        assert_eq!(rt;
+            make(&rt, alloc, &mut registry, 1, change).reply,
+            Reply::OfQueue(*reply)
+        );
+    }
+    assert!(rt; registry.names().is_empty());
+    let bus = make(&rt, alloc, &mut registry, 1, &request(1, BusName::bus(), 0));
+    assert_eq!(rt; bus.reply, Reply::InvalidName);
 }

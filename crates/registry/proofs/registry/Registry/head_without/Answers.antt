@@ -1,9 +1,13 @@
 use Rattle.std.proofs.Common.{ℕ, ◌<◌, ◌^◌, ◌==◌, not, Bool, Some, None, sym, ap, ◌∙◌, subst, if◌then◌else◌}
 use Rattle.std.specs.List.{AllByRecursion as Each}
+use Rattle.names.specs.BusName.{is_bus}
+use Rattle.owner_queues.specs.Queues.{queue_head}
 use Rattle.seq_bus_core.specs.BusState.{BusState}
-use Rattle.seq_bus_core.specs.Steps.{names_without, without_connection}
+use Rattle.seq_bus_core.specs.Steps.{without_connection}
 use Rattle.seq_bus_core.proofs.Lists.{each_filter}
-use Rattle.registry.proofs.HeadLemmas.{head_client, head_nobody, no_name_owned}
+use Rattle.registry_core.specs.NameTables.{NamesRise}
+use Rattle.registry.proofs.HeadLemmas.{head_client, head_nobody, head_of_other}
+use Rattle.registry.proofs.QueueLemmas.{queue_left}
 use Rattle.registry.proofs.Kept.{given_below}
 use Rattle.registry.proofs.LeaveLemmas.{client_left}
 use Rattle.registry.proofs.registry.Registry.head_without.Goals as goal
@@ -16,7 +20,12 @@ below s n h = each_filter (λ d. d.number < 2 ^ 64) (λ d. not (d.number == n)) 
 
 pub returns-then-not-is_unique : goal.returns-then-not-is_unique
 returns-then-not-is_unique c =
-    sym (no_name_owned (without_connection c.args.self.now c.args.leaver) c.args.name.now (ap (λ (s : BusState). names_without c.args.leaver s.names) (sym c.self.view_is)) (sym c.if-not-is_unique.ensures))
+    let s : BusState = c.args.self.now in
+    let n = c.args.leaver in
+    let name = c.args.name.now in
+    c.owner_without.ensures
+    ∙ ap (λ q. if is_bus name then None else queue_head q) (sym (queue_left n s.names name (subst (λ (t : BusState). NamesRise t.names) c.self.view_is c.self.invariant.consistent.names_rise)))
+    ∙ sym (head_of_other (without_connection s n) name (sym c.if-not-is_unique.ensures))
 
 pub returns-then-is_client_without : goal.returns-then-is_client_without
 returns-then-is_client_without c =

@@ -16,7 +16,7 @@ pub returns-then-not-present : goal.returns-then-not-present
 returns-then-not-present c = sym (leave_gone c.args.self.now c.args.seat c.args.connection (sym c.if-not-present.ensures)).0
 
 next : After-remove_all-2 → Inside
-next c = record c.self.inside { members = c.retain.new.self; rules = c.remove_all.new.self; monitor_rules = c.remove_all-2.new.self }
+next c = record c.self.inside { members = c.retain.new.self; names = c.leave.new.self; rules = c.remove_all.new.self; monitor_rules = c.remove_all-2.new.self }
 
 others : (c : After-remove_all-2) → c.retain.new.self.items ≡ filter (λ (m : Member). not (m.conn.number == c.args.connection)) c.self.inside.members.items
 others c = filter_same _ _ _ (λ d b f k. search rules) _ _ c.retain.ensures.filtered
@@ -26,7 +26,7 @@ unfolding next
 after c =
     let present : is_some (connection_of (state_of c.self.inside) c.args.connection) ≡ true = ap (λ (s : BusState). is_some (connection_of s c.args.connection)) c.self.view_is ∙ sym c.if-not-present.ensures in
     leave_state (state_of c.self.inside) c.args.seat c.args.connection present
-    ∙ left_state c.self.inside (next c) c.args.connection refl (others c) (ap (λ (t : RulesInRoom). t.rules) c.remove_all.ensures) (ap (λ (t : RulesInRoom). t.rules) c.remove_all-2.ensures)
+    ∙ left_state c.self.inside (next c) c.args.connection refl c.leave.ensures (others c) (ap (λ (t : RulesInRoom). t.rules) c.remove_all.ensures) (ap (λ (t : RulesInRoom). t.rules) c.remove_all-2.ensures)
 
 pub invariant_of-self : goal.invariant_of-self
 unfolding next

@@ -1,0 +1,24 @@
+use Rattle.std.proofs.Common.{◌≡◌, ◌&&◌, Some, None, List, [], ◌∷◌, codes, ap, ◌∙◌}
+use Rattle.names.specs.Texts.{Text}
+use Rattle.match_rules.specs.Facts.{Facts}
+use Rattle.seq_bus_core.specs.Recipients.{conn_at}
+use Rattle.seq_bus_core.specs.Steps.{signal_facts, facts_of}
+use Rattle.seq_bus_core.specs.declared.connection.Conn.{Conn}
+use Rattle.seq_bus_core.specs.declared.signal.AddressedSignal.{AddressedSignal}
+use Rattle.seq_bus_core.specs.declared.signal.BusSignal.TheVariants.{NameAcquired}
+use Rattle.registry_core.specs.Listening.{stays, watches_by, conns_that}
+use Rattle.registry.proofs.registry.Registry.acquired_by.Goals as goal
+
+pub returns : goal.returns
+returns g c =
+    let s = c.args.self.now in
+    let heads = g.O.Owners.heads c.args.owners.now in
+    let signal = NameAcquired c.args.name c.args.owner in
+    let facts_with : Text → Text → Facts = λ n owner. record (signal_facts (codes "NameAcquired") None (n ∷ [])) { destination = Some owner } in
+    let facts_are : c.owner_told-facts.result ≡ facts_of signal =
+    c.owner_told-facts.ensures ∙ ap (λ n. facts_with n c.as_str-2.result.now) c.as_str.ensures.value ∙ ap (facts_with c.args.name) (c.as_str-2.ensures.value ∙ c.of-owner_name.ensures) in
+    let watching : Facts → List Conn = λ facts. conns_that (λ d. stays c.args.leaver d.number && watches_by heads facts d) s.connections in
+    let sent : List Conn → List Conn → AddressedSignal = λ to shown. record { signal = signal; to = to; monitors = shown } in
+    ap (λ (u : AddressedSignal). record { signal = u.signal; to = c.add_conn.new.to; monitors = c.add_monitors_shown.new.shown }) c.unheard-addressed.ensures
+    ∙ ap (λ to. sent to c.add_monitors_shown.new.shown) c.add_conn.ensures
+    ∙ ap (sent (conn_at s (Some c.args.owner))) (c.add_monitors_shown.ensures ∙ ap watching facts_are)

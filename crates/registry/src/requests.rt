@@ -1,0 +1,204 @@
+//! RequestName and ReleaseName.
+
+ghost use Rattle.std.specs.Prelude.{◌≡◌, [], IfOk, OnOk};
+ghost use Rattle.seq_bus_core.specs.BusState.{queue_of};
+ghost use Rattle.seq_bus_core.specs.Steps.{is_owner, is_reserved, step};
+ghost use Rattle.seq_bus_core.specs.declared.change.Change.TheVariants.{Request, Release};
+ghost use Rattle.registry.specs.OwnerSignals.{signals_of_owners};
+ghost use Rattle.registry.specs.PreparedChanges.{prepared_on};
+ghost use Rattle.registry.specs.Requests.{when_requested, when_released, requeue_outcome};
+
+use crate::owners::{BUS, Requeued, is_unique};
+use crate::prepared::{Act, Prepared, replied};
+use crate::registry::Registry;
+use names::BusName;
+use owner_queues::{Queue, Reply as QueueReply, RequestFlags};
+use seq_bus_core::{NumberedOutcome, Reply, Signals};
+use std::alloc::{AllocError, Global};
+
+/// The queue of a name after a request or a release, and what that is told.
+#[derive(Drop)]
+pub struct QueueChange {
+    pub queue: Queue,
+    pub reply: QueueReply,
+}
+
+impl Registry {
+    pub(crate) fn prepare_request(
+        &self,
+        alloc: Global,
+        seat: u8,
+        connection: u64,
+        name: &BusName,
+        flags: RequestFlags,
+    ) -> Result<Prepared, AllocError>
+        ensures { IfOk result (λ prepared. prepared ≡ prepared_on self.now seat (Request connection name.now flags)) }
+    {
+        let _ = &self.members;
+        let change = self.when_requested(connection, name, flags);
+        Ok(Prepared {
+            seat,
+            act: Act::Request {
+                connection,
+                name: *name,
+                flags,
+            },
+            outcome: self.outcome_of_requeue(alloc, name, &change)?,
+        })
+    }
+
+    pub(crate) fn prepare_release(
+        &self,
+        alloc: Global,
+        seat: u8,
+        connection: u64,
+        name: &BusName,
+    ) -> Result<Prepared, AllocError>
+        ensures { IfOk result (λ prepared. prepared ≡ prepared_on self.now seat (Release connection name.now)) }
+    {
+        let _ = &self.members;
+        let change = self.when_released(connection, name);
+        Ok(Prepared {
+            seat,
+            act: Act::Release {
+                connection,
+                name: *name,
+            },
+            outcome: self.outcome_of_requeue(alloc, name, &change)?,
+        })
+    }
+
+    /// A connection requests a name.
+    pub(crate) fn request(&mut self, seat: u8, connection: u64, name: &BusName, flags: RequestFlags)
+        ensures { self.new ≡ (step self.old seat (Request connection name.now flags)).0 }
+    {
+        match self.when_requested(connection, name, flags) {
+            Ok(change) => self.names.set_queue(name, &change.queue),
+            Err(_) => {}
+        }
+    }
+
+    /// A connection releases a name.
+    pub(crate) fn release(&mut self, seat: u8, connection: u64, name: &BusName)
+        ensures { self.new ≡ (step self.old seat (Release connection name.now)).0 }
+    {
+        match self.when_released(connection, name) {
+            Ok(change) => self.names.set_queue(name, &change.queue),
+            Err(_) => {}
+        }
+    }
+
+    /// What a request does to the queue of its name, or what it is told where it changes nothing.
+    fn when_requested(
+        &self,
+        connection: u64,
+        name: &BusName,
+        flags: RequestFlags,
+    ) -> Result<QueueChange, Reply>
+        ensures { result ≡ when_requested self.now connection name.now flags }
+    {
+        if !self.is_client(connection) {
+            return Err(Reply::Gone);
+        }
+        if is_reserved(name) {
+            return Err(Reply::InvalidName);
+        }
+        let mut queue = self.queue_of(name);
+        let reply = queue.request(self.profile, connection, flags);
+        if self.names.would_fit(name.as_str(), &queue, connection) {
+            Ok(QueueChange { queue, reply })
+        } else {
+            Err(Reply::LimitsExceeded)
+        }
+    }
+
+    /// What a release does to the queue of its name, or what it is told where it changes nothing.
+    fn when_released(&self, connection: u64, name: &BusName) -> Result<QueueChange, Reply>
+        ensures { result ≡ when_released self.now connection name.now }
+    {
+        if !self.is_client(connection) {
+            return Err(Reply::Gone);
+        }
+        if is_reserved(name) {
+            return Err(Reply::InvalidName);
+        }
+        let mut queue = self.queue_of(name);
+        let reply = queue.release(connection);
+        Ok(QueueChange { queue, reply })
+    }
+
+    /// A copy of the queue of a name.
+    fn queue_of(&self, name: &BusName) -> Queue
+        ensures { result ≡ queue_of self.now.names name.now }
+    {
+        let mut copy = Queue::new();
+        match self.names.queue(name.as_str()) {
+            Some(queue) => copy.copy_from(queue),
+            None => {}
+        }
+        copy
+    }
+
+    fn outcome_of_requeue(
+        &self,
+        alloc: Global,
+        name: &BusName,
+        change: &Result<QueueChange, Reply>,
+    ) -> Result<NumberedOutcome, AllocError>
+        ensures { IfOk result (λ outcome. outcome ≡ requeue_outcome self.now name.now change.now) }
+    {
+        match change {
+            Ok(change) => {
+                let mut outcome = replied(alloc, Reply::OfQueue(change.reply));
+                self.tell_owners(*name, &change.queue, &mut outcome.signals)?;
+                Ok(outcome)
+            }
+            Err(reply) => Ok(replied(alloc, *reply)),
+        }
+    }
+
+    /// The signals of a name that has another queue.
+    fn tell_owners(
+        &self,
+        name: BusName,
+        queue: &Queue,
+        signals: &mut Signals,
+    ) -> Result<(), AllocError>
+        requires { signals.old ≡ [] }
+        ensures { OnOk result (signals.new ≡ signals_of_owners self.now name queue.now) }
+    {
+        let old_owner = self.names.head(name.as_str());
+        let new_owner = queue.head();
+        if is_owner(old_owner, new_owner) {
+            return Ok(());
+        }
+        let owners = Requeued {
+            registry: self,
+            name,
+            queue,
+        };
+        self.push_lost(&owners, name, old_owner, signals)?;
+        signals.push(self.announced(&owners, None, name, old_owner, new_owner))?;
+        self.push_acquired(&owners, None, name, new_owner, signals)
+    }
+}
+
+/// Whether two owners of a name are one.
+pub(crate) fn is_owner(old_owner: Option<u64>, new_owner: Option<u64>) -> bool
+    ensures { result ≡ is_owner old_owner new_owner }
+{
+    match old_owner {
+        Some(old_owner) => match new_owner {
+            Some(new_owner) => old_owner == new_owner,
+            None => false,
+        },
+        None => new_owner.is_none(),
+    }
+}
+
+/// Whether nobody can own a name: it is the bus's own, or a unique one.
+fn is_reserved(name: &BusName) -> bool
+    ensures { result ≡ is_reserved name.now }
+{
+    name.is_bus() || is_unique(name.as_str())
+}
