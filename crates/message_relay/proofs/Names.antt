@@ -1,14 +1,11 @@
 -- SENDER among the fields.
-use Rattle.std.proofs.Common.{◌≡◌, ℕ, suc, ◌≤◌, Bool, true, false, cond, leb, List, [], ◌∷◌, ◌++◌, Option, Some, refl, sym, ap, subst, ◌∙◌, arith, lit<, inl}
-use Rattle.std.specs.Prelude.{◌==◌, ◌||◌, if◌then◌else◌, is_some, IsUtf8}
-use Rattle.std.specs.List.{AllByRecursion, flat_map}
-use Rattle.std.proofs.lemmas.Bool.{ne_eqb}
+use Rattle.std.proofs.Common.{◌≡◌, ℕ, suc, ◌≤◌, Bool, true, false, cond, leb, List, [], ◌∷◌, Option, Some, refl, sym, ap, subst, ◌∙◌, arith, lit<, inl}
+use Rattle.std.specs.Prelude.{◌==◌, if◌then◌else◌, is_some, IsUtf8}
+use Rattle.std.specs.List.{AllByRecursion}
 use Rattle.names.specs.Texts.{Text}
-use Rattle.names.specs.Elements.{dot, is_element_byte, IsElement, joined, led_by}
-use Rattle.names.specs.UniqueName.{IsUniqueName, unique_style}
+use Rattle.names.specs.UniqueName.{IsUniqueName}
 use Rattle.marshal_core.specs.declared.order.Order.{Order}
 use Rattle.marshal_core.specs.Values.{Val, a_string}
-use Rattle.marshal_core.specs.Spelling.{has_zero, IsString}
 use Rattle.marshal_core.proofs.Results.{eqb-yes}
 use Rattle.match_rules.specs.declared.kind.MessageKind.{MessageKind}
 use Rattle.match_rules.specs.declared.kind.MessageKind.TheVariants.{MethodCall, MethodReturn, Error, Signal, Unknown}
@@ -18,51 +15,16 @@ use Rattle.message_core.specs.Kinds.{code_of, required}
 use Rattle.message_core.specs.HeaderFields.{Field, IsField, IsStringOf, value_of, missing, insert_field}
 use Rattle.message_core.specs.Places.{SpellField}
 use Rattle.message_core.proofs.FieldReading.{same_field}
+use Rattle.message_core.proofs.NameTexts.{name_string}
 use Rattle.message_core.proofs.Shape.{basic_spelled}
 use Rattle.message_relay.specs.Senders.{sender_field, without_sender}
 use Rattle.message_relay.specs.Layout.{sender_bytes}
 use Rattle.message_relay.proofs.Rising.{Rises, rises_lower, times, times_insert, AreOnce}
 
--- ---- a unique name is a string
-
-byte_not_zero : (b : ℕ) → is_element_byte unique_style b ≡ true → (b == 0) ≡ false
-byte_not_zero b h = ne_eqb b 0 (λ e. never (rw e at h)) where
-  never : is_element_byte unique_style 0 ≡ true → ⊥
-  never e = cc
-
-bytes_not_zero : (bytes : Text) → AllByRecursion (λ b. is_element_byte unique_style b ≡ true) bytes → has_zero bytes ≡ false
-bytes_not_zero [] all = refl
-bytes_not_zero (b ∷ bytes) all = rw (byte_not_zero b all.0) (bytes_not_zero bytes all.1)
-
-element_not_zero : (element : Text) → IsElement unique_style element → has_zero element ≡ false
-element_not_zero [] is = absurd is
-element_not_zero (b ∷ bytes) is = rw (byte_not_zero b is.0) (bytes_not_zero bytes is.2)
-
-zero_append : (a b : List ℕ) → has_zero a ≡ false → has_zero b ≡ false → has_zero (a ++ b) ≡ false
-zero_append [] b h k = k
-zero_append (x ∷ a) b h k = at (x == 0) (has_zero a) h (zero_append a b) where
-  at : (c r : Bool) → (c || r) ≡ false → (r ≡ false → has_zero b ≡ false → has_zero (a ++ b) ≡ false) → (c || has_zero (a ++ b)) ≡ false
-  at true r e ih = absurd cc
-  at false r e ih = ih e k
-
-others_not_zero : (elements : List Text) → AllByRecursion (IsElement unique_style) elements → has_zero (flat_map (led_by dot) elements) ≡ false
-others_not_zero [] all = refl
-others_not_zero (e ∷ elements) all = zero_append e (flat_map (led_by dot) elements) (element_not_zero e all.0) (others_not_zero elements all.1)
-
-joined_not_zero : (elements : List Text) → AllByRecursion (IsElement unique_style) elements → has_zero (joined dot elements) ≡ false
-joined_not_zero [] all = refl
-joined_not_zero (e ∷ elements) all = zero_append e (flat_map (led_by dot) elements) (element_not_zero e all.0) (others_not_zero elements all.1)
-
-name_not_zero : (name : Text) → IsUniqueName name → has_zero name ≡ false
-name_not_zero name h = ap has_zero h.1.1 ∙ ap has_zero h.1.2.3 ∙ joined_not_zero h.1.2.0 h.1.2.2
-
-name_string : (name : Text) → IsUniqueName name → IsUtf8 name → IsString name
-name_string name h utf8 = (omega (arith, h.0), utf8, name_not_zero name h)
-
 -- ---- SENDER of it
 
 pub sender_spelled : (order : Order) (name : Text) → IsUniqueName name → IsUtf8 name → SpellField order 0 (sender_field name) (sender_bytes order name)
-sender_spelled order name h utf8 = basic_spelled order 0 7 (a_string name) refl (lit< tt) (name_string name h utf8)
+sender_spelled order name h utf8 = basic_spelled order 0 7 (a_string name) refl (lit< tt) (name_string name (inl h) utf8)
 
 pub sender_is : (name : Text) → IsUniqueName name → IsField (sender_field name)
 sender_is name h = (lit< tt, λ k e. subst (λ (j : HeaderField). IsStringOf j name) (same_field field.Sender k e) (inl h))

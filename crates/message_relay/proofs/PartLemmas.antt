@@ -17,7 +17,9 @@ use Rattle.message_core.specs.Said.{said}
 use Rattle.message_core.specs.Places.{ArePlaced}
 use Rattle.message_core.proofs.Strings.{length-number}
 use Rattle.message_core.proofs.Said.{parts}
-use Rattle.message_relay.specs.MessageBytes.{max_message_length, field_bytes, lined_up, fields_bytes, body_bytes, laid_out, message_bytes, is_too_long}
+use Rattle.message_relay.specs.MessageBytes.{field_bytes, lined_up, fields_bytes, body_bytes, message_bytes, is_too_long}
+use Rattle.message_core.specs.Announcements.{max_message_length}
+use Rattle.message_core.specs.Headers.{laid_out}
 use Rattle.message_relay.specs.Senders.{sender_field, without_sender, sent_by}
 use Rattle.message_relay.specs.Parts.{Lies}
 use Rattle.message_relay.specs.Layout.{AreWithin, count_below, behind, fields_end, text_at, copied, sender_bytes, sender_length, before_sender, after_sender, before_end, sender_end, sent_end, last_end}

@@ -7,7 +7,8 @@ use Rattle.message_core.specs.Messages.{Message}
 use Rattle.message_core.specs.Announcements.{fixed_length}
 use Rattle.message_relay.specs.declared.fault.RelayFault.{RelayFault}
 use Rattle.message_relay.specs.declared.fault.RelayFault.TheVariants.{TooLong}
-use Rattle.message_relay.specs.MessageBytes.{max_message_length, fields_bytes, message_bytes, is_too_long}
+use Rattle.message_relay.specs.MessageBytes.{fields_bytes, message_bytes, is_too_long}
+use Rattle.message_core.specs.Announcements.{max_message_length}
 use Rattle.message_relay.specs.Layout.{last_end}
 use Rattle.message_relay.proofs.PartLemmas.{is_long, is_longer, is_not_long}
 

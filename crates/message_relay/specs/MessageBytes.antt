@@ -1,19 +1,15 @@
 -- The bytes of a message, as a function of it, after "Message Format" of the D-Bus Specification.
 -- That they are the message is said by `IsWritten`; here they are whatever their length.
 use Rattle.std.specs.Prelude.{ℕ, ◌+◌, Bool, ◌||◌, List, [], ◌∷◌, ◌++◌, length, map, nat_lt}
-use Rattle.std.specs.Int.{w32}
 use Rattle.std.specs.Result.{result_unwrap_or}
 use Rattle.marshal_core.specs.declared.order.Order.{Order}
-use Rattle.marshal_core.specs.Spelling.{pad_len, pads, number_bytes}
+use Rattle.marshal_core.specs.Spelling.{pad_len, pads}
 use Rattle.marshal.specs.Writing.{value_written, encode_at}
-use Rattle.message_core.specs.Announcements.{fixed_length, order_byte, protocol_version, max_fields_length}
+use Rattle.message_core.specs.Announcements.{fixed_length, max_fields_length, max_message_length}
 use Rattle.message_core.specs.HeaderFields.{Field, field_value}
+use Rattle.message_core.specs.Headers.{laid_out}
 use Rattle.message_core.specs.Messages.{Message}
 use Rattle.message_core.specs.Places.{field_depth}
-
--- the most bytes of a message, 2 ^ 27
-abbrev pub max_message_length : ℕ
-max_message_length = 134217728
 
 -- a field as it stands at a multiple of eight
 unfoldable pub field_bytes : Order → Field → List ℕ
@@ -31,13 +27,7 @@ fields_bytes m = lined_up fixed_length (map (field_bytes m.order) m.fields)
 unfoldable pub body_bytes : Message → List ℕ
 body_bytes m = result_unwrap_or (encode_at m.order 0 m.body) []
 
--- the fixed part, the fields in their order, the padding to a multiple of eight, the body
-abbrev pub laid_out : Message → List ℕ → List ℕ → List ℕ
-laid_out m fields body =
-    (order_byte m.order ∷ m.kind ∷ m.flags ∷ protocol_version ∷ [])
-    ++ (number_bytes m.order w32 (length body) ++ (number_bytes m.order w32 m.serial
-    ++ (number_bytes m.order w32 (length fields) ++ (fields ++ (pads 8 (fixed_length + length fields) ++ body)))))
-
+-- the whole, with the fields in their order
 unfoldable pub message_bytes : Message → List ℕ
 message_bytes m = laid_out m (fields_bytes m) (body_bytes m)
 

@@ -6,7 +6,8 @@ ghost use Rattle.marshal_core.specs.Spelling.{pad_len, pads, number_bytes};
 ghost use Rattle.message_core.specs.Messages.{IsWritten};
 ghost use Rattle.message_core.specs.Said.{said};
 ghost use Rattle.message_relay.specs.declared.fault.RelayFault.TheVariants.{TooLong, NoMemory};
-ghost use Rattle.message_relay.specs.MessageBytes.{max_message_length, message_bytes, is_too_long};
+ghost use Rattle.message_relay.specs.MessageBytes.{message_bytes, is_too_long};
+ghost use Rattle.message_core.specs.Announcements.{max_message_length};
 ghost use Rattle.message_relay.specs.Senders.{sent_by};
 ghost use Rattle.message_relay.specs.Layout.{AreWithin, behind as place_behind, fields_end as end_of, copied, sender_bytes, last_end};
 
