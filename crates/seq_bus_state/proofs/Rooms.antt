@@ -77,3 +77,13 @@ has_room s number name consistent within there =
     let held = queue_of_each (λ q. IsQueue q × (list_all (λ o. is_client s.connections o.connection) q ≡ true)) (tt, refl) s.names name
     (each_weaker (IsOwned s.connections) (λ n. IsQueue n.queue × (list_all (λ o. is_client s.connections o.connection) n.queue ≡ true)) (λ n owned. (owned.once, owned.clients)) s.names consistent.names_owned) in
     room s.connections number (queue_of s.names name) held.0 held.1 there within.connections
+
+-- a queue has no more places than there are connections
+pub few_in_queue : (s : BusState) (name : Text) → IsConsistent s → IsWithinLimits s → length (queue_of s.names name) ≤ max_connections
+few_in_queue s name consistent within =
+    let held = queue_of_each (λ q. IsQueue q × (list_all (λ o. is_client s.connections o.connection) q ≡ true)) (tt, refl) s.names name
+    (each_weaker (IsOwned s.connections) (λ n. IsQueue n.queue × (list_all (λ o. is_client s.connections o.connection) n.queue ≡ true)) (λ n owned. (owned.once, owned.clients)) s.names consistent.names_owned) in
+    let taken = in_queue s.connections (queue_of s.names name) held.0 held.1 in
+    let all = no_fewer (λ (c : Connection). is_in c.number (queue_of s.names name)) (λ (c : Connection). true) (λ c is. refl) s.connections in
+    let count = all_count s.connections in
+    omega (arith, taken, all, count, within.connections)

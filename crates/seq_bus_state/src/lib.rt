@@ -11,6 +11,7 @@ mod facts;
 mod heads;
 mod hello;
 mod leave;
+mod lists;
 mod matches;
 mod member;
 mod owners;

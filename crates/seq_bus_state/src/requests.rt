@@ -92,7 +92,7 @@ impl State {
 }
 
 /// The queue of a name, which is empty where nobody owns the name.
-fn queue_of(names: &Names, name: &BusName) -> Queue
+pub fn queue_of(names: &Names, name: &BusName) -> Queue
     ensures { result ≡ queue_of names.now name.now }
 {
     let mut queue = Queue::new();
