@@ -2,7 +2,7 @@
 
 use crate::names;
 use crate::samples::{HELLO, many_bytes, strings};
-use crate::Report;
+use crate::report::Report;
 use std::hint::black_box;
 
 const MAX_ARRAY: usize = 1 << 26;
@@ -215,6 +215,55 @@ pub fn check(offset: usize, types: &[u8], bytes: &[u8]) -> Result<usize, Fault> 
         rest = reader.check(rest, MAX_DEPTH)?;
     }
     Ok(reader.at)
+}
+
+/// An argument of a message as match rules look at it.
+#[derive(Clone, Copy)]
+#[allow(dead_code)]
+pub enum Argument<'a> {
+    String(&'a str),
+    ObjectPath(&'a str),
+    Other,
+}
+
+impl<'a> Reader<'a> {
+    /// A text of a body that was checked.
+    fn checked_text(&mut self) -> &'a str {
+        let length = self.number().unwrap_or(0) as usize;
+        let text = &self.bytes[self.at..self.at + length];
+        self.at += length + 1;
+        // SAFETY: the body was checked.
+        unsafe { std::str::from_utf8_unchecked(text) }
+    }
+}
+
+/// Lends the first 64 arguments of a checked body, and tells how many they are.
+pub fn arguments<'a>(types: &[u8], body: &'a [u8], found: &mut [Argument<'a>; 64]) -> usize {
+    let mut reader = Reader { bytes: body, at: 0, offset: 0 };
+    let mut rest = types;
+    let mut count = 0;
+    while count < 64 {
+        match rest.first() {
+            None => return count,
+            Some(b's') => {
+                found[count] = Argument::String(reader.checked_text());
+                rest = &rest[1..];
+            }
+            Some(b'o') => {
+                found[count] = Argument::ObjectPath(reader.checked_text());
+                rest = &rest[1..];
+            }
+            Some(_) => {
+                found[count] = Argument::Other;
+                match reader.check(rest, MAX_DEPTH) {
+                    Ok(behind) => rest = behind,
+                    Err(_) => return count,
+                }
+            }
+        }
+        count += 1;
+    }
+    count
 }
 
 #[derive(Clone)]

@@ -6,47 +6,14 @@
 mod codec;
 mod messages;
 mod names;
+mod report;
 mod rules;
 mod samples;
 
-use std::hint::black_box;
-use std::time::Instant;
-
-pub struct Report {
-    timed: bool,
-}
-
-fn checksum(work: &mut impl FnMut(u64) -> u64, rounds: u64) -> u64 {
-    let mut sum = 0u64;
-    for round in 0..rounds {
-        sum = sum.wrapping_mul(0x100_0000_01b3) ^ work(black_box(round));
-    }
-    sum
-}
-
-fn nanoseconds(work: &mut impl FnMut(u64) -> u64, rounds: u64) -> u64 {
-    let start = Instant::now();
-    black_box(checksum(work, rounds));
-    start.elapsed().as_nanos() as u64
-}
-
-impl Report {
-    pub fn tell(&self, name: &str, mut work: impl FnMut(u64) -> u64) {
-        if !self.timed {
-            println!("{name}\t{:016x}", checksum(&mut work, 64));
-            return;
-        }
-        let mut rounds = 1;
-        while nanoseconds(&mut work, rounds) < 1_000_000 {
-            rounds *= 2;
-        }
-        let best = (0..100).map(|_| nanoseconds(&mut work, rounds) * 10 / rounds).min().unwrap_or(0);
-        println!("{name}\t{best}");
-    }
-}
+use report::Report;
 
 fn main() {
-    let report = Report { timed: std::env::args().any(|word| word == "--time") };
+    let report = Report::from_arguments();
     names::measure(&report);
     rules::measure(&report);
     codec::measure(&report);

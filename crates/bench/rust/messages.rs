@@ -1,9 +1,10 @@
 //! Messages: cut from a stream and read, and written again with a sender.
 
-use crate::Report;
-use crate::codec::{check, is_signature};
+use crate::report::Report;
+use crate::codec::{Argument, arguments, check, is_signature};
 use crate::names;
 use crate::samples::{HELLO, many_bytes, strings};
+use crate::samples;
 
 const MAX_MESSAGE: usize = 1 << 27;
 
@@ -13,6 +14,24 @@ struct Field {
     code: u8,
     from: usize,
     to: usize,
+}
+
+/// What rules and routing look at in a message.
+#[allow(dead_code)]
+pub struct Facts<'a> {
+    pub kind: u8,
+    pub auto_start: bool,
+    pub path: Option<&'a str>,
+    pub interface: Option<&'a str>,
+    pub member: Option<&'a str>,
+    pub destination: Option<&'a str>,
+    pub arguments: [Argument<'a>; 64],
+    pub count: usize,
+}
+
+fn weight(facts: &Facts<'_>) -> u64 {
+    let texts = facts.member.map_or(0, str::len) + facts.destination.map_or(0, str::len);
+    (texts + std::hint::black_box(facts).count) as u64
 }
 
 pub struct Message {
@@ -112,6 +131,31 @@ impl Message {
         number(&self.bytes, 8)
     }
 
+    /// The text of a field that was checked.
+    fn text_of(&self, code: u8) -> Option<&str> {
+        let field = self.fields.iter().find(|field| field.code == code)?;
+        let skipped = if code == 8 { 5 } else { 8 };
+        // SAFETY: the field was checked.
+        Some(unsafe { std::str::from_utf8_unchecked(&self.bytes[field.from + skipped..field.to - 1]) })
+    }
+
+    /// What rules and routing look at.
+    fn facts(&self) -> Facts<'_> {
+        let mut found = [Argument::Other; 64];
+        let types = self.text_of(8).unwrap_or("");
+        let count = arguments(types.as_bytes(), self.body(), &mut found);
+        Facts {
+            kind: self.bytes[1],
+            auto_start: self.bytes[2] & 2 == 0,
+            path: self.text_of(1),
+            interface: self.text_of(2),
+            member: self.text_of(3),
+            destination: self.text_of(6),
+            arguments: found,
+            count,
+        }
+    }
+
     /// Appends the message with a sender, its fields by rising code.
     fn with_sender(&self, sender: &str, output: &mut Vec<u8>) {
         let start = output.len();
@@ -193,33 +237,59 @@ fn signal(signature: &str, body: &[u8]) -> Vec<u8> {
     bytes
 }
 
+fn frame(report: &Report, name: &str, bytes: &[u8]) {
+    let mut framer = Framer { buffer: Vec::new(), from: 0 };
+    report.tell(name, |_| {
+        framer.feed(std::hint::black_box(bytes));
+        match framer.next() {
+            Some(message) => (message.serial() + message.body().len()) as u64,
+            None => 1,
+        }
+    });
+}
+
+fn look(report: &Report, name: &str, bytes: &[u8]) {
+    let message = Message::read(bytes.to_vec()).expect("it is a message");
+    report.tell(name, |_| weight(&std::hint::black_box(&message).facts()));
+}
+
+fn relay(report: &Report, name: &str, bytes: &[u8]) {
+    let message = Message::read(bytes.to_vec()).expect("it is a message");
+    let mut output = Vec::new();
+    report.tell(name, |_| {
+        output.clear();
+        message.with_sender(std::hint::black_box(":1.42"), &mut output);
+        output.len() as u64
+    });
+}
+
+fn pass(report: &Report, name: &str, bytes: &[u8]) {
+    let mut framer = Framer { buffer: Vec::new(), from: 0 };
+    let mut output = Vec::new();
+    report.tell(name, |_| {
+        output.clear();
+        framer.feed(std::hint::black_box(bytes));
+        let Some(message) = framer.next() else {
+            return 1;
+        };
+        let weight = weight(&message.facts());
+        message.with_sender(std::hint::black_box(":1.42"), &mut output);
+        weight + output.len() as u64
+    });
+}
+
 pub fn measure(report: &Report) {
     let strings = signal("as", &strings());
+    let arguments = signal("ssssssssssssssssssss", &samples::arguments());
     let many_bytes = signal("ay", &many_bytes());
-    for (name, bytes) in [
-        ("messages: frame and read a Hello", HELLO),
-        ("messages: frame and read a signal with 20 strings", &strings),
-        ("messages: frame and read a signal with 65,536 bytes", &many_bytes),
-    ] {
-        let mut framer = Framer { buffer: Vec::new(), from: 0 };
-        report.tell(name, |_| {
-            framer.feed(std::hint::black_box(bytes));
-            match framer.next() {
-                Some(message) => (message.serial() + message.body().len()) as u64,
-                None => 1,
-            }
-        });
-    }
-    for (name, bytes) in [
-        ("messages: write a signal with 20 strings with its sender", &strings),
-        ("messages: write a signal with 65,536 bytes with its sender", &many_bytes),
-    ] {
-        let message = Message::read(bytes.clone()).expect("it is a message");
-        let mut output = Vec::new();
-        report.tell(name, |_| {
-            output.clear();
-            message.with_sender(std::hint::black_box(":1.42"), &mut output);
-            output.len() as u64
-        });
-    }
+    frame(report, "messages: frame and read a Hello", HELLO);
+    frame(report, "messages: frame and read a signal with 20 strings", &strings);
+    frame(report, "messages: frame and read a signal with 65,536 bytes", &many_bytes);
+    look(report, "messages: look at a Hello", HELLO);
+    look(report, "messages: look at a signal with 20 string arguments", &arguments);
+    look(report, "messages: look at a signal with 65,536 bytes", &many_bytes);
+    relay(report, "messages: write a Hello with its sender", HELLO);
+    relay(report, "messages: write a signal with 20 strings with its sender", &strings);
+    relay(report, "messages: write a signal with 65,536 bytes with its sender", &many_bytes);
+    pass(report, "messages: frame, read, look at and write a signal with 20 string arguments", &arguments);
 }

@@ -1,6 +1,6 @@
 //! Names.
 
-use crate::Report;
+use crate::report::Report;
 
 #[derive(Clone, Copy)]
 pub struct ShortText {

@@ -1,11 +1,11 @@
 //! Match rules, kept as `match_rules` keeps them: in one run of bytes, by rising key.
 
-use crate::Report;
 use crate::names;
+use crate::report::Report;
 
 const MAX: usize = 1024;
 
-#[derive(Clone, Copy)]
+#[derive(Clone, Copy, PartialEq)]
 pub struct Rule {
     bytes: [u8; MAX],
     length: usize,
@@ -223,7 +223,7 @@ impl Rule {
         self.entries().find(|(key, _)| *key == Key::Member).map(|(_, value)| value)
     }
 
-    fn fits(&self, facts: &Facts, head: impl Fn(&str) -> Option<u64>) -> bool {
+    pub fn fits(&self, facts: &Facts, head: impl Fn(&str) -> Option<u64>) -> bool {
         self.entries().all(|(key, value)| holds(key, value, facts, &head))
     }
 }
@@ -234,13 +234,13 @@ pub enum Argument {
 }
 
 pub struct Facts {
-    kind: Option<&'static str>,
-    sender: u64,
-    path: Option<&'static str>,
-    interface: Option<&'static str>,
-    member: Option<&'static str>,
-    destination: Option<&'static str>,
-    arguments: Vec<Argument>,
+    pub kind: Option<&'static str>,
+    pub sender: u64,
+    pub path: Option<&'static str>,
+    pub interface: Option<&'static str>,
+    pub member: Option<&'static str>,
+    pub destination: Option<&'static str>,
+    pub arguments: Vec<Argument>,
 }
 
 fn is_sender(name: &str, sender: u64, head: &impl Fn(&str) -> Option<u64>) -> bool {

@@ -12,6 +12,14 @@ pub fn strings() -> Vec<u8> {
     body
 }
 
+pub fn arguments() -> Vec<u8> {
+    let mut body = Vec::new();
+    for _ in 0..20 {
+        body.extend_from_slice(b"\x2b\0\0\0org.example.service.name.of.some.length.abc\0");
+    }
+    body
+}
+
 pub fn many_bytes() -> Vec<u8> {
     let mut body = b"\0\0\x01\0".to_vec();
     body.extend((0..65_536u32).map(|number| (number % 251) as u8));

@@ -1,8 +1,7 @@
 //! Values in their bytes: checked where they lie, decoded, and encoded.
 
-use crate::report::Report;
+use bench_core::{Report, Work};
 use crate::samples::{HELLO_FIELDS, many_bytes, strings};
-use crate::work::Work;
 use anyhow::Result;
 use marshal::{Order, Signature, Value, decode, encode};
 use marshal_check::{Types, check};

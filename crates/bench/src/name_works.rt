@@ -1,8 +1,7 @@
 //! Names.
 
-use crate::report::Report;
-use crate::work::Work;
 use anyhow::Result;
+use bench_core::{Report, Work};
 use names::{ObjectPath, UniqueName, WellKnown};
 use std::time::Clock;
 

@@ -2,10 +2,9 @@
 
 ghost use Rattle.std.specs.Prelude.{None};
 
-use crate::report::Report;
-use crate::work::Work;
 use anyhow::Result;
 use arrayvec::ArrayVec;
+use bench_core::{Report, Work};
 use match_rules::{Argument, Facts, MessageKind, Owners, Rule};
 use std::time::Clock;
 

@@ -25,6 +25,15 @@ pub fn strings(alloc: Global) -> Result<Vec<u8>, AllocError> {
     Ok(body)
 }
 
+/// The body of 20 strings that are arguments of their own, of 960 bytes.
+pub fn arguments(alloc: Global) -> Result<Vec<u8>, AllocError> {
+    let mut body = Vec::new(alloc);
+    for _ in 0..20 {
+        body.extend_from_slice(STRING)?;
+    }
+    Ok(body)
+}
+
 /// The body of an array of 65,536 bytes.
 pub fn many_bytes(alloc: Global) -> Result<Vec<u8>, AllocError> {
     let mut body = Vec::from_slice(alloc, b"\0\0\x01\0")?;
