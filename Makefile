@@ -18,3 +18,4 @@ test:
 # What the calls take, beside the same in plain Rust. No part of the gate.
 bench:
 	@$(MAKE) -s -C crates/bench/rust bench
+	@$(MAKE) -s -C crates/bench_bus/rust bench
