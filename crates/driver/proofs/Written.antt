@@ -1,5 +1,5 @@
 -- What is laid out is the one writing of a message.
-use Rattle.std.proofs.Common.{◌≡◌, ℕ, ◌+◌, ◌≤◌, ◌<◌, ◌^◌, List, [], ◌∷◌, ◌++◌, length, Option, Some, None, Result, Ok, Err, OnOk, refl, sym, ap, subst, ◌∙◌, arith, lit<, inl, inr, append-nil}
+use Rattle.std.proofs.Common.{◌≡◌, ℕ, ◌+◌, ◌≤◌, ◌<◌, ◌^◌, List, [], ◌∷◌, ◌++◌, length, Option, Some, None, Result, Ok, Err, OnOk, refl, sym, ap, subst, ◌∙◌, append_assoc, arith, lit<, inl, inr, append-nil}
 use Rattle.std.specs.List.{AllByRecursion}
 use Rattle.std.specs.Int.{w32}
 use Rattle.std.proofs.lemmas.List.{length-append}
@@ -26,7 +26,7 @@ use Rattle.message_core.specs.Headers.{AreWritten, known_field, optional_field, 
 use Rattle.message_core.proofs.FieldReading.{same_field}
 use Rattle.message_core.proofs.Strings.{length-number}
 use Rattle.driver.specs.OwnMessages.{Writes, string_types, string_values}
-use Rattle.driver.specs.Layout.{end_fields, IsNamed, laid_out, spelled_strings}
+use Rattle.driver.specs.Layout.{end_fields, IsNamed, own_bytes, spelled_strings}
 
 -- ---- fields by rising code
 
@@ -115,11 +115,12 @@ pub record Sound (kind : MessageKind) (serial : ℕ) (fields : List Field) (type
   pub is_serial : (0 < serial) × (serial < 2 ^ 32)
 
 pub is_written : (kind : MessageKind) (serial : ℕ) (fields : List Field) (types : Tys) (body_values : Vals) (array body bytes : List ℕ) → Sound kind serial fields types → length array ≤ 512 → length body < 2 ^ 32
-    → AreWritten Little fields array → Spells Little 0 types body_values body → bytes ≡ laid_out (kind_number kind) serial array body → IsWritten bytes (own kind serial fields types body_values)
+    → AreWritten Little fields array → Spells Little 0 types body_values body → bytes ≡ own_bytes (kind_number kind) serial array body → IsWritten bytes (own kind serial fields types body_values)
 is_written kind serial fields types body_values array body bytes sound short fits written spelled whole =
     let A : List ℕ = number_bytes Little w32 (length array) ++ array in
     let size : length A ≡ 4 + length array = length-append (number_bytes Little w32 (length array)) array ∙ ap (λ (k : ℕ). k + length array) (length-number Little (length array)) in
     let place : 16 + length array ≡ fields_place + length A = omega (arith, size) in
+    let behind : List ℕ → List ℕ = λ x. (order_byte Little ∷ kind_number kind ∷ NO_REPLY_EXPECTED ∷ protocol_version ∷ []) ++ (number_bytes Little w32 (length body) ++ (number_bytes Little w32 serial ++ x)) in
     record {
       is_sent = record {
         array_bytes = A;
@@ -133,7 +134,7 @@ is_written kind serial fields types body_values array body bytes sound short fit
         flags = lit< tt;
         serial = sound.is_serial;
         fits = fits;
-        whole = whole ∙ ap (λ (n : ℕ). (order_byte Little ∷ kind_number kind ∷ NO_REPLY_EXPECTED ∷ protocol_version ∷ []) ++ (number_bytes Little w32 (length body) ++ (number_bytes Little w32 serial ++ (A ++ (pads 8 n ++ body))))) place;
+        whole = whole ∙ ap behind (sym (append_assoc (number_bytes Little w32 (length array)) array (pads 8 (16 + length array) ++ body))) ∙ ap (λ (n : ℕ). behind (A ++ (pads 8 n ++ body))) place;
       };
       sorted = sym (sorted_again 0 fields sound.rising);
     }

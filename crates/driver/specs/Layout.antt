@@ -1,18 +1,16 @@
 -- How the messages of the bus lie in their bytes.
 use Rattle.std.specs.Prelude.{ℕ, ◌+◌, List, [], ◌∷◌, ◌++◌, length}
-use Rattle.std.specs.Int.{w32}
 use Rattle.names.specs.Texts.{Text}
 use Rattle.names.specs.BusName.{bus_text}
 use Rattle.names.specs.UniqueName.{unique_text, IsUniqueName}
 use Rattle.marshal_core.specs.declared.order.Order.TheVariants.{Little}
-use Rattle.marshal_core.specs.Types.{Tys}
-use Rattle.marshal_core.specs.Values.{a_string}
-use Rattle.marshal_core.specs.Spelling.{number_bytes, pads, text_spelling}
+use Rattle.marshal_core.specs.Types.{Tys, no_types}
+use Rattle.marshal_core.specs.Values.{a_string, no_values}
+use Rattle.marshal_core.specs.Spelling.{text_spelling}
 use Rattle.message_core.specs.declared.header_field.HeaderField.TheVariants as field
 use Rattle.message_core.specs.declared.header.TheConstants.{NO_REPLY_EXPECTED}
 use Rattle.message_core.specs.HeaderFields.{Field}
-use Rattle.message_core.specs.Headers.{optional_field, signature_field}
-use Rattle.message_core.specs.Announcements.{fixed_length, order_byte, protocol_version}
+use Rattle.message_core.specs.Headers.{laid_out, optional_field, signature_field}
 use Rattle.std.specs.Prelude.{Option, Some, None, option_map}
 
 -- the fields that all messages of the bus end with
@@ -24,12 +22,10 @@ abbrev pub IsNamed : Option ℕ → Type 0
 IsNamed None = Unit {0}
 IsNamed (Some number) = IsUniqueName (unique_text number)
 
--- the fixed part, the fields, the padding, the body
-abbrev pub laid_out : (kind serial : ℕ) (fields body : List ℕ) → List ℕ
-laid_out kind serial fields body =
-    (order_byte Little ∷ kind ∷ NO_REPLY_EXPECTED ∷ protocol_version ∷ [])
-    ++ (number_bytes Little w32 (length body) ++ (number_bytes Little w32 serial
-    ++ ((number_bytes Little w32 (length fields) ++ fields) ++ (pads 8 (fixed_length + length fields) ++ body))))
+-- a message of the bus as it lies in its bytes, with these fields and this body
+abbrev pub own_bytes : (kind serial : ℕ) (fields body : List ℕ) → List ℕ
+own_bytes kind serial fields body =
+    laid_out (record { order = Little; kind = kind; flags = NO_REPLY_EXPECTED; serial = serial; fields = []; types = no_types; body = no_values }) fields body
 
 -- strings one after the other, from a place on
 abbrev pub spelled_strings : ℕ → List Text → List ℕ

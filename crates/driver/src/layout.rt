@@ -4,7 +4,7 @@ ghost use Rattle.std.specs.Prelude.{◌≡◌, ◌<◌, ◌≤◌, ◌^◌, ◌+
 ghost use Rattle.marshal_core.specs.Spelling.{pads};
 ghost use Rattle.match_rules.specs.Kinds.{kind_number};
 ghost use Rattle.message_core.specs.Announcements.{fixed_length};
-ghost use Rattle.driver.specs.Layout.{laid_out};
+ghost use Rattle.driver.specs.Layout.{own_bytes};
 
 use crate::fields::ROOM;
 use match_rules::MessageKind;
@@ -30,7 +30,7 @@ pub fn lay_out(
     out: &mut Vec<u8>,
 ) -> Result<(), AllocError>
     requires { length fields.now ≤ ROOM }
-    ensures ok { OnOk result (out.new.items ≡ out.old.items ++ laid_out (kind_number kind) serial fields.now body.now) }
+    ensures ok { OnOk result (out.new.items ≡ out.old.items ++ own_bytes (kind_number kind) serial fields.now body.now) }
     ensures fits { OnOk result (length body.now < 2 ^ 32) }
     ensures err { OnErr result (out.new.items ≡ out.old.items) }
 {

@@ -6,7 +6,7 @@ use Rattle.match_rules.specs.Kinds.{kind_number}
 use Rattle.message_core.specs.declared.header_field.HeaderField.TheVariants as field
 use Rattle.message_core.specs.Headers.{AreWritten, known_field, message_of}
 use Rattle.driver.specs.OwnMessages.{reply_header}
-use Rattle.driver.specs.Layout.{laid_out}
+use Rattle.driver.specs.Layout.{own_bytes}
 use Rattle.driver.proofs.Sound.{reply_fields, reply_sound}
 use Rattle.driver.proofs.Written.{is_written, writes}
 use Rattle.driver.proofs.reply.put_reply.Goals as goal
@@ -18,7 +18,7 @@ returns-clause-ok c = λ types values e spelled.
     let written : AreWritten Little (reply_fields c.args.to types) array =
     subst (AreWritten Little (reply_fields c.args.to types)) (sym c.as_slice.ensures.value)
     (c.put_end.ensures.put types (known_field field.ReplySerial (a_uint32 c.args.to.call) ∷ []) e spelled.0 (c.put_reply_serial.ensures.put [] c.new-fields.ensures)) in
-    writes c.lay_out.result c.args.out.now.items c.lay_out.new.out.items body (laid_out (kind_number kind.MethodReturn) c.args.serial array body) (message_of (reply_header c.args.serial c.args.to) types values)
+    writes c.lay_out.result c.args.out.now.items c.lay_out.new.out.items body (own_bytes (kind_number kind.MethodReturn) c.args.serial array body) (message_of (reply_header c.args.serial c.args.to) types values)
     c.lay_out.ensures.ok c.lay_out.ensures.fits
-    (λ fits. is_written kind.MethodReturn c.args.serial (reply_fields c.args.to types) types values array body (laid_out (kind_number kind.MethodReturn) c.args.serial array body)
+    (λ fits. is_written kind.MethodReturn c.args.serial (reply_fields c.args.to types) types values array body (own_bytes (kind_number kind.MethodReturn) c.args.serial array body)
     (reply_sound c.args.serial c.args.to types (c.requires.serial, c.ranges.serial.fits) c.requires.call c.put_end.ensures.named) c.as_slice.ensures.fits fits written spelled refl)

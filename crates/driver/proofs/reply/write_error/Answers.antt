@@ -9,7 +9,7 @@ use Rattle.seq_bus_core.specs.Errors.{error_name, error_text}
 use Rattle.message_core.specs.declared.header_field.HeaderField.TheVariants as field
 use Rattle.message_core.specs.Headers.{AreWritten, known_field}
 use Rattle.driver.specs.OwnMessages.{error_message, string_types, string_values}
-use Rattle.driver.specs.Layout.{laid_out}
+use Rattle.driver.specs.Layout.{own_bytes}
 use Rattle.driver.proofs.Errors.{error_string}
 use Rattle.driver.proofs.Sound.{error_fields, error_sound}
 use Rattle.driver.proofs.Written.{is_written, writes, one_spelled}
@@ -31,6 +31,6 @@ returns-clause-ok c =
     let is : IsString (error_text error) = error_string error c.text.result.now c.text.ensures c.put_string-2.ensures.utf8 in
     let spelled : body ≡ text_spelling Little 0 (error_text error) =
     c.as_slice-2.ensures.value ∙ c.put_string-2.ensures.put ∙ ap (λ (l : List ℕ). l ++ text_spelling Little (length l) c.text.result.now) c.new-text.ensures ∙ ap (text_spelling Little 0) c.text.ensures in
-    writes c.lay_out.result c.args.out.now.items c.lay_out.new.out.items body (laid_out (kind_number kind.Error) c.args.serial array body) (error_message c.args.serial c.args.to error) c.lay_out.ensures.ok c.lay_out.ensures.fits
-    (λ fits. is_written kind.Error c.args.serial (error_fields c.args.to error types) types values array body (laid_out (kind_number kind.Error) c.args.serial array body)
+    writes c.lay_out.result c.args.out.now.items c.lay_out.new.out.items body (own_bytes (kind_number kind.Error) c.args.serial array body) (error_message c.args.serial c.args.to error) c.lay_out.ensures.ok c.lay_out.ensures.fits
+    (λ fits. is_written kind.Error c.args.serial (error_fields c.args.to error types) types values array body (own_bytes (kind_number kind.Error) c.args.serial array body)
     (error_sound c.args.serial c.args.to error types (c.requires.serial, c.ranges.serial.fits) c.requires.call c.put_end.ensures.named) c.as_slice.ensures.fits fits written (one_spelled (error_text error) body is spelled) refl)

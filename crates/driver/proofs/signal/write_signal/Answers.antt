@@ -10,7 +10,7 @@ use Rattle.message_core.specs.declared.header_field.HeaderField.TheVariants as f
 use Rattle.message_core.specs.HeaderFields.{Field}
 use Rattle.message_core.specs.Headers.{AreWritten, known_field}
 use Rattle.driver.specs.OwnMessages.{bus_path, signal_member, signal_destination, signal_message, signal_texts, string_types, string_values}
-use Rattle.driver.specs.Layout.{laid_out, end_fields, spelled_strings, IsNamed}
+use Rattle.driver.specs.Layout.{own_bytes, end_fields, spelled_strings, IsNamed}
 use Rattle.driver.proofs.Sound.{signal_fields, signal_sound, signal_signed}
 use Rattle.driver.proofs.Written.{is_written, writes, strings_spelled}
 use Rattle.driver.proofs.signal.write_signal.Goals as goal
@@ -35,6 +35,6 @@ returns-clause-ok c =
     let laid : body ≡ spelled_strings 0 (signal_texts signal) = c.as_slice-2.ensures.value ∙ c.put_body.ensures.put in
     let spelled : Spells Little 0 types values body =
     (signal_signed signal, subst (SpellFields values max_container_depth Little 0 types) (sym laid) (strings_spelled 0 (signal_texts signal) c.put_body.ensures.strings)) in
-    writes c.lay_out.result c.args.out.now.items c.lay_out.new.out.items body (laid_out (kind_number kind.Signal) c.args.serial array body) (signal_message c.args.serial signal) c.lay_out.ensures.ok c.lay_out.ensures.fits
-    (λ fits. is_written kind.Signal c.args.serial (signal_fields signal types) types values array body (laid_out (kind_number kind.Signal) c.args.serial array body)
+    writes c.lay_out.result c.args.out.now.items c.lay_out.new.out.items body (own_bytes (kind_number kind.Signal) c.args.serial array body) (signal_message c.args.serial signal) c.lay_out.ensures.ok c.lay_out.ensures.fits
+    (λ fits. is_written kind.Signal c.args.serial (signal_fields signal types) types values array body (own_bytes (kind_number kind.Signal) c.args.serial array body)
     (signal_sound c.args.serial signal types (c.requires, c.ranges.serial.fits) (subst IsNamed c.destination_of.ensures c.put_end.ensures.named)) c.as_slice.ensures.fits fits written spelled refl)

@@ -1,7 +1,7 @@
 use Rattle.std.proofs.Common.{subst, sym}
 use Rattle.names.specs.BusName.{IsBusName}
 use Rattle.marshal_core.specs.Spelling.{IsString}
-use Rattle.driver.proofs.NameTexts.{name_string}
+use Rattle.message_core.proofs.NameTexts.{name_string}
 use Rattle.driver.proofs.strings.put_name.Goals as goal
 
 pub returns-clause-string : goal.returns-clause-string
