@@ -1,8 +1,8 @@
 //! Values in their bytes: checked where they lie, decoded, and encoded.
 
-use bench_core::{Report, Work};
 use crate::samples::{HELLO_FIELDS, many_bytes, strings};
 use anyhow::Result;
+use bench_core::{Report, Work};
 use marshal::{Order, Signature, Value, decode, encode};
 use marshal_check::{Types, check};
 use std::alloc::Global;

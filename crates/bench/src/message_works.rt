@@ -172,7 +172,9 @@ impl Work for Framing<'_> {
 fn weight(facts: &Facts<'_>) -> u64 {
     let member = facts.member.map_or(0, |name| name.len() as u64);
     let destination = facts.destination.map_or(0, |name| name.len() as u64);
-    member.wrapping_add(destination).wrapping_add(facts.arguments.len() as u64)
+    member
+        .wrapping_add(destination)
+        .wrapping_add(facts.arguments.len() as u64)
 }
 
 #[derive(Drop)]
