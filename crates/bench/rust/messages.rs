@@ -7,6 +7,7 @@ use crate::samples::{HELLO, many_bytes, strings};
 use crate::samples;
 
 const MAX_MESSAGE: usize = 1 << 27;
+const MAX_FIELDS: usize = 1 << 26;
 
 /// The place of a header field: its code, and where it begins and ends.
 #[derive(Clone, Copy)]
@@ -49,7 +50,7 @@ fn announced(bytes: &[u8]) -> Option<usize> {
         return None;
     }
     let (body, fields) = (number(bytes, 4), number(bytes, 12));
-    if fields > 1 << 26 || body > MAX_MESSAGE {
+    if fields > MAX_FIELDS || body > MAX_MESSAGE {
         return None;
     }
     let length = (16 + fields).next_multiple_of(8) + body;
@@ -100,7 +101,9 @@ impl Message {
                 8 => signature = value + 1..to - 1,
                 _ => {}
             }
-            fields.push(Field { code, from, to });
+            // By rising code, as they are written again.
+            let rank = fields.partition_point(|field| field.code <= code);
+            fields.insert(rank, Field { code, from, to });
             at = to;
         }
         while at % 8 != 0 {
@@ -156,13 +159,24 @@ impl Message {
         }
     }
 
-    /// Appends the message with a sender, its fields by rising code.
-    fn with_sender(&self, sender: &str, output: &mut Vec<u8>) {
+    /// Appends the message with a sender, its fields by rising code. Where it is too long, or there is no memory, the output is
+    /// as before.
+    fn with_sender(&self, sender: &str, output: &mut Vec<u8>) -> Option<()> {
+        let (before, rest) = self.fields.split_at(self.fields.partition_point(|field| field.code < 7));
+        let after = &rest[rest.partition_point(|field| field.code == 7)..];
+        let behind = |end: usize, field: &Field| end.next_multiple_of(8) + field.to - field.from;
+        let end = before.iter().fold(16, behind).next_multiple_of(8) + 9 + sender.len();
+        let end = after.iter().fold(end, behind);
+        let length = end.next_multiple_of(8) + self.body().len();
+        if end - 16 > MAX_FIELDS || length > MAX_MESSAGE {
+            return None;
+        }
+        output.try_reserve(length).ok()?;
         let start = output.len();
-        output.reserve(self.bytes.len() + sender.len() + 16);
-        output.extend_from_slice(&self.bytes[..16]);
         let pad = |output: &mut Vec<u8>| while (output.len() - start) % 8 != 0 { output.push(0) };
-        for field in self.fields.iter().filter(|field| field.code < 7) {
+        output.extend_from_slice(&self.bytes[..12]);
+        output.extend_from_slice(&((end - 16) as u32).to_le_bytes());
+        for field in before {
             pad(output);
             output.extend_from_slice(&self.bytes[field.from..field.to]);
         }
@@ -171,14 +185,13 @@ impl Message {
         output.extend_from_slice(&(sender.len() as u32).to_le_bytes());
         output.extend_from_slice(sender.as_bytes());
         output.push(0);
-        for field in self.fields.iter().filter(|field| field.code > 7) {
+        for field in after {
             pad(output);
             output.extend_from_slice(&self.bytes[field.from..field.to]);
         }
-        let length = (output.len() - start - 16) as u32;
-        output[start + 12..start + 16].copy_from_slice(&length.to_le_bytes());
         pad(output);
         output.extend_from_slice(self.body());
+        Some(())
     }
 }
 
@@ -258,8 +271,10 @@ fn relay(report: &Report, name: &str, bytes: &[u8]) {
     let mut output = Vec::new();
     report.tell(name, |_| {
         output.clear();
-        message.with_sender(std::hint::black_box(":1.42"), &mut output);
-        output.len() as u64
+        match message.with_sender(std::hint::black_box(":1.42"), &mut output) {
+            Some(()) => output.len() as u64,
+            None => 0,
+        }
     });
 }
 
@@ -273,8 +288,10 @@ fn pass(report: &Report, name: &str, bytes: &[u8]) {
             return 1;
         };
         let weight = weight(&message.facts());
-        message.with_sender(std::hint::black_box(":1.42"), &mut output);
-        weight + output.len() as u64
+        match message.with_sender(std::hint::black_box(":1.42"), &mut output) {
+            Some(()) => weight + output.len() as u64,
+            None => 2,
+        }
     });
 }
 

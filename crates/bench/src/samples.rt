@@ -1,5 +1,7 @@
 //! Messages and parts of messages.
 
+ghost use Rattle.std.specs.Prelude.{◌≡◌, length, IfOk};
+
 use std::alloc::{AllocError, Global};
 
 /// A call of Hello, little-endian.
@@ -26,9 +28,11 @@ pub fn strings(alloc: Global) -> Result<Vec<u8>, AllocError> {
 }
 
 /// The body of 20 strings that are arguments of their own, of 960 bytes.
-pub fn arguments(alloc: Global) -> Result<Vec<u8>, AllocError> {
+pub fn arguments(alloc: Global) -> Result<Vec<u8>, AllocError>
+    ensures { IfOk result (λ body. length body.items ≡ 960) }
+{
     let mut body = Vec::new(alloc);
-    for _ in 0..20 {
+    for _ in 0..20u32 {
         body.extend_from_slice(STRING)?;
     }
     Ok(body)

@@ -1,6 +1,6 @@
 //! A shared registry with connections and rules, and what is routed by it.
 
-ghost use Rattle.std.specs.Prelude.{◌≡◌, []};
+ghost use Rattle.std.specs.Prelude.{◌≡◌, [], Some, None};
 ghost use Rattle.owner_queues.specs.declared.request.Profile.TheVariants.{One};
 ghost use Rattle.seq_bus_core.specs.Tickets.{opening_bus};
 
@@ -73,7 +73,9 @@ pub fn other_rule() -> Rule {
 }
 
 /// A signal to everybody.
-pub fn signal() -> Facts<'static> {
+pub fn signal() -> Facts<'static>
+    ensures { result.destination ≡ None }
+{
     Facts {
         kind: MessageKind::Signal,
         auto_start: true,
@@ -87,7 +89,9 @@ pub fn signal() -> Facts<'static> {
 }
 
 /// A call to a connection.
-pub fn call(destination: &'static str) -> Facts<'static> {
+pub fn call(destination: &'static str) -> Facts<'static>
+    ensures { result.destination ≡ Some destination.now }
+{
     Facts {
         kind: MessageKind::MethodCall,
         auto_start: true,

@@ -1,6 +1,6 @@
 //! A whole small run, through the view.
 
-ghost use Rattle.seq_bus.specs.Served.{IsServedChange, IsServedQuery};
+ghost use Rattle.seq_bus.specs.Served.{IsServedChange};
 ghost use Rattle.std.specs.Prelude.{◌≡◌, Bool};
 
 use super::{Again, BusView};
@@ -26,9 +26,7 @@ fn make<V: BusView>(rt: &impl Abort, view: &mut V, right: &V::Right, change: Cha
     }
 }
 
-fn ask<V: BusView>(rt: &impl Abort, view: &mut V, query: &Query, body: &mut Vec<u8>) -> Asked
-    requires { IsServedQuery query.now }
-{
+fn ask<V: BusView>(rt: &impl Abort, view: &mut V, query: &Query, body: &mut Vec<u8>) -> Asked {
     match view.ask(query, body) {
         Ok(asked) => asked,
         Err(_) => view

@@ -6,7 +6,7 @@ ghost use Rattle.seq_bus_core.specs.BusState.{connection_of};
 ghost use Rattle.seq_bus_core.specs.Histories.{History};
 ghost use Rattle.seq_bus_core.specs.Recipients.{recipients};
 ghost use Rattle.seq_bus.specs.Bodies.{Answers};
-ghost use Rattle.seq_bus.specs.Served.{IsServedChange, IsServedQuery};
+ghost use Rattle.seq_bus.specs.Served.{IsServedChange};
 ghost use Rattle.seq_bus.specs.declared.answer.AskFault.TheVariants.{Gone as AskGone};
 ghost use Rattle.bus_view.specs.Views.{Knowledge, bus_seen, IsChanged, IsRead, IsUnread, IsNoted};
 ghost use Rattle.bus_view.specs.declared.refusal.Cause.TheVariants.{NoMemory};
@@ -60,7 +60,6 @@ pub trait BusView {
     /// Answers a query: appends the body of the reply, in little-endian order as from offset 0 on, or says that the name
     /// has no owner. After a fault nothing is appended.
     fn ask(&mut self, query: &Query, body: &mut Vec<u8>) -> Result<Asked, AskFault>
-        requires { IsServedQuery query.now }
         ensures answered { IfOk result (λ asked. Answers asked (answer (bus_seen (knows self.new)).state query.now) body.old.items body.new.items) }
         ensures read { OnOk result (IsRead alone (knows self.old) (knows self.new)) }
         ensures unanswered { OnErr result (body.new.items ≡ body.old.items) }

@@ -1,6 +1,13 @@
 //! The message bus as a program: `busd run` serves the message stream on standard input.
 #![tactic(auto)]
 
+ghost use Rattle.std.specs.Prelude.{◌≡◌, ◌⊎◌};
+ghost use Rattle.std.specs.Process.{exit_status};
+ghost use Rattle.clap.specs.Values.{kind_of};
+ghost use Rattle.busd_core.specs.Statuses.{status_of};
+ghost use Rattle.busd_core.specs.declared.fault.RunFault.TheVariants.{Output};
+ghost use Rattle.busd.specs.Statuses.{refusal_status};
+
 use busd_core::{RunFault, run};
 use clap::error::ErrorKind;
 use clap::{Command, Error};
@@ -21,7 +28,9 @@ fn command_line<'a>(alloc: Global) -> Result<Command<'a>, AllocError> {
 }
 
 /// Tells what is wrong with the command line, or prints the help that it asks for.
-fn refuse<R: Print + Eprint>(rt: &R, error: &Error) -> ExitCode {
+fn refuse<R: Print + Eprint>(rt: &R, error: &Error) -> ExitCode
+    ensures { (exit_status result ≡ refusal_status (kind_of error.now)) ⊎ (exit_status result ≡ status_of Output) }
+{
     if error.kind() == ErrorKind::OutOfMemory {
         return fail(rt, RunFault::Memory);
     }
@@ -31,7 +40,10 @@ fn refuse<R: Print + Eprint>(rt: &R, error: &Error) -> ExitCode {
     ExitCode::from(if error.use_stderr() { 2 } else { 0 })
 }
 
-fn fail<R: Eprint>(rt: &R, fault: RunFault) -> ExitCode {
+/// Tells why a run ended.
+fn fail<R: Eprint>(rt: &R, fault: RunFault) -> ExitCode
+    ensures { exit_status result ≡ status_of fault }
+{
     let _ = eprintln!(rt; "busd: {fault}");
     ExitCode::from(fault.status())
 }

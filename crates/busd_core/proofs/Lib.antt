@@ -1,5 +1,7 @@
 pub mod Known
+pub mod OneReading
 pub mod Reading
+pub mod Repeats
 pub mod Sending
 pub mod Served
 pub mod Stages

@@ -1,11 +1,14 @@
 -- What is sent, message after message.
-use Rattle.std.proofs.Common.{◌≡◌, ℕ, Bool, true, false, List, [], ◌∷◌, ◌++◌, Result, Ok, Err, refl, sym, ap, ◌∙◌, subst, append_assoc, append-nil, if◌then◌else◌}
+use Rattle.std.proofs.Common.{◌≡◌, ℕ, ◌<◌, ◌+◌, suc, Bool, true, false, List, [], ◌∷◌, ◌++◌, length, take, get_or, Option, Some, None, Result, Ok, Err, refl, sym, ap, ◌∙◌, subst, arith, append_assoc, append-nil, if◌then◌else◌}
+use Rattle.std.proofs.Math.Seq.{take-suc}
 use Rattle.message_core.specs.Messages.{Message, IsWritten}
 use Rattle.seq_bus_core.specs.declared.outcome.Outcome.{Outcome}
 use Rattle.seq_bus.specs.PlainBus.{PlainBus, IsMade}
 use Rattle.seq_bus_core.specs.declared.connection.Conn.{Conn}
 use Rattle.seq_bus_core.specs.declared.outcome.Reply.{Reply as ChangeReply}
 use Rattle.seq_bus_core.specs.declared.outcome.Reply.TheVariants.{Welcome}
+use Rattle.seq_bus_core.specs.declared.error_kind.ErrorKind.{ErrorKind}
+use Rattle.seq_bus_core.specs.declared.signal.AddressedSignal.{AddressedSignal}
 use Rattle.driver.specs.Calls.{expects_reply}
 use Rattle.driver.specs.OwnMessages.{Writes}
 use Rattle.busd_core.specs.declared.fault.Cause.{Cause}
@@ -14,7 +17,8 @@ use Rattle.busd_core.specs.declared.stage.Stage.TheVariants.{Named, Closed as St
 use Rattle.busd_core.specs.declared.session.Session.{Session}
 use Rattle.busd_core.specs.declared.session.Stop.{Stop}
 use Rattle.busd_core.specs.declared.session.Stop.TheVariants.{Closed, Memory}
-use Rattle.busd_core.specs.Serving.{Standing, Served, quiet, next_serial, sending, replying, closing, relaying, welcome_by, acquired_by, naming, turning_away, greeting, welcoming, hello_change, with_change}
+use Rattle.busd_core.specs.Serving.{Standing, Served, quiet, next_serial, sending, replying, closing, relaying, welcome_by, acquired_by, naming, turning_away, greeting, welcoming, hello_change, with_change, signal_by, announcing, done_by, number_by, error_by, answering}
+use Rattle.busd_core.specs.Courses.{goes_to}
 use Rattle.busd_core.specs.Runs.{AreWritten, IsOpen}
 use Rattle.busd_core.specs.Sessions.{standing_of, Grows, Shows, ClosesBy, Ends, Stops}
 
@@ -64,6 +68,44 @@ then_sent old mid new v make before held after (kept, standing, (first, f, e)) (
       ),
     )
 
+-- nothing more, after others
+then_nothing : (old mid new : Session) (v : Served) (before held after : List ℕ) → Shows old mid v before held → Shows mid new (quiet (standing_of mid)) held after → Shows old new v before after
+then_nothing old mid new v before held after (kept, standing, (first, f, e)) (same, stands, (later, none, d)) =
+    (same ∙ kept, stands ∙ standing, (first, f, d ∙ ap (λ (l : List ℕ). held ++ l) none ∙ append-nil held ∙ e))
+
+-- one more message after others, where it is due
+then_if : (b : Bool) (old mid new : Session) (v : Served) (make : ℕ → Message) (before held after : List ℕ) → Shows old mid v before held
+    → Shows mid new (if b then sending make (quiet (standing_of mid)) else quiet (standing_of mid)) held after → Shows old new (if b then sending make v else v) before after
+then_if true old mid new v make before held after first later = then_sent old mid new v make before held after first later
+then_if false old mid new v make before held after first later = then_nothing old mid new v before held after first later
+
+-- the answer to a call, after others
+pub then_answered : (old mid new : Session) (m : Message) (number : ℕ) (answer : Result (Option ℕ) ErrorKind) (v : Served) (before held after : List ℕ) → Shows old mid v before held
+    → Shows mid new (answering m number answer (quiet (standing_of mid))) held after → Shows old new (answering m number answer v) before after
+then_answered old mid new m number (Ok None) v before held after first later = then_if (expects_reply m) old mid new v (done_by m number) before held after first later
+then_answered old mid new m number (Ok (Some told)) v before held after first later = then_if (expects_reply m) old mid new v (number_by m number told) before held after first later
+then_answered old mid new m number (Err error) v before held after first later = then_if (expects_reply m) old mid new v (error_by m (Some number) error) before held after first later
+
+announcing_last : (number : ℕ) (signals : List AddressedSignal) (a : AddressedSignal) (v : Served)
+    → announcing number (signals ++ a ∷ []) v ≡ (if goes_to number a.to then sending (signal_by a.signal) (announcing number signals v) else announcing number signals v)
+announcing_last number [] a v = refl
+announcing_last number (s ∷ signals) a v = announcing_last number signals a (if goes_to number s.to then sending (signal_by s.signal) v else v)
+
+take_one_more : (signals : List AddressedSignal) (k : ℕ) (a d : AddressedSignal) → k < length signals → a ≡ get_or signals k d → take (k + 1) signals ≡ take k signals ++ a ∷ []
+take_one_more signals k a d h is =
+    let more : k + 1 ≡ suc k = omega arith in
+    ap (λ n. take n signals) more ∙ take-suc signals k d h ∙ ap (λ (x : AddressedSignal). take k signals ++ x ∷ []) (sym is)
+
+-- one signal more of those of a change
+pub then_announced : (old mid new : Session) (number : ℕ) (signals : List AddressedSignal) (k : ℕ) (a d : AddressedSignal) (before held after : List ℕ) → k < length signals → a ≡ get_or signals k d
+    → Shows old mid (announcing number (take k signals) (quiet (standing_of old))) before held
+    → Shows mid new (if goes_to number a.to then sending (signal_by a.signal) (quiet (standing_of mid)) else quiet (standing_of mid)) held after
+    → Shows old new (announcing number (take (k + 1) signals) (quiet (standing_of old))) before after
+then_announced old mid new number signals k a d before held after h is first later =
+    let v = announcing number (take k signals) (quiet (standing_of old)) in
+    subst (λ (x : Served). Shows old new x before after) (sym (ap (λ (l : List AddressedSignal). announcing number l (quiet (standing_of old))) (take_one_more signals k a d h is) ∙ announcing_last number (take k signals) a (quiet (standing_of old))))
+    (then_if (goes_to number a.to) old mid new v (signal_by a.signal) before held after first later)
+
 pub nothing_grown : (before after : List ℕ) → after ≡ before → Grows before after
 nothing_grown before after e = ([], e ∙ sym (append-nil before))
 
@@ -77,8 +119,16 @@ pub stage_of_either : (b : Bool) (v w : Served) (stage : Stage) → v.standing.s
 stage_of_either true v w stage p q = p
 stage_of_either false v w stage p q = q
 
+pub stage_replying : (m : Message) (make : ℕ → Message) (v : Served) → (replying m make v).standing.stage ≡ v.standing.stage
+stage_replying m make v = stage_of_either (expects_reply m) (sending make v) v v.standing.stage refl refl
+
 pub stage_replied : (m : Message) (make : ℕ → Message) (s : Standing) → (replying m make (quiet s)).standing.stage ≡ s.stage
-stage_replied m make s = stage_of_either (expects_reply m) (sending make (quiet s)) (quiet s) s.stage refl refl
+stage_replied m make s = stage_replying m make (quiet s)
+
+pub stage_announced : (number : ℕ) (signals : List AddressedSignal) (v : Served) → (announcing number signals v).standing.stage ≡ v.standing.stage
+stage_announced number [] v = refl
+stage_announced number (a ∷ signals) v =
+    stage_announced number signals (if goes_to number a.to then sending (signal_by a.signal) v else v) ∙ stage_of_either (goes_to number a.to) (sending (signal_by a.signal) v) v v.standing.stage refl refl
 
 is_open_named : (stage : Stage) (number : ℕ) (cause : Cause) → stage ≡ Named number → stage ≡ StageClosed cause → ⊥
 is_open_named stage number cause p q = cc
@@ -108,6 +158,11 @@ pub stops_as : (old same new : Session) (v : Served) (before after : List ℕ) (
 stops_as old same new v before after (Ok u) e (kept, standing, sent) = (kept ∙ e, standing, sent)
 stops_as old same new v before after (Err Memory) e grown = grown
 stops_as old same new v before after (Err (Closed cause)) e nothing = absurd nothing
+
+-- without memory it does not matter what was to be sent
+pub stops_for : (old new : Session) (v w : Served) (before after : List ℕ) (stop : Stop) → Stops old new v before after (Err stop) → Stops old new w before after (Err stop)
+stops_for old new v w before after Memory grown = grown
+stops_for old new v w before after (Closed cause) nothing = absurd nothing
 
 -- the connection is closed, once all was sent, for no fault in what was received
 pub ends_closed : (old mid new : Session) (v : Served) (cause : Cause) (stop : Stop) (before after : List ℕ) → Shows old mid v before after

@@ -1,12 +1,11 @@
 -- A connection that has a name keeps it.
-use Rattle.std.proofs.Common.{◌≡◌, inl, inr, ℕ, Bool, true, false, ◌&&◌, List, Option, Some, None, Result, Ok, Err, refl, ap, subst}
+use Rattle.std.proofs.Common.{◌≡◌, ◌∙◌, inl, inr, ℕ, Bool, true, false, ◌&&◌, List, Option, Some, None, Result, Ok, Err, refl, subst}
 use Rattle.match_rules.specs.Kinds.{kind_of}
 use Rattle.seq_bus_core.specs.Answers.{Answer, answer}
 use Rattle.seq_bus_core.specs.declared.error_kind.ErrorKind.{ErrorKind}
 use Rattle.seq_bus_core.specs.declared.error_kind.ErrorKind.TheVariants.{NoMemory, NameHasNoOwner}
 use Rattle.seq_bus_core.specs.declared.change.Change.{Change}
 use Rattle.seq_bus_core.specs.declared.outcome.Outcome.{Outcome}
-use Rattle.seq_bus_core.specs.declared.outcome.Reply.{Reply as ChangeReply}
 use Rattle.seq_bus_core.specs.Recipients.{is_call}
 use Rattle.seq_bus_core.specs.Tickets.{bus_step}
 use Rattle.seq_bus.specs.declared.TheConstants.{SEAT}
@@ -25,11 +24,11 @@ use Rattle.busd_core.specs.declared.request.Request.TheVariants.{Ask, Make}
 use Rattle.busd_core.specs.declared.stage.Stage.TheVariants.{Unnamed, Named}
 use Rattle.busd_core.specs.declared.session.Session.{Session}
 use Rattle.busd_core.specs.declared.session.Stop.{Stop}
-use Rattle.busd_core.specs.Serving.{Standing, Known, closing, losing, taking, passing, quiet, error_by, refusing, answer_by, with_change, telling, request_in, error_told, done_by, answering, making, asking, serve_known, serve_named, serve_unnamed, serve}
+use Rattle.busd_core.specs.Serving.{Standing, Served, Known, closing, losing, taking, passing, quiet, error_by, refusing, answer_by, with_change, telling, request_in, answer_told, number_by, done_by, announcing, answering, telling_change, making, asking, serve_known, serve_named, serve_unnamed, serve}
 use Rattle.busd_core.specs.Courses.{course_of}
 use Rattle.busd_core.specs.Runs.{IsOpen}
 use Rattle.busd_core.specs.Sessions.{standing_of, Stops, Ends, ReadsOrWants, StopsOrWants, StopsOrLoses, ServesKnown}
-use Rattle.busd_core.proofs.Sending.{stage_of_either, stage_replied, ends_stopped, stops_as}
+use Rattle.busd_core.proofs.Sending.{stage_of_either, stage_replied, stage_replying, stage_announced, ends_stopped, stops_as}
 
 pub stage_refused : (m : Message) (caller : Option ℕ) (error : ErrorKind) (s : Standing) → (refusing m caller error s).standing.stage ≡ s.stage
 stage_refused m caller error s = stage_replied m (error_by m caller error) s
@@ -38,14 +37,18 @@ stage_told : (m : Message) (number : ℕ) (s : Standing) (o : Option Answer) →
 stage_told m number s None = stage_refused m (Some number) NameHasNoOwner s
 stage_told m number s (Some told) = stage_replied m (answer_by m number told) s
 
-stage_answered : (m : Message) (number : ℕ) (s : Standing) (error : Option ErrorKind) → (answering m number s error).standing.stage ≡ s.stage
-stage_answered m number s None = stage_replied m (done_by m number) s
-stage_answered m number s (Some error) = stage_refused m (Some number) error s
+stage_answered : (m : Message) (number : ℕ) (answer : Result (Option ℕ) ErrorKind) (v : Served) → (answering m number answer v).standing.stage ≡ v.standing.stage
+stage_answered m number (Ok None) v = stage_replying m (done_by m number) v
+stage_answered m number (Ok (Some told)) v = stage_replying m (number_by m number told) v
+stage_answered m number (Err error) v = stage_replying m (error_by m (Some number) error) v
+
+stage_changed : (m : Message) (number : ℕ) (outcome : Outcome) (v : Served) → (telling_change m number outcome v).standing.stage ≡ v.standing.stage
+stage_changed m number outcome v = stage_answered m number (answer_told outcome.reply) (announcing number outcome.signals v) ∙ stage_announced number outcome.signals v
 
 stage_asked : (m : Message) (number : ℕ) (s : Standing) (r : Result Request ErrorKind) → (asking m number s r).standing.stage ≡ s.stage
 stage_asked m number s (Err error) = stage_refused m (Some number) error s
 stage_asked m number s (Ok (Ask q)) = stage_told m number s (answer (bus_now s.bus).state q)
-stage_asked m number s (Ok (Make change)) = stage_answered m number (record s { bus = with_change s.bus change }) (error_told (bus_step (bus_now s.bus) SEAT change).1.reply)
+stage_asked m number s (Ok (Make change)) = stage_changed m number (bus_step (bus_now s.bus) SEAT change).1 (quiet (record s { bus = with_change s.bus change }))
 
 stage_known : (m : Message) (number : ℕ) (s : Standing) (known : Known) → (serve_known m number s known).standing.stage ≡ s.stage
 stage_known m number s None = stage_refused m (Some number) NoMemory s
@@ -101,12 +104,12 @@ call_served old new m number before after request result is_open call (inr e) (i
 -- the change was made, and the call answered so
 pub change_made : (old new : Session) (m : Message) (number : ℕ) (change : Change) (bus : PlainBus) (outcome : Outcome) (before after : List ℕ) (result : Result (Unit {0}) Stop)
     → IsMade old.bus bus change outcome
-    → Stops (record old { bus = bus }) new (answering m number (record (standing_of old) { bus = bus }) (error_told outcome.reply)) before after result
+    → Stops (record old { bus = bus }) new (telling_change m number outcome (quiet (record (standing_of old) { bus = bus }))) before after result
     → Stops old new (making m number (standing_of old) change) before after result
 change_made old new m number change bus outcome before after result made stops =
-    let here = stops_as (record old { bus = bus }) old new (answering m number (record (standing_of old) { bus = bus }) (error_told outcome.reply)) before after result refl stops in
-    subst (λ (r : ChangeReply). Stops old new (answering m number (record (standing_of old) { bus = with_change old.bus change }) (error_told r)) before after result) (ap (λ (o : Outcome). o.reply) made.told)
-    (subst (λ (b : PlainBus). Stops old new (answering m number (record (standing_of old) { bus = b }) (error_told outcome.reply)) before after result) made.published here)
+    let here = stops_as (record old { bus = bus }) old new (telling_change m number outcome (quiet (record (standing_of old) { bus = bus }))) before after result refl stops in
+    subst (λ (o : Outcome). Stops old new (telling_change m number o (quiet (record (standing_of old) { bus = with_change old.bus change }))) before after result) made.told
+    (subst (λ (b : PlainBus). Stops old new (telling_change m number outcome (quiet (record (standing_of old) { bus = b }))) before after result) made.published here)
 
 -- ## A message that is no call to the bus
 

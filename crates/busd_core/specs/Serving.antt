@@ -3,18 +3,22 @@ use Rattle.std.specs.Prelude.{ℕ, ◌+◌, true, ◌==◌, Option, Some, None, 
 use Rattle.names.specs.UniqueName.{unique_text}
 use Rattle.marshal_core.specs.Types.{no_types, one_type}
 use Rattle.marshal_core.specs.Values.{no_values, values}
+use Rattle.owner_queues.specs.Replies.{code_of}
 use Rattle.owner_queues.specs.declared.request.Profile.TheVariants.{Two}
 use Rattle.match_rules.specs.Kinds.{kind_of}
 use Rattle.seq_bus_core.specs.Answers.{Answer, answer}
 use Rattle.seq_bus_core.specs.Recipients.{is_call}
 use Rattle.seq_bus_core.specs.declared.change.Change.{Change}
-use Rattle.seq_bus_core.specs.declared.change.Change.TheVariants.{Hello as SaysHello, AddMatch, RemoveMatch}
+use Rattle.seq_bus_core.specs.declared.change.Change.TheVariants.{Hello as SaysHello, Request as Requests, Release, AddMatch, RemoveMatch}
 use Rattle.seq_bus_core.specs.declared.error_kind.ErrorKind.{ErrorKind}
-use Rattle.seq_bus_core.specs.declared.error_kind.ErrorKind.TheVariants.{Failed, NoMemory, NameHasNoOwner, ServiceUnknown, UnknownMethod, MatchRuleNotFound, LimitsExceeded as LimitsError}
+use Rattle.seq_bus_core.specs.declared.error_kind.ErrorKind.TheVariants.{Failed, NoMemory, InvalidArgs, NameHasNoOwner, ServiceUnknown, UnknownMethod, MatchRuleNotFound, LimitsExceeded as LimitsError}
+use Rattle.seq_bus_core.specs.declared.outcome.Outcome.{Outcome}
 use Rattle.seq_bus_core.specs.declared.outcome.Reply.{Reply as ChangeReply}
-use Rattle.seq_bus_core.specs.declared.outcome.Reply.TheVariants.{Welcome, Done, RuleNotFound}
+use Rattle.seq_bus_core.specs.declared.outcome.Reply.TheVariants.{Welcome, Done, OfQueue, InvalidName, RuleNotFound}
 use Rattle.seq_bus_core.specs.declared.outcome.Reply.TheVariants as of_change
 use Rattle.seq_bus_core.specs.declared.query.Query.TheVariants as query
+use Rattle.seq_bus_core.specs.declared.signal.AddressedSignal.{AddressedSignal}
+use Rattle.seq_bus_core.specs.declared.signal.BusSignal.{BusSignal}
 use Rattle.seq_bus_core.specs.declared.signal.BusSignal.TheVariants.{NameAcquired}
 use Rattle.seq_bus_core.specs.Tickets.{opening_bus, bus_step}
 use Rattle.seq_bus.specs.declared.TheConstants.{SEAT}
@@ -26,7 +30,7 @@ use Rattle.driver.specs.declared.call.Call.{Call}
 use Rattle.driver.specs.declared.call.Call.TheVariants as call
 use Rattle.driver.specs.declared.reply.ReplyTo.{ReplyTo}
 use Rattle.driver.specs.Calls.{Reading, is_call_to_bus, expects_reply, is_hello, error_of}
-use Rattle.driver.specs.OwnMessages.{reply_header, of_strings, error_message, signal_message}
+use Rattle.driver.specs.OwnMessages.{reply_header, number_types, number_values, of_strings, error_message, signal_message}
 use Rattle.busd_core.specs.declared.fault.Cause.{Cause}
 use Rattle.busd_core.specs.declared.course.Course.{Course}
 use Rattle.busd_core.specs.declared.course.Course.TheVariants.{Dropped, Returned, Undeliverable, TooLong, Left}
@@ -36,7 +40,7 @@ use Rattle.busd_core.specs.declared.request.Request.{Request}
 use Rattle.busd_core.specs.declared.request.Request.TheVariants.{Ask, Make}
 use Rattle.busd_core.specs.declared.stage.Stage.{Stage}
 use Rattle.busd_core.specs.declared.stage.Stage.TheVariants.{Unnamed, Named, Closed}
-use Rattle.busd_core.specs.Courses.{relayed, course_of}
+use Rattle.busd_core.specs.Courses.{goes_to, relayed, course_of}
 
 -- a connection: how far it has come, the serial of the last message that the bus sent it, and the bus
 pub record Standing : Type 0 where
@@ -82,6 +86,14 @@ error_by m caller error serial = error_message serial (reply_to m caller) error
 abbrev pub refusing : Message → Option ℕ → ErrorKind → Standing → Served
 refusing m caller error s = replying m (error_by m caller error) (quiet s)
 
+abbrev pub signal_by : BusSignal → ℕ → Message
+signal_by signal serial = signal_message serial signal
+
+-- of the signals of a change those that go to the connection of this number, in order
+abbrev pub announcing : ℕ → List AddressedSignal → Served → Served
+announcing number [] v = v
+announcing number (a ∷ signals) v = announcing number signals (if goes_to number a.to then sending (signal_by a.signal) v else v)
+
 abbrev pub closing : Cause → Served → Served
 closing cause v = record v { standing = record v.standing { stage = Closed cause } }
 
@@ -100,7 +112,7 @@ abbrev pub welcome_by : Message → ℕ → ℕ → Message
 welcome_by m number serial = of_strings (reply_header serial (reply_to m (Some number))) (unique_text number ∷ [])
 
 abbrev pub acquired_by : ℕ → ℕ → Message
-acquired_by number serial = signal_message serial (NameAcquired (unique_text number) number)
+acquired_by number serial = signal_by (NameAcquired (unique_text number) number) serial
 
 -- the connection has its number, and is told so
 abbrev pub naming : Message → ℕ → Standing → Served
@@ -140,8 +152,13 @@ telling m number s (Some told) = replying m (answer_by m number told) (quiet s)
 -- What a call of the connection of this number asks of the bus, or the error that it is answered. The bus serves no other yet.
 abbrev pub request_of : ℕ → Call → Result Request ErrorKind
 request_of number call.Hello = Err Failed
+request_of number (call.RequestName name flags) = Ok (Make (Requests number name flags))
+request_of number (call.ReleaseName name) = Ok (Make (Release number name))
 request_of number (call.GetNameOwner name) = Ok (Ask (query.GetNameOwner name))
 request_of number (call.NameHasOwner name) = Ok (Ask (query.NameHasOwner name))
+request_of number call.ListNames = Ok (Ask query.ListNames)
+request_of number call.ListActivatableNames = Ok (Ask query.ListActivatableNames)
+request_of number (call.ListQueuedOwners name) = Ok (Ask (query.ListQueuedOwners name))
 request_of number (call.AddMatch rule) = Ok (Make (AddMatch number rule))
 request_of number (call.RemoveMatch rule) = Ok (Make (RemoveMatch number rule))
 request_of number other = Err UnknownMethod
@@ -150,24 +167,34 @@ abbrev pub request_in : ℕ → Reading Call → Result Request ErrorKind
 request_in number (Err fault) = Err (error_of fault)
 request_in number (Ok c) = request_of number c
 
--- the error that a call is answered whose change was told so; none where the change was made
-abbrev pub error_told : ChangeReply → Option ErrorKind
-error_told Done = None
-error_told of_change.LimitsExceeded = Some LimitsError
-error_told RuleNotFound = Some MatchRuleNotFound
-error_told other = Some Failed
+-- What a call is answered whose change was told so: nothing, a number, or an error.
+abbrev pub answer_told : ChangeReply → Result (Option ℕ) ErrorKind
+answer_told Done = Ok None
+answer_told (OfQueue reply) = Ok (Some (code_of reply))
+answer_told InvalidName = Err InvalidArgs
+answer_told RuleNotFound = Err MatchRuleNotFound
+answer_told of_change.LimitsExceeded = Err LimitsError
+answer_told other = Err Failed
 
 -- a reply without a body
 abbrev pub done_by : Message → ℕ → ℕ → Message
 done_by m number serial = message_of (reply_header serial (reply_to m (Some number))) no_types no_values
 
-abbrev pub answering : Message → ℕ → Standing → Option ErrorKind → Served
-answering m number s None = replying m (done_by m number) (quiet s)
-answering m number s (Some error) = refusing m (Some number) error s
+abbrev pub number_by : Message → ℕ → ℕ → ℕ → Message
+number_by m number told serial = message_of (reply_header serial (reply_to m (Some number))) number_types (number_values told)
 
--- the bus makes the change, and the call is answered by what the change is told
+abbrev pub answering : Message → ℕ → Result (Option ℕ) ErrorKind → Served → Served
+answering m number (Ok None) v = replying m (done_by m number) v
+answering m number (Ok (Some told)) v = replying m (number_by m number told) v
+answering m number (Err error) v = replying m (error_by m (Some number) error) v
+
+-- the signals that go to the caller come first, then the answer to its call
+abbrev pub telling_change : Message → ℕ → Outcome → Served → Served
+telling_change m number outcome v = answering m number (answer_told outcome.reply) (announcing number outcome.signals v)
+
+-- the bus makes the change, and what it is told is sent
 abbrev pub making : Message → ℕ → Standing → Change → Served
-making m number s change = answering m number (record s { bus = with_change s.bus change }) (error_told (bus_step (bus_now s.bus) SEAT change).1.reply)
+making m number s change = telling_change m number (bus_step (bus_now s.bus) SEAT change).1 (quiet (record s { bus = with_change s.bus change }))
 
 abbrev pub asking : Message → ℕ → Standing → Result Request ErrorKind → Served
 asking m number s (Err error) = refusing m (Some number) error s

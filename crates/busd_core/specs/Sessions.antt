@@ -4,7 +4,7 @@ use Rattle.std.specs.declared.alloc.AllocError.{AllocError}
 use Rattle.seq_bus_core.specs.declared.error_kind.ErrorKind.{ErrorKind}
 use Rattle.seq_bus_core.specs.declared.error_kind.ErrorKind.TheVariants.{NoMemory}
 use Rattle.seq_bus_core.specs.declared.change.Change.TheVariants.{Leave}
-use Rattle.seq_bus.specs.Served.{IsServedChange, IsServedQuery}
+use Rattle.seq_bus.specs.Served.{IsServedChange}
 use Rattle.message_core.specs.Messages.{Message}
 use Rattle.message_core.specs.Said.{said}
 use Rattle.message.specs.Framing.{IsWaiting, IsTaken, IsJudged}
@@ -86,7 +86,7 @@ ReadsOrWants m number result = ((reading : Reading Call) × IsCall m reading × 
 
 -- what a plain bus serves today
 abbrev pub IsServedRequest : Request → Type 0
-IsServedRequest (Ask query) = IsServedQuery query
+IsServedRequest (Ask query) = Unit {0}
 IsServedRequest (Make change) = IsServedChange change
 
 -- a call of the connection of this number is served, or there was no memory, and it is answered so

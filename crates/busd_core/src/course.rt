@@ -41,7 +41,8 @@ pub fn is_call(kind: MessageKind) -> bool
     matches!(kind, MessageKind::MethodCall)
 }
 
-fn goes_to(number: u64, recipients: &[Conn]) -> bool
+/// Whether the connection of this number is among them.
+pub fn goes_to(number: u64, recipients: &[Conn]) -> bool
     ensures { result ≡ goes_to number recipients.now }
 {
     recipients.iter().any(|conn| conn.number == number)

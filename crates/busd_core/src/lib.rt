@@ -4,8 +4,13 @@
 //! for a stream.
 #![tactic(auto)]
 
+mod calls;
 mod course;
 mod fault;
+mod greeting;
+mod laws;
+mod outgoing;
+mod passing;
 mod request;
 mod session;
 mod stage;
@@ -13,6 +18,7 @@ mod stream;
 mod transfer;
 
 pub use fault::{Cause, RunFault};
+pub use laws::runs_are_repeated;
 pub use stream::run;
 
 #[cfg(test)]

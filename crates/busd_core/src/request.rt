@@ -8,7 +8,7 @@ ghost use Rattle.seq_bus_core.specs.BusState.{BusState};
 ghost use Rattle.seq_bus.specs.Bodies.{IsBody, answer_type, answer_value};
 ghost use Rattle.message_core.specs.Said.{said};
 ghost use Rattle.driver.specs.OwnMessages.{IsReplyBody};
-ghost use Rattle.busd_core.specs.Serving.{request_of, reply_to, error_told};
+ghost use Rattle.busd_core.specs.Serving.{request_of, reply_to, answer_told};
 ghost use Rattle.busd_core.specs.Sessions.{ReadsOrWants, IsServedRequest};
 
 use driver::{Call, ReplyBody, ReplyTo, read_call};
@@ -44,8 +44,20 @@ fn request_of(number: u64, call: Call) -> Result<Request, ErrorKind>
 {
     match call {
         Call::Hello => Err(ErrorKind::Failed),
+        Call::RequestName { name, flags } => Ok(Request::Make(Change::Request {
+            connection: number,
+            name,
+            flags,
+        })),
+        Call::ReleaseName { name } => Ok(Request::Make(Change::Release {
+            connection: number,
+            name,
+        })),
         Call::GetNameOwner { name } => Ok(Request::Ask(Query::GetNameOwner(name))),
         Call::NameHasOwner { name } => Ok(Request::Ask(Query::NameHasOwner(name))),
+        Call::ListNames => Ok(Request::Ask(Query::ListNames)),
+        Call::ListActivatableNames => Ok(Request::Ask(Query::ListActivatableNames)),
+        Call::ListQueuedOwners { name } => Ok(Request::Ask(Query::ListQueuedOwners(name))),
         Call::AddMatch { rule } => Ok(Request::Make(Change::AddMatch {
             connection: number,
             rule,
@@ -69,15 +81,17 @@ pub fn request_in(alloc: Global, number: u64, message: &Message) -> Result<Reque
     }
 }
 
-/// The error that a call is answered whose change was told so. Without one the reply is empty.
-pub fn error_told(reply: Reply) -> Option<ErrorKind>
-    ensures { result ≡ error_told reply }
+/// What a call is answered whose change was told so: nothing, a number, or an error.
+pub fn answer_told(reply: Reply) -> Result<Option<u32>, ErrorKind>
+    ensures { result ≡ answer_told reply }
 {
     match reply {
-        Reply::Done => None,
-        Reply::LimitsExceeded => Some(ErrorKind::LimitsExceeded),
-        Reply::RuleNotFound => Some(ErrorKind::MatchRuleNotFound),
-        _ => Some(ErrorKind::Failed),
+        Reply::Done => Ok(None),
+        Reply::OfQueue(reply) => Ok(Some(reply.code())),
+        Reply::InvalidName => Err(ErrorKind::InvalidArgs),
+        Reply::RuleNotFound => Err(ErrorKind::MatchRuleNotFound),
+        Reply::LimitsExceeded => Err(ErrorKind::LimitsExceeded),
+        _ => Err(ErrorKind::Failed),
     }
 }
 

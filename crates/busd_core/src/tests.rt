@@ -1,6 +1,7 @@
 //! Runs over memory.
 
 mod messages;
+mod owners;
 
 use crate::{Cause, RunFault, run};
 use messages::*;
@@ -72,7 +73,6 @@ fn calls_after_hello(rt: HostRuntime) -> Result<(), Fail> {
         (none, none),
         (GET_NAME_OWNER, OWNER),
         (HELLO_AGAIN, FAILED),
-        (LIST_NAMES, UNKNOWN_METHOD),
         (OTHER_METHOD, UNKNOWN_METHOD),
         (MONITOR_METHOD, INVALID_ARGS),
         (OTHER_INTERFACE, UNKNOWN_INTERFACE),

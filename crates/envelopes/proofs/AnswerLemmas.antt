@@ -1,12 +1,45 @@
--- The body that a bus appended is that of an answer.
-use Rattle.std.proofs.Common.{◌≡◌, ℕ, List, [], Option, Some, None, refl, sym, subst}
-use Rattle.seq_bus_core.specs.Answers.{Answer, answer}
+-- The body that a bus appended is that of an answer, which is read from it again.
+use Rattle.std.proofs.Common.{◌≡◌, ℕ, List, [], ◌∷◌, Option, Some, None, Ok, refl, sym, ap, ◌∙◌, subst, length}
+use Rattle.std.specs.Prelude.{map}
+use mathlib.Core.List.{append-nil}
+use Rattle.names.specs.Texts.{Text as Name}
+use Rattle.marshal_core.specs.declared.order.Order.TheVariants.{Little}
+use Rattle.marshal_core.specs.Reading.{decode_at}
+use Rattle.marshal_core.specs.Types.{one_type}
+use Rattle.marshal_core.specs.Values.{a_basic, a_string, values}
+use Rattle.marshal.proofs.Decoded.{is_read}
+use Rattle.seq_bus_core.specs.Answers.{Answer, OneName, HasOwner, NameList, answer}
 use Rattle.seq_bus_core.specs.BusState.{BusState}
 use Rattle.seq_bus_core.specs.declared.query.Query.{Query}
-use Rattle.seq_bus.specs.Bodies.{Answers, IsBody}
+use Rattle.seq_bus.specs.Bodies.{Answers, IsBody, answer_type, answer_value}
 use Rattle.seq_bus.specs.declared.answer.Asked.TheVariants.{Body}
 use Rattle.envelopes.specs.declared.answer.BodyKind.{BodyKind}
-use Rattle.envelopes.specs.Answers.{Carries, kind_of}
+use Rattle.envelopes.specs.Answers.{SpelledAnswer, Carries, kind_of, types_of, names_in, answer_in, answer_read, answer_of}
+
+same_types : (told : Answer) → types_of (kind_of told) ≡ one_type (answer_type told)
+same_types (OneName name) = refl
+same_types (HasOwner owned) = refl
+same_types (NameList names) = refl
+
+same_names : (names : List Name) → names_in (values (map (λ name. a_basic (a_string name)) names)) ≡ names
+same_names [] = refl
+same_names (name ∷ names) = ap (λ others. name ∷ others) (same_names names)
+
+in_again : (told : Answer) → answer_in (values (answer_value told ∷ [])) ≡ told
+in_again (OneName name) = refl
+in_again (HasOwner owned) = refl
+in_again (NameList names) = ap NameList (same_names names)
+
+pub carried_again : (body : SpelledAnswer) (told : Answer) → Carries body told → answer_of body ≡ told
+carried_again body told carries =
+    let types = ap types_of carries.kind ∙ same_types told in
+    let read : decode_at Little (one_type (answer_type told)) 0 body.bytes ≡ Ok (values (answer_value told ∷ []), length body.bytes) =
+    is_read Little (one_type (answer_type told)) 0 body.bytes body.bytes [] (values (answer_value told ∷ [])) (sym (append-nil body.bytes)) carries.spelled in
+    ap (λ ts. answer_read (decode_at Little ts 0 body.bytes)) types ∙ ap answer_read read ∙ in_again told
+
+-- what a body carries is what is read from it
+pub carries_read : (body : SpelledAnswer) (told : Answer) → Carries body told → Carries body (answer_of body)
+carries_read body told carries = subst (Carries body) (sym (carried_again body told carries)) carries
 
 pub carried : (state : BusState) (query : Query) (kind : BodyKind) (bytes : List ℕ) →
     ((told : Answer) → answer state query ≡ Some told → kind ≡ kind_of told) → Answers Body (answer state query) [] bytes →

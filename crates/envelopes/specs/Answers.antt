@@ -1,5 +1,12 @@
 -- The bodies of replies to queries, in bytes.
-use Rattle.std.specs.Prelude.{◌≡◌, ℕ, List}
+use Rattle.std.specs.Prelude.{◌≡◌, ℕ, Result, Ok, Err, List, [], ◌∷◌}
+use Rattle.names.specs.Texts.{Text as Name}
+use Rattle.marshal_core.specs.declared.fault.MarshalFault.{MarshalFault}
+use Rattle.marshal_core.specs.declared.data_type.BasicType.TheVariants as of_type
+use Rattle.marshal_core.specs.declared.order.Order.TheVariants.{Little}
+use Rattle.marshal_core.specs.Reading.{decode_at}
+use Rattle.marshal_core.specs.Types.{Tys, basic, array, one_type}
+use Rattle.marshal_core.specs.Values.{a_basic, a_boolean, a_string, an_array, Vals, no_values, more_values}
 use Rattle.seq_bus_core.specs.Answers.{Answer, OneName, HasOwner, NameList}
 use Rattle.seq_bus.specs.Bodies.{IsBody}
 use Rattle.envelopes.specs.declared.answer.BodyKind.{BodyKind}
@@ -18,3 +25,28 @@ kind_of (NameList names) = Texts
 pub record Carries (body : SpelledAnswer) (answer : Answer) : Type 0 where
   pub kind : body.kind ≡ kind_of answer
   pub spelled : IsBody answer body.bytes
+
+-- ## The answer that a body carries, as a function of it
+
+abbrev pub types_of : BodyKind → Tys
+types_of Text = one_type (basic of_type.String)
+types_of Boolean = one_type (basic of_type.Boolean)
+types_of Texts = one_type (array (basic of_type.String))
+
+abbrev pub names_in : Vals → List Name
+names_in no_values = []
+names_in (more_values (a_basic (a_string name)) vs) = name ∷ names_in vs
+names_in (more_values v vs) = names_in vs
+
+abbrev pub answer_in : Vals → Answer
+answer_in (more_values (a_basic (a_string name)) vs) = OneName name
+answer_in (more_values (a_basic (a_boolean owned)) vs) = HasOwner owned
+answer_in (more_values (an_array t names) vs) = NameList (names_in names)
+answer_in vs = NameList []
+
+abbrev pub answer_read : Result (Vals × ℕ) MarshalFault → Answer
+answer_read (Ok read) = answer_in read.0
+answer_read (Err fault) = NameList []
+
+abbrev pub answer_of : SpelledAnswer → Answer
+answer_of body = answer_read (decode_at Little (types_of body.kind) 0 body.bytes)

@@ -1,5 +1,5 @@
 -- What is on its way to a connection. (D-Bus Specification: "Message Bus Messages")
-use Rattle.std.specs.Prelude.{◌≡◌, ℕ, List, [], ◌∷◌}
+use Rattle.std.specs.Prelude.{ℕ, List, [], ◌∷◌}
 use Rattle.names.specs.UniqueName.{unique_text}
 use Rattle.marshal_core.specs.Types.{Tys, no_types, one_type}
 use Rattle.marshal_core.specs.Values.{Vals, no_values, values}
@@ -17,7 +17,6 @@ use Rattle.envelopes.specs.declared.own_message.OwnMessage.{OwnMessage}
 use Rattle.envelopes.specs.declared.own_message.OwnMessage.TheVariants as message
 use Rattle.envelopes.specs.declared.own_message.ReplyContent.{ReplyContent}
 use Rattle.envelopes.specs.declared.own_message.ReplyContent.TheVariants as reply
-use Rattle.envelopes.specs.Answers.{Carries}
 
 -- ## Messages of the bus, before they are numbered
 
@@ -60,18 +59,18 @@ own_message serial (Errs to error) = error_message serial to error
 
 -- ## As they are held
 
-abbrev pub IsCarried : ReplyContent → Carried → Type 0
-IsCarried reply.Empty carried = carried ≡ Nothing
-IsCarried (reply.Number n) carried = carried ≡ Number n
-IsCarried (reply.UniqueName number) carried = carried ≡ UniqueName number
-IsCarried (reply.Answer body) carried = (answer : Answer) × Carries body answer × (carried ≡ Answered answer)
+abbrev pub carried_of : ReplyContent → Carried
+carried_of reply.Empty = Nothing
+carried_of (reply.Number n) = Number n
+carried_of (reply.UniqueName number) = UniqueName number
+carried_of (reply.Answer answer) = Answered answer
 
-abbrev pub IsOwn : OwnMessage → Own → Type 0
-IsOwn (message.Signal signal) own = own ≡ Signals signal
-IsOwn (message.Reply to held) own = (carried : Carried) × IsCarried held carried × (own ≡ Replies to carried)
-IsOwn (message.Error to error) own = own ≡ Errs to error
+abbrev pub own_of : OwnMessage → Own
+own_of (message.Signal signal) = Signals signal
+own_of (message.Reply to held) = Replies to (carried_of held)
+own_of (message.Error to error) = Errs to error
 
 -- what a content says
-abbrev pub IsSaid : Content → Said → Type 0
-IsSaid (content.Relayed bytes) said = said ≡ Relays bytes
-IsSaid (content.Own held) said = (own : Own) × IsOwn held own × (said ≡ Tells own)
+abbrev pub said_of : Content → Said
+said_of (content.Relayed bytes) = Relays bytes
+said_of (content.Own held) = Tells (own_of held)

@@ -3,6 +3,7 @@
 ghost use Rattle.std.specs.Prelude.{◌≡◌, Some, IfOk};
 ghost use Rattle.seq_bus_core.specs.Answers.{Answer, answer};
 ghost use Rattle.seq_bus_core.specs.BusState.{BusState};
+ghost use Rattle.seq_bus.specs.Bodies.{IsBody};
 ghost use Rattle.envelopes.specs.Answers.{Carries, kind_of};
 
 use crate::shared::SharedBytes;
@@ -45,34 +46,33 @@ pub struct AnswerBody {
 
 impl Model for AnswerBody {
     ghost use Rattle.seq_bus_core.specs.Answers.{Answer};
-    ghost use Rattle.envelopes.specs.Answers.{SpelledAnswer, Carries};
+    ghost use Rattle.envelopes.specs.Answers.{Carries, answer_of};
 
-    ghost Value = { SpelledAnswer };
+    ghost Value = { Answer };
 
-    ghost view = { λ b. record { kind = b.kind; bytes = b.bytes } };
+    ghost view = { λ b. answer_of (record { kind = b.kind; bytes = b.bytes }) };
 
-    ghost invariant = { λ b. (answer : Answer) × Carries (record { kind = b.kind; bytes = b.bytes }) answer };
+    ghost invariant = { λ b. Carries (record { kind = b.kind; bytes = b.bytes }) (answer_of (record { kind = b.kind; bytes = b.bytes })) };
 }
 
 impl AnswerBody {
     /// The body of an answer.
     pub fn new(kind: BodyKind, bytes: SharedBytes) -> Self
         requires { (answer : Answer) × Carries (record { kind = kind; bytes = bytes }) answer }
-        ensures { result ≡ record { kind = kind; bytes = bytes } }
+        ensures { (answer : Answer) → Carries (record { kind = kind; bytes = bytes }) answer → result ≡ answer }
     {
         AnswerBody { kind, bytes }
     }
 
     pub fn kind(&self) -> BodyKind
-        ensures { result ≡ self.now.kind }
+        ensures { result ≡ kind_of self.now }
     {
         self.kind
     }
 
     /// The bytes of the body, which are those of an answer.
     pub fn bytes(&self) -> &[u8]
-        ensures value { result.now ≡ self.now.bytes }
-        ensures answered { (answer : Answer) × Carries self.now answer }
+        ensures { IsBody self.now result.now }
     {
         self.bytes.as_slice()
     }

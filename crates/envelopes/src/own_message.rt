@@ -1,10 +1,8 @@
 //! The bus's own messages, before they are numbered.
 
 ghost use Rattle.std.specs.Prelude.{◌≡◌, ◌<◌, IfOk, OnOk, OnErr};
-ghost use Rattle.seq_bus_core.specs.Answers.{Answer};
 ghost use Rattle.driver.specs.OwnMessages.{IsReplyBody, Writes};
-ghost use Rattle.envelopes.specs.Answers.{Carries};
-ghost use Rattle.envelopes.specs.Contents.{Own, IsOwn, Carried, Answered, IsCarried, carried_types, carried_values, own_message};
+ghost use Rattle.envelopes.specs.Contents.{Answered, carried_of, own_of, carried_types, carried_values, own_message};
 
 use crate::answer::{AnswerBody, BodyKind};
 use crate::call::CallToAnswer;
@@ -26,7 +24,7 @@ pub enum ReplyContent {
 impl ReplyContent {
     /// As it is written.
     fn body(&self) -> ReplyBody<'_>
-        ensures { (carried : Carried) → IsCarried self.now carried → IsReplyBody result (carried_types carried) (carried_values carried) }
+        ensures { IsReplyBody result (carried_types (carried_of self.now)) (carried_values (carried_of self.now)) }
     {
         match self {
             ReplyContent::Empty => ReplyBody::Empty,
@@ -74,7 +72,7 @@ impl OwnMessage {
     /// Where there is not enough memory, `out` is as it was.
     pub fn write(&self, serial: u32, out: &mut Vec<u8>) -> Result<(), AllocError>
         requires { 0 < serial }
-        ensures ok { (own : Own) → IsOwn self.now own → OnOk result (Writes out.old.items out.new.items (own_message serial own)) }
+        ensures ok { OnOk result (Writes out.old.items out.new.items (own_message serial (own_of self.now))) }
         ensures err { OnErr result (out.new.items ≡ out.old.items) }
     {
         match self {
@@ -106,7 +104,7 @@ impl OwnMessage {
 
 /// The bytes of an answer, as they are written.
 fn body_of(answer: &AnswerBody) -> ReplyBody<'_>
-    ensures { (told : Answer) → Carries answer.now told → IsReplyBody result (carried_types (Answered told)) (carried_values (Answered told)) }
+    ensures { IsReplyBody result (carried_types (Answered answer.now)) (carried_values (Answered answer.now)) }
 {
     let bytes = answer.bytes();
     match answer.kind() {

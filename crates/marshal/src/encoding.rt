@@ -8,7 +8,7 @@ ghost use Rattle.std.specs.Int.{w16, w32, w64};
 ghost use Rattle.names.specs.Texts.{text_eq};
 ghost use Rattle.marshal_core.specs.declared.fault.MarshalFault.TheVariants.{NoMemory, Signature as NotSigned};
 ghost use Rattle.marshal_core.specs.Types.{Tys, entry, one_type, ty_of, types_of};
-ghost use Rattle.marshal_core.specs.Values.{a_string, an_entry, an_object_path, basic_of, basic_type as type_of_basic, entry_of, val_of, values, values_of};
+ghost use Rattle.marshal_core.specs.Values.{a_string, an_entry, an_object_path, basic_of, entry_of, val_of, values, values_of};
 ghost use Rattle.marshal_core.specs.Signatures.{IsSignature, basic_code, code, codes, entry_begin, entry_end, has_types};
 ghost use Rattle.marshal_core.specs.Spelling.{after_length, alignment, ended, first_place, number_spelling, pad_len, pads, signature_spelling, text_spelling, Spells};
 ghost use Rattle.marshal_core.specs.Faults.{Gives};
@@ -17,6 +17,7 @@ ghost use Rattle.marshal.specs.Writing.{and_then, array_written, padded, string_
 use crate::decoding::{ENTRY_ALIGNMENT, MAX_ARRAY_LENGTH, MAX_CONTAINER_DEPTH, STRUCT_ALIGNMENT};
 use crate::fixed::gap;
 use crate::text::any_zero;
+use crate::type_text::{basic_type, type_code, type_codes, value_code, value_codes};
 use marshal_core::{BasicType, BasicValue, DataType, MarshalFault, Order, Signature, Value};
 use names::ObjectPath;
 use std::alloc::{AllocError, Global};
@@ -64,82 +65,6 @@ fn number64(order: Order, at: usize, number: u64, output: &mut Vec<u8>) -> Resul
     match order {
         Order::Little => output.extend_from_slice(&number.to_le_bytes())?,
         Order::Big => output.extend_from_slice(&number.to_be_bytes())?,
-    }
-    Ok(())
-}
-
-/// The code of a type, put behind what there is.
-pub fn type_code(of: &DataType, output: &mut Vec<u8>) -> Result<(), AllocError>
-    ensures { OnOk result (output.new.items ≡ output.old.items ++ code (ty_of of.now)) }
-{
-    match of {
-        DataType::Basic(basic) => output.push(basic.code())?,
-        DataType::Variant => output.push(b'v')?,
-        DataType::Array(element) => {
-            output.push(b'a')?;
-            type_code(element, output)?;
-        }
-        DataType::Dictionary(key, value) => {
-            output.extend_from_slice(b"a{")?;
-            output.push(key.code())?;
-            type_code(value, output)?;
-            output.push(b'}')?;
-        }
-        DataType::Struct(fields) => {
-            output.push(b'(')?;
-            for field in fields {
-                type_code(field, output)?;
-            }
-            output.push(b')')?;
-        }
-    }
-    Ok(())
-}
-
-/// The type of a basic value.
-fn basic_type(value: &BasicValue) -> BasicType
-    ensures { result ≡ type_of_basic (basic_of value.now) }
-{
-    match value {
-        BasicValue::Byte(_) => BasicType::Byte,
-        BasicValue::Boolean(_) => BasicType::Boolean,
-        BasicValue::Int16(_) => BasicType::Int16,
-        BasicValue::Uint16(_) => BasicType::Uint16,
-        BasicValue::Int32(_) => BasicType::Int32,
-        BasicValue::Uint32(_) => BasicType::Uint32,
-        BasicValue::Int64(_) => BasicType::Int64,
-        BasicValue::Uint64(_) => BasicType::Uint64,
-        BasicValue::Double(_) => BasicType::Double,
-        BasicValue::String(_) => BasicType::String,
-        BasicValue::ObjectPath(_) => BasicType::ObjectPath,
-        BasicValue::Signature(_) => BasicType::Signature,
-    }
-}
-
-/// The code of a value's type.
-fn value_code(value: &Value, output: &mut Vec<u8>) -> Result<(), AllocError>
-    ensures { OnOk result (output.new.items ≡ output.old.items ++ code (type_of (val_of value.now))) }
-{
-    match value {
-        Value::Basic(basic) => output.push(basic_type(basic).code())?,
-        Value::Variant(_) => output.push(b'v')?,
-        Value::Array(of, _) => {
-            output.push(b'a')?;
-            type_code(of, output)?;
-        }
-        Value::Dictionary(key, of, _) => {
-            output.extend_from_slice(b"a{")?;
-            output.push(key.code())?;
-            type_code(of, output)?;
-            output.push(b'}')?;
-        }
-        Value::Struct(fields) => {
-            output.push(b'(')?;
-            for field in fields {
-                value_code(field, output)?;
-            }
-            output.push(b')')?;
-        }
     }
     Ok(())
 }
@@ -214,9 +139,7 @@ fn signature(alloc: Global, types: &[DataType], output: &mut Vec<u8>) -> Result<
     ensures { Gives (λ _. output.new.items) result (Ok (output.old.items ++ signature_spelling (types_of types.now))) }
 {
     let mut text = Vec::new(alloc);
-    for one in types {
-        type_code(one, &mut text)?;
-    }
+    type_codes(types, &mut text)?;
     short_text(&text, output)
 }
 
@@ -557,9 +480,7 @@ fn all_written(
     ensures { Gives (λ x. x.items) result (encode_at order offset (values_of of.now)) }
 {
     let mut text = Vec::new(alloc);
-    for one in of {
-        value_code(one, &mut text)?;
-    }
+    value_codes(of, &mut text)?;
     Signature::from_bytes(alloc, &text)?;
     let mut bytes = Vec::new(alloc);
     fields(

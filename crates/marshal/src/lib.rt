@@ -11,10 +11,8 @@ mod encoding;
 mod fixed;
 pub mod parts;
 mod text;
+mod type_text;
 
 pub use decoding::{decode, one_spelling, one_text};
 pub use encoding::encode;
 pub use marshal_core::{BasicType, BasicValue, DataType, MarshalFault, Order, Signature, Value};
-
-#[cfg(test)]
-mod tests;

@@ -1,23 +1,9 @@
 //! Signatures with types of their own, and those that borrow their text.
 
-ghost use Rattle.std.specs.Prelude.{◌≡◌, ◌++◌, OnOk};
-ghost use Rattle.marshal_core.specs.Types.{types_of};
-ghost use Rattle.marshal_core.specs.Signatures.{codes};
-
 use crate::signature_text::Types;
-use marshal::parts::type_code;
-use marshal_core::{DataType, Signature};
+use marshal::parts::type_codes;
+use marshal_core::Signature;
 use std::alloc::{AllocError, Global};
-
-/// The codes of types, one after the other, put behind what there is.
-fn type_codes(types: &[DataType], output: &mut Vec<u8>) -> Result<(), AllocError>
-    ensures { OnOk result (output.new.items ≡ output.old.items ++ codes (types_of types.now)) }
-{
-    for one in types {
-        type_code(one, output)?;
-    }
-    Ok(())
-}
 
 impl<'a> Types<'a> {
     ghost use Rattle.std.specs.Prelude.{◌≡◌, IfOk};

@@ -4,9 +4,15 @@
 //! waits, after "Message Protocol" of the D-Bus Specification.
 #![tactic(auto)]
 
+#[cfg(test)]
+mod fault_tests;
 mod framer;
 #[cfg(test)]
+mod memory_tests;
+#[cfg(test)]
 mod own_message_tests;
+#[cfg(test)]
+mod stream_tests;
 #[cfg(test)]
 mod tests;
 

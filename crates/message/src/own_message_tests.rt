@@ -44,7 +44,7 @@ const NESTED_BIG: &[u8] =
     \x01x\0\0\0\0\0\0\x03abc\0\0\0\0\x02\0\xff";
 
 /// An error with a text.
-const ERROR: &[u8] =
+pub const ERROR: &[u8] =
     b"l\x03\0\x01\x09\0\0\0J\0\0\0@\0\0\0\x04\x01s\0\x15\0\0\0com.example.Error.Bad\0\0\0\
     \x06\x01s\0\x04\0\0\0:1.1\0\0\0\0\x08\x01g\0\x01s\0\0\x05\x01u\0\x05\0\0\0\x04\0\0\0\
     text\0";
@@ -226,15 +226,5 @@ fn messages_are_shown(rt: HostRuntime) -> Result<(), Fail> {
         let message = only(&rt, rt.alloc(), bytes)?;
         assert_eq!(rt; format!(in rt.alloc(); "{message}")?.as_str(), shown);
     }
-    Ok(())
-}
-
-#[test]
-fn messages_are_shown_to_programmers(rt: HostRuntime) -> Result<(), Fail> {
-    let message = only(&rt, rt.alloc(), RETURN)?;
-    assert_eq!(rt;
-        format!(in rt.alloc(); "{message:?}")?.as_str(),
-        "Message { order: Little, kind: MethodReturn, flags: 0, serial: 75, path: None, interface: None, member: None, error_name: None, reply_serial: Some(5), destination: Some(\":1.1\"), sender: None, signature: [], body: [] }"
-    );
     Ok(())
 }

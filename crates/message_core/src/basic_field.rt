@@ -1,11 +1,10 @@
 //! Header fields that the standard names: all of them have basic values.
 
-ghost use Rattle.std.specs.Prelude.{◌≡◌, ◌<◌, ◌≤◌, ◌+◌, ◌++◌, ◌↔◌, ℕ, List, IsTrue, length, take, slice_index, IfSome, IfNone, is_ok};
+ghost use Rattle.std.specs.Prelude.{◌≡◌, ◌<◌, ◌≤◌, ◌+◌, ◌++◌, ◌↔◌, ℕ, List, IsTrue, length, take, slice_index, IfSome, IfNone};
 ghost use Rattle.std.specs.Int.{w32};
 ghost use Rattle.marshal_core.specs.declared.data_type.BasicType.{BasicType};
 ghost use Rattle.marshal_core.specs.declared.data_type.BasicType.TheVariants as of_type;
-ghost use Rattle.names.specs.ObjectPath.{IsObjectPath};
-ghost use Rattle.marshal_core.specs.Signatures.{basic_code, signature_of};
+ghost use Rattle.marshal_core.specs.Signatures.{basic_code};
 ghost use Rattle.marshal_core.specs.Spelling.{IsString, ended, number_bytes};
 ghost use Rattle.message_core.specs.Kinds.{code_of};
 ghost use Rattle.message_core.specs.HeaderFields.{IsStringOf, IsNumberOf};
@@ -57,13 +56,6 @@ fn takes_string(field: HeaderField, text: &str) -> bool
     }
 }
 
-/// Whether the text is an object path.
-fn is_path(text: &str) -> bool
-    ensures { IsTrue result ↔ IsObjectPath text.now }
-{
-    ObjectPath::parse(text).is_ok()
-}
-
 /// Whether the field takes this number.
 fn takes_number(field: HeaderField, number: u32) -> bool
     ensures { IsTrue result ↔ IsNumberOf field number }
@@ -96,7 +88,7 @@ fn path_value(order: Order, field: HeaderField, bytes: &[u8]) -> Option<usize>
         return None;
     };
     let text = string(order, bytes)?;
-    if is_path(text) {
+    if ObjectPath::parse(text).is_ok() {
         return Some(5 + text.len());
     }
     None
@@ -114,13 +106,6 @@ fn number_value(order: Order, field: HeaderField, bytes: &[u8]) -> Option<usize>
         return Some(4);
     }
     None
-}
-
-/// Whether the text is a signature.
-fn is_signature(text: &[u8]) -> bool
-    ensures { result ≡ is_ok (signature_of text.now) }
-{
-    Types::from_bytes(text).is_ok()
 }
 
 /// How many bytes the signature takes that begins here, if the field takes one.
@@ -141,7 +126,7 @@ fn signature_value(order: Order, field: HeaderField, bytes: &[u8]) -> Option<usi
     if end[0] != 0 {
         return None;
     }
-    if is_signature(text) {
+    if Types::from_bytes(text).is_ok() {
         return Some(2 + length);
     }
     None

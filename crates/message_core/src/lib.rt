@@ -15,7 +15,6 @@ mod message;
 mod own_message;
 mod printing;
 mod reading;
-mod value_types;
 mod writing;
 
 pub use announcement::{FIXED_LENGTH, MAXIMUM_LENGTH, MESSAGE_LIMIT, announced_length};

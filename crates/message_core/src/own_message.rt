@@ -17,9 +17,9 @@ use crate::fault::FrameFault;
 use crate::header::Header;
 use crate::message::Message;
 use crate::reading::check_body;
-use crate::value_types::put_types;
 use crate::writing::{lay_out, put_fields};
 use marshal::encode;
+use marshal::parts::value_codes;
 use marshal_core::{MarshalFault, Value};
 use std::alloc::Global;
 
@@ -82,7 +82,7 @@ impl Message {
     {
         let body = body_of(alloc, header, values)?;
         let mut signature = Vec::new(alloc);
-        put_types(values, &mut signature)?;
+        value_codes(values, &mut signature)?;
         put_together(alloc, header, &signature, &body)
     }
 

@@ -1,6 +1,6 @@
 //! What rules and routing look at in a message.
 
-ghost use Rattle.std.specs.Prelude.{◌≡◌, map};
+ghost use Rattle.std.specs.Prelude.{◌≡◌, [], map};
 ghost use Rattle.marshal_check.specs.ArgumentViews.{seen};
 ghost use Rattle.match_rules.specs.FactsView.{argument_of};
 ghost use Rattle.message_core.specs.Said.{said};
@@ -23,22 +23,21 @@ fn as_fact(argument: Read<'_>) -> Argument<'_>
     }
 }
 
-/// The first 64 arguments of a message.
-fn first_of(message: &Message) -> ArrayVec<Argument<'_>, 64>
-    ensures { map argument_of result.items ≡ first_arguments (said message.now) }
+/// Puts the first 64 arguments of a message.
+fn put_first<'a>(message: &'a Message, first: &mut ArrayVec<Argument<'a>, 64>)
+    requires { first.old.items ≡ [] }
+    ensures { map argument_of first.new.items ≡ first_arguments (said message.now) }
 {
     let parts = parts_of(message);
     let types = Types {
         text: message.signature(),
     };
-    let mut first = ArrayVec::new();
     for argument in Arguments::new(parts.order, 0, types, parts.body) {
         if first.is_full() {
-            return first;
+            return;
         }
         first.push(as_fact(argument));
     }
-    first
 }
 
 /// What match rules and routing look at in a message, lent out of it ("Match Rules" of the D-Bus
@@ -46,6 +45,8 @@ fn first_of(message: &Message) -> ArrayVec<Argument<'_>, 64>
 pub fn facts(message: &Message) -> Facts<'_>
     ensures { result ≡ facts_of (said message.now) }
 {
+    let mut arguments = ArrayVec::new();
+    put_first(message, &mut arguments);
     Facts {
         kind: message.kind(),
         auto_start: message.flags() & NO_AUTO_START == 0,
@@ -54,6 +55,6 @@ pub fn facts(message: &Message) -> Facts<'_>
         interface: message.interface(),
         member: message.member(),
         destination: message.destination(),
-        arguments: first_of(message),
+        arguments,
     }
 }

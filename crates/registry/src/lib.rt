@@ -17,8 +17,6 @@ mod requests;
 mod routing;
 mod services;
 mod signals;
-#[cfg(test)]
-mod tests;
 
 pub use prepared::Prepared;
 pub use registry::Registry;

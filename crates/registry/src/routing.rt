@@ -2,7 +2,8 @@
 
 ghost use Rattle.std.specs.Prelude.{◌≡◌, [], Some, is_some};
 ghost use Rattle.seq_bus_core.specs.BusState.{is_service};
-ghost use Rattle.seq_bus_core.specs.Recipients.{recipients, conn_at, verdict_of, is_call, is_signal, may_send, is_for_bus, destination_head, may_start};
+ghost use Rattle.seq_bus_core.specs.Recipients.{recipients, conn_at, verdict, verdict_of, is_call, is_signal, may_send, is_for_bus, destination_head, may_start};
+ghost use Rattle.seq_bus_core.specs.declared.verdict.VerdictKind.TheVariants.{Absent};
 
 use crate::owners::BUS;
 use crate::registry::Registry;
@@ -16,50 +17,52 @@ impl Registry {
     pub fn route(&self, from: u64, facts: &Facts<'_>) -> Verdict
         ensures { result ≡ recipients self.now from facts.now }
     {
-        if facts.sender == from {
-            self.route_heard(facts)
-        } else {
-            self.route_heard(&with_sender(facts, from))
-        }
-    }
-
-    fn route_heard(&self, facts: &Facts<'_>) -> Verdict
-        ensures { result ≡ verdict_of self.now facts.now }
-    {
         let mut verdict = Verdict {
             kind: VerdictKind::Absent,
             to: Recipients::new(),
             monitors: Recipients::new(),
         };
-        if !self.may_send(facts.sender) {
-            return verdict;
+        if facts.sender == from {
+            self.judge(facts, &mut verdict);
+        } else {
+            self.judge(&with_sender(facts, from), &mut verdict);
         }
-        self.add_monitors_shown(facts, self, None, &mut verdict.monitors);
+        verdict
+    }
+
+    /// Where a message goes, told where nothing was told yet: a verdict is large, and is not moved.
+    fn judge(&self, facts: &Facts<'_>, told: &mut Verdict)
+        requires { told.old ≡ verdict Absent [] [] }
+        ensures { told.new ≡ verdict_of self.now facts.now }
+    {
+        if !self.may_send(facts.sender) {
+            return;
+        }
+        self.add_monitors_shown(facts, self, None, &mut told.monitors);
         if is_for_bus(facts) {
-            verdict.kind = VerdictKind::Bus;
-            return verdict;
+            told.kind = VerdictKind::Bus;
+            return;
         }
         let head = self.destination_head(facts);
         if let Some(head) = head {
-            verdict.kind = VerdictKind::Plain;
-            self.add_conn(head, &mut verdict.to);
-            return verdict;
+            told.kind = VerdictKind::Plain;
+            self.add_conn(head, &mut told.to);
+            return;
         }
         if self.may_start(facts) {
-            verdict.kind = VerdictKind::Start;
-            return verdict;
+            told.kind = VerdictKind::Start;
+            return;
         }
         if has_destination(facts) {
-            verdict.kind = VerdictKind::Nobody;
-            return verdict;
+            told.kind = VerdictKind::Nobody;
+            return;
         }
         if !is_signal(facts.kind) {
-            verdict.kind = VerdictKind::Nobody;
-            return verdict;
+            told.kind = VerdictKind::Nobody;
+            return;
         }
-        verdict.kind = VerdictKind::Plain;
-        self.add_those_that_want(facts, self, None, &mut verdict.to);
-        verdict
+        told.kind = VerdictKind::Plain;
+        self.add_those_that_want(facts, self, None, &mut told.to);
     }
 
     /// Adds the connection of a number.

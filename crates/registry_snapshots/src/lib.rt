@@ -7,6 +7,7 @@
 //! All changes of a registry stand in one history. It exists in the proofs alone: what is kept of it is its length.
 #![tactic(auto)]
 
+mod answers;
 mod history;
 mod naming;
 mod note;
@@ -17,8 +18,6 @@ mod rule;
 mod seat;
 mod shared;
 mod snap;
-#[cfg(test)]
-mod tests;
 
 pub use history::Opened;
 pub use naming::Naming;

@@ -1,20 +1,17 @@
 //! The copy of the registry that readers take, and the operation that brings it up.
 
-ghost use Rattle.std.specs.Prelude.{◌≡◌, ◌<◌, ◌≤◌, length, is_some, option_map, IfOk, IfSome, replicate, slice_get, slice_index};
-ghost use Rattle.seq_bus_core.specs.BusState.{connection_of, conn_of, head_of};
+ghost use Rattle.std.specs.Prelude.{◌≡◌, ◌<◌, ◌≤◌, length, IfOk, IfSome, replicate, slice_get, slice_index};
 ghost use Rattle.seq_bus_core.specs.Histories.{CanOpen, opening};
-ghost use Rattle.seq_bus_core.specs.Recipients.{recipients};
 ghost use Rattle.registry.specs.PreparedChanges.{prepared_on};
 ghost use Rattle.registry.specs.Served.{IsServedChange};
 ghost use Rattle.registry_snapshots.specs.Copies.{put_number};
 
 use crate::history::Front;
 use left_right::Absorb;
-use match_rules::Facts;
-use names::{BusName, WellKnown};
+use names::WellKnown;
 use owner_queues::Profile;
 use registry::{Prepared, Registry};
-use seq_bus_core::{Change, Conn, Verdict};
+use seq_bus_core::Change;
 use std::alloc::{AllocError, Global};
 use std::marker::Model;
 
@@ -110,6 +107,13 @@ impl Snap {
         })
     }
 
+    /// The tables of the bus.
+    pub(crate) fn registry(&self) -> &Registry
+        ensures { result.now ≡ self.now.bus }
+    {
+        &self.registry
+    }
+
     /// The beginning of the history that it stands for.
     pub(crate) fn front(&self) -> &Front
         ensures { result.now ≡ self.now.front }
@@ -136,33 +140,5 @@ impl Snap {
         ensures { IfOk result (λ prepared. prepared ≡ prepared_on self.now.bus seat change.now) }
     {
         self.registry.prepare(alloc, seat, change)
-    }
-
-    /// Where a message from this connection goes, 0 being the bus, and which monitors are shown it.
-    pub fn route(&self, from: u64, facts: &Facts<'_>) -> Verdict
-        ensures { result ≡ recipients self.now.bus from facts.now }
-    {
-        self.registry.route(from, facts)
-    }
-
-    /// The head of a name: the connection that messages to it are delivered to. The bus itself is no connection.
-    pub fn owner(&self, name: &BusName) -> Option<u64>
-        ensures { result ≡ head_of self.now.bus name.now }
-    {
-        self.registry.owner(name)
-    }
-
-    /// Where the connection of this number is reached, if there is one.
-    pub fn conn(&self, number: u64) -> Option<Conn>
-        ensures { result ≡ option_map conn_of (connection_of self.now.bus number) }
-    {
-        self.registry.conn(number)
-    }
-
-    /// Whether there is a connection of this number.
-    pub fn present(&self, number: u64) -> bool
-        ensures { result ≡ is_some (connection_of self.now.bus number) }
-    {
-        self.registry.present(number)
     }
 }

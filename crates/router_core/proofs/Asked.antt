@@ -1,116 +1,210 @@
 -- What comes of a script, as a list of what was asked and answered.
-use Rattle.std.proofs.Common.{◌≡◌, ℕ, Bool, List, [], ◌∷◌, ◌++◌, refl, sym, ap, ◌∙◌, subst, append_assoc}
+use Rattle.std.proofs.Common.{◌≡◌, Bool, Option, List, [], ◌∷◌, ◌++◌, refl, sym, ap, ◌∙◌, subst, append_assoc}
 use mathlib.Core.List.{append-nil}
+use Rattle.seq_bus_core.specs.Histories.{History}
+use Rattle.seq_bus_core.specs.declared.signal.AddressedSignal.{AddressedSignal}
+use Rattle.router_core.specs.declared.action.Action.{Action}
+use Rattle.router_core.specs.declared.action.Action.TheVariants.{Write, Put, Announce, Close, Run}
 use Rattle.router_core.specs.Acts.{Exchange, Changed, Asked, Routed, Looked, Noted, Fronted, Called, Gated, Wanted, Goes, IsLawful, gated_in, world_of}
-use Rattle.router_core.specs.Deeds.{Deed}
-use Rattle.router_core.specs.Events.{script}
+use Rattle.router_core.specs.Deeds.{Deed, GatedCall, PassesAll, announced, announcement, IsDoneBy, AreDeedsOf, AreDoneBy}
+use Rattle.router_core.specs.Events.{script, occasion_of}
 use Rattle.router_core.specs.Laws.{AnswersAreLawful}
-use Rattle.router_core.specs.Scripts.{Script, Gives, Changing, Asking, Routing, Looking, Noting, Fronting, Calling, Gating, Wanting, Doing, World, Comes, knowing, past_gate, having_done}
+use Rattle.router_core.specs.Scripts.{Script, Gives, Changing, Asking, Routing, Looking, Noting, Fronting, Calling, Gating, Wanting, Doing, Announcing, World, Comes, knowing}
 use Rattle.router_core.proofs.Knowing.{change_seat, answer_seat, verdict_seat, present_seat, note_seat}
 
-pub record Listed (alone : Bool) {X : Type 0} (s : Script X) (w : World) (x : X) (v : World) : Type 0 where
+-- ## Deeds of actions
+
+one_deed : {N : Type 0} (action : Action N) (deed : Deed) → IsDoneBy action deed → AreDeedsOf action (deed ∷ [])
+one_deed (Write key bytes) deed d = (deed, d, refl)
+one_deed (Put to carried content) deed d = (deed, d, refl)
+one_deed (Announce signals carried) deed d = absurd d
+one_deed (Close key cause) deed d = (deed, d, refl)
+one_deed (Run name start) deed d = (deed, d, refl)
+
+more_done : {N : Type 0} (action : Action N) (actions : List (Action N)) (deed : Deed) (later : List Deed) → IsDoneBy action deed → AreDoneBy actions later → AreDoneBy (action ∷ actions) (deed ∷ later)
+more_done action actions deed later d done = (deed ∷ [], later, one_deed action deed d, done, refl)
+
+more_announced : {N : Type 0} (signals : List AddressedSignal) (note : Option N) (actions : List (Action N)) (later : List Deed) → AreDoneBy actions later → AreDoneBy (announcement signals note ++ actions) (announced signals ++ later)
+more_announced [] carried actions later done = done
+more_announced (s ∷ signals) carried actions later done = (announced (s ∷ signals), later, refl, done, refl)
+
+-- ## Scripts
+
+pub record Listed {N G : Type 0} (passes : G → GatedCall → G → Type 0) (alone : Bool) {X : Type 0} (s : Script X) (w : World N G) (x : X) (v : World N G) : Type 0 where
   pub asked : List Exchange
   pub deeds : List Deed
+  pub actions : List (Action N)
   pub goes : Goes s asked deeds x
   pub lawful : IsLawful alone w.view asked v.view
-  pub done : v.deeds ≡ w.deeds ++ deeds
-  pub gated : v.gated ≡ w.gated ++ gated_in w.view.seat asked
+  pub done : AreDoneBy actions deeds
+  pub added : v.actions ≡ w.actions ++ actions
+  pub shown : PassesAll passes w.gate (gated_in w.view.seat asked) v.gate
 
-snoc : {A : Type 0} (all before later : List A) (x : A) → all ≡ (before ++ x ∷ []) ++ later → all ≡ before ++ x ∷ later
-snoc all before later x e = e ∙ append_assoc before (x ∷ []) later
+snoc : {A : Type 0} (all before later x : List A) → all ≡ (before ++ x) ++ later → all ≡ before ++ (x ++ later)
+snoc all before later x e = e ∙ append_assoc before x later
 
-by_seat : (w v : World) (seat : ℕ) (asked : List Exchange) → seat ≡ w.view.seat → v.gated ≡ w.gated ++ gated_in seat asked → v.gated ≡ w.gated ++ gated_in w.view.seat asked
-by_seat w v seat asked same e = e ∙ ap (λ n. w.gated ++ gated_in n asked) same
+-- what follows a call of the bus, which leaves the gate and the actions
+module _ {N G : Type 0} (passes : G → GatedCall → G → Type 0) (w m v : World N G) (rest : m ≡ knowing w m.view) where
+  kept_actions : (actions : List (Action N)) → v.actions ≡ m.actions ++ actions → v.actions ≡ w.actions ++ actions
+  kept_actions actions e = e ∙ ap (λ (z : World N G). z.actions ++ actions) rest
 
-pub listed : (alone : Bool) {X : Type 0} (s : Script X) (w : World) (x : X) (v : World) → Comes alone s w x v → Listed alone s w x v
-listed alone (Gives y) w x v p = record {
+  kept_gate : (asked : List Exchange) → m.view.seat ≡ w.view.seat → PassesAll passes m.gate (gated_in m.view.seat asked) v.gate → PassesAll passes w.gate (gated_in w.view.seat asked) v.gate
+  kept_gate asked same h =
+      subst (λ n. PassesAll passes w.gate (gated_in n asked) v.gate) same
+      (subst (λ (z : World N G). PassesAll passes z.gate (gated_in m.view.seat asked) v.gate) rest h)
+
+pub listed : {N G : Type 0} (told : N → History) (passes : G → GatedCall → G → Type 0) (alone : Bool) {X : Type 0} (s : Script X) (w : World N G) (x : X) (v : World N G) → Comes told passes alone s w x v → Listed passes alone s w x v
+listed {N = N} {G = G} told passes alone (Gives y) w x v p = record {
   asked = [];
   deeds = [];
+  actions = [];
   goes = (refl, refl, p.0);
-  lawful = ap (λ (z : World). z.view) p.1;
-  done = ap (λ (z : World). z.deeds) p.1 ∙ sym (append-nil w.deeds);
-  gated = ap (λ (z : World). z.gated) p.1 ∙ sym (append-nil w.gated);
+  lawful = ap (λ (z : World N G). z.view) p.1;
+  done = refl;
+  added = ap (λ (z : World N G). z.actions) p.1 ∙ sym (append-nil w.actions);
+  shown = ap (λ (z : World N G). z.gate) p.1;
 }
-listed alone (Changing change goes_on) w x v p =
-    let l = listed alone (goes_on p.0) (knowing w p.1) x v p.3 in
+listed told passes alone (Changing change goes_on) w x v p =
+    let l = listed told passes alone (goes_on p.0) p.1 x v p.3 in
     record {
       asked = Changed change p.0 ∷ l.asked;
       deeds = l.deeds;
+      actions = l.actions;
       goes = (p.0, l.asked, refl, l.goes);
-      lawful = (p.1, p.2, l.lawful);
+      lawful = ((p.1).view, p.2.hears, l.lawful);
       done = l.done;
-      gated = by_seat w v (p.1).seat l.asked (change_seat alone change p.0 w.view p.1 p.2) l.gated;
+      added = kept_actions passes w p.1 v p.2.rest l.actions l.added;
+      shown = kept_gate passes w p.1 v p.2.rest l.asked (change_seat alone change p.0 w.view (p.1).view p.2.hears) l.shown;
     }
-listed alone (Asking query goes_on) w x v p =
-    let l = listed alone (goes_on p.0) (knowing w p.1) x v p.3 in
+listed told passes alone (Asking query goes_on) w x v p =
+    let l = listed told passes alone (goes_on p.0) p.1 x v p.3 in
     record {
       asked = Asked query p.0 ∷ l.asked;
       deeds = l.deeds;
+      actions = l.actions;
       goes = (p.0, l.asked, refl, l.goes);
-      lawful = (p.1, p.2, l.lawful);
+      lawful = ((p.1).view, p.2.hears, l.lawful);
       done = l.done;
-      gated = by_seat w v (p.1).seat l.asked (answer_seat alone query p.0 w.view p.1 p.2) l.gated;
+      added = kept_actions passes w p.1 v p.2.rest l.actions l.added;
+      shown = kept_gate passes w p.1 v p.2.rest l.asked (answer_seat alone query p.0 w.view (p.1).view p.2.hears) l.shown;
     }
-listed alone (Routing from facts goes_on) w x v p =
-    let l = listed alone (goes_on p.0) (knowing w p.1) x v p.3 in
+listed told passes alone (Routing from facts goes_on) w x v p =
+    let l = listed told passes alone (goes_on p.0) p.1 x v p.3 in
     record {
       asked = Routed from facts p.0 ∷ l.asked;
       deeds = l.deeds;
+      actions = l.actions;
       goes = (p.0, l.asked, refl, l.goes);
-      lawful = (p.1, p.2, l.lawful);
+      lawful = ((p.1).view, p.2.hears, l.lawful);
       done = l.done;
-      gated = by_seat w v (p.1).seat l.asked (verdict_seat alone from facts p.0 w.view p.1 p.2) l.gated;
+      added = kept_actions passes w p.1 v p.2.rest l.actions l.added;
+      shown = kept_gate passes w p.1 v p.2.rest l.asked (verdict_seat alone from facts p.0 w.view (p.1).view p.2.hears) l.shown;
     }
-listed alone (Looking number goes_on) w x v p =
-    let l = listed alone (goes_on p.0) (knowing w p.1) x v p.3 in
+listed told passes alone (Looking number goes_on) w x v p =
+    let l = listed told passes alone (goes_on p.0) p.1 x v p.3 in
     record {
       asked = Looked number p.0 ∷ l.asked;
       deeds = l.deeds;
+      actions = l.actions;
       goes = (p.0, l.asked, refl, l.goes);
-      lawful = (p.1, p.2, l.lawful);
+      lawful = ((p.1).view, p.2.hears, l.lawful);
       done = l.done;
-      gated = by_seat w v (p.1).seat l.asked (present_seat alone number p.0 w.view p.1 p.2) l.gated;
+      added = kept_actions passes w p.1 v p.2.rest l.actions l.added;
+      shown = kept_gate passes w p.1 v p.2.rest l.asked (present_seat alone number p.0 w.view (p.1).view p.2.hears) l.shown;
     }
-listed alone (Noting told s) w x v p =
-    let l = listed alone s (knowing w p.0) x v p.2 in
+listed told passes alone (Noting history s) w x v p =
+    let l = listed told passes alone s p.0 x v p.2 in
     record {
-      asked = Noted told ∷ l.asked;
+      asked = Noted history ∷ l.asked;
       deeds = l.deeds;
+      actions = l.actions;
       goes = (l.asked, refl, l.goes);
-      lawful = (p.0, p.1, l.lawful);
+      lawful = ((p.0).view, p.1.noted, l.lawful);
       done = l.done;
-      gated = by_seat w v (p.0).seat l.asked (note_seat alone told w.view p.0 p.1) l.gated;
+      added = kept_actions passes w p.0 v p.1.rest l.actions l.added;
+      shown = kept_gate passes w p.0 v p.1.rest l.asked (note_seat alone history w.view (p.0).view p.1.noted) l.shown;
     }
-listed alone (Fronting bytes goes_on) w x v p =
-    let l = listed alone (goes_on p.0) w x v p.2 in
-    record { asked = Fronted bytes p.0 ∷ l.asked; deeds = l.deeds; goes = (p.0, l.asked, refl, l.goes); lawful = (p.1, l.lawful); done = l.done; gated = l.gated }
-listed alone (Calling m goes_on) w x v p =
-    let l = listed alone (goes_on p.0) w x v p.2 in
-    record { asked = Called m p.0 ∷ l.asked; deeds = l.deeds; goes = (p.0, l.asked, refl, l.goes); lawful = (p.1, l.lawful); done = l.done; gated = l.gated }
-listed alone (Gating call s) w x v p =
-    let l = listed alone s (past_gate w call) x v p in
+listed told passes alone (Fronting bytes goes_on) w x v p =
+    let l = listed told passes alone (goes_on p.0) w x v p.2 in
+    record {
+      asked = Fronted bytes p.0 ∷ l.asked;
+      deeds = l.deeds;
+      actions = l.actions;
+      goes = (p.0, l.asked, refl, l.goes);
+      lawful = (p.1, l.lawful);
+      done = l.done;
+      added = l.added;
+      shown = l.shown;
+    }
+listed told passes alone (Calling m goes_on) w x v p =
+    let l = listed told passes alone (goes_on p.0) w x v p.2 in
+    record {
+      asked = Called m p.0 ∷ l.asked;
+      deeds = l.deeds;
+      actions = l.actions;
+      goes = (p.0, l.asked, refl, l.goes);
+      lawful = (p.1, l.lawful);
+      done = l.done;
+      added = l.added;
+      shown = l.shown;
+    }
+listed {N = N} {G = G} told passes alone (Gating call s) w x v p =
+    let l = listed told passes alone s p.0 x v p.2 in
+    let seat : (p.0).view.seat ≡ w.view.seat = ap (λ (z : World N G). z.view.seat) p.1.rest in
     record {
       asked = Gated call ∷ l.asked;
       deeds = l.deeds;
+      actions = l.actions;
       goes = (l.asked, refl, l.goes);
+      lawful = subst (λ (z : World N G). IsLawful alone z.view l.asked v.view) p.1.rest l.lawful;
+      done = l.done;
+      added = l.added ∙ ap (λ (z : World N G). z.actions ++ l.actions) p.1.rest;
+      shown = ((p.0).gate, p.1.shown, subst (λ n. PassesAll passes (p.0).gate (gated_in n l.asked) v.gate) seat l.shown);
+    }
+listed told passes alone (Wanting goes_on) w x v p =
+    let l = listed told passes alone (goes_on p.0) w x v p.1 in
+    record {
+      asked = Wanted p.0 ∷ l.asked;
+      deeds = l.deeds;
+      actions = l.actions;
+      goes = (p.0, l.asked, refl, l.goes);
       lawful = l.lawful;
       done = l.done;
-      gated = snoc v.gated w.gated (gated_in w.view.seat l.asked) (record { seat = w.view.seat; call = call }) l.gated;
+      added = l.added;
+      shown = l.shown;
     }
-listed alone (Wanting goes_on) w x v p =
-    let l = listed alone (goes_on p.0) w x v p.1 in
-    record { asked = Wanted p.0 ∷ l.asked; deeds = l.deeds; goes = (p.0, l.asked, refl, l.goes); lawful = l.lawful; done = l.done; gated = l.gated }
-listed alone (Doing deed s) w x v p =
-    let l = listed alone s (having_done w deed) x v p in
-    record { asked = l.asked; deeds = deed ∷ l.deeds; goes = (l.deeds, refl, l.goes); lawful = l.lawful; done = snoc v.deeds w.deeds l.deeds deed l.done; gated = l.gated }
+listed {N = N} {G = G} told passes alone (Doing deed s) w x v p =
+    let l = listed told passes alone s p.0 x v p.2 in
+    record {
+      asked = l.asked;
+      deeds = deed ∷ l.deeds;
+      actions = p.1.action ∷ l.actions;
+      goes = (l.deeds, refl, l.goes);
+      lawful = subst (λ (z : World N G). IsLawful alone z.view l.asked v.view) p.1.rest l.lawful;
+      done = more_done p.1.action l.actions deed l.deeds p.1.done l.done;
+      added = snoc v.actions w.actions l.actions (p.1.action ∷ []) (l.added ∙ ap (λ (z : World N G). z.actions ++ l.actions) p.1.rest);
+      shown = subst (λ (z : World N G). PassesAll passes z.gate (gated_in z.view.seat l.asked) v.gate) p.1.rest l.shown;
+    }
+listed {N = N} {G = G} told passes alone (Announcing signals s) w x v p =
+    let l = listed told passes alone s p.0 x v p.2 in
+    record {
+      asked = l.asked;
+      deeds = announced signals ++ l.deeds;
+      actions = announcement signals p.1.note ++ l.actions;
+      goes = (l.deeds, refl, l.goes);
+      lawful = subst (λ (z : World N G). IsLawful alone z.view l.asked v.view) p.1.rest l.lawful;
+      done = more_announced signals p.1.note l.actions l.deeds l.done;
+      added = snoc v.actions w.actions l.actions (announcement signals p.1.note) (l.added ∙ ap (λ (z : World N G). z.actions ++ l.actions) p.1.rest);
+      shown = subst (λ (z : World N G). PassesAll passes z.gate (gated_in z.view.seat l.asked) v.gate) p.1.rest l.shown;
+    }
 
-pub answers_are_lawful : AnswersAreLawful
-answers_are_lawful alone before after occasion deeds notes acts =
-    let l = listed alone (script before.standing occasion) (world_of before) after.standing acts.ends acts.comes in (
-      l.asked,
-      record {
-        goes = subst (λ ds. Goes (script before.standing occasion) l.asked ds after.standing) (sym (acts.done ∙ l.done)) l.goes;
-        lawful = subst (λ k. IsLawful alone before.view l.asked k) (sym acts.view) l.lawful;
-        gated = acts.gated ∙ l.gated;
-      },
-    )
+pub answers_are_lawful : {N G : Type 0} (told : N → History) (passes : G → GatedCall → G → Type 0) (alone : Bool) → AnswersAreLawful told passes alone
+answers_are_lawful told passes alone before after event actions brings =
+    let l = listed told passes alone (script before.standing (occasion_of told event)) (world_of before) after.standing brings.ends brings.comes in
+    record {
+      asked = l.asked;
+      deeds = l.deeds;
+      served = record { goes = l.goes; lawful = subst (λ k. IsLawful alone before.view l.asked k) (sym brings.view) l.lawful };
+      shown = subst (λ gate. PassesAll passes before.gate (gated_in before.view.seat l.asked) gate) (sym brings.gate) l.shown;
+      done = subst (λ all. AreDoneBy all l.deeds) (sym (brings.done ∙ l.added)) l.done;
+    }

@@ -1,9 +1,11 @@
 -- Connections before their Hello, and once they were closed.
-use Rattle.std.proofs.Common.{Some, if◌then◌else◌, refl, ap, ◌∙◌, subst}
+use Rattle.std.proofs.Common.{Bool, Some, if◌then◌else◌, refl, ap, ◌∙◌, subst}
+use Rattle.seq_bus_core.specs.Histories.{History}
+use Rattle.router_core.specs.Deeds.{GatedCall}
 use Rattle.router_core.specs.Events.{next, next_at, for_peer, fed, closing, greet}
 use Rattle.router_core.specs.declared.cause.CloseCause.TheVariants.{NotHello}
 use Rattle.router_core.specs.Laws.{ClosedAreNotServed, ClosedTakeNothing, ClosedGetNoMail, UnknownTypesBringNothing, OnlyHelloGreets}
-use Rattle.router_core.specs.Scripts.{Gives, World, Comes}
+use Rattle.router_core.specs.Scripts.{Gives, Comes}
 use Rattle.router_core.specs.Standing.{with_peer}
 
 pub closed_are_not_served : ClosedAreNotServed
@@ -20,7 +22,7 @@ closed_get_no_mail slot number p conn is = rw is refl
 pub unknown_types_bring_nothing : UnknownTypesBringNothing
 unknown_types_bring_nothing m sender unknown = rw unknown refl
 
-pub only_hello_greets : OnlyHelloGreets
-only_hello_greets alone s t key m p privileged w v other comes =
-    let closed : Comes alone (for_peer s key (Some p) (closing key NotHello)) w t v = subst (λ b. Comes alone (if b then greet s key m p privileged else for_peer s key (Some p) (closing key NotHello)) w t v) other comes in
-    (ap (λ (z : World). z.deeds) closed.1, ap (λ (z : World). z.view) closed.1, ap (λ (z : World). z.gated) closed.1, closed.0)
+pub only_hello_greets : {N G : Type 0} (told : N → History) (passes : G → GatedCall → G → Type 0) (alone : Bool) → OnlyHelloGreets told passes alone
+only_hello_greets told passes alone s t key m p privileged w v other comes =
+    let closed : Comes told passes alone (for_peer s key (Some p) (closing key NotHello)) w t v = subst (λ b. Comes told passes alone (if b then greet s key m p privileged else for_peer s key (Some p) (closing key NotHello)) w t v) other comes in
+    (closed.2.0, (closed.1.action, closed.1.done, closed.2.1 ∙ closed.1.rest))

@@ -11,26 +11,25 @@ use Rattle.seq_bus_core.specs.declared.outcome.Outcome.{Outcome}
 use Rattle.seq_bus_core.specs.declared.query.Query.{Query}
 use Rattle.seq_bus_core.specs.declared.verdict.Verdict.{Verdict}
 use Rattle.bus_view.specs.Views.{Knowledge, bus_seen, next_entry, having_changed}
-use Rattle.router_core.specs.Acts.{Exchange, Changed, Asked, Routed, Looked, Wanted, Goes, IsLawful, IsGranted, gated_in, world_of}
+use Rattle.router_core.specs.Acts.{Exchange, Changed, Asked, Routed, Looked, Wanted, Goes, IsLawful, IsGranted}
 use Rattle.router_core.specs.Answers.{Heard, Says, Refuses}
-use Rattle.router_core.specs.Deeds.{Deed}
+use Rattle.router_core.specs.Deeds.{Deed, announced}
 use Rattle.router_core.specs.Events.{script}
 use Rattle.router_core.specs.Laws.{OneThreadIsAFunction, BytesAreAFunction}
-use Rattle.router_core.specs.OneThread.{Readers, AreReadBy, alone, given, rest_after, written_to, bus_bytes}
-use Rattle.router_core.specs.Scripts.{Script, Gives, Changing, Asking, Routing, Looking, Noting, Fronting, Calling, Gating, Wanting, Doing, World, knowing, past_gate, having_done}
+use Rattle.router_core.specs.OneThread.{Readers, AreReadBy, Course, learning, doing, alone, given, rest_after, keys_after, written_to, bus_bytes}
+use Rattle.router_core.specs.Scripts.{Script, Gives, Changing, Asking, Routing, Looking, Noting, Fronting, Calling, Gating, Wanting, Doing, Announcing}
 use Rattle.router_core.proofs.Knowing.{read_alone, added_alone}
 
 -- how a script ends that asked this and did these deeds
-pub record Ends (readers : Readers) {X : Type 0} (s : Script X) (w : World) (asked : List Exchange) (deeds : List Deed) (x : X) (k : Knowledge) : Type 0 where
+pub record Ends (readers : Readers) {X : Type 0} (s : Script X) (w : Course) (deeds : List Deed) (x : X) (k : Knowledge) : Type 0 where
   pub result : (alone readers s w).0 ≡ x
   pub view : (alone readers s w).1.view ≡ k
-  pub gated : (alone readers s w).1.gated ≡ w.gated ++ gated_in w.view.seat asked
   pub done : (alone readers s w).1.deeds ≡ w.deeds ++ deeds
 
 module _ (readers : Readers) {X : Type 0} where
   -- wherever the rest of a script begins
   abbrev pub Goes_on : Script X → List Exchange → List Deed → X → Knowledge → Type 0
-  Goes_on s asked deeds x k = (w : World) → IsLawful true w.view asked k → IsGranted asked → AreReadBy readers asked → Ends readers s w asked deeds x k
+  Goes_on s asked deeds x k = (w : Course) → IsLawful true w.view asked k → IsGranted asked → AreReadBy readers asked → Ends readers s w deeds x k
 
   changed : (change : Change) (goes_on : Heard Outcome → Script X) (heard : Heard Outcome) (later : List Exchange) (deeds : List Deed) (x : X) (k : Knowledge) →
       Goes_on (goes_on heard) later deeds x k → Goes_on (Changing change goes_on) (Changed change heard ∷ later) deeds x k
@@ -38,10 +37,10 @@ module _ (readers : Readers) {X : Type 0} where
   changed change goes_on (Says o) later deeds x k ih w lawful granted read =
       let told : o ≡ (bus_step (bus_seen w.view) w.view.seat change).1 =
       lawful.1.told ∙ ap (λ point. (bus_step (bus_after w.view.opening point) w.view.seat change).1) (lawful.1.reached.same refl) in
-      let first = ih (knowing w lawful.0) lawful.2 granted read in
-      let now = subst (λ z. Ends readers (goes_on (Says o)) (knowing w z) later deeds x k) (added_alone change o w.view lawful.0 lawful.1) first in
-      let here = subst (λ z. Ends readers (goes_on (Says z)) (knowing w (having_changed w.view (w.view.seen ++ next_entry w.view change ∷ []))) later deeds x k) told now in
-      record { result = here.result; view = here.view; gated = here.gated; done = here.done }
+      let first = ih (learning w lawful.0) lawful.2 granted read in
+      let now = subst (λ z. Ends readers (goes_on (Says o)) (learning w z) deeds x k) (added_alone change o w.view lawful.0 lawful.1) first in
+      let here = subst (λ z. Ends readers (goes_on (Says z)) (learning w (having_changed w.view (w.view.seen ++ next_entry w.view change ∷ []))) deeds x k) told now in
+      record { result = here.result; view = here.view; done = here.done }
 
   asked_of : (query : Query) (goes_on : Heard (Option Answer) → Script X) (heard : Heard (Option Answer)) (later : List Exchange) (deeds : List Deed) (x : X) (k : Knowledge) →
       Goes_on (goes_on heard) later deeds x k → Goes_on (Asking query goes_on) (Asked query heard ∷ later) deeds x k
@@ -49,9 +48,9 @@ module _ (readers : Readers) {X : Type 0} where
   asked_of query goes_on (Says told) later deeds x k ih w lawful granted read =
       let same = read_alone w.view lawful.0 lawful.1.0 in
       let is : told ≡ answer (bus_seen w.view).state query = lawful.1.1 ∙ ap (λ m. answer (bus_seen m).state query) same in
-      let now = subst (λ z. Ends readers (goes_on (Says told)) (knowing w z) later deeds x k) same (ih (knowing w lawful.0) lawful.2 granted read) in
-      let here = subst (λ z. Ends readers (goes_on (Says z)) (knowing w w.view) later deeds x k) is now in
-      record { result = here.result; view = here.view; gated = here.gated; done = here.done }
+      let now = subst (λ z. Ends readers (goes_on (Says told)) (learning w z) deeds x k) same (ih (learning w lawful.0) lawful.2 granted read) in
+      let here = subst (λ z. Ends readers (goes_on (Says z)) (learning w w.view) deeds x k) is now in
+      record { result = here.result; view = here.view; done = here.done }
 
   routed : (from : ℕ) (facts : Facts) (goes_on : Heard Verdict → Script X) (heard : Heard Verdict) (later : List Exchange) (deeds : List Deed) (x : X) (k : Knowledge) →
       Goes_on (goes_on heard) later deeds x k → Goes_on (Routing from facts goes_on) (Routed from facts heard ∷ later) deeds x k
@@ -59,9 +58,9 @@ module _ (readers : Readers) {X : Type 0} where
   routed from facts goes_on (Says v) later deeds x k ih w lawful granted read =
       let same = read_alone w.view lawful.0 lawful.1.0 in
       let is : v ≡ recipients (bus_seen w.view).state from facts = lawful.1.1 ∙ ap (λ m. recipients (bus_seen m).state from facts) same in
-      let now = subst (λ z. Ends readers (goes_on (Says v)) (knowing w z) later deeds x k) same (ih (knowing w lawful.0) lawful.2 granted read) in
-      let here = subst (λ z. Ends readers (goes_on (Says z)) (knowing w w.view) later deeds x k) is now in
-      record { result = here.result; view = here.view; gated = here.gated; done = here.done }
+      let now = subst (λ z. Ends readers (goes_on (Says v)) (learning w z) deeds x k) same (ih (learning w lawful.0) lawful.2 granted read) in
+      let here = subst (λ z. Ends readers (goes_on (Says z)) (learning w w.view) deeds x k) is now in
+      record { result = here.result; view = here.view; done = here.done }
 
   looked : (number : ℕ) (goes_on : Heard Bool → Script X) (heard : Heard Bool) (later : List Exchange) (deeds : List Deed) (x : X) (k : Knowledge) →
       Goes_on (goes_on heard) later deeds x k → Goes_on (Looking number goes_on) (Looked number heard ∷ later) deeds x k
@@ -69,19 +68,19 @@ module _ (readers : Readers) {X : Type 0} where
   looked number goes_on (Says there) later deeds x k ih w lawful granted read =
       let same = read_alone w.view lawful.0 lawful.1.0 in
       let is : there ≡ is_some (connection_of (bus_seen w.view).state number) = lawful.1.1 ∙ ap (λ m. is_some (connection_of (bus_seen m).state number)) same in
-      let now = subst (λ z. Ends readers (goes_on (Says there)) (knowing w z) later deeds x k) same (ih (knowing w lawful.0) lawful.2 granted read) in
-      let here = subst (λ z. Ends readers (goes_on (Says z)) (knowing w w.view) later deeds x k) is now in
-      record { result = here.result; view = here.view; gated = here.gated; done = here.done }
+      let now = subst (λ z. Ends readers (goes_on (Says there)) (learning w z) deeds x k) same (ih (learning w lawful.0) lawful.2 granted read) in
+      let here = subst (λ z. Ends readers (goes_on (Says z)) (learning w w.view) deeds x k) is now in
+      record { result = here.result; view = here.view; done = here.done }
 
   wanted : (goes_on : Bool → Script X) (granted : Bool) (later : List Exchange) (deeds : List Deed) (x : X) (k : Knowledge) →
       Goes_on (goes_on granted) later deeds x k → Goes_on (Wanting goes_on) (Wanted granted ∷ later) deeds x k
   wanted goes_on false later deeds x k ih w lawful granted read = absurd granted
   wanted goes_on true later deeds x k ih w lawful granted read =
       let here = ih w lawful granted read in
-      record { result = here.result; view = here.view; gated = here.gated; done = here.done }
+      record { result = here.result; view = here.view; done = here.done }
 
-  given_up : (y x : X) (w : World) (k : Knowledge) → x ≡ y → k ≡ w.view → Ends readers (Gives y) w [] [] x k
-  given_up y x w k e v = record { result = sym e; view = sym v; gated = sym (append-nil w.gated); done = sym (append-nil w.deeds) }
+  given_up : (y x : X) (w : Course) (k : Knowledge) → x ≡ y → k ≡ w.view → Ends readers (Gives y) w [] x k
+  given_up y x w k e v = record { result = sym e; view = sym v; done = sym (append-nil w.deeds) }
 
   pub ends : (s : Script X) (asked : List Exchange) (deeds : List Deed) (x : X) (k : Knowledge) → Goes s asked deeds x → Goes_on s asked deeds x k
   ends (Gives y) asked deeds x k p =
@@ -97,39 +96,44 @@ module _ (readers : Readers) {X : Type 0} where
   ends (Noting told s) asked deeds x k p =
       subst (λ a. Goes_on (Noting told s) a deeds x k) (sym p.1) (λ w lawful granted read.
       let same = lawful.1.nothing refl in
-      let here = subst (λ z. Ends readers s (knowing w z) p.0 deeds x k) same (ends s p.0 deeds x k p.2 (knowing w lawful.0) lawful.2 granted read) in
-      record { result = here.result; view = here.view; gated = here.gated; done = here.done })
+      let here = subst (λ z. Ends readers s (learning w z) deeds x k) same (ends s p.0 deeds x k p.2 (learning w lawful.0) lawful.2 granted read) in
+      record { result = here.result; view = here.view; done = here.done })
   ends (Fronting bytes goes_on) asked deeds x k p =
       subst (λ a. Goes_on (Fronting bytes goes_on) a deeds x k) (sym p.2) (λ w lawful granted read.
-      let here = subst (λ z. Ends readers (goes_on z) w p.1 deeds x k) read.0 (ends (goes_on p.0) p.1 deeds x k p.3 w lawful.1 granted read.1) in
-      record { result = here.result; view = here.view; gated = here.gated; done = here.done })
+      let here = subst (λ z. Ends readers (goes_on z) w deeds x k) read.0 (ends (goes_on p.0) p.1 deeds x k p.3 w lawful.1 granted read.1) in
+      record { result = here.result; view = here.view; done = here.done })
   ends (Calling m goes_on) asked deeds x k p =
       subst (λ a. Goes_on (Calling m goes_on) a deeds x k) (sym p.2) (λ w lawful granted read.
-      let here = subst (λ z. Ends readers (goes_on z) w p.1 deeds x k) read.0 (ends (goes_on p.0) p.1 deeds x k p.3 w lawful.1 granted read.1) in
-      record { result = here.result; view = here.view; gated = here.gated; done = here.done })
+      let here = subst (λ z. Ends readers (goes_on z) w deeds x k) read.0 (ends (goes_on p.0) p.1 deeds x k p.3 w lawful.1 granted read.1) in
+      record { result = here.result; view = here.view; done = here.done })
   ends (Gating call s) asked deeds x k p =
       subst (λ a. Goes_on (Gating call s) a deeds x k) (sym p.1) (λ w lawful granted read.
-      let here = ends s p.0 deeds x k p.2 (past_gate w call) lawful granted read in
-      record { result = here.result; view = here.view; gated = here.gated ∙ append_assoc w.gated (record { seat = w.view.seat; call = call } ∷ []) (gated_in w.view.seat p.0); done = here.done })
+      let here = ends s p.0 deeds x k p.2 w lawful granted read in
+      record { result = here.result; view = here.view; done = here.done })
   ends (Wanting goes_on) asked deeds x k p =
       subst (λ a. Goes_on (Wanting goes_on) a deeds x k) (sym p.2) (wanted goes_on p.0 p.1 deeds x k (ends (goes_on p.0) p.1 deeds x k p.3))
   ends (Doing deed s) asked deeds x k p =
       subst (λ ds. Goes_on (Doing deed s) asked ds x k) (sym p.1) (λ w lawful granted read.
-      let here = ends s asked p.0 x k p.2 (having_done w deed) lawful granted read in
-      record { result = here.result; view = here.view; gated = here.gated; done = here.done ∙ append_assoc w.deeds (deed ∷ []) p.0 })
+      let here = ends s asked p.0 x k p.2 (doing w (deed ∷ [])) lawful granted read in
+      record { result = here.result; view = here.view; done = here.done ∙ append_assoc w.deeds (deed ∷ []) p.0 })
+  ends (Announcing signals s) asked deeds x k p =
+      subst (λ ds. Goes_on (Announcing signals s) asked ds x k) (sym p.1) (λ w lawful granted read.
+      let here = ends s asked p.0 x k p.2 (doing w (announced signals)) lawful granted read in
+      record { result = here.result; view = here.view; done = here.done ∙ append_assoc w.deeds (announced signals) p.0 })
 
 pub one_thread_is_a_function : OneThreadIsAFunction
 one_thread_is_a_function readers before after occasion asked deeds served granted read =
-    let here = ends readers (script before.standing occasion) asked deeds after.standing after.view served.goes (world_of before) served.lawful granted read in
-    (sym here.done, λ i. record { standing = sym here.result i; view = sym here.view i; gated = (served.gated ∙ sym here.gated) i })
+    let here = ends readers (script before.standing occasion) asked deeds after.standing after.view served.goes (record { view = before.view; deeds = [] }) served.lawful granted read in
+    (sym here.done, λ i. record { standing = sym here.result i; view = sym here.view i })
 
 pub bytes_are_a_function : BytesAreAFunction
-bytes_are_a_function readers opening before after [] bytes run = run
-bytes_are_a_function readers opening before after (occasion ∷ occasions) bytes run =
+bytes_are_a_function readers opening keys before after [] bytes run = run
+bytes_are_a_function readers opening keys before after (occasion ∷ occasions) bytes run =
+    let now = keys_after occasion keys in
     let first = one_thread_is_a_function readers before run.2 occasion run.0 run.1 run.4 run.5 run.6 in
-    let others = bytes_are_a_function readers opening run.2 after occasions run.3 run.7 in (
+    let others = bytes_are_a_function readers opening now run.2 after occasions run.3 run.7 in (
       run.8
-          ∙ ap (λ deeds. written_to opening before.standing deeds ++ run.3) first.0
-          ∙ ap (λ later. written_to opening before.standing (given readers before occasion).0 ++ later) (others.0 ∙ ap (λ r. bus_bytes readers opening r occasions) first.1),
+          ∙ ap (λ deeds. written_to opening now deeds ++ run.3) first.0
+          ∙ ap (λ later. written_to opening now (given readers before occasion).0 ++ later) (others.0 ∙ ap (λ r. bus_bytes readers opening now r occasions) first.1),
       others.1 ∙ ap (λ r. rest_after readers r occasions) first.1,
     )

@@ -1,6 +1,5 @@
 -- What an event brings, for some answers that the bus may give.
 use Rattle.std.specs.Prelude.{◌≡◌, ℕ, Bool, false, Option, List, [], ◌∷◌, ◌++◌}
-use Rattle.std.specs.List.{flat_map}
 use Rattle.match_rules.specs.Facts.{Facts}
 use Rattle.seq_bus_core.specs.Answers.{Answer}
 use Rattle.seq_bus_core.specs.Histories.{History}
@@ -15,10 +14,10 @@ use Rattle.bus_view.specs.Views.{Knowledge, IsNoted}
 use Rattle.router_core.specs.declared.action.Action.{Action}
 use Rattle.router_core.specs.declared.event.Event.{Event}
 use Rattle.router_core.specs.Answers.{Heard, Refuses, HearsChange, HearsAnswer, HearsVerdict, HearsPresent}
-use Rattle.router_core.specs.Deeds.{Deed, GatedCall, AreDoneBy, notes_of}
-use Rattle.router_core.specs.Events.{Occasion, IsOccasion, script}
+use Rattle.router_core.specs.Deeds.{Deed, GatedCall, PassesAll, announced, AreDoneBy}
+use Rattle.router_core.specs.Events.{Occasion, occasion_of, script}
 use Rattle.router_core.specs.Fronts.{Front, IsFront}
-use Rattle.router_core.specs.Scripts.{Script, Gives, Changing, Asking, Routing, Looking, Noting, Fronting, Calling, Gating, Wanting, Doing, World, Comes}
+use Rattle.router_core.specs.Scripts.{Script, Gives, Changing, Asking, Routing, Looking, Noting, Fronting, Calling, Gating, Wanting, Doing, Announcing, World, Comes}
 use Rattle.router_core.specs.Standing.{Standing}
 
 -- ## What was asked and answered
@@ -47,6 +46,7 @@ Goes (Calling m goes_on) asked deeds x = (reading : Reading Call) × (later : Li
 Goes (Gating call s) asked deeds x = (later : List Exchange) × (asked ≡ Gated call ∷ later) × Goes s later deeds x
 Goes (Wanting goes_on) asked deeds x = (granted : Bool) × (later : List Exchange) × (asked ≡ Wanted granted ∷ later) × Goes (goes_on granted) later deeds x
 Goes (Doing deed s) asked deeds x = (later : List Deed) × (deeds ≡ deed ∷ later) × Goes s asked later x
+Goes (Announcing signals s) asked deeds x = (later : List Deed) × (deeds ≡ announced signals ++ later) × Goes s asked later x
 
 -- The bus may answer so, one after the other, from what the view knew before to what it knows then.
 abbrev pub IsLawful : Bool → Knowledge → List Exchange → Knowledge → Type 0
@@ -79,38 +79,33 @@ IsGranted (other ∷ later) = IsGranted later
 
 -- ## Events
 
--- an engine between events: its connections, what its view knows, and the calls that its gate was shown
-pub record Rest : Type 0 where
+-- an engine between events: its connections, what its view knows, and its gate
+pub record State (G : Type 0) : Type 0 where
   pub standing : Standing
   pub view : Knowledge
-  pub gated : List GatedCall
+  pub gate : G
 
 -- at the beginning of an event nothing was done yet
-abbrev pub world_of : Rest → World
-world_of r = record { view = r.view; gated = r.gated; deeds = []; notes = [] }
+abbrev pub world_of : {N G : Type 0} → State G → World N G
+world_of s = record { view = s.view; gate = s.gate; actions = [] }
 
--- The occasion brings these deeds, with these notes, and leaves the engine so.
-pub record Acts (alone : Bool) (before : Rest) (occasion : Occasion) (deeds : List Deed) (notes : List (Option History)) (after : Rest) : Type 0 where
-  pub ends : World
-  pub comes : Comes alone (script before.standing occasion) (world_of before) after.standing ends
+-- The event brings these actions, and leaves the engine so.
+pub record Brings {N G : Type 0} (told : N → History) (passes : G → GatedCall → G → Type 0) (alone : Bool) (before : State G) (event : Event N) (actions : List (Action N)) (after : State G) : Type 0 where
+  pub ends : World N G
+  pub comes : Comes told passes alone (script before.standing (occasion_of told event)) (world_of before) after.standing ends
   pub view : after.view ≡ ends.view
-  pub gated : after.gated ≡ ends.gated
-  pub done : deeds ≡ ends.deeds
-  pub carried : notes ≡ ends.notes
+  pub gate : after.gate ≡ ends.gate
+  pub done : actions ≡ ends.actions
 
--- The event brings these actions. Where others make changes too, each message that is put carries the furthest note that the view
--- held.
-pub record Brings {N : Type 0} (told : N → History) (alone : Bool) (before : Rest) (event : Event N) (actions : List (Action N)) (after : Rest) : Type 0 where
-  pub occasion : Occasion
+-- The occasion is served so: all that was asked and answered, and the deeds.
+pub record IsServedBy (alone : Bool) (before : Standing) (knew : Knowledge) (occasion : Occasion) (asked : List Exchange) (deeds : List Deed) (after : Standing) (knows : Knowledge) : Type 0 where
+  pub goes : Goes (script before occasion) asked deeds after
+  pub lawful : IsLawful alone knew asked knows
+
+-- The event is served by these actions, for some answers that the bus may give, and the gate was shown the calls among them.
+pub record IsServed {N G : Type 0} (told : N → History) (passes : G → GatedCall → G → Type 0) (alone : Bool) (before : State G) (event : Event N) (actions : List (Action N)) (after : State G) : Type 0 where
+  pub asked : List Exchange
   pub deeds : List Deed
-  pub notes : List (Option History)
-  pub happened : IsOccasion told event occasion
-  pub acts : Acts alone before occasion deeds notes after
+  pub served : IsServedBy alone before.standing before.view (occasion_of told event) asked deeds after.standing after.view
+  pub shown : PassesAll passes before.gate (gated_in before.view.seat asked) after.gate
   pub done : AreDoneBy actions deeds
-  pub noted : alone ≡ false → flat_map (notes_of told) actions ≡ notes
-
--- The same, with all that was asked and answered.
-pub record IsServedBy (alone : Bool) (before : Rest) (occasion : Occasion) (asked : List Exchange) (deeds : List Deed) (after : Rest) : Type 0 where
-  pub goes : Goes (script before.standing occasion) asked deeds after.standing
-  pub lawful : IsLawful alone before.view asked after.view
-  pub gated : after.gated ≡ before.gated ++ gated_in before.view.seat asked

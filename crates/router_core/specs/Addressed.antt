@@ -2,8 +2,13 @@
 use Rattle.std.specs.Prelude.{List, [], ◌∷◌}
 use Rattle.seq_bus_core.specs.declared.connection.Conn.{Conn}
 use Rattle.router_core.specs.declared.recipients.Held.{Held}
-use Rattle.router_core.specs.declared.recipients.Held.TheVariants.{One, Many}
+use Rattle.router_core.specs.declared.recipients.Held.TheVariants.{One, Shown}
 
-abbrev pub conns_held : Held → List Conn
-conns_held (One conn) = conn ∷ []
-conns_held (Many conns) = conns.value
+-- the recipients, and the monitors that are shown it; of these some may be recipients
+pub record Addressed : Type 0 where
+  pub to : List Conn
+  pub monitors : List Conn
+
+abbrev pub addressed : Held → Addressed
+addressed (One conn) = record { to = conn ∷ []; monitors = [] }
+addressed (Shown crowd) = record { to = crowd.value.to; monitors = crowd.value.monitors }

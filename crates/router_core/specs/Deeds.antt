@@ -1,5 +1,5 @@
 -- What a router does, in the terms of the definitions.
-use Rattle.std.specs.Prelude.{◌≡◌, ℕ, not, Option, option_map, List, [], ◌∷◌, ◌++◌, filter}
+use Rattle.std.specs.Prelude.{◌≡◌, ℕ, Bool, false, not, Option, option_map, List, [], ◌∷◌, ◌++◌, filter}
 use Rattle.names.specs.Texts.{Text}
 use Rattle.seq_bus_core.specs.Histories.{History}
 use Rattle.seq_bus_core.specs.Steps.{is_among}
@@ -7,7 +7,7 @@ use Rattle.seq_bus_core.specs.declared.connection.Conn.{Conn}
 use Rattle.seq_bus_core.specs.declared.signal.AddressedSignal.{AddressedSignal}
 use Rattle.message_core.specs.Messages.{Message, IsWritten}
 use Rattle.driver.specs.declared.call.Call.{Call}
-use Rattle.envelopes.specs.Contents.{Said, Tells, Signals, IsSaid}
+use Rattle.envelopes.specs.Contents.{Said, Tells, Signals, said_of}
 use Rattle.router_core.specs.declared.action.Action.{Action}
 use Rattle.router_core.specs.declared.action.Action.TheVariants.{Write, Put, Announce, Close, Run}
 use Rattle.router_core.specs.declared.cause.CloseCause.{CloseCause}
@@ -49,32 +49,42 @@ announced (s ∷ signals) = put_to (all_of s.to s.monitors) (Tells (Signals s.si
 
 -- ## What an action does
 
-abbrev pub IsWriting : ℕ → List ℕ → List Deed → Type 0
-IsWriting key bytes (Writes k written ∷ []) = (k ≡ key) × (written ≡ bytes)
-IsWriting key bytes (Sends k message ∷ []) = (k ≡ key) × IsWritten bytes message
-IsWriting key bytes deeds = ⊥
+abbrev pub IsWriting : ℕ → List ℕ → Deed → Type 0
+IsWriting key bytes (Writes k written) = (k ≡ key) × (written ≡ bytes)
+IsWriting key bytes (Sends k message) = (k ≡ key) × IsWritten bytes message
+IsWriting key bytes deed = ⊥
 
-abbrev pub IsDoneBy : {N : Type 0} → Action N → List Deed → Type 0
-IsDoneBy (Write key bytes) deeds = IsWriting key bytes.items deeds
-IsDoneBy (Put to carried content) deeds = (said : Said) × IsSaid content said × (deeds ≡ Puts to said ∷ [])
-IsDoneBy (Announce signals carried) deeds = deeds ≡ announced signals
-IsDoneBy (Close key cause) deeds = deeds ≡ Closes key cause ∷ []
-IsDoneBy (Run name start) deeds = deeds ≡ Runs name start ∷ []
+-- the one deed that the action does
+abbrev pub IsDoneBy : {N : Type 0} → Action N → Deed → Type 0
+IsDoneBy (Write key bytes) deed = IsWriting key bytes.items deed
+IsDoneBy (Put to carried content) deed = deed ≡ Puts (all_of to.to to.monitors) (said_of content)
+IsDoneBy (Announce signals carried) deed = ⊥
+IsDoneBy (Close key cause) deed = deed ≡ Closes key cause
+IsDoneBy (Run name start) deed = deed ≡ Runs name start
+
+-- signals are announced in one action; where there are none, in none
+abbrev pub announcement : {N : Type 0} → List AddressedSignal → Option N → List (Action N)
+announcement [] carried = []
+announcement (s ∷ signals) carried = Announce (s ∷ signals) carried ∷ []
+
+-- ## What actions carry
+
+-- It is the furthest note that the view held. Where nobody else makes changes, notes tell nothing.
+abbrev pub IsFurthest : {N : Type 0} → (N → History) → Bool → Option History → Option N → Type 0
+IsFurthest told alone held carried = alone ≡ false → option_map told carried ≡ held
+
+abbrev pub CarriesFurthest : {N : Type 0} → (N → History) → Bool → Option History → Action N → Type 0
+CarriesFurthest told alone held (Put to carried content) = IsFurthest told alone held carried
+CarriesFurthest told alone held (Announce signals carried) = IsFurthest told alone held carried
+CarriesFurthest told alone held other = Unit {0}
+
+-- ## What actions do
+
+abbrev pub AreDeedsOf : {N : Type 0} → Action N → List Deed → Type 0
+AreDeedsOf (Announce signals carried) deeds = deeds ≡ announced signals
+AreDeedsOf action deeds = (deed : Deed) × IsDoneBy action deed × (deeds ≡ deed ∷ [])
 
 -- the actions do these deeds, in order
 abbrev pub AreDoneBy : {N : Type 0} → List (Action N) → List Deed → Type 0
 AreDoneBy [] deeds = deeds ≡ []
-AreDoneBy (a ∷ actions) deeds = (first later : List Deed) × IsDoneBy a first × AreDoneBy actions later × (deeds ≡ first ++ later)
-
--- ## What actions carry
-
--- the history that a note tells, for each message that is put
-abbrev pub for_each_put : List Deed → Option History → List (Option History)
-for_each_put [] held = []
-for_each_put (Puts to said ∷ deeds) held = held ∷ for_each_put deeds held
-for_each_put (deed ∷ deeds) held = for_each_put deeds held
-
-abbrev pub notes_of : {N : Type 0} → (N → History) → Action N → List (Option History)
-notes_of told (Put to carried content) = option_map told carried ∷ []
-notes_of told (Announce signals carried) = for_each_put (announced signals) (option_map told carried)
-notes_of told other = []
+AreDoneBy (action ∷ actions) deeds = (first later : List Deed) × AreDeedsOf action first × AreDoneBy actions later × (deeds ≡ first ++ later)

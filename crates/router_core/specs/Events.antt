@@ -1,5 +1,5 @@
 -- What is done at an event. (D-Bus Specification: "Message Bus Messages", "org.freedesktop.DBus.Hello")
-use Rattle.std.specs.Prelude.{◌≡◌, ℕ, ◌≤◌, Bool, true, false, Option, Some, None, List, [], ◌∷◌, ◌++◌, length, position, if◌then◌else◌}
+use Rattle.std.specs.Prelude.{◌≡◌, ℕ, ◌≤◌, Bool, true, false, Option, Some, None, option_map, List, [], ◌∷◌, ◌++◌, length, position, if◌then◌else◌}
 use Rattle.seq_bus_core.specs.Histories.{History}
 use Rattle.seq_bus_core.specs.declared.change.Change.TheVariants.{Hello, Leave}
 use Rattle.seq_bus_core.specs.declared.connection.Conn.{Conn}
@@ -14,15 +14,15 @@ use Rattle.message_core.specs.Said.{said as message_said}
 use Rattle.message_relay.specs.FactsOf.{facts_of}
 use Rattle.driver.specs.declared.call.Call.TheVariants as call
 use Rattle.driver.specs.Calls.{expects_reply, is_hello}
-use Rattle.envelopes.specs.Contents.{Said, Relays, Tells, Own, Errs, UniqueName, own_message, IsSaid}
+use Rattle.envelopes.specs.Contents.{Said, Relays, Tells, Own, Errs, UniqueName, own_message, said_of}
 use Rattle.router_core.specs.declared.cause.CloseCause.{CloseCause}
 use Rattle.router_core.specs.declared.cause.CloseCause.TheVariants as cause
 use Rattle.router_core.specs.declared.event.Event.{Event}
 use Rattle.router_core.specs.declared.event.Event.TheVariants as event
 use Rattle.router_core.specs.Answers.{Heard, Says, Refuses, error_for}
-use Rattle.router_core.specs.Deeds.{Writes, Sends, Closes, put_to, announced}
+use Rattle.router_core.specs.Deeds.{Writes, Sends, Closes}
 use Rattle.router_core.specs.Fronts.{Front, Waits, Whole, Faulty}
-use Rattle.router_core.specs.Scripts.{Script, Gives, Changing, Routing, Looking, Noting, Fronting, Gating, Doing, and_then, doing_all}
+use Rattle.router_core.specs.Scripts.{Script, Gives, Changing, Routing, Looking, Noting, Fronting, Gating, Doing, Announcing, and_then, putting}
 use Rattle.router_core.specs.Serving.{monitors_in, reply_with, serve}
 use Rattle.router_core.specs.Standing.{Stage, Unnamed, Named, Shut, Peer, Standing, peer_at, with_peer, opened, conn_of, next_serial, shut, has_slot, is_conn}
 
@@ -75,7 +75,7 @@ fed piece p stage = record p { unread = p.unread ++ piece }
 
 -- The error in place of the reply is written to the connection, which has no name yet, and put to the monitors.
 abbrev pub refuse : ℕ → Own → Peer → Heard Verdict → OfPeer
-refuse key own p heard = and_then (send key own p) (λ q. doing_all (put_to (monitors_in heard) (Tells own)) (Gives q))
+refuse key own p heard = and_then (send key own p) (λ q. putting (monitors_in heard) (Tells own) (Gives q))
 
 abbrev pub refuse_with : ℕ → Message → ErrorKind → Peer → OfPeer
 refuse_with key m error p =
@@ -97,7 +97,7 @@ close_former s conn = close_found s (position (has_slot conn.slot) s.peers)
 abbrev pub welcome : ℕ → Message → Peer → Outcome → Conn → Standing → Stands
 welcome key m p o conn s =
     and_then (reply_with m conn (UniqueName conn.number))
-    (λ done. doing_all (announced o.signals) (Gives (with_peer s key (Some (record p { stage = Named conn })))))
+    (λ done. Announcing o.signals (Gives (with_peer s key (Some (record p { stage = Named conn })))))
 
 abbrev pub turn_away : ℕ → Message → Peer → OfPeer
 turn_away key m p = and_then (refuse_with key m error.LimitsExceeded p) (λ q. closing key cause.LimitsExceeded q)
@@ -149,7 +149,7 @@ noted (Some told) script = Noting told script
 
 -- A Leave that was refused is made later.
 abbrev pub left : Standing → ℕ → Heard Outcome → Stands
-left s number (Says o) = doing_all (announced o.signals) (Gives s)
+left s number (Says o) = Announcing o.signals (Gives s)
 left s number (Refuses refusal) = Gives (record s { leaves = s.leaves ++ number ∷ [] })
 
 abbrev pub leave : Standing → ℕ → Stands
@@ -202,18 +202,14 @@ script s (Mail slot number told said) = noted told (mail_found s said (position 
 script s (Closed key) = closed s key (peer_at s key)
 script s Tick = tick s
 
--- the event is this occasion; `told` says which history a note tells
-abbrev pub IsOccasion : {N : Type 0} → (N → History) → Event N → Occasion → Type 0
-IsOccasion told (event.Opened key) o = o ≡ Opened key
-IsOccasion told (event.Bytes key piece) o = o ≡ Bytes key piece.items
-IsOccasion told (event.Next key) o = o ≡ Next key
-IsOccasion told (event.Mail slot envelope) o = (said : Said) × IsSaid envelope.content said × (o ≡ Mail slot envelope.number (note_told told envelope.note) said)
-  where
-    note_told : {N : Type 0} → (N → History) → Option N → Option History
-    note_told told None = None
-    note_told told (Some n) = Some (told n)
-IsOccasion told (event.Closed key) o = o ≡ Closed key
-IsOccasion told event.Tick o = o ≡ Tick
+-- the event; `told` says which history a note tells
+abbrev pub occasion_of : {N : Type 0} → (N → History) → Event N → Occasion
+occasion_of told (event.Opened key) = Opened key
+occasion_of told (event.Bytes key piece) = Bytes key piece.items
+occasion_of told (event.Next key) = Next key
+occasion_of told (event.Mail slot envelope) = Mail slot envelope.number (option_map told envelope.note) (said_of envelope.content)
+occasion_of told (event.Closed key) = Closed key
+occasion_of told event.Tick = Tick
 
 -- ## What can happen
 

@@ -1,16 +1,18 @@
 -- Laws of what a router does.
-use Rattle.std.specs.Prelude.{◌≡◌, ℕ, Bool, true, false, Option, Some, List, [], ◌∷◌, ◌++◌}
+use Rattle.std.specs.Prelude.{◌≡◌, ℕ, Bool, true, false, Option, Some, List, [], ◌∷◌}
 use Rattle.match_rules.specs.Kinds.{kind_of}
 use Rattle.seq_bus_core.specs.Histories.{History}
 use Rattle.seq_bus_core.specs.declared.connection.Conn.{Conn}
 use Rattle.message_core.specs.Messages.{Message}
 use Rattle.driver.specs.Calls.{is_hello}
 use Rattle.router_core.specs.declared.cause.CloseCause.TheVariants.{NotHello}
-use Rattle.router_core.specs.Acts.{Rest, Acts, IsServedBy, Exchange, IsGranted}
-use Rattle.router_core.specs.Deeds.{Deed, Closes}
+use Rattle.router_core.specs.declared.action.Action.{Action}
+use Rattle.router_core.specs.declared.event.Event.{Event}
+use Rattle.router_core.specs.Acts.{State, Brings, IsServed, IsServedBy, Exchange, IsGranted}
+use Rattle.router_core.specs.Deeds.{Deed, Closes, GatedCall, IsDoneBy}
 use Rattle.router_core.specs.Events.{Occasion, Bytes, Next, script, serve_at}
-use Rattle.router_core.specs.OneThread.{Readers, given, rest_after, bus_bytes, AreReadBy, IsRun}
-use Rattle.router_core.specs.Scripts.{Gives, World, Comes}
+use Rattle.router_core.specs.OneThread.{Readers, Rest, given, rest_after, bus_bytes, AreReadBy, IsRun}
+use Rattle.router_core.specs.Scripts.{Gives, World, having_done, Comes}
 use Rattle.router_core.specs.Serving.{serve, is_unknown, stays_open}
 use Rattle.router_core.specs.Standing.{Unnamed, Shut, Peer, Standing, peer_at, with_peer, shut, is_conn}
 
@@ -35,24 +37,24 @@ abbrev pub UnknownTypesBringNothing : Type 0
 UnknownTypesBringNothing = (m : Message) (sender : Conn) → is_unknown (kind_of m.kind) ≡ true → serve m sender ≡ stays_open
 
 -- Before its Hello a connection is closed for anything else.
-abbrev pub OnlyHelloGreets : Type 0
-OnlyHelloGreets = (alone : Bool) (s t : Standing) (key : ℕ) (m : Message) (p : Peer) (privileged : Bool) (w v : World) →
-    is_hello m ≡ false → Comes alone (serve_at s key m p (Unnamed privileged)) w t v →
-    (v.deeds ≡ w.deeds ++ Closes key NotHello ∷ []) × (v.view ≡ w.view) × (v.gated ≡ w.gated) × (t ≡ with_peer s key (Some (shut p)))
+abbrev pub OnlyHelloGreets : {N G : Type 0} → (N → History) → (G → GatedCall → G → Type 0) → Bool → Type 0
+OnlyHelloGreets {N = N} {G = G} told passes alone = (s t : Standing) (key : ℕ) (m : Message) (p : Peer) (privileged : Bool) (w v : World N G) →
+    is_hello m ≡ false → Comes told passes alone (serve_at s key m p (Unnamed privileged)) w t v →
+    (t ≡ with_peer s key (Some (shut p))) × ((action : Action N) × IsDoneBy action (Closes key NotHello) × (v ≡ having_done w (action ∷ [])))
 
--- What an occasion brings is what it brings for some answers that the bus may give, one after the other, and the gate is shown
--- the calls among them.
-abbrev pub AnswersAreLawful : Type 0
-AnswersAreLawful = (alone : Bool) (before after : Rest) (occasion : Occasion) (deeds : List Deed) (notes : List (Option History)) →
-    Acts alone before occasion deeds notes after → (asked : List Exchange) × IsServedBy alone before occasion asked deeds after
+-- What an event brings it brings for some answers that the bus may give, one after the other, and the gate is shown the calls among
+-- them, each once.
+abbrev pub AnswersAreLawful : {N G : Type 0} → (N → History) → (G → GatedCall → G → Type 0) → Bool → Type 0
+AnswersAreLawful {N = N} {G = G} told passes alone = (before after : State G) (event : Event N) (actions : List (Action N)) →
+    Brings told passes alone before event actions after → IsServed told passes alone before event actions after
 
 -- Over a bus of one thread, where nothing is refused, what an occasion brings is a function of it and of what was read.
 abbrev pub OneThreadIsAFunction : Type 0
 OneThreadIsAFunction = (readers : Readers) (before after : Rest) (occasion : Occasion) (asked : List Exchange) (deeds : List Deed) →
-    IsServedBy true before occasion asked deeds after → IsGranted asked → AreReadBy readers asked →
+    IsServedBy true before.standing before.view occasion asked deeds after.standing after.view → IsGranted asked → AreReadBy readers asked →
     (deeds ≡ (given readers before occasion).0) × (after ≡ (given readers before occasion).1)
 
 -- So for every list of occasions the bytes that go to each connection are a function of the occasions and of what was read.
 abbrev pub BytesAreAFunction : Type 0
-BytesAreAFunction = (readers : Readers) (opening : ℕ) (before after : Rest) (occasions : List Occasion) (bytes : List ℕ) →
-    IsRun readers opening before occasions bytes after → (bytes ≡ bus_bytes readers opening before occasions) × (after ≡ rest_after readers before occasions)
+BytesAreAFunction = (readers : Readers) (opening : ℕ) (keys : List ℕ) (before after : Rest) (occasions : List Occasion) (bytes : List ℕ) →
+    IsRun readers opening keys before occasions bytes after → (bytes ≡ bus_bytes readers opening keys before occasions) × (after ≡ rest_after readers before occasions)

@@ -1,5 +1,5 @@
 -- What events bring over a bus of one thread, where nothing is refused: a function of the events.
-use Rattle.std.specs.Prelude.{◌≡◌, ℕ, ◌==◌, true, is_some, Option, Some, None, List, [], ◌∷◌, ◌++◌, if◌then◌else◌}
+use Rattle.std.specs.Prelude.{◌≡◌, ℕ, ◌+◌, ◌==◌, true, is_some, List, [], ◌∷◌, ◌++◌, length, if◌then◌else◌}
 use Rattle.seq_bus_core.specs.Answers.{answer}
 use Rattle.seq_bus_core.specs.BusState.{connection_of}
 use Rattle.seq_bus_core.specs.Recipients.{recipients}
@@ -8,14 +8,14 @@ use Rattle.message_core.specs.Messages.{Message}
 use Rattle.message_relay.specs.MessageBytes.{message_bytes}
 use Rattle.driver.specs.declared.call.Call.{Call}
 use Rattle.driver.specs.Calls.{Reading, is_call_to_bus, IsCall}
-use Rattle.bus_view.specs.Views.{bus_seen, next_entry, having_changed}
-use Rattle.router_core.specs.Acts.{Exchange, Fronted, Called, IsGranted, Rest, world_of, IsServedBy}
+use Rattle.bus_view.specs.Views.{Knowledge, bus_seen, next_entry, having_changed}
+use Rattle.router_core.specs.Acts.{Exchange, Fronted, Called, IsGranted, IsServedBy}
 use Rattle.router_core.specs.Answers.{Says}
-use Rattle.router_core.specs.Deeds.{Deed, Writes, Sends}
-use Rattle.router_core.specs.Events.{Occasion, script}
+use Rattle.router_core.specs.Deeds.{Deed, Writes, Sends, announced}
+use Rattle.router_core.specs.Events.{Occasion, Opened, script}
 use Rattle.router_core.specs.Fronts.{Front, IsFront}
-use Rattle.router_core.specs.Scripts.{Script, Gives, Changing, Asking, Routing, Looking, Noting, Fronting, Calling, Gating, Wanting, Doing, World, knowing, past_gate, having_done}
-use Rattle.router_core.specs.Standing.{Peer, Standing, peer_at}
+use Rattle.router_core.specs.Scripts.{Script, Gives, Changing, Asking, Routing, Looking, Noting, Fronting, Calling, Gating, Wanting, Doing, Announcing}
+use Rattle.router_core.specs.Standing.{Standing}
 
 -- What bytes and calls are read as. The bytes determine it, but for which of several faults is told.
 pub record Readers : Type 0 where
@@ -33,27 +33,46 @@ AreReadBy readers (Fronted bytes front ∷ later) = (front ≡ readers.front byt
 AreReadBy readers (Called m reading ∷ later) = (reading ≡ readers.call m) × AreReadBy readers later
 AreReadBy readers (other ∷ later) = AreReadBy readers later
 
--- where each answer is that of the bus after all that was seen
-abbrev pub alone : Readers → {X : Type 0} → Script X → World → X × World
-alone readers (Gives x) w = (x, w)
-alone readers (Changing change goes_on) w =
-    alone readers (goes_on (Says (bus_step (bus_seen w.view) w.view.seat change).1)) (knowing w (having_changed w.view (w.view.seen ++ next_entry w.view change ∷ [])))
-alone readers (Asking query goes_on) w = alone readers (goes_on (Says (answer (bus_seen w.view).state query))) w
-alone readers (Routing from facts goes_on) w = alone readers (goes_on (Says (recipients (bus_seen w.view).state from facts))) w
-alone readers (Looking number goes_on) w = alone readers (goes_on (Says (is_some (connection_of (bus_seen w.view).state number)))) w
-alone readers (Noting told s) w = alone readers s w
-alone readers (Fronting bytes goes_on) w = alone readers (goes_on (readers.front bytes)) w
-alone readers (Calling m goes_on) w = alone readers (goes_on (readers.call m)) w
-alone readers (Gating call s) w = alone readers s (past_gate w call)
-alone readers (Wanting goes_on) w = alone readers (goes_on true) w
-alone readers (Doing deed s) w = alone readers s (having_done w deed)
+-- ## What is done
 
-abbrev pub rest_of : Standing × World → Rest
-rest_of r = record { standing = r.0; view = r.1.view; gated = r.1.gated }
+-- what the view knows, and what was done
+pub record Course : Type 0 where
+  pub view : Knowledge
+  pub deeds : List Deed
+
+abbrev pub learning : Course → Knowledge → Course
+learning c k = record c { view = k }
+
+abbrev pub doing : Course → List Deed → Course
+doing c deeds = record c { deeds = c.deeds ++ deeds }
+
+-- where each answer is that of the bus after all that was seen
+abbrev pub alone : Readers → {X : Type 0} → Script X → Course → X × Course
+alone readers (Gives x) c = (x, c)
+alone readers (Changing change goes_on) c =
+    alone readers (goes_on (Says (bus_step (bus_seen c.view) c.view.seat change).1)) (learning c (having_changed c.view (c.view.seen ++ next_entry c.view change ∷ [])))
+alone readers (Asking query goes_on) c = alone readers (goes_on (Says (answer (bus_seen c.view).state query))) c
+alone readers (Routing from facts goes_on) c = alone readers (goes_on (Says (recipients (bus_seen c.view).state from facts))) c
+alone readers (Looking number goes_on) c = alone readers (goes_on (Says (is_some (connection_of (bus_seen c.view).state number)))) c
+alone readers (Noting told s) c = alone readers s c
+alone readers (Fronting bytes goes_on) c = alone readers (goes_on (readers.front bytes)) c
+alone readers (Calling m goes_on) c = alone readers (goes_on (readers.call m)) c
+alone readers (Gating call s) c = alone readers s c
+alone readers (Wanting goes_on) c = alone readers (goes_on true) c
+alone readers (Doing deed s) c = alone readers s (doing c (deed ∷ []))
+alone readers (Announcing signals s) c = alone readers s (doing c (announced signals))
+
+-- the connections, and what the view knows
+pub record Rest : Type 0 where
+  pub standing : Standing
+  pub view : Knowledge
+
+abbrev pub rest_of : Standing × Course → Rest
+rest_of end = record { standing = end.0; view = end.1.view }
 
 -- what an event brings, and what it leaves
 abbrev pub given : Readers → Rest → Occasion → List Deed × Rest
-given readers r occasion = let end = alone readers (script r.standing occasion) (world_of r) in (end.1.deeds, rest_of end)
+given readers r occasion = let end = alone readers (script r.standing occasion) (record { view = r.view; deeds = [] }) in (end.1.deeds, rest_of end)
 
 -- the engine after these events
 abbrev pub rest_after : Readers → Rest → List Occasion → Rest
@@ -62,27 +81,36 @@ rest_after readers r (occasion ∷ occasions) = rest_after readers (given reader
 
 -- ## The bytes to each connection
 
-abbrev pub is_opening : ℕ → Option Peer → List ℕ → List ℕ
-is_opening opening None bytes = []
-is_opening opening (Some p) bytes = if p.opening == opening then bytes else []
+-- the keys of the connections that came, the last first
+abbrev pub keys_after : Occasion → List ℕ → List ℕ
+keys_after (Opened key) keys = key ∷ keys
+keys_after other keys = keys
+
+-- which of all connections that came has the key, from 1; its key was another's before, perhaps
+abbrev pub opening_of : ℕ → List ℕ → ℕ
+opening_of key [] = 0
+opening_of key (last ∷ keys) = if last == key then length keys + 1 else opening_of key keys
+
+abbrev pub bytes_if : ℕ → ℕ → List ℕ → List ℕ
+bytes_if opening other bytes = if opening == other then bytes else []
 
 -- what is written to the connection of this opening
-abbrev pub written_to : ℕ → Standing → List Deed → List ℕ
-written_to opening s [] = []
-written_to opening s (Writes key bytes ∷ deeds) = is_opening opening (peer_at s key) bytes ++ written_to opening s deeds
-written_to opening s (Sends key message ∷ deeds) = is_opening opening (peer_at s key) (message_bytes message) ++ written_to opening s deeds
-written_to opening s (other ∷ deeds) = written_to opening s deeds
+abbrev pub written_to : ℕ → List ℕ → List Deed → List ℕ
+written_to opening keys [] = []
+written_to opening keys (Writes key bytes ∷ deeds) = bytes_if opening (opening_of key keys) bytes ++ written_to opening keys deeds
+written_to opening keys (Sends key message ∷ deeds) = bytes_if opening (opening_of key keys) (message_bytes message) ++ written_to opening keys deeds
+written_to opening keys (other ∷ deeds) = written_to opening keys deeds
 
 -- All the bytes that go to the connection which came as this one of all, from the first; its key may be another's later.
-abbrev pub bus_bytes : Readers → ℕ → Rest → List Occasion → List ℕ
-bus_bytes readers opening r [] = []
-bus_bytes readers opening r (occasion ∷ occasions) =
-    written_to opening r.standing (given readers r occasion).0 ++ bus_bytes readers opening (given readers r occasion).1 occasions
+abbrev pub bus_bytes : Readers → ℕ → List ℕ → Rest → List Occasion → List ℕ
+bus_bytes readers opening keys r [] = []
+bus_bytes readers opening keys r (occasion ∷ occasions) =
+    written_to opening (keys_after occasion keys) (given readers r occasion).0 ++ bus_bytes readers opening (keys_after occasion keys) (given readers r occasion).1 occasions
 
 -- The occasions come one after the other, nothing is refused, and these bytes go to the connection of this opening.
-abbrev pub IsRun : Readers → ℕ → Rest → List Occasion → List ℕ → Rest → Type 0
-IsRun readers opening before [] bytes after = (bytes ≡ []) × (after ≡ before)
-IsRun readers opening before (occasion ∷ occasions) bytes after =
+abbrev pub IsRun : Readers → ℕ → List ℕ → Rest → List Occasion → List ℕ → Rest → Type 0
+IsRun readers opening keys before [] bytes after = (bytes ≡ []) × (after ≡ before)
+IsRun readers opening keys before (occasion ∷ occasions) bytes after =
     (asked : List Exchange) × (deeds : List Deed) × (between : Rest) × (later : List ℕ)
-    × IsServedBy true before occasion asked deeds between × IsGranted asked × AreReadBy readers asked
-    × IsRun readers opening between occasions later after × (bytes ≡ written_to opening before.standing deeds ++ later)
+    × IsServedBy true before.standing before.view occasion asked deeds between.standing between.view × IsGranted asked × AreReadBy readers asked
+    × IsRun readers opening (keys_after occasion keys) between occasions later after × (bytes ≡ written_to opening (keys_after occasion keys) deeds ++ later)

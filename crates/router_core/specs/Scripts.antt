@@ -4,15 +4,19 @@ use Rattle.match_rules.specs.Facts.{Facts}
 use Rattle.seq_bus_core.specs.Answers.{Answer}
 use Rattle.seq_bus_core.specs.Histories.{History}
 use Rattle.seq_bus_core.specs.declared.change.Change.{Change}
+use Rattle.seq_bus_core.specs.declared.connection.Conn.{Conn}
 use Rattle.seq_bus_core.specs.declared.outcome.Outcome.{Outcome}
 use Rattle.seq_bus_core.specs.declared.query.Query.{Query}
+use Rattle.seq_bus_core.specs.declared.signal.AddressedSignal.{AddressedSignal}
 use Rattle.seq_bus_core.specs.declared.verdict.Verdict.{Verdict}
 use Rattle.message_core.specs.Messages.{Message}
 use Rattle.driver.specs.declared.call.Call.{Call}
 use Rattle.driver.specs.Calls.{Reading, IsCall}
 use Rattle.bus_view.specs.Views.{Knowledge, IsNoted}
 use Rattle.router_core.specs.Answers.{Heard, HearsChange, HearsAnswer, HearsVerdict, HearsPresent}
-use Rattle.router_core.specs.Deeds.{Deed, GatedCall, for_each_put}
+use Rattle.envelopes.specs.Contents.{Said}
+use Rattle.router_core.specs.declared.action.Action.{Action}
+use Rattle.router_core.specs.Deeds.{Deed, Puts, GatedCall, IsDoneBy, announcement, IsFurthest, CarriesFurthest}
 use Rattle.router_core.specs.Fronts.{Front, IsFront}
 
 -- A script comes to a result in the end.
@@ -34,6 +38,8 @@ pub data Script (X : Type 0) : Type 0 where
   -- memory is wanted, which is granted or not
   Wanting : (Bool → Script X) → Script X
   Doing : Deed → Script X → Script X
+  -- the signals of a change are put
+  Announcing : List AddressedSignal → Script X → Script X
 
 abbrev pub and_then : {X Y : Type 0} → Script X → (X → Script Y) → Script Y
 and_then (Gives x) next = next x
@@ -47,46 +53,83 @@ and_then (Calling m goes_on) next = Calling m (λ reading. and_then (goes_on rea
 and_then (Gating call s) next = Gating call (and_then s next)
 and_then (Wanting goes_on) next = Wanting (λ granted. and_then (goes_on granted) next)
 and_then (Doing deed s) next = Doing deed (and_then s next)
+and_then (Announcing signals s) next = Announcing signals (and_then s next)
 
--- some deeds, and then a script
-abbrev pub doing_all : {X : Type 0} → List Deed → Script X → Script X
-doing_all [] s = s
-doing_all (deed ∷ deeds) s = Doing deed (doing_all deeds s)
+-- A message that nobody gets is not put.
+abbrev pub putting : {X : Type 0} → List Conn → Said → Script X → Script X
+putting [] said s = s
+putting (conn ∷ conns) said s = Doing (Puts (conn ∷ conns) said) s
 
 -- ## What comes of a script
 
--- What the view knows, the calls that the gate was shown, what was done, and for each message that was put the furthest note that
--- the view held.
-pub record World : Type 0 where
+-- what the view knows, the gate, and the actions so far
+pub record World (N G : Type 0) : Type 0 where
   pub view : Knowledge
-  pub gated : List GatedCall
-  pub deeds : List Deed
-  pub notes : List (Option History)
+  pub gate : G
+  pub actions : List (Action N)
 
-abbrev pub knowing : World → Knowledge → World
+abbrev pub knowing : {N G : Type 0} → World N G → Knowledge → World N G
 knowing w k = record w { view = k }
 
--- the call was shown to the gate
-abbrev pub past_gate : World → Call → World
-past_gate w call = record w { gated = w.gated ++ record { seat = w.view.seat; call = call } ∷ [] }
+abbrev pub having_done : {N G : Type 0} → World N G → List (Action N) → World N G
+having_done w actions = record w { actions = w.actions ++ actions }
 
-abbrev pub having_done : World → Deed → World
-having_done w deed = record w { deeds = w.deeds ++ deed ∷ []; notes = w.notes ++ for_each_put (deed ∷ []) w.view.held }
+-- ## One step, from one world to the next. `alone` says that nobody else makes changes of the bus.
 
--- The script, begun in one world, comes to this result in another. `alone` says that nobody else makes changes of the bus.
-abbrev pub Comes : Bool → {X : Type 0} → Script X → World → X → World → Type 0
-Comes alone (Gives y) w x v = (x ≡ y) × (v ≡ w)
-Comes alone (Changing change goes_on) w x v =
-    (heard : Heard Outcome) × (k : Knowledge) × HearsChange alone change w.view heard k × Comes alone (goes_on heard) (knowing w k) x v
-Comes alone (Asking query goes_on) w x v =
-    (heard : Heard (Option Answer)) × (k : Knowledge) × HearsAnswer alone query w.view heard k × Comes alone (goes_on heard) (knowing w k) x v
-Comes alone (Routing from facts goes_on) w x v =
-    (heard : Heard Verdict) × (k : Knowledge) × HearsVerdict alone from facts w.view heard k × Comes alone (goes_on heard) (knowing w k) x v
-Comes alone (Looking number goes_on) w x v =
-    (heard : Heard Bool) × (k : Knowledge) × HearsPresent alone number w.view heard k × Comes alone (goes_on heard) (knowing w k) x v
-Comes alone (Noting told s) w x v = (k : Knowledge) × IsNoted alone w.view told k × Comes alone s (knowing w k) x v
-Comes alone (Fronting bytes goes_on) w x v = (front : Front) × IsFront bytes front × Comes alone (goes_on front) w x v
-Comes alone (Calling m goes_on) w x v = (reading : Reading Call) × IsCall m reading × Comes alone (goes_on reading) w x v
-Comes alone (Gating call s) w x v = Comes alone s (past_gate w call) x v
-Comes alone (Wanting goes_on) w x v = (granted : Bool) × Comes alone (goes_on granted) w x v
-Comes alone (Doing deed s) w x v = Comes alone s (having_done w deed) x v
+pub record Changes {N G : Type 0} (alone : Bool) (change : Change) (w : World N G) (heard : Heard Outcome) (m : World N G) : Type 0 where
+  pub hears : HearsChange alone change w.view heard m.view
+  pub rest : m ≡ knowing w m.view
+
+pub record Asks {N G : Type 0} (alone : Bool) (query : Query) (w : World N G) (heard : Heard (Option Answer)) (m : World N G) : Type 0 where
+  pub hears : HearsAnswer alone query w.view heard m.view
+  pub rest : m ≡ knowing w m.view
+
+pub record Routes {N G : Type 0} (alone : Bool) (from : ℕ) (facts : Facts) (w : World N G) (heard : Heard Verdict) (m : World N G) : Type 0 where
+  pub hears : HearsVerdict alone from facts w.view heard m.view
+  pub rest : m ≡ knowing w m.view
+
+pub record Looks {N G : Type 0} (alone : Bool) (number : ℕ) (w : World N G) (heard : Heard Bool) (m : World N G) : Type 0 where
+  pub hears : HearsPresent alone number w.view heard m.view
+  pub rest : m ≡ knowing w m.view
+
+pub record Takes {N G : Type 0} (alone : Bool) (told : History) (w m : World N G) : Type 0 where
+  pub noted : IsNoted alone w.view told m.view
+  pub rest : m ≡ knowing w m.view
+
+-- the gate is shown a call; `passes` says what it may be then
+pub record Passes {N G : Type 0} (passes : G → GatedCall → G → Type 0) (call : Call) (w m : World N G) : Type 0 where
+  pub shown : passes w.gate (record { seat = w.view.seat; call = call }) m.gate
+  pub rest : m ≡ record w { gate = m.gate }
+
+-- an action is taken, which carries the furthest note; `told` says which history a note tells
+pub record Does {N G : Type 0} (told : N → History) (alone : Bool) (deed : Deed) (w m : World N G) : Type 0 where
+  pub action : Action N
+  pub done : IsDoneBy action deed
+  pub carries : CarriesFurthest told alone w.view.held action
+  pub rest : m ≡ having_done w (action ∷ [])
+
+pub record Announces {N G : Type 0} (told : N → History) (alone : Bool) (signals : List AddressedSignal) (w m : World N G) : Type 0 where
+  pub note : Option N
+  pub carries : IsFurthest told alone w.view.held note
+  pub rest : m ≡ having_done w (announcement signals note)
+
+-- ## All of it
+
+-- The script, begun in one world, comes to this result in another.
+abbrev pub Comes : {N G : Type 0} → (N → History) → (G → GatedCall → G → Type 0) → Bool → {X : Type 0} → Script X → World N G → X → World N G → Type 0
+Comes told passes alone (Gives y) w x v = (x ≡ y) × (v ≡ w)
+Comes {N = N} {G = G} told passes alone (Changing change goes_on) w x v =
+    (heard : Heard Outcome) × (m : World N G) × Changes alone change w heard m × Comes told passes alone (goes_on heard) m x v
+Comes {N = N} {G = G} told passes alone (Asking query goes_on) w x v =
+    (heard : Heard (Option Answer)) × (m : World N G) × Asks alone query w heard m × Comes told passes alone (goes_on heard) m x v
+Comes {N = N} {G = G} told passes alone (Routing from facts goes_on) w x v =
+    (heard : Heard Verdict) × (m : World N G) × Routes alone from facts w heard m × Comes told passes alone (goes_on heard) m x v
+Comes {N = N} {G = G} told passes alone (Looking number goes_on) w x v =
+    (heard : Heard Bool) × (m : World N G) × Looks alone number w heard m × Comes told passes alone (goes_on heard) m x v
+Comes {N = N} {G = G} told passes alone (Noting history s) w x v = (m : World N G) × Takes alone history w m × Comes told passes alone s m x v
+Comes told passes alone (Fronting bytes goes_on) w x v = (front : Front) × IsFront bytes front × Comes told passes alone (goes_on front) w x v
+Comes told passes alone (Calling m goes_on) w x v = (reading : Reading Call) × IsCall m reading × Comes told passes alone (goes_on reading) w x v
+Comes {N = N} {G = G} told passes alone (Gating call s) w x v = (m : World N G) × Passes passes call w m × Comes told passes alone s m x v
+Comes told passes alone (Wanting goes_on) w x v = (granted : Bool) × Comes told passes alone (goes_on granted) w x v
+Comes {N = N} {G = G} told passes alone (Doing deed s) w x v = (m : World N G) × Does told alone deed w m × Comes told passes alone s m x v
+Comes {N = N} {G = G} told passes alone (Announcing signals s) w x v = (m : World N G) × Announces told alone signals w m × Comes told passes alone s m x v

@@ -39,8 +39,8 @@ use Rattle.envelopes.specs.Contents.{Own, Replies, Errs, Carried, Nothing, Numbe
 use Rattle.router_core.specs.declared.cause.CloseCause.{CloseCause}
 use Rattle.router_core.specs.declared.cause.CloseCause.TheVariants.{TooLong, Left}
 use Rattle.router_core.specs.Answers.{Heard, Says, Refuses, error_for}
-use Rattle.router_core.specs.Deeds.{Puts, Runs, all_of, put_to, announced}
-use Rattle.router_core.specs.Scripts.{Script, Gives, Changing, Asking, Routing, Calling, Gating, Wanting, Doing, and_then, doing_all}
+use Rattle.router_core.specs.Deeds.{Puts, Runs, all_of}
+use Rattle.router_core.specs.Scripts.{Script, Gives, Changing, Asking, Routing, Calling, Gating, Wanting, Doing, Announcing, and_then, putting}
 
 -- a script that only does things
 abbrev pub Work : Type 0
@@ -68,7 +68,7 @@ monitors_in (Refuses refusal) = []
 
 -- to a connection, and to the monitors that are shown it
 abbrev pub tell : Conn → Own → Work
-tell conn own = Routing 0 (facts_of (own_message 1 own)) (λ heard. doing_all (put_to (all_of (conn ∷ []) (monitors_in heard)) (Tells own)) nothing)
+tell conn own = Routing 0 (facts_of (own_message 1 own)) (λ heard. putting (all_of (conn ∷ []) (monitors_in heard)) (Tells own) nothing)
 
 abbrev pub call_of : Message → Conn → ReplyTo
 call_of m caller = record { caller = Some caller.number; call = m.serial }
@@ -101,7 +101,7 @@ started = Number 1
 
 -- A call that waited is delivered to the owner of the name; StartServiceByName is answered.
 abbrev pub release : Conn → Ticket → Option (List ℕ) → Work
-release owner t (Some bytes) = doing_all (put_to (owner ∷ []) (Relays bytes)) nothing
+release owner t (Some bytes) = putting (owner ∷ []) (Relays bytes) nothing
 release owner t None = if ticket_wants_reply t then tell t.caller (Replies (call_of_ticket t) started) else nothing
 
 abbrev pub release_all : Conn → List SettledTicket → Work
@@ -146,7 +146,7 @@ answer_with m caller (Err error) = err_with m caller error
 
 -- The signals come first, then the reply, then the calls that waited for the name.
 abbrev pub tell_change : Message → Conn → Outcome → Work
-tell_change m caller o = doing_all (announced o.signals) (and_then (answer_with m caller (answer_told o.reply)) (λ done. release_all caller o.tickets))
+tell_change m caller o = Announcing o.signals (and_then (answer_with m caller (answer_told o.reply)) (λ done. release_all caller o.tickets))
 
 -- A change of a connection that left in the meantime is made by nobody: the connection is closed.
 abbrev pub made_by : Message → Conn → Outcome → Reply → Fated

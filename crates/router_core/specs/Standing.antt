@@ -10,22 +10,20 @@ pub data Stage : Type 0 where
   -- the bus closed it, and it is not gone yet
   Shut : Option Conn → Stage
 
--- Which of the connections that came it is; how far it has come; its bytes behind the messages that were served; and the serial of
--- the last message of the bus that was written to it.
+-- How far it has come; its bytes behind the messages that were served; and the serial of the last message of the bus that was written
+-- to it.
 pub record Peer : Type 0 where
-  pub opening : ℕ
   pub stage : Stage
   pub unread : List ℕ
   pub serial : ℕ
 
--- The connections by their keys; the numbers of those that left, whose Leave is not made yet; and how many connections came.
+-- The connections by their keys, and the numbers of those that left, whose Leave is not made yet.
 pub record Standing : Type 0 where
   pub peers : List (Option Peer)
   pub leaves : List ℕ
-  pub openings : ℕ
 
 abbrev pub fresh : Standing
-fresh = record { peers = []; leaves = []; openings = 0 }
+fresh = record { peers = []; leaves = [] }
 
 abbrev pub peer_at : Standing → ℕ → Option Peer
 peer_at s key = slice_index_or s.peers key None
@@ -34,14 +32,11 @@ abbrev pub with_peer : Standing → ℕ → Option Peer → Standing
 with_peer s key peer = record s { peers = slice_set s.peers key peer }
 
 -- a connection that has sent nothing
-abbrev pub newcomer : ℕ → Peer
-newcomer opening = record { opening = opening; stage = Unnamed true; unread = []; serial = 0 }
-
-abbrev pub with_newcomer : Standing → ℕ → Option Peer → Standing
-with_newcomer s key peer = if key == length s.peers then record s { peers = s.peers ++ peer ∷ [] } else with_peer s key peer
+abbrev pub newcomer : Peer
+newcomer = record { stage = Unnamed true; unread = []; serial = 0 }
 
 abbrev pub opened : Standing → ℕ → Standing
-opened s key = record (with_newcomer s key (Some (newcomer (s.openings + 1)))) { openings = s.openings + 1 }
+opened s key = if key == length s.peers then record s { peers = s.peers ++ Some newcomer ∷ [] } else with_peer s key (Some newcomer)
 
 -- the number and the slot that its Hello gave it
 abbrev pub conn_of : Stage → Option Conn

@@ -4,6 +4,9 @@ ghost use Rattle.std.specs.Prelude.{◌≡◌};
 ghost use Rattle.router_core.specs.Laws.{ClosedAreNotServed, ClosedTakeNothing, ClosedGetNoMail, UnknownTypesBringNothing, OnlyHelloGreets, AnswersAreLawful, OneThreadIsAFunction, BytesAreAFunction};
 ghost use Rattle.router_core.specs.Standing.{next_serial};
 
+use crate::gate::Gate;
+use bus_view::BusView;
+
 /// After the greatest serial comes 1.
 pub fn serials_begin_again()
     ensures { next_serial 4294967295 ≡ 1 }
@@ -26,13 +29,14 @@ pub fn unknown_types_bring_nothing()
 
 /// A connection that sends anything before the call of Hello is closed for it, and nothing else is done.
 #[tactic(auto, using(crate::proofs::FirstMessages::only_hello_greets))]
-pub fn only_hello_greets()
-    ensures { OnlyHelloGreets }
+pub fn only_hello_greets<V: BusView, G: Gate>()
+    ensures { OnlyHelloGreets V.told G.passes V.alone }
 {}
 
 /// What an event brings is what it brings for some answers that the bus may give.
-pub fn answers_are_lawful()
-    ensures { AnswersAreLawful }
+#[tactic(auto, using(crate::proofs::Asked::answers_are_lawful))]
+pub fn answers_are_lawful<V: BusView, G: Gate>()
+    ensures { AnswersAreLawful V.told G.passes V.alone }
 {}
 
 /// Over a bus of one thread, where nothing is refused, what an event brings is a function of it and of what was read.

@@ -22,4 +22,4 @@ pub use action::Action;
 pub use cause::CloseCause;
 pub use event::Event;
 pub use gate::{Gate, OpenGate};
-pub use recipients::Addressees;
+pub use recipients::{Addressees, Crowd};

@@ -3,7 +3,7 @@
 use super::*;
 use driver::Call;
 use message_core::FrameFault;
-use seq_bus_core::{Conn, Recipients};
+use seq_bus_core::Conn;
 use std::alloc::Global;
 use std::process::Abort;
 
@@ -36,14 +36,15 @@ fn conn(number: u64) -> Conn {
 #[test]
 fn one_addressee_and_several(rt: HostRuntime) {
     let one = Addressees::one(conn(7));
-    assert_eq!(rt; one.as_slice(), [conn(7)].as_slice());
-    let mut conns = Box::new(rt.alloc(), Recipients::new())
-        .ok()
-        .expect(&rt, "there is memory");
-    conns.push(conn(1));
-    conns.push(conn(2));
-    let several = Addressees::many(conns);
-    assert_eq!(rt; several.as_slice(), [conn(1), conn(2)].as_slice());
+    assert_eq!(rt; one.to(), [conn(7)].as_slice());
+    assert!(rt; one.monitors().is_empty());
+    let mut crowd = Crowd::empty(rt.alloc()).expect(&rt, "there is memory");
+    crowd.to.push(conn(1));
+    crowd.to.push(conn(2));
+    crowd.monitors.push(conn(3));
+    let several = Addressees::shown(crowd);
+    assert_eq!(rt; several.to(), [conn(1), conn(2)].as_slice());
+    assert_eq!(rt; several.monitors(), [conn(3)].as_slice());
 }
 
 fn show<G: Gate>(gate: &mut G, call: &Call) {

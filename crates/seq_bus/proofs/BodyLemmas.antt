@@ -1,5 +1,5 @@
 -- Names as the strings of bodies.
-use Rattle.std.proofs.Common.{◌≡◌, ℕ, ◌<◌, ◌≤◌, ◌^◌, ◌==◌, Bool, true, false, ◌&&◌, List, [], ◌∷◌, ◌++◌, length, IsUtf8, refl, sym, ap, ◌∙◌, arith, inl, inr}
+use Rattle.std.proofs.Common.{◌≡◌, ℕ, zero, suc, ◌+◌, ◌-◌, ◌%◌, ◌*◌, ◌<◌, ◌≤◌, ◌^◌, ◌==◌, Bool, true, false, ◌&&◌, List, [], ◌∷◌, ◌++◌, length, take, map, get_or, IsUtf8, subst, append_assoc, length-append, refl, sym, ap, ◌∙◌, arith, inl, inr}
 use Rattle.std.specs.List.{flat_map, AllByRecursion}
 use Rattle.std.proofs.lemmas.Bool.Decides.{nat_tests}
 use Rattle.std.proofs.Common.{append-nil}
@@ -9,9 +9,15 @@ use Rattle.names.specs.UniqueName.{unique_style}
 use Rattle.names.specs.WellKnown.{well_known_style}
 use Rattle.names.specs.BusName.{IsBusName}
 use Rattle.marshal_core.specs.declared.order.Order.TheVariants.{Little}
-use Rattle.marshal_core.specs.Spelling.{has_zero, text_spelling}
-use Rattle.seq_bus_core.specs.Answers.{OneName}
-use Rattle.seq_bus.specs.Bodies.{IsBody}
+use Rattle.std.proofs.lemmas.List.{length-replicate}
+use Rattle.std.proofs.lemmas.Nat.{mod_below}
+use Rattle.std.specs.Int.{w32, to_le_bytes}
+use Rattle.marshal_core.specs.declared.data_type.BasicType.TheVariants.{String}
+use Rattle.marshal_core.specs.Types.{basic}
+use Rattle.marshal_core.specs.Values.{a_basic, a_string, values}
+use Rattle.marshal_core.specs.Spelling.{has_zero, text_spelling, number_spelling, pads, pad_len, ended, IsString, SpellElements, max_array_length}
+use Rattle.seq_bus_core.specs.Answers.{OneName, NameList}
+use Rattle.seq_bus.specs.Bodies.{IsBody, AreStrings, strings_from}
 
 -- an element has no zero byte
 byte_not_zero : (style : Style) (b : ℕ) → is_element_byte style b ≡ true → (b == 0) ≡ false
@@ -67,3 +73,91 @@ pub name_body : (name : Text) → IsBusName name → IsUtf8 name → IsBody (One
 name_body name is utf8 =
     let short : length name < 2 ^ 32 = omega (arith, name_short name is) in
     (refl, (text_spelling Little 0 name, [], (refl, (short, utf8, name_not_zero name is), refl), refl, sym (append-nil _)))
+
+-- ## Arrays of strings
+
+pads_few : (at : ℕ) → length (pads 4 at) ≤ 3
+pads_few at =
+    let count : length (pads 4 at) ≡ pad_len 4 at = length-replicate (pad_len 4 at) 0 in
+    let positive : 0 < 4 = omega arith in
+    let few : (4 - at % 4) % 4 < 4 = mod_below (4 - at % 4) 4 positive in
+    omega (arith, count, few)
+
+string_few : (at : ℕ) (text : Text) → IsBusName text → length (text_spelling Little at text) ≤ 264
+string_few at text is =
+    let short = name_short text is in
+    let padded = pads_few at in
+    let number : length (number_spelling Little w32 at (length text)) ≡ length (pads 4 at) + 4 = length-append (pads 4 at) (to_le_bytes w32 (length text)) in
+    let end : length (ended text) ≡ length text + 1 = length-append text (0 ∷ []) in
+    let whole = length-append (number_spelling Little w32 at (length text)) (ended text) in
+    omega (arith, short, padded, number, end, whole)
+
+strings_few : (at : ℕ) (texts : List Text) → AllByRecursion (λ text. IsBusName text × IsUtf8 text) texts → length (strings_from at texts) ≤ 264 * length texts
+strings_few at [] all = omega arith
+strings_few at (text ∷ texts) all =
+    let first = string_few at text all.0.0 in
+    let rest = strings_few (at + length (text_spelling Little at text)) texts all.1 in
+    let whole = length-append (text_spelling Little at text) (strings_from (at + length (text_spelling Little at text)) texts) in
+    omega (arith, first, rest, whole)
+
+pub few_bytes : (texts : List Text) (bytes : List ℕ) → AreStrings texts bytes → length texts ≤ 2048 → length bytes ≤ 1048576
+few_bytes texts bytes are h =
+    let count : length bytes ≡ length (strings_from 4 texts) = ap (λ (bs : List ℕ). length bs) are.0 in
+    let few = strings_few 4 texts are.1 in
+    omega (arith, count, few, h)
+
+last_string : (at : ℕ) (texts : List Text) (text : Text) → strings_from at (texts ++ text ∷ []) ≡ strings_from at texts ++ text_spelling Little (at + length (strings_from at texts)) text
+last_string at [] text = let here : at ≡ at + 0 = omega arith in append-nil (text_spelling Little at text) ∙ ap (λ place. text_spelling Little place text) here
+last_string at (t ∷ texts) text =
+    let first = text_spelling Little at t in
+    let rest = strings_from (at + length first) texts in
+    let size = length-append first rest in
+    let place : at + length first + length rest ≡ at + length (first ++ rest) = omega (arith, size) in
+    ap (λ tail. first ++ tail) (last_string (at + length first) texts text ∙ ap (λ k. rest ++ text_spelling Little k text) place) ∙ sym (append_assoc first rest (text_spelling Little (at + length (first ++ rest)) text))
+
+take_one_more : (texts : List Text) (k : ℕ) (text d : Text) → k < length texts → text ≡ get_or texts k d → take (k + 1) texts ≡ take k texts ++ text ∷ []
+take_one_more [] k text d h is = absurd (omega (arith, h))
+take_one_more (t ∷ texts) zero text d h is = ap (λ x. x ∷ []) (sym is)
+take_one_more (t ∷ texts) (suc k) text d h is =
+    let more : suc k + 1 ≡ suc (k + 1) = omega arith in
+    rw more (ap (λ rest. t ∷ rest) (take_one_more texts k text d (omega (arith, h)) is))
+
+all_last : (P : Text → Type 0) (texts : List Text) (text : Text) → AllByRecursion P texts → P text → AllByRecursion P (texts ++ text ∷ [])
+all_last P [] text all is = (is, tt)
+all_last P (t ∷ texts) text all is = (all.0, all_last P texts text all.1 is)
+
+-- one string more
+pub more_strings : (texts : List Text) (k : ℕ) (text d : Text) (before after : List ℕ) → k < length texts → text ≡ get_or texts k d → IsBusName text → IsUtf8 text → AreStrings (take k texts) before →
+    after ≡ before ++ text_spelling Little (4 + length before) text → AreStrings (take (k + 1) texts) after
+more_strings texts k text d before after h is name utf8 are e =
+    let next = take_one_more texts k text d h is in
+    subst (λ (ts : List Text). AreStrings ts after) (sym next)
+    (e ∙ (λ i. are.0 i ++ text_spelling Little (4 + length (are.0 i)) text) ∙ sym (last_string 4 (take k texts) text), all_last (λ t. IsBusName t × IsUtf8 t) (take k texts) text are.1 (name, utf8))
+
+all_taken : (k : ℕ) (texts : List Text) → length texts ≤ k → take k texts ≡ texts
+all_taken zero [] h = refl
+all_taken zero (t ∷ texts) h = absurd (omega (arith, h))
+all_taken (suc k) [] h = refl
+all_taken (suc k) (t ∷ texts) h = ap (λ rest. t ∷ rest) (all_taken k texts (omega (arith, h)))
+
+pub all_strings : (texts : List Text) (k : ℕ) (bytes : List ℕ) → length texts ≤ k → AreStrings (take k texts) bytes → AreStrings texts bytes
+all_strings texts k bytes h are = subst (λ (ts : List Text). AreStrings ts bytes) (all_taken k texts h) are
+
+name_string : (text : Text) → IsBusName text → IsUtf8 text → IsString text
+name_string text is utf8 =
+    let short : length text < 2 ^ 32 = omega (arith, name_short text is) in
+    (short, utf8, name_not_zero text is)
+
+elements : (at : ℕ) (texts : List Text) → AllByRecursion (λ text. IsBusName text × IsUtf8 text) texts →
+    SpellElements (values (map (λ name. a_basic (a_string name)) texts)) 63 Little at (basic String) (strings_from at texts)
+elements at [] all = refl
+elements at (text ∷ texts) all =
+    (text_spelling Little at text, strings_from (at + length (text_spelling Little at text)) texts, (refl, name_string text all.0.0 all.0.1, refl), elements (at + length (text_spelling Little at text)) texts all.1, refl)
+
+-- names as strings behind their length are the body of an answer that is a list of them
+pub names_body : (texts : List Text) (bytes : List ℕ) → AreStrings texts bytes → length bytes ≤ 1048576 → IsBody (NameList texts) (number_spelling Little w32 0 (length bytes) ++ bytes)
+names_body texts bytes are few =
+    let within : length bytes ≤ max_array_length = omega (arith, few) in
+    let all = subst (λ (bs : List ℕ). SpellElements (values (map (λ name. a_basic (a_string name)) texts)) 63 Little 4 (basic String) bs) (sym are.0) (elements 4 texts are.1) in
+    let positive : 0 < 64 = omega arith in
+    (refl, (number_spelling Little w32 0 (length bytes) ++ bytes, [], (positive, refl, bytes, within, all, refl), refl, sym (append-nil _)))

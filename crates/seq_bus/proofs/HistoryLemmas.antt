@@ -1,18 +1,26 @@
 -- The history of a bus with one seat.
-use Rattle.std.proofs.Common.{◌≡◌, ℕ, zero, suc, ◌+◌, ◌==◌, Bool, true, false, cond, List, [], ◌∷◌, ◌++◌, length, map, filter, refl, sym, ap, ◌∙◌, arith, subst}
+use Rattle.std.proofs.Common.{◌≡◌, ℕ, zero, suc, ◌+◌, ◌≤◌, ◌==◌, ◌||◌, Bool, true, false, not, cond, Option, Some, None, option_map, if◌then◌else◌, List, [], ◌∷◌, ◌++◌, length, map, filter, refl, sym, ap, ◌∙◌, arith, subst}
 use Rattle.std.specs.List.{range_with_len, AllByRecursion}
 use Rattle.std.proofs.Common.{length-append}
-use Rattle.std.proofs.lemmas.List.{map-append}
-use Rattle.seq_bus_core.specs.Histories.{History, IsLegal, numbers_of, has_whole_publications}
-use Rattle.seq_bus_core.specs.Tickets.{WholeBus, bus_step, bus_after}
+use Rattle.std.proofs.lemmas.List.{map-append, length-map}
+use Rattle.names.specs.Texts.{Text}
+use Rattle.names.specs.BusName.{bus_text, is_bus, is_unique}
+use Rattle.names.specs.UniqueName.{unique_text}
+use Rattle.owner_queues.specs.Queues.{Queue}
+use Rattle.owner_queues.specs.declared.owner.QueuedOwner.{QueuedOwner}
+use Rattle.owner_queues.specs.declared.request.Profile.{Profile}
+use Rattle.seq_bus_core.specs.Answers.{names_there, owner_name, queued_names, queue_names}
+use Rattle.seq_bus_core.specs.Histories.{History, CanOpen, IsLegal, numbers_of, has_whole_publications}
+use Rattle.seq_bus_core.specs.Tickets.{WholeBus, opening_bus, bus_step, bus_after}
 use Rattle.seq_bus_core.specs.declared.entry.Entry.{Entry}
 use Rattle.seq_bus.specs.PlainBus.{AreOwnEntries, opened_as}
 use Rattle.seq_bus_core.specs.Steps.{step}
 use Rattle.seq_bus_core.proofs.StepCases.{step_cases}
-use Rattle.seq_bus_core.proofs.TicketLaws.{steps_keep_whole}
-use Rattle.seq_bus_core.proofs.LimitLaws.{steps_keep_limits}
+use Rattle.seq_bus_core.proofs.TicketLaws.{buses_are_whole, steps_keep_whole}
+use Rattle.seq_bus_core.proofs.LimitLaws.{buses_are_within_limits, steps_keep_limits}
 use Rattle.seq_bus_state.specs.Steps.{IsSound, IsStepped}
-use Rattle.seq_bus_core.specs.BusState.{BusState}
+use Rattle.seq_bus_state.proofs.Rooms.{few_in_queue}
+use Rattle.seq_bus_core.specs.BusState.{BusState, Connection, OwnedName, is_monitor, queue_of}
 use Rattle.seq_bus_core.specs.declared.change.Change.{Change}
 use Rattle.seq_bus_core.specs.declared.outcome.Outcome.{Outcome}
 
@@ -112,3 +120,50 @@ own_legal history own = record {
     by_test seat false e =
         let none : numbers_of seat history ≡ [] = ap (map (λ (x : Entry). x.number)) (of_seat seat false history e own.seats) in
         none ∙ ap (λ (numbers : List ℕ). range_with_len 1 (length numbers)) (sym none)
+
+-- a bus that was just opened
+pub opening_sound : (profile : Profile) (routers : ℕ) (services : List Text) → CanOpen routers services → IsSound (opening_bus profile routers services)
+opening_sound profile routers services can = record {
+  whole = buses_are_whole profile routers services [];
+  within = buses_are_within_limits profile routers services [];
+  routed = can.routed;
+}
+
+-- ## Lists of names
+
+few_filter : {X : Type 0} (test : X → Bool) (xs : List X) → length (filter test xs) ≤ length xs
+few_filter test [] = omega arith
+few_filter test (x ∷ xs) = by_test (test x) (few_filter test xs)
+  where
+    by_test : (b : Bool) → length (filter test xs) ≤ length xs → length (cond b (x ∷ filter test xs) (filter test xs)) ≤ suc (length xs)
+    by_test true few = omega (arith, few)
+    by_test false few = omega (arith, few)
+
+pub few_names : (b : WholeBus) → IsSound b → length (bus_text ∷ names_there b.state) ≤ 2048
+few_names b sound =
+    let clients : List Connection = filter (λ c. not (is_monitor c)) b.state.connections in
+    let unique : Connection → Text = λ c. unique_text c.number in
+    let named : OwnedName → Text = λ n. n.name in
+    let whole : length (map unique clients ++ map named b.state.names) ≡ length (map unique clients) + length (map named b.state.names) = length-append (map unique clients) (map named b.state.names) in
+    let front : length (map unique clients) ≡ length clients = length-map clients unique in
+    let back : length (map named b.state.names) ≡ length b.state.names = length-map b.state.names named in
+    let few : length clients ≤ length b.state.connections = few_filter (λ (c : Connection). not (is_monitor c)) b.state.connections in
+    omega (arith, whole, front, back, few, sound.within.connections, sound.within.names)
+
+few_by : (b : Bool) (o : Option Text) (q : Queue) (items : List Text) → length q ≤ 256 → ◌≡◌ {A = Option (List Text)} (Some items) (if b then option_map (λ owner. owner ∷ []) o else queued_names q) → length items ≤ 2048
+few_by true None q items h e = cc
+few_by true (Some t) q items h e =
+    let is : items ≡ t ∷ [] = cc in
+    let one = ap (λ (ts : List Text). length ts) is in
+    omega (arith, one)
+few_by false o [] items h e = cc
+few_by false o (p ∷ ps) items h e =
+    let name : QueuedOwner → Text = λ place. unique_text place.connection in
+    let is : items ≡ map name (p ∷ ps) = cc in
+    let size = ap (λ (ts : List Text). length ts) is in
+    let count : length (map name (p ∷ ps)) ≡ length (p ∷ ps) = length-map (p ∷ ps) name in
+    omega (arith, size, count, h)
+
+pub few_owners : (b : WholeBus) (name : Text) (items : List Text) → IsSound b → ◌≡◌ {A = Option (List Text)} (Some items) (queue_names b.state name) → length items ≤ 2048
+few_owners b name items sound e =
+    few_by (is_bus name || is_unique name) (owner_name b.state name) (queue_of b.state.names name) items (few_in_queue b.state name sound.whole.consistent sound.within) e

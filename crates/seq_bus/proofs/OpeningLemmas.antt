@@ -1,7 +1,8 @@
 -- What a bus can be opened with.
-use Rattle.std.proofs.Common.{◌≡◌, ◌↔◌, Bool, true, false, not, List, [], ◌∷◌, length, refl, sym, ◌∙◌, arith, IsTrue}
+use Rattle.std.proofs.Common.{◌≡◌, ◌↔◌, suc, Bool, true, false, not, cond, ap, List, [], ◌∷◌, length, refl, sym, ◌∙◌, arith, IsTrue}
 use Rattle.std.specs.List.{list_all, list_any, AllByRecursion, IsDistinct}
-use Rattle.names.specs.Texts.{Text, text_eq}
+use Rattle.names.specs.Texts.{Text, text_eq, text_lt}
+use Rattle.seq_bus_core.specs.Histories.{inserted, sorted}
 use Rattle.seq_bus_core.specs.Steps.{is_reserved}
 
 pub all_unlike : {X : Type 0} (test : X → Bool) (xs : List X) → list_any test xs ≡ false → AllByRecursion (λ x. test x ≡ false) xs
@@ -41,3 +42,16 @@ pub distinct_parts : (rest others : List Text) (first : Text) → rest ≡ first
     AllByRecursion (λ other. text_eq first other ≡ false) others × IsDistinct text_eq others
 unfolding IsDistinct
 distinct_parts rest others first is distinct = rw is at distinct
+
+-- the services are as many, in whatever order
+pub as_many : (names : List Text) → length (sorted names) ≡ length names
+as_many [] = refl
+as_many (n ∷ names) = one_more n (sorted names) ∙ ap suc (as_many names)
+  where
+    one_more : (name : Text) (names : List Text) → length (inserted name names) ≡ suc (length names)
+    one_more name [] = refl
+    one_more name (n ∷ names) = by_test (text_lt n name) (one_more name names)
+      where
+        by_test : (b : Bool) → length (inserted name names) ≡ suc (length names) → length (cond b (n ∷ inserted name names) (name ∷ n ∷ names)) ≡ suc (suc (length names))
+        by_test true others = ap suc others
+        by_test false others = refl

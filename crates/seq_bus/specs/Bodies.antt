@@ -1,10 +1,13 @@
 -- The body of the reply to a query. (D-Bus Specification: "Message Bus Messages", "Marshaling (Wire Format)")
-use Rattle.std.specs.Prelude.{◌≡◌, ℕ, Option, Some, None, List, [], ◌∷◌, ◌++◌, map}
+use Rattle.std.specs.Prelude.{◌≡◌, ℕ, ◌+◌, Option, Some, None, List, [], ◌∷◌, ◌++◌, map, length, IsUtf8}
+use Rattle.std.specs.List.{AllByRecursion}
+use Rattle.names.specs.Texts.{Text}
+use Rattle.names.specs.BusName.{IsBusName}
 use Rattle.marshal_core.specs.declared.data_type.BasicType.TheVariants.{Boolean, String}
 use Rattle.marshal_core.specs.declared.order.Order.TheVariants.{Little}
 use Rattle.marshal_core.specs.Types.{Ty, basic, array, one_type}
 use Rattle.marshal_core.specs.Values.{Val, a_basic, a_boolean, a_string, an_array, values}
-use Rattle.marshal_core.specs.Spelling.{Spells}
+use Rattle.marshal_core.specs.Spelling.{Spells, text_spelling}
 use Rattle.seq_bus_core.specs.Answers.{Answer, OneName, HasOwner, NameList}
 use Rattle.seq_bus.specs.declared.answer.Asked.{Asked}
 use Rattle.seq_bus.specs.declared.answer.Asked.TheVariants.{Body, NameHasNoOwner}
@@ -18,6 +21,15 @@ abbrev pub answer_value : Answer → Val
 answer_value (OneName name) = a_basic (a_string name)
 answer_value (HasOwner owned) = a_basic (a_boolean owned)
 answer_value (NameList names) = an_array (basic String) (values (map (λ name. a_basic (a_string name)) names))
+
+-- the strings of an array, one after the other, where they begin at this place
+abbrev pub strings_from : ℕ → List Text → List ℕ
+strings_from at [] = []
+strings_from at (text ∷ texts) = text_spelling Little at text ++ strings_from (at + length (text_spelling Little at text)) texts
+
+-- The bytes are these names as strings, behind the length of an array.
+abbrev pub AreStrings : List Text → List ℕ → Type 0
+AreStrings texts bytes = (bytes ≡ strings_from 4 texts) × AllByRecursion (λ text. IsBusName text × IsUtf8 text) texts
 
 -- The bytes spell the answer, in little-endian order, as a body does: from offset 0 on.
 abbrev pub IsBody : Answer → List ℕ → Type 0

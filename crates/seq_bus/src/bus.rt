@@ -8,13 +8,13 @@ ghost use Rattle.seq_bus_core.specs.Histories.{CanOpen, IsLegal};
 ghost use Rattle.seq_bus_core.specs.Tickets.{opening_bus};
 ghost use Rattle.seq_bus.specs.Bodies.{Answers};
 ghost use Rattle.seq_bus.specs.PlainBus.{bus_now, IsMade};
-ghost use Rattle.seq_bus.specs.Served.{IsServedChange, IsServedQuery};
+ghost use Rattle.seq_bus.specs.Served.{IsServedChange};
 ghost use Rattle.seq_bus.specs.declared.refusal.Cause.TheVariants.{NoMemory};
 ghost use Rattle.seq_bus.specs.declared.answer.AskFault.TheVariants.{NoMemory as AskNoMemory};
 
 use crate::SEAT;
 use crate::answer::{AskFault, Asked};
-use crate::bodies::{append_owner, append_whether};
+use crate::bodies::{append_names, append_owner, append_whether};
 use crate::refusal::Refused;
 use match_rules::Facts;
 use names::WellKnown;
@@ -30,12 +30,15 @@ use std::marker::Model;
 /// 1, 2, 3 and so on. What it answers is what the definitions say of the bus after these changes.
 #[derive(Drop)]
 pub struct SeqBus {
+    alloc: Global,
     state: State,
     seen: Vec<Entry>,
 }
 
 impl Model for SeqBus {
     ghost use Rattle.std.specs.Prelude.{◌≡◌};
+    ghost use Rattle.std.specs.Prelude.{◌≤◌, length};
+    ghost use Rattle.seq_bus_core.specs.Histories.{max_services};
     ghost use Rattle.seq_bus_core.specs.Tickets.{bus_after};
     ghost use Rattle.seq_bus.specs.PlainBus.{PlainBus, opened_as, AreOwnEntries};
     ghost use Rattle.seq_bus_state.specs.Steps.{IsSound};
@@ -44,7 +47,7 @@ impl Model for SeqBus {
 
     ghost view = { λ b. record { opening = opened_as b.state.state; seen = b.seen.items } };
 
-    ghost invariant = { λ b. (bus_after (opened_as b.state.state) b.seen.items ≡ b.state) × AreOwnEntries b.seen.items × IsSound b.state };
+    ghost invariant = { λ b. (bus_after (opened_as b.state.state) b.seen.items ≡ b.state) × AreOwnEntries b.seen.items × IsSound b.state × (length b.state.state.services ≤ max_services) };
 }
 
 impl SeqBus {
@@ -63,6 +66,7 @@ impl SeqBus {
     {
         let state = State::new(alloc, services, routers, profile)?;
         Ok(SeqBus {
+            alloc,
             state,
             seen: Vec::new(alloc),
         })
@@ -99,9 +103,8 @@ impl SeqBus {
     }
 
     /// Answers a query: appends the body of the reply, in little-endian order as from offset 0 on, or says that the
-    /// name has no owner. After a fault nothing is appended. Today GetNameOwner and NameHasOwner are served.
+    /// name has no owner. After a fault nothing is appended.
     pub fn ask(&mut self, query: &Query, body: &mut Vec<u8>) -> Result<Asked, AskFault>
-        requires { IsServedQuery query.now }
         ensures answered { IfOk result (λ asked. Answers asked (answer (bus_now self.old).state query.now) body.old.items body.new.items) }
         ensures fault { IfErr result (λ fault. fault ≡ AskNoMemory) }
         ensures unanswered { OnErr result (body.new.items ≡ body.old.items) }
@@ -112,7 +115,14 @@ impl SeqBus {
             Query::NameHasOwner(name) => {
                 append_whether(body, self.state.owner_name(name).is_some())
             }
-            _ => unreachable!(),
+            Query::ListNames => append_names(self.alloc, body, &self.state.list_names()?),
+            Query::ListActivatableNames => {
+                append_names(self.alloc, body, &self.state.list_activatable_names()?)
+            }
+            Query::ListQueuedOwners(name) => match self.state.list_queued_owners(name)? {
+                Some(names) => append_names(self.alloc, body, &names),
+                None => Ok(Asked::NameHasNoOwner),
+            },
         }
     }
 

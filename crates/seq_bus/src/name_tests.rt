@@ -3,7 +3,7 @@
 use super::{Asked, SeqBus};
 use crate::tests::{ask, hello, make, open};
 use arrayvec::ArrayString;
-use names::{BusName, UniqueName};
+use names::{BusName, UniqueName, WellKnown};
 use owner_queues::{Reply as QueueReply, RequestFlags};
 use seq_bus_core::{BusSignal, Change, Outcome, Query, Reply};
 use std::fmt::Write;
@@ -98,6 +98,14 @@ fn replaced_owner_waits_next(rt: HostRuntime) {
         ],
     );
     let mut body = Vec::new(rt.alloc());
+    assert_eq!(rt;
+        ask(&rt, &mut bus, &Query::ListQueuedOwners(name), &mut body),
+        Asked::Body
+    );
+    assert_eq!(rt;
+        body.as_slice(),
+        b"\x21\0\0\0\x04\0\0\0:1.3\0\0\0\0\x04\0\0\0:1.1\0\0\0\0\x04\0\0\0:1.2\0".as_slice()
+    );
     for (leaver, text) in [(3, b"\x04\0\0\0:1.1\0"), (1, b"\x04\0\0\0:1.2\0")] {
         assert_eq!(rt;
             release(&rt, &mut bus, leaver, name),
@@ -234,4 +242,53 @@ fn names_of_an_owner_that_leaves(rt: HostRuntime) {
     assert_eq!(rt; body.as_slice(), b"\x04\0\0\0:1.3\0".as_slice());
     make(&rt, &mut bus, Change::Leave { connection: 3 });
     assert!(rt; !owner(&rt, &mut bus, a, &mut body));
+}
+
+#[test]
+fn a_hundred_names_in_their_order(rt: HostRuntime) {
+    let mut bus = open(&rt, rt.alloc(), &[], 1);
+    make(&rt, &mut bus, hello());
+    make(&rt, &mut bus, hello());
+    for number in 0..100 {
+        // 7 and 100 have no common divisor, so each name comes once.
+        let name = numbered(&rt, number * 7 % 100);
+        request(&rt, &mut bus, number / 50 + 1, name, 0);
+    }
+    let mut body = Vec::new(rt.alloc());
+    assert_eq!(rt;
+        ask(&rt, &mut bus, &Query::ListNames, &mut body),
+        Asked::Body
+    );
+    let mut rest = body.as_slice();
+    assert_eq!(rt; rest.len(), 2454);
+    assert!(rt;
+        rest.starts_with(
+            b"\x92\x09\0\0\x14\0\0\0org.freedesktop.DBus\0\0\0\0\x04\0\0\0:1.1\0\0\0\0\x04\0\0\0:1.2\0\0\0\0".as_slice()
+        )
+    );
+    rest = &rest[56..];
+    for number in 0..100 {
+        assert!(rt; rest.len() >= 22);
+        assert!(rt; rest.starts_with(b"\x11\0\0\0".as_slice()));
+        assert!(rt; rest[4..].starts_with(numbered(&rt, number).as_str().as_bytes()));
+        rest = &rest[rest.len().min(24)..];
+    }
+    assert!(rt; rest.is_empty());
+}
+
+#[test]
+fn names_of_services(rt: HostRuntime) {
+    let service = WellKnown::parse("com.example")
+        .ok()
+        .expect(&rt, "a well-known name");
+    let mut bus = open(&rt, rt.alloc(), &[service], 1);
+    let mut body = Vec::new(rt.alloc());
+    assert_eq!(rt;
+        ask(&rt, &mut bus, &Query::ListActivatableNames, &mut body),
+        Asked::Body
+    );
+    assert_eq!(rt;
+        body.as_slice(),
+        b"\x2c\0\0\0\x14\0\0\0org.freedesktop.DBus\0\0\0\0\x0b\0\0\0com.example\0".as_slice()
+    );
 }

@@ -1,7 +1,7 @@
 //! Runs of the bus whose outcomes are worked out by hand. Each holds too where any one allocation fails: what was refused
 //! is tried once more, as if it had not been tried.
 
-ghost use Rattle.seq_bus.specs.Served.{IsServedChange, IsServedQuery};
+ghost use Rattle.seq_bus.specs.Served.{IsServedChange};
 
 use super::{Asked, SEAT, SeqBus, can_open};
 use arrayvec::ArrayVec;
@@ -39,9 +39,7 @@ pub fn make(rt: &impl Abort, bus: &mut SeqBus, change: Change) -> Outcome
     }
 }
 
-pub fn ask(rt: &impl Abort, bus: &mut SeqBus, query: &Query, body: &mut Vec<u8>) -> Asked
-    requires { IsServedQuery query.now }
-{
+pub fn ask(rt: &impl Abort, bus: &mut SeqBus, query: &Query, body: &mut Vec<u8>) -> Asked {
     let length = body.len();
     match bus.ask(query, body) {
         Ok(asked) => asked,

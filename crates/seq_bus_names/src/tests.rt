@@ -41,6 +41,7 @@ fn names_rise(rt: HostRuntime) {
     assert_eq!(rt; first.name().as_str(), "com.example");
     assert_eq!(rt; second.name().as_str(), "com.example.a");
     assert_eq!(rt; third.name().as_str(), "com.example.b");
+    assert_eq!(rt; third.queue().head(), Some(1));
     assert_eq!(rt; names.owner("com.example"), Some(3));
     assert_eq!(rt; names.owner("com.example.c"), None);
     assert!(rt; names.is_within_limits(3));

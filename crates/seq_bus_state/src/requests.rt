@@ -43,14 +43,7 @@ impl State {
         let mut after = queue_of(&self.names, name);
         let reply = after.request(self.profile, number, flags);
         let listeners = self.listeners(Pending::Owned(name, after.head()));
-        let outcome = told(
-            self.alloc,
-            &listeners,
-            name,
-            reply,
-            before.head(),
-            after.head(),
-        )?;
+        let outcome = told(self.alloc, &listeners, name, reply, &before, &after)?;
         self.names.put(*name, &after)?;
         if self.names.is_within_limits(number) {
             return Ok(outcome);
@@ -75,14 +68,7 @@ impl State {
         let mut after = queue_of(&self.names, name);
         let reply = after.release(number);
         let listeners = self.listeners(Pending::Owned(name, after.head()));
-        let outcome = told(
-            self.alloc,
-            &listeners,
-            name,
-            reply,
-            before.head(),
-            after.head(),
-        )?;
+        let outcome = told(self.alloc, &listeners, name, reply, &before, &after)?;
         if !before.contains(number) {
             return Ok(outcome);
         }
@@ -102,24 +88,24 @@ pub fn queue_of(names: &Names, name: &BusName) -> Queue
     queue
 }
 
-/// What a request or a release is told by which a name goes from one owner to another.
+/// What a request or a release is told by which the queue of a name becomes another.
 fn told(
     alloc: Global,
     listeners: &Listeners<'_>,
     name: &BusName,
     reply: QueueReply,
-    old: Option<u64>,
-    new: Option<u64>,
+    before: &Queue,
+    after: &Queue,
 ) -> Result<Outcome, AllocError>
     requires { length listeners.now.members.now ≤ 256 }
     ensures { IfOk result (λ outcome. outcome ≡ record {
       reply = OfQueue reply;
-      signals = map (addressed_by (audience_of listeners.now)) (owner_signals name.now old new);
+      signals = map (addressed_by (audience_of listeners.now)) (owner_signals name.now (queue_head before.now) (queue_head after.now));
       tickets = [];
       start = None;
     }) }
 {
     let mut outcome = Outcome::new(alloc, Reply::OfQueue(reply));
-    listeners.push_owner_signals(&mut outcome.signals, *name, old, new)?;
+    listeners.push_owner_signals(&mut outcome.signals, *name, before.head(), after.head())?;
     Ok(outcome)
 }

@@ -28,10 +28,6 @@ pub const HELLO_AGAIN: &[u8] =
 pub const FAILED: &[u8] =
     b"l\x03\x01\x01\x16\0\0\0\x03\0\0\0o\0\0\0\x04\x01s\0!\0\0\0org.freedesktop.DBus.Error.Failed\0\0\0\0\0\0\0\x05\x01u\0\x02\0\0\0\x06\x01s\0\x04\0\0\0:1.1\0\0\0\0\x07\x01s\0\x14\0\0\0org.freedesktop.DBus\0\0\0\0\x08\x01g\0\x01s\0\0\x11\0\0\0Not possible here\0";
 
-/// A call of ListNames, which is not served yet.
-pub const LIST_NAMES: &[u8] =
-    b"l\x01\0\x01\0\0\0\0\x02\0\0\0u\0\0\0\x01\x01o\0\x15\0\0\0/org/freedesktop/DBus\0\0\0\x02\x01s\0\x14\0\0\0org.freedesktop.DBus\0\0\0\0\x03\x01s\0\x09\0\0\0ListNames\0\0\0\0\0\0\0\x06\x01s\0\x14\0\0\0org.freedesktop.DBus\0\0\0\0";
-
 /// A call without interface and destination.
 pub const OTHER_METHOD: &[u8] =
     b"l\x01\0\x01\0\0\0\0\x02\0\0\0-\0\0\0\x01\x01o\0\x15\0\0\0/org/freedesktop/DBus\0\0\0\x03\x01s\0\x04\0\0\0Ping\0\0\0\0";

@@ -1,4 +1,5 @@
-use Rattle.std.proofs.Common.{◌≡◌, ◌∙◌, ◌+◌, ◌++◌, ◌∷◌, [], true, is_ok, length, ap, refl, sym, rules}
+use Rattle.std.proofs.Common.{◌≡◌, ◌∙◌, ◌+◌, ◌++◌, ◌∷◌, [], true, is_ok, length, ◌≤◌, ap, refl, subst, sym, rules}
+use Rattle.seq_bus_core.specs.Histories.{max_services}
 use Rattle.seq_bus_core.specs.Tickets.{WholeBus, bus_step}
 use Rattle.seq_bus_core.specs.declared.outcome.Outcome.{Outcome}
 use Rattle.seq_bus.specs.PlainBus.{PlainBus, bus_now, next_entry}
@@ -13,10 +14,13 @@ invariant_of-self-in-Ok c =
     let stored : is_ok c.push.result ≡ true = search rules in
     let grown : c.push.new.self.items ≡ before.seen.items ++ entry ∷ [] = rw stored at c.push.ensures.items ∙ ap (λ items. items ++ entry ∷ []) c.reserve.ensures.items in
     let count : c.len.result ≡ length before.seen.items = search rules in
+    let opened = opened_by before.state c.step.new.self c.args.change c.in-Ok.outcome c.in-Ok.ensures.ok in
+    let services : length c.step.new.self.state.services ≡ length before.state.state.services = ap (λ (b : WholeBus). length b.state.services) opened in
     rw grown (
       step_made before.state c.step.new.self before.seen.items (c.len.result + 1) c.args.change c.in-Ok.outcome c.self.invariant.0 c.in-Ok.ensures.ok,
       own_more before.seen.items entry c.self.invariant.1 refl (ap (λ n. n + 1) count) refl,
       step_sound before.state c.step.new.self c.args.change c.in-Ok.outcome c.self.invariant.2 c.in-Ok.ensures.ok,
+      subst (λ n. n ≤ max_services) (sym services) c.self.invariant.3,
     )
 
 pub returns-in-Ok-clause-made : goal.returns-in-Ok-clause-made

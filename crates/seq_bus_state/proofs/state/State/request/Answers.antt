@@ -62,8 +62,8 @@ returns-then-is_within_limits-clause-ok c =
     let reply : c.request-reply.result ≡ r.1 = c.request-reply.ensures.reply ∙ ap (λ (q : Queue). (requested i.profile number c.args.flags q).1) c.queue_of-after.ensures in
     let heard : audience_of c.listeners-listeners.result ≡ audience_in (renamed s name r.0) =
     c.listeners-listeners.ensures ∙ ap (λ (b : WholeBus). audience_then b.state (Owned c.args.name c.head.result)) (sym c.self.view_is) ∙ ap (audience_changed s name) (c.head.ensures ∙ ap queue_head after) ∙ heard_then s name r.0 (are_names s sound.whole.consistent) in
-    let old : c.head-2.result ≡ queue_head (queue_of i.names name) = c.head-2.ensures ∙ ap queue_head c.queue_of-before.ensures in
-    let new : c.head-3.result ≡ queue_head r.0 = c.head-3.ensures ∙ ap queue_head after in
+    let old : queue_head c.queue_of-before.result ≡ queue_head (queue_of i.names name) = ap queue_head c.queue_of-before.ensures in
+    let new : queue_head c.request-reply.new.self ≡ queue_head r.0 = ap queue_head after in
     let outcome : c.in_ok-outcome.outcome ≡ told (OfQueue r.1) (map (addressed_by (audience_in (renamed s name r.0))) (owner_signals name (queue_head (queue_of i.names name)) (queue_head r.0))) =
     c.in_ok-outcome.ensures ∙ λ k. told (OfQueue (reply k)) (map (addressed_by (heard k)) (owner_signals name (old k) (new k))) in
     let names : c.put.new.self ≡ with_queue name r.0 i.names = c.in_ok-put.ensures.ok ∙ ap (λ (q : Queue). with_queue name q i.names) after in

@@ -1,0 +1,8 @@
+use Rattle.std.proofs.Common.{take}
+use Rattle.busd_core.specs.Serving.{quiet, announcing}
+use Rattle.busd_core.specs.Sessions.{standing_of, Shows}
+use Rattle.busd_core.proofs.session.Session.announce.Given as goal
+
+-- of the first signals those were sent that go to the connection
+abbrev pub invariant-loop-addressed : goal.invariant-loop-addressed
+invariant-loop-addressed l = Shows l.fn.self l.self (announcing l.number (take l.addressed-index l.signals) (quiet (standing_of l.fn.self))) l.fn.out.items l.out.items

@@ -1,7 +1,0 @@
-use Rattle.std.proofs.Common.{◌≡◌, ◌++◌, drop}
-use Rattle.marshal_core.specs.Types.{types_of}
-use Rattle.marshal_core.specs.Signatures.{codes}
-use Rattle.marshal.proofs.encoding.signature.Given as goal
-
-abbrev pub invariant-loop-one : goal.invariant-loop-one
-invariant-loop-one l = l.text.items ++ codes (types_of (drop l.one-index l.types)) ≡ codes (types_of l.types)

@@ -1,0 +1,66 @@
+//! What a copy of the registry answers, and what it lends.
+
+ghost use Rattle.std.specs.Prelude.{◌≡◌, is_some, map, option_map};
+ghost use Rattle.seq_bus_core.specs.BusState.{connection_of, conn_of, head_of, queue_of};
+ghost use Rattle.seq_bus_core.specs.Recipients.{recipients};
+ghost use Rattle.registry_core.specs.NameTables.{owned_name};
+ghost use Rattle.registry_core.specs.RuleTables.{added_rule};
+
+use crate::snap::Snap;
+use match_rules::Facts;
+use names::BusName;
+use owner_queues::QueuedOwner;
+use registry_core::{NameEntry, RuleEntry};
+use seq_bus_core::{Conn, Verdict};
+
+impl Snap {
+    /// Where a message from this connection goes, 0 being the bus, and which monitors are shown it.
+    pub fn route(&self, from: u64, facts: &Facts<'_>) -> Verdict
+        ensures { result ≡ recipients self.now.bus from facts.now }
+    {
+        self.registry().route(from, facts)
+    }
+
+    /// The head of a name: the connection that messages to it are delivered to. The bus itself is no connection.
+    pub fn owner(&self, name: &BusName) -> Option<u64>
+        ensures { result ≡ head_of self.now.bus name.now }
+    {
+        self.registry().owner(name)
+    }
+
+    /// Where the connection of this number is reached, if there is one.
+    pub fn conn(&self, number: u64) -> Option<Conn>
+        ensures { result ≡ option_map conn_of (connection_of self.now.bus number) }
+    {
+        self.registry().conn(number)
+    }
+
+    /// Whether there is a connection of this number.
+    pub fn present(&self, number: u64) -> bool
+        ensures { result ≡ is_some (connection_of self.now.bus number) }
+    {
+        self.registry().present(number)
+    }
+
+    /// The well-known names that have an owner, by rising bytes, each with its queue.
+    pub fn names(&self) -> &[Box<NameEntry>]
+        ensures { map (λ b. owned_name b.value) result.now ≡ self.now.bus.names }
+    {
+        self.registry().names()
+    }
+
+    /// Who owns a well-known name and who waits for it, in order. It is empty where the name has no owner.
+    /// (D-Bus Specification: "org.freedesktop.DBus.ListQueuedOwners")
+    pub fn queue(&self, name: &BusName) -> &[QueuedOwner]
+        ensures { result.now ≡ queue_of self.now.bus.names name.now }
+    {
+        self.registry().queue(name.as_str())
+    }
+
+    /// The match rules that connections added, in order of arrival, each with its connection.
+    pub fn rules(&self) -> &[RuleEntry]
+        ensures { map added_rule result.now ≡ self.now.bus.rules }
+    {
+        self.registry().rules()
+    }
+}

@@ -1,0 +1,5 @@
+pub mod Refusals
+pub mod Putting
+pub mod Asking
+pub mod Delivering
+pub mod Slots

@@ -1,0 +1,4 @@
+pub mod Work
+pub mod Hearing
+pub mod Stages
+pub mod Writing

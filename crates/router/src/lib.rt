@@ -1,0 +1,18 @@
+//! The engine of a router.
+//!
+//! An engine serves connections over any view of a bus. [`Hands`] is what it works with while an event is served: the
+//! view, the gate and the actions so far. Each of its methods makes one step of the scripts that `router_core` defines.
+#![tactic(auto)]
+
+mod hands;
+mod mail;
+mod peer;
+mod room;
+mod served;
+#[cfg(test)]
+mod tests;
+
+pub use hands::Hands;
+pub use mail::{bytes_of, serial_after};
+pub use peer::{Peer, Stage};
+pub use served::Served;

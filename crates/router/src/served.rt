@@ -1,0 +1,118 @@
+//! The connections with what serves them, while an event is served.
+
+ghost use Rattle.std.specs.Prelude.{◌≡◌, ◌<◌, ◌≤◌, ◌+◌, [], OnOk, OnErr};
+ghost use Rattle.router_core.specs.Events.{fed, for_peer, for_slot, IsFree};
+ghost use Rattle.router_core.specs.Scripts.{Gives, Comes};
+ghost use Rattle.router_core.specs.Standing.{fresh, newcomer, opened, peer_at};
+
+use crate::hands::Hands;
+use crate::peer::Peer;
+use bus_view::BusView;
+use router_core::{Action, Gate};
+use std::alloc::{AllocError, Global};
+use std::marker::Model;
+
+/// The connections by their keys, the numbers of those that left and whose Leave is not made yet, and what is at hand.
+#[derive(Drop)]
+pub struct Served<V: BusView, G: Gate> {
+    alloc: Global,
+    hands: Hands<V, G>,
+    peers: Vec<Option<Peer>>,
+    leaves: Vec<u64>,
+}
+
+impl<V: BusView, G: Gate> Model for Served<V, G> {
+    ghost use Rattle.router.specs.Work.{Table};
+
+    ghost Value = { Table V.Note G };
+
+    ghost view = { λ s. record { standing = record { peers = s.peers.items; leaves = s.leaves.items }; work = s.hands } };
+}
+
+impl<V: BusView, G: Gate> Hands<V, G> {
+    /// Takes a piece of the bytes of a connection, if it is there.
+    fn feed_slot(&self, slot: &mut Option<Peer>, piece: &[u8]) -> Result<(), AllocError>
+        ensures ok { OnOk result (Comes V.told G.passes V.alone (for_slot slot.old (λ p. Gives (fed piece.now p p.stage))) self.now.world slot.new self.now.world) }
+        ensures err { OnErr result (slot.new ≡ slot.old) }
+    {
+        match slot {
+            None => Ok(()),
+            Some(peer) => peer.feed(piece),
+        }
+    }
+}
+
+impl<V: BusView, G: Gate> Served<V, G> {
+    /// No connections.
+    pub fn new(alloc: Global, view: V, gate: G) -> Served<V, G>
+        ensures standing { result.standing ≡ fresh }
+        ensures world { result.work.world ≡ record { view = V.knows view; gate = gate; actions = [] } }
+    {
+        Served {
+            alloc,
+            hands: Hands::new(alloc, view, gate),
+            peers: Vec::new(alloc),
+            leaves: Vec::new(alloc),
+        }
+    }
+
+    /// Makes room for so many actions.
+    pub fn reserve(&mut self, count: usize) -> Result<(), AllocError>
+        ensures standing { self.new.standing ≡ self.old.standing }
+        ensures world { self.new.work.world ≡ self.old.work.world }
+        ensures room { OnOk result (self.new.work.room ≡ count) }
+    {
+        self.hands.reserve(count)
+    }
+
+    /// Hands out the actions.
+    pub fn take_actions(&mut self) -> Vec<Action<V::Note>>
+        ensures standing { self.new.standing ≡ self.old.standing }
+        ensures actions { result.items ≡ self.old.work.world.actions }
+        ensures world { self.new.work.world ≡ record self.old.work.world { actions = [] } }
+    {
+        self.hands.take_actions()
+    }
+
+    /// A key that no connection has.
+    #[tactic(auto, using(crate::proofs::Slots::none_beyond))]
+    pub fn free_key(&self) -> usize
+        ensures { IsFree self.now.standing result }
+    {
+        for key in 0..self.peers.len() {
+            if self.peers[key].is_none() {
+                return key;
+            }
+        }
+        self.peers.len()
+    }
+
+    /// A connection came, and has this key. Without memory nothing changes.
+    pub fn open(&mut self, key: usize) -> Result<(), AllocError>
+        requires { IsFree self.old.standing key }
+        ensures ok { OnOk result (self.new.standing ≡ opened self.old.standing key) }
+        ensures err { OnErr result (self.new.standing ≡ self.old.standing) }
+        ensures work { self.new.work ≡ self.old.work }
+    {
+        let peer = Peer::new(self.alloc);
+        if key == self.peers.len() {
+            self.peers.push(Some(peer))?;
+        } else {
+            self.peers[key] = Some(peer);
+        }
+        Ok(())
+    }
+
+    /// Bytes of a connection came. Without memory nothing changes.
+    #[tactic(auto, using(crate::proofs::Slots::set_beyond, crate::proofs::Slots::set_same, crate::proofs::Slots::none_beyond))]
+    pub fn feed(&mut self, key: usize, piece: &[u8]) -> Result<(), AllocError>
+        ensures comes { OnOk result (Comes V.told G.passes V.alone (for_peer self.old.standing key (peer_at self.old.standing key) (λ p. Gives (fed piece.now p p.stage))) self.old.work.world self.new.standing self.new.work.world) }
+        ensures err { OnErr result (self.new.standing ≡ self.old.standing) }
+        ensures world { OnErr result (self.new.work.world ≡ self.old.work.world) }
+    {
+        if key >= self.peers.len() {
+            return Ok(());
+        }
+        self.hands.feed_slot(&mut self.peers[key], piece)
+    }
+}
