@@ -9,6 +9,7 @@ mod answer;
 mod call;
 mod content;
 mod envelope;
+mod own_facts;
 mod own_message;
 mod shared;
 #[cfg(test)]
@@ -18,5 +19,6 @@ pub use answer::{AnswerBody, BodyKind};
 pub use call::CallToAnswer;
 pub use content::Content;
 pub use envelope::Envelope;
+pub use own_facts::OwnNames;
 pub use own_message::{OwnMessage, ReplyContent};
 pub use shared::SharedBytes;

@@ -4,6 +4,7 @@ ghost use Rattle.std.specs.Prelude.{◌≡◌, ◌<◌};
 
 use super::*;
 use driver::ReplyTo;
+use match_rules::{Argument, MessageKind};
 use names::{BusName, UniqueName};
 use owner_queues::Profile;
 use seq_bus::{Asked, SeqBus, can_open};
@@ -68,6 +69,16 @@ fn error_in_place_of_a_reply(rt: HostRuntime) {
         to: call(9),
         error: ErrorKind::NoMemory,
     };
+    let names = refused.names();
+    let facts = refused.facts(&names);
+    assert_eq!(rt; facts.kind, MessageKind::Error);
+    assert_eq!(rt; facts.destination, Some(":1.1"));
+    assert!(rt;
+        matches!(
+            facts.arguments.as_slice(),
+            [Argument::String("Out of memory")]
+        )
+    );
     let written = write(&rt, rt.alloc(), &refused, 1);
     assert_eq!(rt; written.get(1), Some(&3));
     assert!(rt; written.as_slice().ends_with(b"\x0d\0\0\0Out of memory\0"));
@@ -108,6 +119,10 @@ fn answer_to_a_query(rt: HostRuntime) {
         content: ReplyContent::Answer(answer),
     };
     assert_eq!(rt; write(&rt, rt.alloc(), &reply, 3).as_slice(), OWNER);
+    let names = reply.names();
+    let facts = reply.facts(&names);
+    assert_eq!(rt; facts.kind, MessageKind::MethodReturn);
+    assert!(rt; matches!(facts.arguments.as_slice(), [Argument::String(":1.1")]));
 }
 
 #[test]

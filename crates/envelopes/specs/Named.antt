@@ -1,0 +1,64 @@
+-- The connections that a message of the bus names, and their names spelled. (D-Bus Specification: "Message Bus Messages")
+use Rattle.std.specs.Prelude.{ℕ, true, Option, Some, None, option_map, List}
+use Rattle.names.specs.Texts.{Text}
+use Rattle.names.specs.UniqueName.{unique_text}
+use Rattle.match_rules.specs.Facts.{Argument, Facts, bus_number}
+use Rattle.match_rules.specs.declared.kind.MessageKind.{MessageKind}
+use Rattle.seq_bus_core.specs.declared.signal.BusSignal.{BusSignal}
+use Rattle.seq_bus_core.specs.declared.signal.BusSignal.TheVariants.{NameOwnerChanged, NameLost, NameAcquired}
+use Rattle.driver.specs.OwnMessages.{signal_destination}
+use Rattle.envelopes.specs.declared.own_facts.OwnNames.{OwnNames}
+use Rattle.envelopes.specs.Contents.{Own, Signals, Replies, Errs, Carried, Nothing, Number, UniqueName, Answered}
+
+-- the one connection that the message is for
+abbrev pub destination_of : Own → Option ℕ
+destination_of (Signals signal) = signal_destination signal
+destination_of (Replies to carried) = to.caller
+destination_of (Errs to error) = to.caller
+
+abbrev pub old_owner_of : BusSignal → Option ℕ
+old_owner_of (NameOwnerChanged name old_owner new_owner) = old_owner
+old_owner_of (NameLost name owner) = None
+old_owner_of (NameAcquired name owner) = None
+
+abbrev pub new_owner_of : BusSignal → Option ℕ
+new_owner_of (NameOwnerChanged name old_owner new_owner) = new_owner
+new_owner_of (NameLost name owner) = None
+new_owner_of (NameAcquired name owner) = None
+
+abbrev pub number_in : Carried → Option ℕ
+number_in Nothing = None
+number_in (Number n) = None
+number_in (UniqueName number) = Some number
+number_in (Answered answer) = None
+
+-- the connections whose unique names stand in its body
+abbrev pub first_of : Own → Option ℕ
+first_of (Signals signal) = old_owner_of signal
+first_of (Replies to carried) = number_in carried
+first_of (Errs to error) = None
+
+abbrev pub second_of : Own → Option ℕ
+second_of (Signals signal) = new_owner_of signal
+second_of (Replies to carried) = None
+second_of (Errs to error) = None
+
+abbrev pub names_of : Own → OwnNames
+names_of own = record {
+  destination = option_map unique_text (destination_of own);
+  first = option_map unique_text (first_of own);
+  second = option_map unique_text (second_of own);
+}
+
+-- what is seen of a reply or an error, which have no path, interface and member
+abbrev pub response_facts : MessageKind → Option Text → List Argument → Facts
+response_facts kind destination arguments = record {
+  kind = kind;
+  auto_start = true;
+  sender = bus_number;
+  path = None;
+  interface = None;
+  member = None;
+  destination = destination;
+  arguments = arguments;
+}
