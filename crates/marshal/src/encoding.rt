@@ -17,7 +17,7 @@ ghost use Rattle.marshal.specs.Writing.{and_then, array_written, padded, string_
 use crate::decoding::{ENTRY_ALIGNMENT, MAX_ARRAY_LENGTH, MAX_CONTAINER_DEPTH, STRUCT_ALIGNMENT};
 use crate::fixed::gap;
 use crate::text::any_zero;
-use crate::type_text::{basic_type, type_code, type_codes, value_code, value_codes};
+use crate::type_text::{type_code, type_codes, value_code, value_codes};
 use marshal_core::{BasicType, BasicValue, DataType, MarshalFault, Order, Signature, Value};
 use names::ObjectPath;
 use std::alloc::{AllocError, Global};
@@ -227,7 +227,7 @@ fn has_code(alloc: Global, value: &Value, wanted: &[u8]) -> Result<bool, AllocEr
     ensures { IfOk result (λ b. b ≡ text_eq (code (type_of (val_of value.now))) wanted.now) }
 {
     if let Value::Basic(basic) = value {
-        return Ok([basic_type(basic).code()].as_slice() == wanted);
+        return Ok([basic.basic_type().code()].as_slice() == wanted);
     }
     let mut own = Vec::new(alloc);
     value_code(value, &mut own)?;
@@ -416,13 +416,18 @@ fn entry_has_code(
     ensures { IfOk result (λ b. b ≡ text_eq (code (type_of (an_entry (basic_of key.now) (val_of held.now)))) wanted.now) }
 {
     if let Value::Basic(basic) = held {
-        let own = [b'{', basic_type(key).code(), basic_type(basic).code(), b'}'];
+        let own = [
+            b'{',
+            key.basic_type().code(),
+            basic.basic_type().code(),
+            b'}',
+        ];
         return Ok(own.as_slice() == wanted);
     }
     let mut of = Vec::new(alloc);
     value_code(held, &mut of)?;
     let mut own = Vec::new(alloc);
-    entry_code(basic_type(key), &of, &mut own)?;
+    entry_code(key.basic_type(), &of, &mut own)?;
     Ok(own.as_slice() == wanted)
 }
 

@@ -2,11 +2,11 @@
 
 ghost use Rattle.std.specs.Prelude.{◌≡◌, ◌++◌, OnOk};
 ghost use Rattle.marshal_core.specs.Types.{ty_of, types_of};
-ghost use Rattle.marshal_core.specs.Values.{basic_of, basic_type as type_of_basic, val_of, values_of};
+ghost use Rattle.marshal_core.specs.Values.{val_of, values_of};
 ghost use Rattle.marshal_core.specs.Signatures.{code, codes};
 ghost use Rattle.marshal.specs.Writing.{type_of, types_of_values};
 
-use marshal_core::{BasicType, BasicValue, DataType, Value};
+use marshal_core::{DataType, Value};
 use std::alloc::AllocError;
 
 /// Appends the code of a type.
@@ -47,32 +47,12 @@ pub fn type_codes(types: &[DataType], output: &mut Vec<u8>) -> Result<(), AllocE
     Ok(())
 }
 
-/// The type of a basic value.
-pub fn basic_type(value: &BasicValue) -> BasicType
-    ensures { result ≡ type_of_basic (basic_of value.now) }
-{
-    match value {
-        BasicValue::Byte(_) => BasicType::Byte,
-        BasicValue::Boolean(_) => BasicType::Boolean,
-        BasicValue::Int16(_) => BasicType::Int16,
-        BasicValue::Uint16(_) => BasicType::Uint16,
-        BasicValue::Int32(_) => BasicType::Int32,
-        BasicValue::Uint32(_) => BasicType::Uint32,
-        BasicValue::Int64(_) => BasicType::Int64,
-        BasicValue::Uint64(_) => BasicType::Uint64,
-        BasicValue::Double(_) => BasicType::Double,
-        BasicValue::String(_) => BasicType::String,
-        BasicValue::ObjectPath(_) => BasicType::ObjectPath,
-        BasicValue::Signature(_) => BasicType::Signature,
-    }
-}
-
 /// Appends the code of a value's type.
 pub fn value_code(value: &Value, output: &mut Vec<u8>) -> Result<(), AllocError>
     ensures { OnOk result (output.new.items ≡ output.old.items ++ code (type_of (val_of value.now))) }
 {
     match value {
-        Value::Basic(basic) => output.push(basic_type(basic).code())?,
+        Value::Basic(basic) => output.push(basic.basic_type().code())?,
         Value::Variant(_) => output.push(b'v')?,
         Value::Array(of, _) => {
             output.push(b'a')?;

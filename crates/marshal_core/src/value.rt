@@ -1,5 +1,8 @@
 //! Values.
 
+ghost use Rattle.std.specs.Prelude.{◌≡◌};
+ghost use Rattle.marshal_core.specs.Values.{basic_of, basic_type as type_of};
+
 use crate::data_type::{BasicType, DataType};
 use crate::signature::Signature;
 
@@ -19,6 +22,28 @@ pub enum BasicValue {
     String(String),
     ObjectPath(String),
     Signature(Signature),
+}
+
+impl BasicValue {
+    /// The type of the value.
+    pub fn basic_type(&self) -> BasicType
+        ensures { result ≡ type_of (basic_of self.now) }
+    {
+        match self {
+            BasicValue::Byte(_) => BasicType::Byte,
+            BasicValue::Boolean(_) => BasicType::Boolean,
+            BasicValue::Int16(_) => BasicType::Int16,
+            BasicValue::Uint16(_) => BasicType::Uint16,
+            BasicValue::Int32(_) => BasicType::Int32,
+            BasicValue::Uint32(_) => BasicType::Uint32,
+            BasicValue::Int64(_) => BasicType::Int64,
+            BasicValue::Uint64(_) => BasicType::Uint64,
+            BasicValue::Double(_) => BasicType::Double,
+            BasicValue::String(_) => BasicType::String,
+            BasicValue::ObjectPath(_) => BasicType::ObjectPath,
+            BasicValue::Signature(_) => BasicType::Signature,
+        }
+    }
 }
 
 /// A value of a single complete type. An array keeps the type of its elements, a dictionary those

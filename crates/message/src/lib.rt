@@ -8,8 +8,6 @@
 mod fault_tests;
 mod framer;
 #[cfg(test)]
-mod memory_tests;
-#[cfg(test)]
 mod own_message_tests;
 #[cfg(test)]
 mod stream_tests;

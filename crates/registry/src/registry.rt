@@ -6,7 +6,7 @@ ghost use Rattle.seq_bus_core.specs.Consistency.{IsConsistent, IsWithinLimits};
 ghost use Rattle.seq_bus_core.specs.Histories.{CanOpen, opening};
 ghost use Rattle.seq_bus_core.specs.Steps.{step};
 ghost use Rattle.registry_core.specs.NameTables.{owned_name};
-ghost use Rattle.registry_core.specs.RuleTables.{added_rule};
+ghost use Rattle.registry_core.specs.RulesOf.{rules_by, rules_left};
 ghost use Rattle.registry.specs.PreparedChanges.{prepared_on};
 ghost use Rattle.registry.specs.Served.{IsServedChange};
 
@@ -15,7 +15,7 @@ use crate::services::sorted;
 use match_rules::Owners;
 use names::{BusName, WellKnown};
 use owner_queues::{Profile, QueuedOwner};
-use registry_core::{Member, NameEntry, NameTable, RuleEntry, RuleTable, place_of};
+use registry_core::{Member, NameEntry, NameTable, RuleTable, RulesOf, place_of};
 use seq_bus_core::{Change, Conn};
 use std::alloc::{AllocError, Global};
 use std::marker::Model;
@@ -186,11 +186,11 @@ impl Registry {
         }
     }
 
-    /// The rules that connections added, in order of arrival.
-    pub fn rules(&self) -> &[RuleEntry]
-        ensures { map added_rule result.now ≡ self.now.rules }
+    /// The rules that a connection added, in order of arrival.
+    pub fn rules(&self, connection: u64) -> RulesOf<'_>
+        ensures { rules_left result ≡ rules_by connection self.now.rules }
     {
-        self.rules.as_slice()
+        self.rules.of(connection)
     }
 
     /// The number of routers.

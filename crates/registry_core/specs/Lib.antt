@@ -1,4 +1,5 @@
 pub mod NameTables
 pub mod RuleTables
+pub mod RulesOf
 pub mod Listening
 pub mod Signals

@@ -14,4 +14,4 @@ pub mod signals;
 
 pub use member::{Member, number_of, place_of};
 pub use name_table::{MAX_NAMES, MAX_QUEUED, NameEntry, NameTable};
-pub use rule_table::{RuleEntry, RuleTable};
+pub use rule_table::{RuleEntry, RuleTable, RulesOf};

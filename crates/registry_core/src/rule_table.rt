@@ -5,6 +5,7 @@ ghost use Rattle.std.specs.List.{list_any, position};
 ghost use Rattle.seq_bus_core.specs.BusState.{rules_of};
 ghost use Rattle.seq_bus_core.specs.Steps.{is_rule_of, without_first, rules_without};
 ghost use Rattle.registry_core.specs.RuleTables.{added_rule};
+ghost use Rattle.registry_core.specs.RulesOf.{rules_by, rules_left};
 
 use match_rules::Rule;
 use std::alloc::{AllocError, Global};
@@ -60,6 +61,16 @@ impl RuleTable {
         self.entries.as_slice()
     }
 
+    /// The rules of a connection, in order.
+    pub fn of(&self, connection: u64) -> RulesOf<'_>
+        ensures { rules_left result ≡ rules_by connection self.now.rules }
+    {
+        RulesOf {
+            connection,
+            entries: self.entries.as_slice(),
+        }
+    }
+
     /// How many rules a connection has.
     pub fn count_of(&self, connection: u64) -> usize
         ensures { result ≡ rules_of connection self.now.rules }
@@ -99,6 +110,34 @@ impl RuleTable {
         ensures { self.new ≡ record self.old { rules = rules_without connection self.old.rules } }
     {
         self.entries.retain(|entry| entry.connection != connection);
+    }
+}
+
+/// Rules of one connection, lent out of a table in order of arrival.
+#[derive(Clone, Copy)]
+pub struct RulesOf<'a> {
+    connection: u64,
+    entries: &'a [RuleEntry],
+}
+
+impl<'a> Iterator for RulesOf<'a> {
+    ghost use Rattle.std.specs.Iterator.{YieldsFirstBy, item_count};
+    ghost use Rattle.registry_core.specs.RulesOf.{rules_left};
+
+    type Item = &'a Rule;
+
+    ghost next_gives = { YieldsFirstBy (λ r. r.now) rules_left };
+
+    ghost remaining = { item_count rules_left };
+
+    fn next(&mut self) -> Option<&'a Rule> {
+        while let Some((entry, rest)) = self.entries.split_first() {
+            self.entries = rest;
+            if entry.connection == self.connection {
+                return Some(&entry.rule);
+            }
+        }
+        None
     }
 }
 

@@ -4,13 +4,13 @@ ghost use Rattle.std.specs.Prelude.{◌≡◌, is_some, map, option_map};
 ghost use Rattle.seq_bus_core.specs.BusState.{connection_of, conn_of, head_of, queue_of};
 ghost use Rattle.seq_bus_core.specs.Recipients.{recipients};
 ghost use Rattle.registry_core.specs.NameTables.{owned_name};
-ghost use Rattle.registry_core.specs.RuleTables.{added_rule};
+ghost use Rattle.registry_core.specs.RulesOf.{rules_by, rules_left};
 
 use crate::snap::Snap;
 use match_rules::Facts;
 use names::BusName;
 use owner_queues::QueuedOwner;
-use registry_core::{NameEntry, RuleEntry};
+use registry_core::{NameEntry, RulesOf};
 use seq_bus_core::{Conn, Verdict};
 
 impl Snap {
@@ -57,10 +57,10 @@ impl Snap {
         self.registry().queue(name.as_str())
     }
 
-    /// The match rules that connections added, in order of arrival, each with its connection.
-    pub fn rules(&self) -> &[RuleEntry]
-        ensures { map added_rule result.now ≡ self.now.bus.rules }
+    /// The match rules that a connection added, in order of arrival.
+    pub fn rules(&self, connection: u64) -> RulesOf<'_>
+        ensures { rules_left result ≡ rules_by connection self.now.bus.rules }
     {
-        self.registry().rules()
+        self.registry().rules(connection)
     }
 }

@@ -186,6 +186,26 @@ fn rules_that_are_added_and_removed(rt: HostRuntime) {
 }
 
 #[test]
+fn rules_of_one_connection(rt: HostRuntime) {
+    let alloc = rt.alloc();
+    let mut registry = open(&rt, alloc, 1);
+    make(&rt, alloc, &mut registry, 1, &hello());
+    make(&rt, alloc, &mut registry, 1, &hello());
+    let tick = rule(&rt, "member='Tick'");
+    let all = rule(&rt, "");
+    for (connection, rule) in [(1, tick), (2, all), (1, all), (1, tick)] {
+        make(&rt, alloc, &mut registry, 1, &add_match(connection, rule));
+    }
+    for (connection, added) in [(1, [tick, all, tick].as_slice()), (2, &[all]), (3, &[])] {
+        let mut rules = registry.rules(connection);
+        for rule in added {
+            assert!(rt; rules.next() == Some(rule));
+        }
+        assert!(rt; rules.next().is_none());
+    }
+}
+
+#[test]
 fn a_connection_that_leaves(rt: HostRuntime) {
     let alloc = rt.alloc();
     let mut registry = open(&rt, alloc, 1);
