@@ -2,7 +2,7 @@
 
 SAMPLE = examples/hello-get-name-owner.stream
 
-.PHONY: run test bench
+.PHONY: run test bench memory
 
 # The main job: the sample stream through `busd run`, the replies shown as bytes and text. The first time it proves
 # and builds the program.
@@ -14,6 +14,14 @@ run:
 # The gate: every proof from nothing, the edits that must fail, the tests, the program as two compilers build it.
 test:
 	@rt ci
+
+# Each allocation of two programs refused in turn: busd on the sample stream, and scarce_memory, which reads and writes
+# bodies and messages. Needs cc and glibc. No part of the gate.
+memory:
+	@mkdir -p crates/busd/out crates/scarce_memory/out
+	@cd crates/busd && rt run -- run < ../../$(SAMPLE) > out/replies 2> out/run.log || { cat out/run.log; exit 1; }
+	@cd crates/scarce_memory && rt run > out/told 2> out/run.log || { cat out/run.log; exit 1; }
+	@memory/check.sh
 
 # What the calls take, beside the same in plain Rust. No part of the gate.
 bench:
