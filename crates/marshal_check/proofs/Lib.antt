@@ -5,3 +5,4 @@ pub mod FreeElements
 pub mod Checked
 pub mod Splits
 pub mod Shown
+pub mod CheckedSteps

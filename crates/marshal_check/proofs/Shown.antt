@@ -102,11 +102,11 @@ is_string t tail of inner c e f h = is_basic t tail of inner c of_type.String e 
 is_path : (t : Ty) (tail of inner : List ℕ) (c : ℕ) → of ≡ code t ++ tail → of ≡ c ∷ inner → c ≡ 111 → t ≡ basic of_type.ObjectPath
 is_path t tail of inner c e f h = is_basic t tail of inner c of_type.ObjectPath e f (rw h refl)
 
-string_value : (order : Order) (short : MarshalFault) (at : ℕ) (bytes : List ℕ) → value_at 64 order short (basic of_type.String) at bytes ≡ as_a a_basic (as_a a_string (string_at order short at bytes))
+pub string_value : (order : Order) (short : MarshalFault) (at : ℕ) (bytes : List ℕ) → value_at 64 order short (basic of_type.String) at bytes ≡ as_a a_basic (as_a a_string (string_at order short at bytes))
 unfolding basic_at
 string_value order short at bytes = value_basic 64 order short of_type.String at bytes
 
-path_value : (order : Order) (short : MarshalFault) (at : ℕ) (bytes : List ℕ) → value_at 64 order short (basic of_type.ObjectPath) at bytes ≡ as_a a_basic (as_a an_object_path (path_at order short at bytes))
+pub path_value : (order : Order) (short : MarshalFault) (at : ℕ) (bytes : List ℕ) → value_at 64 order short (basic of_type.ObjectPath) at bytes ≡ as_a a_basic (as_a an_object_path (path_at order short at bytes))
 unfolding basic_at
 path_value order short at bytes = value_basic 64 order short of_type.ObjectPath at bytes
 

@@ -17,7 +17,7 @@ first_valid t us h =
     both_are (is_complete false 32 32 t && true) (nat_le (length (code t ++ [])) 255) (both_are (is_complete false 32 32 t) true q.0 refl)
     (leb_true (length (code t ++ [])) 255 (omega (arith, le, length-append (code t) (codes us), ap length (append-nil (code t)))))
 
-others_valid : (t : Ty) (us : Tys) → IsSignature (more_types t us) → IsSignature us
+pub others_valid : (t : Ty) (us : Tys) → IsSignature (more_types t us) → IsSignature us
 others_valid t us h =
     let p = both_true (is_complete false 32 32 t && are_complete 32 32 us) (nat_le (length (code t ++ codes us)) 255) h in
     let q = both_true (is_complete false 32 32 t) (are_complete 32 32 us) p.0 in

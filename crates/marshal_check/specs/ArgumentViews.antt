@@ -6,6 +6,7 @@ use Rattle.marshal_core.specs.Reading.{Field}
 use Rattle.marshal_check.specs.declared.body_arguments.Argument.{Argument}
 use Rattle.marshal_check.specs.declared.body_arguments.Argument.TheVariants.{String, ObjectPath, Other}
 use Rattle.marshal_check.specs.declared.body_arguments.Arguments.{Arguments}
+use Rattle.marshal_check.specs.declared.checked_arguments.CheckedArguments.{CheckedArguments}
 use Rattle.marshal_check.specs.Arguments.{Argument as Seen, string_argument, path_argument, other_argument, argument_of, arguments_at}
 use Rattle.marshal_check.specs.SignatureTexts.{types_in}
 
@@ -16,6 +17,9 @@ seen Other = other_argument
 
 abbrev pub arguments_left : Arguments → List Seen
 arguments_left a = arguments_at a.order (types_in a.types.text.now) a.at a.bytes.now
+
+abbrev pub checked_left : CheckedArguments → List Seen
+checked_left a = arguments_at a.order (types_in a.types.text.now) a.at a.bytes.now
 
 -- A value is read, and an argument returned that shows it, beside the place and the bytes after it; or it is the same fault.
 abbrev pub Shows : {X : Type 0} → (X → Seen × ℕ × List ℕ) → Result X MarshalFault → Field Val → Type 0

@@ -1,12 +1,12 @@
 -- The arguments of a message: the values of its body, of which match rules look at the texts ("Match Rules" of the D-Bus Specification).
-use Rattle.std.specs.Prelude.{ℕ, List, [], ◌∷◌, Ok, Err}
+use Rattle.std.specs.Prelude.{ℕ, Bool, List, [], ◌∷◌, Ok, Err, is_ok}
 use Rattle.names.specs.Texts.{Text}
 use Rattle.marshal_core.specs.declared.fault.MarshalFault.TheVariants.{Truncated}
 use Rattle.marshal_core.specs.declared.order.Order.{Order}
 use Rattle.marshal_core.specs.Types.{Tys, no_types, more_types}
 use Rattle.marshal_core.specs.Values.{BasicVal, a_byte, a_boolean, an_int16, a_uint16, an_int32, a_uint32, an_int64, a_uint64, a_double, a_string, an_object_path, a_signature, Val, a_basic, a_variant, an_array, an_entry, a_struct, Vals, no_values, more_values}
 use Rattle.marshal_core.specs.Spelling.{max_container_depth}
-use Rattle.marshal_core.specs.Reading.{Field, value_at}
+use Rattle.marshal_core.specs.Reading.{Field, fields_at, value_at}
 
 pub data Argument : Type 0 where
   string_argument : Text → Argument
@@ -46,3 +46,7 @@ then_others others (Err e) = []
 abbrev pub arguments_at : Order → Tys → ℕ → List ℕ → List Argument
 arguments_at order no_types at bytes = []
 arguments_at order (more_types t ts) at bytes = then_others (arguments_at order ts) (value_at max_container_depth order Truncated t at bytes)
+
+-- the bytes at a place begin with values of these types
+abbrev pub are_there : Order → Tys → ℕ → List ℕ → Bool
+are_there order ts at bytes = is_ok (fields_at (value_at max_container_depth order) Truncated ts at bytes)

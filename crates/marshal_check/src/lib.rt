@@ -6,6 +6,8 @@
 
 mod basic;
 mod body_arguments;
+mod checked_arguments;
+mod checked_text;
 mod checking;
 mod complete_types;
 mod letters;
@@ -15,6 +17,7 @@ mod recognizing;
 mod signature_text;
 
 pub use body_arguments::{Argument, Arguments};
+pub use checked_arguments::CheckedArguments;
 pub use checking::check;
 pub use complete_types::CompleteTypes;
 pub use signature_text::Types;

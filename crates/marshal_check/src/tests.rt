@@ -307,6 +307,15 @@ fn lends_arguments(rt: HostRuntime) -> Result<(), Fail> {
         ]
         .as_slice()
     );
+    let length = check(Order::Little, 0, types, body)?;
+    if length < body.len() {
+        return Err(Fail::from("bytes behind the arguments"));
+    }
+    let mut checked = Vec::new(rt.alloc());
+    for argument in CheckedArguments::new(Order::Little, 0, types, body) {
+        checked.push(argument)?;
+    }
+    assert_eq!(rt; checked.as_slice(), arguments.as_slice());
     Ok(())
 }
 

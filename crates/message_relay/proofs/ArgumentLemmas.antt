@@ -13,20 +13,16 @@ use Rattle.marshal_core.specs.Spelling.{Spells}
 use Rattle.marshal_core.specs.declared.order.Order.{Order}
 use Rattle.marshal_core.proofs.Results.{eqb-yes}
 use Rattle.marshal_core.proofs.TypesAgain.{signature_again}
-use Rattle.marshal_check.specs.Arguments.{Argument as Read, arguments}
 use Rattle.marshal_check.specs.SignatureTexts.{types_in, types_or_none}
 
 -- the types of a signature's text
 types_are : (text : List ℕ) (types : Tys) → text ≡ codes types → IsSignature types → types_in text ≡ types
 types_are text types e h = ap (λ (r : Result Tys MarshalFault). types_or_none r) (ap signature_of e ∙ signature_again types h)
 
--- the arguments that are left of a whole body
-pub all_left : (order seen : Order) (text body : List ℕ) (types : Tys) (vs : Vals) (left : List Read) → seen ≡ order → text ≡ codes types → Spells order 0 types vs body
-    → ((vs : Vals) (front rest : List ℕ) → body ≡ front ++ rest → Spells seen 0 (types_in text) vs front → left ≡ arguments vs) → left ≡ arguments vs
-all_left order seen text body types vs left o e h told =
-    let there : Spells seen 0 (types_in text) vs body =
-    subst (λ (o : Order). Spells o 0 (types_in text) vs body) (sym o) (subst (λ (ts : Tys). Spells order 0 ts vs body) (sym (types_are text types e h.0)) h) in
-    told vs body [] (sym (append-nil body)) there
+-- the body under the order and the signature that were read
+pub spelled_there : (order read : Order) (text body : List ℕ) (types : Tys) (vs : Vals) → read ≡ order → text ≡ codes types → Spells order 0 types vs body → Spells read 0 (types_in text) vs body
+spelled_there order read text body types vs o e h =
+    subst (λ (o : Order). Spells o 0 (types_in text) vs body) (sym o) (subst (λ (ts : Tys). Spells order 0 ts vs body) (sym (types_are text types e h.0)) h)
 
 -- where so many elements stand there, and where there are no more
 pub first_full : (lent : List Lent) (rest all : List Argument) → map argument_of lent ++ rest ≡ all → (length lent == 64) ≡ true → map argument_of lent ≡ take 64 all

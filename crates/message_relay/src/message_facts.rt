@@ -8,7 +8,7 @@ ghost use Rattle.message_relay.specs.FactsOf.{as_argument, facts_of, first_argum
 
 use crate::parts::parts_of;
 use arrayvec::ArrayVec;
-use marshal_check::{Argument as Read, Arguments, Types};
+use marshal_check::{Argument as Read, CheckedArguments, Types};
 use match_rules::{Argument, Facts};
 use message_core::{Message, NO_AUTO_START};
 
@@ -32,7 +32,7 @@ fn put_first<'a>(message: &'a Message, first: &mut ArrayVec<Argument<'a>, 64>)
     let types = Types {
         text: message.signature(),
     };
-    for argument in Arguments::new(parts.order, 0, types, parts.body) {
+    for argument in CheckedArguments::new(parts.order, 0, types, parts.body) {
         if first.is_full() {
             return;
         }
@@ -45,9 +45,7 @@ fn put_first<'a>(message: &'a Message, first: &mut ArrayVec<Argument<'a>, 64>)
 pub fn facts(message: &Message) -> Facts<'_>
     ensures { result ≡ facts_of (said message.now) }
 {
-    let mut arguments = ArrayVec::new();
-    put_first(message, &mut arguments);
-    Facts {
+    let mut facts = Facts {
         kind: message.kind(),
         auto_start: message.flags() & NO_AUTO_START == 0,
         sender: 0,
@@ -55,6 +53,8 @@ pub fn facts(message: &Message) -> Facts<'_>
         interface: message.interface(),
         member: message.member(),
         destination: message.destination(),
-        arguments,
-    }
+        arguments: ArrayVec::new(),
+    };
+    put_first(message, &mut facts.arguments);
+    facts
 }
