@@ -3,3 +3,6 @@ pub mod Putting
 pub mod Asking
 pub mod Delivering
 pub mod Slots
+pub mod Sequels
+pub mod Rounds
+pub mod Receiving

@@ -2,3 +2,4 @@ pub mod Work
 pub mod Hearing
 pub mod Stages
 pub mod Writing
+pub mod Noting

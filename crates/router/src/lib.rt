@@ -5,12 +5,15 @@
 #![tactic(auto)]
 
 mod hands;
+mod inbox;
+mod leaving;
 mod mail;
 mod peer;
 mod room;
 mod served;
 #[cfg(test)]
 mod tests;
+mod tick;
 
 pub use hands::Hands;
 pub use mail::{bytes_of, serial_after};

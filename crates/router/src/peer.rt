@@ -106,6 +106,13 @@ impl Peer {
         self.serial = serial_after(self.serial);
     }
 
+    /// Its Hello gave it this number and this slot.
+    pub fn welcome(&mut self, conn: Conn)
+        ensures { self.new ≡ record self.old { stage = Named conn } }
+    {
+        self.stage = Stage::Named(conn);
+    }
+
     /// Closes it: its bytes are let go.
     pub fn shut(&mut self)
         ensures { self.new ≡ shut self.old }

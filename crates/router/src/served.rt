@@ -15,10 +15,10 @@ use std::marker::Model;
 /// The connections by their keys, the numbers of those that left and whose Leave is not made yet, and what is at hand.
 #[derive(Drop)]
 pub struct Served<V: BusView, G: Gate> {
-    alloc: Global,
-    hands: Hands<V, G>,
-    peers: Vec<Option<Peer>>,
-    leaves: Vec<u64>,
+    pub(crate) alloc: Global,
+    pub(crate) hands: Hands<V, G>,
+    pub(crate) peers: Vec<Option<Peer>>,
+    pub(crate) leaves: Vec<u64>,
 }
 
 impl<V: BusView, G: Gate> Model for Served<V, G> {

@@ -6,7 +6,8 @@ ghost use Rattle.router.specs.Writing.{IsSpelled};
 
 use super::*;
 use driver::Call;
-use envelopes::{Content, OwnMessage};
+use envelopes::{Content, Envelope, OwnMessage};
+use match_rules::Rule;
 use names::{BusName, UniqueName};
 use owner_queues::Profile;
 use router_core::{Action, Addressees, CloseCause, OpenGate};
@@ -133,4 +134,122 @@ fn keys_of_connections(rt: HostRuntime) {
         served.reserve(1).expect(&rt, "one allocation fails");
     }
     assert!(rt; served.take_actions().is_empty());
+}
+
+/// A connection with a key, once more where one allocation failed.
+fn opened(rt: &impl Abort, served: &mut Served<SeqBus, OpenGate>) -> usize {
+    let key = served.free_key();
+    if served.open(key).is_err() {
+        served.open(key).expect(rt, "one allocation fails");
+    }
+    key
+}
+
+/// A connection whose Hello the bus has answered.
+fn named(rt: &impl Abort, served: &mut Served<SeqBus, OpenGate>) -> Conn {
+    let key = opened(rt, served);
+    let Reply::Welcome(conn) = greet(rt, &mut served.hands).reply else {
+        panic!(rt; "there is room for it");
+    };
+    match served.peers.get_mut(key) {
+        Some(Some(peer)) => peer.welcome(conn),
+        _ => panic!(rt; "it was opened"),
+    }
+    conn
+}
+
+/// The connection hears of names that change their owners, once more where one allocation failed.
+fn listen(rt: &impl Abort, served: &mut Served<SeqBus, OpenGate>, connection: u64) {
+    let rule = Rule::parse("member='NameOwnerChanged'")
+        .ok()
+        .expect(rt, "a rule");
+    let change = Change::AddMatch { connection, rule };
+    if served.hands.change(&(), change).is_err() {
+        let change = Change::AddMatch { connection, rule };
+        assert!(rt; served.hands.change(&(), change).is_ok());
+    }
+}
+
+/// The connection of a key is gone. A Leave that was refused for want of memory is made at the tick.
+fn close(rt: &impl Abort, served: &mut Served<SeqBus, OpenGate>, key: usize) {
+    if served.close(&(), key).is_err() {
+        served.close(&(), key).expect(rt, "one allocation fails");
+    }
+    tick(rt, served);
+}
+
+fn tick(rt: &impl Abort, served: &mut Served<SeqBus, OpenGate>) {
+    if served.tick(&()).is_err() {
+        served.tick(&()).expect(rt, "one allocation fails");
+    }
+}
+
+/// Mail comes, with no note, for the connection of this number in slot 0.
+fn send(rt: &impl Abort, served: &mut Served<SeqBus, OpenGate>, number: u64) {
+    let envelope = Envelope {
+        number,
+        note: None,
+        content: Content::Own(acquired()),
+    };
+    if served.mail(0, &envelope).is_err() {
+        served.mail(0, &envelope).expect(rt, "one allocation fails");
+    }
+}
+
+#[test]
+fn a_named_connection_leaves(rt: HostRuntime) {
+    let mut served = Served::new(rt.alloc(), bus(&rt, rt.alloc()), OpenGate);
+    assert_eq!(rt; named(&rt, &mut served), FIRST);
+    let second = named(&rt, &mut served);
+    listen(&rt, &mut served, second.number);
+    close(&rt, &mut served, 0);
+    assert_eq!(rt; served.hands.look(1).ok(), Some(false));
+    assert_eq!(rt; served.free_key(), 0);
+    let actions = served.take_actions();
+    assert_eq!(rt; actions.len(), 1);
+    let Some(Action::Announce { signals, note: _ }) = actions.get(0) else {
+        panic!(rt; "the second hears of it");
+    };
+    assert_eq!(rt; signals.as_slice().len(), 1);
+}
+
+#[test]
+fn mail_comes_late(rt: HostRuntime) {
+    let mut served = Served::new(rt.alloc(), bus(&rt, rt.alloc()), OpenGate);
+    assert_eq!(rt; named(&rt, &mut served), FIRST);
+    send(&rt, &mut served, 1);
+    let actions = served.take_actions();
+    assert!(rt; matches!(actions.as_slice(), [Action::Write { key: 0, bytes: _ }]));
+    close(&rt, &mut served, 0);
+    let _left = served.take_actions();
+    send(&rt, &mut served, 1);
+    let newcomer = named(&rt, &mut served);
+    assert_eq!(rt; newcomer.slot, 0);
+    send(&rt, &mut served, 1);
+    assert!(rt; served.take_actions().is_empty());
+    send(&rt, &mut served, newcomer.number);
+    assert_eq!(rt; served.take_actions().len(), 1);
+}
+
+#[test]
+fn a_connection_that_left_is_closed(rt: HostRuntime) {
+    let mut served = Served::new(rt.alloc(), bus(&rt, rt.alloc()), OpenGate);
+    assert_eq!(rt; named(&rt, &mut served), FIRST);
+    let leave = Change::Leave { connection: 1 };
+    if served.hands.change(&(), leave).is_err() {
+        let leave = Change::Leave { connection: 1 };
+        assert!(rt; served.hands.change(&(), leave).is_ok());
+    }
+    tick(&rt, &mut served);
+    tick(&rt, &mut served);
+    let actions = served.take_actions();
+    assert_eq!(rt; actions.len(), 1);
+    let closes = matches!(
+        actions.get(0),
+        Some(Action::Close {
+            key: 0,
+            cause: CloseCause::Left,
+        })
+    );
+    assert!(rt; closes);
 }

@@ -1,0 +1,51 @@
+use Rattle.std.proofs.Common.{◌≡◌, Some, None, option_map, position, refl, sym, ap, ◌∙◌, subst, slice_set}
+use Rattle.std.proofs.lemmas.List.{get_or_read}
+use Rattle.std.proofs.lemmas.List.Quantifiers.{position-Some}
+use Rattle.std.proofs.lemmas.Result.{on_ok_weaker}
+use Rattle.envelopes.specs.Contents.{said_of}
+use Rattle.router_core.specs.Events.{write, for_slot, mail_found, noted}
+use Rattle.router_core.specs.Scripts.{Comes}
+use Rattle.router_core.specs.Standing.{Standing, is_conn, peer_at}
+use Rattle.router.specs.Noting.{once_noted, IsHeeded}
+use Rattle.router.specs.Work.{Table}
+use Rattle.router.proofs.Receiving.{dropped, delivered}
+use Rattle.router.proofs.served.Served.mail.Goals as goal
+
+pub returns-in-None-clause-comes : goal.returns-in-None-clause-comes
+returns-in-None-clause-comes g c =
+    let told = g.V.BusView.told in
+    let passes = g.G.Gate.passes in
+    let alone = g.V.BusView.alone in
+    let held = option_map told c.args.envelope.now.note in
+    let said = said_of c.args.envelope.now.content in
+    let test = is_conn c.args.slot c.args.envelope.now.number in
+    let s : Standing = record { peers = c.self.inside.peers.items; leaves = c.self.inside.leaves.items } in
+    let m = c.heed.new.self.world in
+    let none : position test s.peers ≡ None = sym (c.in-None.ensures ∙ ap (position test) c.deref.ensures.value) in
+    let heeds = subst (λ k. IsHeeded alone held k m) c.reserve.ensures.world c.heed.ensures.heeds in
+    subst (λ (k : Table g.row.V-Note.Denot g.row.G.Denot). Comes told passes alone (noted held (mail_found k.standing said (position test k.standing.peers))) k.work.world s m) c.self.view_is
+    (dropped told passes alone held c.self.inside.hands.world m s s said (position test s.peers) none refl heeds)
+
+pub returns-in-Some-clause-comes : goal.returns-in-Some-clause-comes
+returns-in-Some-clause-comes g c =
+    let told = g.V.BusView.told in
+    let passes = g.G.Gate.passes in
+    let alone = g.V.BusView.alone in
+    let held = option_map told c.args.envelope.now.note in
+    let said = said_of c.args.envelope.now.content in
+    let test = is_conn c.args.slot c.args.envelope.now.number in
+    let key = c.in-Some.key in
+    let s : Standing = record { peers = c.self.inside.peers.items; leaves = c.self.inside.leaves.items } in
+    let w = c.self.inside.hands.world in
+    let v = c.bring_to.new.self.world in
+    let q = c.bring_to.new.slot in
+    let t : Standing = record s { peers = slice_set s.peers key q } in
+    let some : position test s.peers ≡ Some key = sym (c.in-Some.ensures ∙ ap (position test) c.deref.ensures.value) in
+    let there : c.index_mut.result.now ≡ peer_at s key = get_or_read s.peers key c.index_mut.result.now (position-Some test s.peers key None some).0 c.index_mut.ensures.value None in
+    on_ok_weaker c.bring_to.result
+    (λ brought.
+    let here = subst (λ k. Comes told passes alone (once_noted held (for_slot c.index_mut.result.now (write key said))) k q v) c.reserve.ensures.world brought in
+    let found = subst (λ o. Comes told passes alone (once_noted held (for_slot o (write key said))) w q v) there here in
+    subst (λ (k : Table g.row.V-Note.Denot g.row.G.Denot). Comes told passes alone (noted held (mail_found k.standing said (position test k.standing.peers))) k.work.world t v) c.self.view_is
+    (delivered told passes alone w v held s said (position test s.peers) key q some found))
+    c.bring_to.ensures.comes

@@ -1,0 +1,14 @@
+-- What comes with a note.
+use Rattle.std.specs.Prelude.{◌≡◌, Bool, Option, Some, None}
+use Rattle.seq_bus_core.specs.Histories.{History}
+use Rattle.router_core.specs.Scripts.{Script, Noting, World, Takes}
+
+-- what is done once the note was taken
+abbrev pub once_noted : {X : Type 0} → Option History → Script X → Script X
+once_noted None s = s
+once_noted (Some told) s = Noting told s
+
+-- the note was taken, if there was one
+abbrev pub IsHeeded : {N G : Type 0} → Bool → Option History → World N G → World N G → Type 0
+IsHeeded alone None before after = after ≡ before
+IsHeeded alone (Some told) before after = Takes alone told before after
