@@ -11,12 +11,14 @@ mod report;
 #[allow(dead_code)]
 #[path = "../../bench/rust/rules.rs"]
 mod rules;
+mod owned;
 mod tables;
 
+use owned::Owned;
 use report::Report;
 use rules::{Facts, Rule};
 use std::hint::black_box;
-use std::sync::RwLock;
+use std::sync::{Mutex, RwLock};
 use std::thread;
 use tables::Tables;
 
@@ -87,6 +89,35 @@ fn measure_tables(report: &Report) {
     route(report, "seat: route a signal, 4,080 rules", &bus, &signal());
 }
 
+fn tell_of_changes(report: &Report, name: &str, names: &Mutex<Owned>) {
+    report.tell(name, |_| {
+        let taken = names.lock().unwrap().request(1, black_box("com.example.Clock"));
+        let given_up = names.lock().unwrap().release(1, black_box("com.example.Clock"));
+        u64::from(taken && given_up)
+    });
+}
+
+fn tell_of_owner(report: &Report, name: &str, names: &Mutex<Owned>, asked: &str) {
+    report.tell(name, |_| names.lock().unwrap().owner(black_box(asked)).unwrap_or(0));
+}
+
+fn take_names(names: &Mutex<Owned>, count: u64) {
+    for number in 0..count {
+        names.lock().unwrap().request(1 + number % CONNECTIONS, &format!("com.example.N{number}"));
+    }
+}
+
+fn measure_names(report: &Report) {
+    let names = Mutex::new(Owned::default());
+    tell_of_changes(report, "seat: RequestName and ReleaseName, no names held", &names);
+    take_names(&names, 1);
+    tell_of_owner(report, "seat: GetNameOwner, 1 name held", &names, "com.example.N0");
+    take_names(&names, 1_000);
+    tell_of_changes(report, "seat: RequestName and ReleaseName, 1,000 names held", &names);
+    tell_of_owner(report, "seat: GetNameOwner, 1,000 names held", &names, "com.example.N999");
+    report.tell("seat: ListNames, 1,000 names held", |_| names.lock().unwrap().bytes());
+}
+
 fn routes(bus: &RwLock<Tables>) -> u64 {
     let facts = call();
     (0..ROUTES).map(|_| bus.read().unwrap().route(black_box(&facts)).len() as u64).sum()
@@ -123,5 +154,6 @@ fn measure_readers(report: &Report) {
 fn main() {
     let report = Report::from_arguments();
     measure_tables(&report);
+    measure_names(&report);
     measure_readers(&report);
 }

@@ -3,6 +3,7 @@
 //! `plain`, the same works in plain Rust (`rust/`), prints the same checksums. `make` in `rust/` runs both.
 #![tactic(auto)]
 
+mod name_works;
 mod plain_works;
 mod readers;
 mod samples;
@@ -23,6 +24,7 @@ fn measure<R: Print + Clock + Threads + Wait + Sync>(
 ) -> Result<()> {
     plain_works::measure(alloc, report)?;
     seat_works::measure(alloc, report)?;
+    name_works::measure(alloc, report)?;
     readers::measure(alloc, report)
 }
 
