@@ -3,6 +3,8 @@ pub mod Putting
 pub mod Asking
 pub mod Delivering
 pub mod Slots
+pub mod Choices
+pub mod Tellings
 pub mod Sequels
 pub mod Rounds
 pub mod Receiving

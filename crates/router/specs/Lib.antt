@@ -2,4 +2,5 @@ pub mod Work
 pub mod Hearing
 pub mod Stages
 pub mod Writing
+pub mod Carrying
 pub mod Noting

@@ -4,6 +4,8 @@
 //! view, the gate and the actions so far. Each of its methods makes one step of the scripts that `router_core` defines.
 #![tactic(auto)]
 
+#[cfg(test)]
+mod call_tests;
 mod hands;
 mod inbox;
 mod leaving;
@@ -11,6 +13,7 @@ mod mail;
 mod peer;
 mod room;
 mod served;
+mod telling;
 #[cfg(test)]
 mod tests;
 mod tick;
@@ -19,3 +22,4 @@ pub use hands::Hands;
 pub use mail::{bytes_of, serial_after};
 pub use peer::{Peer, Stage};
 pub use served::Served;
+pub use telling::is_method_call;

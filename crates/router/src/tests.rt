@@ -16,7 +16,7 @@ use seq_bus_core::{BusSignal, Change, Conn, Outcome, Reply};
 use std::alloc::Global;
 use std::process::Abort;
 
-const FIRST: Conn = Conn {
+pub(crate) const FIRST: Conn = Conn {
     number: 1,
     slot: 0,
     router: 1,
@@ -32,7 +32,7 @@ fn bus(rt: &impl Abort, alloc: Global) -> SeqBus {
 }
 
 /// Hands over a plain bus, with room for four actions.
-fn ready(rt: &impl Abort, alloc: Global) -> Hands<SeqBus, OpenGate>
+pub(crate) fn ready(rt: &impl Abort, alloc: Global) -> Hands<SeqBus, OpenGate>
     ensures { result.room ≡ 4 }
 {
     let mut hands = Hands::new(alloc, bus(rt, alloc), OpenGate);
