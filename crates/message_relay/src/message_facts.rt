@@ -24,6 +24,7 @@ fn as_fact(argument: Read<'_>) -> Argument<'_>
 }
 
 /// Puts the first 64 arguments of a message.
+#[inline(never)]
 fn put_first<'a>(message: &'a Message, first: &mut ArrayVec<Argument<'a>, 64>)
     requires { first.old.items ≡ [] }
     ensures { map argument_of first.new.items ≡ first_arguments (said message.now) }
@@ -42,6 +43,8 @@ fn put_first<'a>(message: &'a Message, first: &mut ArrayVec<Argument<'a>, 64>)
 
 /// What match rules and routing look at in a message, lent out of it ("Match Rules" of the D-Bus
 /// Specification). The sender is 0, the bus's number: who sent a message is not told by it.
+// Inlined, so that these 1,700 bytes are made where the caller looks at them, and not copied there.
+#[inline(always)]
 pub fn facts(message: &Message) -> Facts<'_>
     ensures { result ≡ facts_of (said message.now) }
 {
