@@ -8,3 +8,5 @@ pub mod Tellings
 pub mod Sequels
 pub mod Rounds
 pub mod Receiving
+pub mod Signing
+pub mod Hellos

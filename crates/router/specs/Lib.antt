@@ -4,3 +4,5 @@ pub mod Stages
 pub mod Writing
 pub mod Carrying
 pub mod Noting
+pub mod OncePut
+pub mod Refusing

@@ -25,7 +25,7 @@ use std::marker::Model;
 /// The view, the gate and the actions so far, with room for some more.
 #[derive(Drop)]
 pub struct Hands<V: BusView, G: Gate> {
-    alloc: Global,
+    pub(crate) alloc: Global,
     view: V,
     gate: G,
     actions: Vec<Action<V::Note>>,

@@ -6,11 +6,17 @@
 
 #[cfg(test)]
 mod call_tests;
+mod greeting;
+#[cfg(test)]
+mod greeting_tests;
 mod hands;
 mod inbox;
 mod leaving;
 mod mail;
 mod peer;
+#[cfg(test)]
+mod relay_tests;
+mod relaying;
 mod room;
 mod served;
 mod telling;
@@ -18,6 +24,7 @@ mod telling;
 mod tests;
 mod tick;
 
+pub use greeting::HelloErrors;
 pub use hands::Hands;
 pub use mail::{bytes_of, serial_after};
 pub use peer::{Peer, Stage};

@@ -55,7 +55,7 @@ impl<V: BusView, G: Gate> Hands<V, G> {
     }
 
     /// The monitors that are shown a message of the bus. Where the bus does not say, it is shown to none.
-    fn monitors_of(&mut self, own: &OwnMessage) -> Recipients
+    pub(crate) fn monitors_of(&mut self, own: &OwnMessage) -> Recipients
         ensures routes { (heard : Heard Told) × Routes V.alone 0 (facts_of (own_message 1 (own_of own.now))) self.old.world heard self.new.world × (result ≡ monitors_in heard) }
         ensures room { self.new.room ≡ self.old.room }
     {

@@ -23,7 +23,7 @@ pub(crate) const FIRST: Conn = Conn {
 };
 
 /// A plain bus without services, for one router.
-fn bus(rt: &impl Abort, alloc: Global) -> SeqBus {
+pub(crate) fn bus(rt: &impl Abort, alloc: Global) -> SeqBus {
     assert!(rt; can_open(&[], 1));
     match SeqBus::new(alloc, &[], 1, Profile::One) {
         Ok(bus) => bus,
@@ -56,7 +56,7 @@ fn greet(rt: &impl Abort, hands: &mut Hands<SeqBus, OpenGate>) -> Outcome
 }
 
 /// The bytes of a content, once more where one allocation failed.
-fn spelled(rt: &impl Abort, alloc: Global, content: &Content, serial: u32) -> Vec<u8>
+pub(crate) fn spelled(rt: &impl Abort, alloc: Global, content: &Content, serial: u32) -> Vec<u8>
     requires { 0 < serial }
     ensures { IsSpelled (said_of content.now) serial result.items }
 {

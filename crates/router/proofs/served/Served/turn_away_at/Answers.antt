@@ -1,0 +1,19 @@
+use Rattle.std.proofs.Common.{Some, subst}
+use Rattle.message_core.specs.Said.{said}
+use Rattle.router_core.specs.Events.{for_peer, turn_away}
+use Rattle.router_core.specs.Scripts.{Comes}
+use Rattle.router_core.specs.Standing.{Standing, with_peer}
+use Rattle.router.specs.Work.{Table}
+use Rattle.router.proofs.Hellos.{for_some}
+use Rattle.router.proofs.served.Served.turn_away_at.Goals as goal
+
+pub returns : goal.returns
+returns g c =
+    let key = c.args.key in
+    let p = c.args.peer in
+    let q = c.turn_away.new.peer in
+    let s : Standing = record { peers = c.self.inside.peers.items; leaves = c.self.inside.leaves.items } in
+    let w = c.self.inside.hands.world in
+    let v = c.turn_away.new.self.world in
+    subst (λ (k : Table g.row.V-Note.Denot g.row.G.Denot). Comes g.V.BusView.told g.G.Gate.passes g.V.BusView.alone (for_peer k.standing key (Some p) (turn_away c.args.key (said c.args.hello.now))) k.work.world (with_peer s key (Some q)) v) c.self.view_is
+    (for_some g.V.BusView.told g.G.Gate.passes g.V.BusView.alone s key p q (turn_away c.args.key (said c.args.hello.now)) w v c.turn_away.ensures)

@@ -1,0 +1,28 @@
+use Rattle.std.proofs.Common.{Some, refl, sym, subst}
+use Rattle.message_core.specs.Said.{said}
+use Rattle.envelopes.specs.Contents.{UniqueName}
+use Rattle.router_core.specs.Events.{welcome}
+use Rattle.router_core.specs.Scripts.{Gives, Announcing, Comes}
+use Rattle.router_core.specs.Serving.{reply_with}
+use Rattle.router_core.specs.Standing.{Peer, Standing, Named, with_peer}
+use Rattle.router.specs.Work.{Table}
+use Rattle.router.proofs.Sequels.{comes_then}
+use Rattle.router.proofs.served.Served.welcome.Goals as goal
+
+pub returns : goal.returns
+returns g c =
+    let key = c.args.key in
+    let m = said c.args.hello.now in
+    let p : Peer = c.args.peer in
+    let o = c.args.outcome in
+    let conn = c.args.conn in
+    let s : Standing = record { peers = c.self.inside.peers.items; leaves = c.self.inside.leaves.items } in
+    let named : Peer = record p { stage = Named conn } in
+    let w = c.self.inside.hands.world in
+    let v = c.announce.new.self.world in
+    let done =
+    comes_then g.V.BusView.told g.G.Gate.passes g.V.BusView.alone (λ (done : Unit {0}). Announcing o.signals (Gives (with_peer s key (Some named)))) tt c.reply_with.new.self.world (with_peer s key (Some named)) v (v, c.announce.ensures.announces, (refl, refl))
+    (reply_with m conn (UniqueName conn.number)) w c.reply_with.ensures.comes
+    in
+    subst (λ (k : Table g.row.V-Note.Denot g.row.G.Denot). Comes g.V.BusView.told g.G.Gate.passes g.V.BusView.alone (welcome key m p o conn k.standing) k.work.world (with_peer s key (Some c.welcome.new.self)) v) c.self.view_is
+    (subst (λ (q : Peer). Comes g.V.BusView.told g.G.Gate.passes g.V.BusView.alone (welcome key m p o conn s) w (with_peer s key (Some q)) v) (sym c.welcome.ensures) done)
