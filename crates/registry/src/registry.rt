@@ -1,10 +1,11 @@
 //! The registry.
 
-ghost use Rattle.std.specs.Prelude.{◌≡◌, IfOk, is_some, map, option_map};
-ghost use Rattle.seq_bus_core.specs.BusState.{connection_of, conn_of, head_of, is_client, queue_of};
+ghost use Rattle.std.specs.Prelude.{◌≡◌, IfOk, List, is_some, map, option_map};
+ghost use Rattle.seq_bus_core.specs.BusState.{AddedRule, connection_of, conn_of, head_of, is_client, queue_of};
 ghost use Rattle.seq_bus_core.specs.Consistency.{IsConsistent, IsWithinLimits};
 ghost use Rattle.seq_bus_core.specs.Histories.{CanOpen, opening};
 ghost use Rattle.seq_bus_core.specs.Steps.{step};
+ghost use Rattle.registry_core.specs.Listening.{connection_of_member};
 ghost use Rattle.registry_core.specs.NameTables.{owned_name};
 ghost use Rattle.registry_core.specs.RulesOf.{rules_by, rules_left};
 ghost use Rattle.registry.specs.PreparedChanges.{prepared_on};
@@ -191,6 +192,20 @@ impl Registry {
         ensures { rules_left result ≡ rules_by connection self.now.rules }
     {
         self.rules.of(connection)
+    }
+
+    /// The connections, by rising number.
+    pub fn members(&self) -> &[Member]
+        ensures { (rules : List AddedRule) × (map (connection_of_member rules) result.now ≡ self.now.connections) }
+    {
+        self.members.as_slice()
+    }
+
+    /// The names that programs can be started for, by rising bytes.
+    pub fn services(&self) -> &[WellKnown]
+        ensures { result.now ≡ self.now.services }
+    {
+        self.services.as_slice()
     }
 
     /// The number of routers.

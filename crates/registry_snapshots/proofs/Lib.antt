@@ -3,3 +3,4 @@ pub mod Adding
 pub mod Legal
 pub mod Idle
 pub mod Changes
+pub mod Services

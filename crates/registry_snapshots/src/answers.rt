@@ -1,8 +1,10 @@
 //! What a copy of the registry answers, and what it lends.
 
-ghost use Rattle.std.specs.Prelude.{◌≡◌, is_some, map, option_map};
-ghost use Rattle.seq_bus_core.specs.BusState.{connection_of, conn_of, head_of, queue_of};
+ghost use Rattle.std.specs.Prelude.{◌≡◌, List, is_some, map, option_map};
+ghost use Rattle.seq_bus_core.specs.BusState.{AddedRule, connection_of, conn_of, head_of, queue_of};
+ghost use Rattle.seq_bus_core.specs.Consistency.{IsConsistent, IsWithinLimits};
 ghost use Rattle.seq_bus_core.specs.Recipients.{recipients};
+ghost use Rattle.registry_core.specs.Listening.{connection_of_member};
 ghost use Rattle.registry_core.specs.NameTables.{owned_name};
 ghost use Rattle.registry_core.specs.RulesOf.{rules_by, rules_left};
 
@@ -10,7 +12,7 @@ use crate::snap::Snap;
 use match_rules::Facts;
 use names::BusName;
 use owner_queues::QueuedOwner;
-use registry_core::{NameEntry, RulesOf};
+use registry_core::{Member, NameEntry, RulesOf};
 use seq_bus_core::{Conn, Verdict};
 
 impl Snap {
@@ -62,5 +64,21 @@ impl Snap {
         ensures { rules_left result ≡ rules_by connection self.now.bus.rules }
     {
         self.registry().rules(connection)
+    }
+
+    /// The connections, by rising number.
+    pub fn members(&self) -> &[Member]
+        ensures { (rules : List AddedRule) × (map (connection_of_member rules) result.now ≡ self.now.bus.connections) }
+    {
+        self.registry().members()
+    }
+
+    /// The number of routers.
+    pub fn routers(&self) -> u8
+        ensures value { result ≡ self.now.bus.routers }
+        ensures consistent { IsConsistent self.now.bus }
+        ensures within_limits { IsWithinLimits self.now.bus }
+    {
+        self.registry().routers()
     }
 }

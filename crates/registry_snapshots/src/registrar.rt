@@ -137,7 +137,8 @@ impl<J: Naming> Registrar<J> {
     {
         let first = Snap::new(alloc, services, routers, profile, seats, front.again())?;
         let second = Snap::new(alloc, services, routers, profile, seats, front.again())?;
-        let writer = warm(rt, Writer::new(alloc, first, second, seats)?)?;
+        // An operation that one copy has and the other has not stays in the queue beside the next one, so there are two.
+        let writer = warm(rt, warm(rt, Writer::new(alloc, first, second, seats)?)?)?;
         Ok(Registrar {
             writer,
             head,

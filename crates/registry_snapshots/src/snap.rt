@@ -1,7 +1,7 @@
 //! The copy of the registry that readers take, and the operation that brings it up.
 
 ghost use Rattle.std.specs.Prelude.{◌≡◌, ◌<◌, ◌≤◌, length, IfOk, IfSome, replicate, slice_get, slice_index};
-ghost use Rattle.seq_bus_core.specs.Histories.{CanOpen, opening};
+ghost use Rattle.seq_bus_core.specs.Histories.{CanOpen, max_services, opening};
 ghost use Rattle.registry.specs.PreparedChanges.{prepared_on};
 ghost use Rattle.registry.specs.Served.{IsServedChange};
 ghost use Rattle.registry_snapshots.specs.Copies.{put_number};
@@ -26,10 +26,14 @@ pub struct Snap {
 
 impl Model for Snap {
     ghost use Rattle.registry_snapshots.specs.Copies.{SnapView};
+    ghost use Rattle.std.specs.Prelude.{◌≤◌, length};
+    ghost use Rattle.seq_bus_core.specs.Histories.{max_services};
 
     ghost Value = { SnapView };
 
     ghost view = { λ s. record { bus = s.registry; last = s.last.items; front = s.front } };
+
+    ghost invariant = { λ s. length s.registry.services ≤ max_services };
 }
 
 /// What brings a copy up.
@@ -59,6 +63,7 @@ impl Absorb<Op> for Snap {
 
     ghost never_fails = { Unit {0} };
 
+    #[tactic(auto, using(crate::proofs::Services::few_still))]
     fn absorb_first(&mut self, operation: &Op, _other: &Snap) -> Result<(), AllocError> {
         match operation {
             Op::Rest => {}
@@ -112,6 +117,14 @@ impl Snap {
         ensures { result.now ≡ self.now.bus }
     {
         &self.registry
+    }
+
+    /// The names that programs can be started for, by rising bytes.
+    pub fn services(&self) -> &[WellKnown]
+        ensures value { result.now ≡ self.now.bus.services }
+        ensures few { length result.now ≤ max_services }
+    {
+        self.registry.services()
     }
 
     /// The beginning of the history that it stands for.
