@@ -11,12 +11,13 @@ run:
 	@cd crates/busd && rt run -- run < ../../$(SAMPLE) > out/replies 2> out/run.log || { cat out/run.log; exit 1; }
 	@od -A d -t x1z -v crates/busd/out/replies
 
-# The gate: every proof from nothing, the edits that must fail, the tests, the program as two compilers build it.
+# The gate: every proof from nothing, the edits that must fail, the tests, the programs as two compilers build them, and
+# each allocation of two of them refused in turn.
 test:
-	@rt ci
+	@./gate.sh
 
 # Each allocation of two programs refused in turn: busd on the sample stream, and scarce_memory, which reads and writes
-# bodies and messages. Needs cc and glibc. No part of the gate.
+# bodies and messages. Needs cc and glibc. The gate does the same with the programs that it built.
 memory:
 	@mkdir -p crates/busd/out crates/scarce_memory/out
 	@cd crates/busd && rt run -- run < ../../$(SAMPLE) > out/replies 2> out/run.log || { cat out/run.log; exit 1; }
