@@ -7,15 +7,18 @@ use Rattle.std.proofs.Math.Seq.{take-suc}
 use Rattle.std.proofs.lemmas.Bool.{true≢false, cases_Bool}
 use Rattle.std.proofs.lemmas.List.{length-append, take-append-drop}
 use Rattle.std.proofs.lemmas.List.Edits.{length-insert}
-use Rattle.std.proofs.lemmas.List.Sums.{sum_by-cons, sum_by-append}
+use Rattle.std.proofs.lemmas.List.Sums.{sum_by-cons, sum_by-append, sum_by-insert}
 use Rattle.names.specs.Texts.{Text, text_eq, text_lt}
-use Rattle.owner_queues.specs.Queues.{Queue, without, is_free, is_in}
+use Rattle.owner_queues.specs.Queues.{Queue, without, is_free}
 use Rattle.owner_queues.proofs.QueueLemmas.{length-without}
 use Rattle.seq_bus_core.specs.BusState.{OwnedName, queue_of, with_queue, kept_name, queued_in, names_of, max_names, max_queued, max_names_of_one}
 use Rattle.seq_bus_core.specs.Steps.{names_without}
 use Rattle.seq_bus_core.proofs.Lists.{each_weaker}
 use Rattle.seq_bus_core.proofs.TextLemmas.{text_lt-trans, text_eq-true, text_eq-swapped, text_lt-itself, text_lt-back, text_lt-other}
-use Rattle.registry_core.specs.NameTables.{NamesRise, AreInTable, IsAt, WouldStand, are_within}
+use Rattle.registry_core.specs.NameCounts.{held, all_held}
+use Rattle.registry_core.specs.NameTables.{NamesRise, AreInTable, AreCounted, IsAt, WouldStand, are_within}
+use Rattle.registry_core.specs.declared.name_counts.Holder.{Holder}
+use Rattle.registry_core.proofs.CountLemmas.{one_if_in}
 
 abbrev pub Below : OwnedName → OwnedName → Type 0
 Below a b = text_lt a.name b.name ≡ true
@@ -418,9 +421,6 @@ length_absent names name place queue at =
     let before : length names ≡ length at.front + length at.back = ap length at.names_are ∙ length-append at.front at.back in
     omega (arith, after)
 
-abbrev pub one_if_in : ℕ → Queue → ℕ
-one_if_in c queue = if is_in c queue then 1 else 0
-
 pub count_found : (names : List OwnedName) (name : Text) (place : ℕ) (queue : Queue) (c : ℕ) (at : IsAt names name place) → names_of c (with_queue name queue names) + one_if_in c at.queue ≡ names_of c names + one_if_in c queue
 count_found names name place queue c at = sum_found (one_if_in c) refl names name place queue at
 
@@ -435,3 +435,68 @@ queued_absent names name place queue at = sum_absent length refl names name plac
 
 pub within_by : (names : List OwnedName) (c a b d : ℕ) → a ≡ length names → b ≡ queued_in names → d ≡ names_of c names → (nat_le a max_names && nat_le b max_queued && nat_le d max_names_of_one) ≡ are_within names c
 within_by names c a b d e f g = rw (e, f, g) refl
+
+-- ## The counts
+
+names_between : (c : ℕ) (front back : List OwnedName) (n : OwnedName) → names_of c (front ++ n ∷ back) ≡ names_of c front + (one_if_in c n.queue + names_of c back)
+names_between c front back n =
+    let f : OwnedName → ℕ = OfQueue (one_if_in c) in
+    let first : sum_by f (front ++ n ∷ back) ≡ sum_by f front + sum_by f (n ∷ back) = sum_by-append f front (n ∷ back) in
+    let rest : sum_by f (n ∷ back) ≡ one_if_in c n.queue + sum_by f back = sum_by-cons f n back in
+    first ∙ ap (λ k. sum_by f front + k) rest
+
+pub counted_at : (names front back : List OwnedName) (n : OwnedName) (holders : List Holder) → AreCounted names holders → names ≡ front ++ n ∷ back → (c : ℕ) → one_if_in c n.queue ≤ held c holders
+counted_at names front back n holders h is c =
+    let all : held c holders ≡ names_of c front + (one_if_in c n.queue + names_of c back) = h.counts c ∙ ap (names_of c) is ∙ names_between c front back n in
+    omega (arith, all)
+
+pub few_at : (names front back : List OwnedName) (n : OwnedName) (queue : Queue) (holders : List Holder) → AreCounted names holders → names ≡ front ++ n ∷ back →
+    queued_in (front ++ record n { queue = queue } ∷ back) ≤ max_queued → all_held holders + length queue ≤ max_queued + length n.queue
+few_at names front back n queue holders h is few =
+    let all : all_held holders ≡ queued_in front + (length n.queue + queued_in back) = h.all ∙ ap queued_in is ∙ queued_between front back n in
+    let after : queued_in (front ++ record n { queue = queue } ∷ back) ≡ queued_in front + (length queue + queued_in back) = queued_between front back (record n { queue = queue }) in
+    omega (arith, all, after, few)
+
+pub recounted_at : (names front back : List OwnedName) (n : OwnedName) (queue : Queue) (holders after : List Holder) → AreCounted names holders → names ≡ front ++ n ∷ back →
+    ((c : ℕ) → held c after + one_if_in c n.queue ≡ held c holders + one_if_in c queue) → all_held after + length n.queue ≡ all_held holders + length queue → AreCounted (front ++ record n { queue = queue } ∷ back) after
+recounted_at names front back n queue holders after h is counts all = record { counts = each; all = whole }
+  where
+    each : (c : ℕ) → held c after ≡ names_of c (front ++ record n { queue = queue } ∷ back)
+    each c =
+        let before : held c holders ≡ names_of c front + (one_if_in c n.queue + names_of c back) = h.counts c ∙ ap (names_of c) is ∙ names_between c front back n in
+        let now : names_of c (front ++ record n { queue = queue } ∷ back) ≡ names_of c front + (one_if_in c queue + names_of c back) = names_between c front back (record n { queue = queue }) in
+        let change : held c after + one_if_in c n.queue ≡ held c holders + one_if_in c queue = counts c in
+        omega (arith, before, now, change)
+
+    whole : all_held after ≡ queued_in (front ++ record n { queue = queue } ∷ back)
+    whole =
+        let before : all_held holders ≡ queued_in front + (length n.queue + queued_in back) = h.all ∙ ap queued_in is ∙ queued_between front back n in
+        let now : queued_in (front ++ record n { queue = queue } ∷ back) ≡ queued_in front + (length queue + queued_in back) = queued_between front back (record n { queue = queue }) in
+        omega (arith, before, now, all)
+
+pub counted_dropped : (names front back : List OwnedName) (n : OwnedName) (holders : List Holder) → AreCounted names holders → names ≡ front ++ n ∷ back → n.queue ≡ [] → AreCounted (front ++ back) holders
+counted_dropped names front back n holders h is none = record { counts = each; all = h.all ∙ ap queued_in is ∙ queued_dropped front back n none }
+  where
+    each : (c : ℕ) → held c holders ≡ names_of c (front ++ back)
+    each c =
+        let before : names_of c (front ++ n ∷ back) ≡ names_of c front + (one_if_in c n.queue + names_of c back) = names_between c front back n in
+        let now : names_of c (front ++ back) ≡ names_of c front + names_of c back = sum_by-append (OfQueue (one_if_in c)) front back in
+        let empty : one_if_in c n.queue ≡ 0 = ap (one_if_in c) none in
+        h.counts c ∙ ap (names_of c) is ∙ (omega (arith, before, now, empty))
+
+pub counted_added : (names : List OwnedName) (place : ℕ) (n : OwnedName) (holders after : List Holder) → AreCounted names holders →
+    ((c : ℕ) → held c after ≡ held c holders + one_if_in c n.queue) → all_held after ≡ all_held holders + length n.queue → AreCounted (insert names place n) after
+counted_added names place n holders after h counts all = record { counts = each; all = whole }
+  where
+    each : (c : ℕ) → held c after ≡ names_of c (insert names place n)
+    each c =
+        let now : names_of c (insert names place n) ≡ names_of c names + one_if_in c n.queue = sum_by-insert (OfQueue (one_if_in c)) names place n in
+        let before : held c holders ≡ names_of c names = h.counts c in
+        let change : held c after ≡ held c holders + one_if_in c n.queue = counts c in
+        omega (arith, now, before, change)
+
+    whole : all_held after ≡ queued_in (insert names place n)
+    whole =
+        let now : queued_in (insert names place n) ≡ queued_in names + length n.queue = sum_by-insert places names place n in
+        let before : all_held holders ≡ queued_in names = h.all in
+        omega (arith, now, before, all)

@@ -3,3 +3,4 @@ pub mod RuleTables
 pub mod RulesOf
 pub mod Listening
 pub mod Signals
+pub mod NameCounts

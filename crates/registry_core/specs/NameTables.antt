@@ -4,7 +4,9 @@ use Rattle.names.specs.Texts.{Text, text_lt}
 use Rattle.owner_queues.specs.Queues.{Queue}
 use Rattle.seq_bus_core.specs.BusState.{OwnedName, queue_of, queued_in, names_of, max_names, max_queued, max_names_of_one}
 use Rattle.seq_bus_core.specs.Consistency.{Pairwise}
+use Rattle.registry_core.specs.declared.name_counts.Holder.{Holder}
 use Rattle.registry_core.specs.declared.name_table.NameEntry.{NameEntry}
+use Rattle.registry_core.specs.NameCounts.{held, all_held}
 
 abbrev pub owned_name : NameEntry → OwnedName
 owned_name e = record { name = e.name; queue = e.queue }
@@ -20,6 +22,11 @@ pub record AreInTable (names : List OwnedName) (spare queued room spare_room : �
   pub few_places : queued ≤ max_queued
   pub has_room : max_names ≤ room
   pub has_spare_room : max_names ≤ spare_room
+
+-- each connection is counted as often as the names have it
+pub record AreCounted (names : List OwnedName) (holders : List Holder) : Type 0 where
+  pub counts : (c : ℕ) → held c holders ≡ names_of c names
+  pub all : all_held holders ≡ queued_in names
 
 -- those before a name and those behind it
 pub record IsBetween (names : List OwnedName) (name : Text) (front back : List OwnedName) (queue : Queue) (place : ℕ) : Type 0 where

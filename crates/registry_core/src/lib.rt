@@ -8,6 +8,7 @@
 
 pub mod listening;
 mod member;
+mod name_counts;
 mod name_table;
 mod rule_table;
 pub mod signals;

@@ -8,6 +8,7 @@ ghost use Rattle.seq_bus_core.specs.BusState.{OwnedName, queue_of, with_queue, k
 ghost use Rattle.seq_bus_core.specs.Steps.{names_without};
 ghost use Rattle.registry_core.specs.NameTables.{owned_name, NamesRise, SearchGives, are_within};
 
+use crate::name_counts::NameCounts;
 use names::BusName;
 use owner_queues::Queue;
 use std::alloc::{AllocError, Global};
@@ -38,18 +39,20 @@ pub struct NameTable {
     spare: Vec<Box<NameEntry>>,
     /// The places in all queues.
     queued: usize,
+    /// How many names each connection owns or waits for.
+    counts: NameCounts,
 }
 
 impl Model for NameTable {
     ghost use Rattle.std.specs.Prelude.{List, length, map, vec_capacity};
     ghost use Rattle.seq_bus_core.specs.BusState.{OwnedName};
-    ghost use Rattle.registry_core.specs.NameTables.{owned_name, AreInTable};
+    ghost use Rattle.registry_core.specs.NameTables.{owned_name, AreInTable, AreCounted};
 
     ghost Value = { List OwnedName };
 
     ghost view = { λ t. map (λ b. owned_name b.value) t.entries.items };
 
-    ghost invariant = { λ t. AreInTable (map (λ b. owned_name b.value) t.entries.items) (length t.spare.items) t.queued (vec_capacity t.entries) (vec_capacity t.spare) };
+    ghost invariant = { λ t. AreInTable (map (λ b. owned_name b.value) t.entries.items) (length t.spare.items) t.queued (vec_capacity t.entries) (vec_capacity t.spare) × AreCounted (map (λ b. owned_name b.value) t.entries.items) t.counts };
 }
 
 impl NameTable {
@@ -69,6 +72,7 @@ impl NameTable {
             entries: Vec::with_capacity(alloc, MAX_NAMES)?,
             spare,
             queued: 0,
+            counts: NameCounts::new(alloc)?,
         })
     }
 
@@ -177,6 +181,7 @@ impl NameTable {
         let entry = &mut self.entries[place];
         self.queued -= entry.queue.as_slice().len();
         self.queued += queue.as_slice().len();
+        self.counts.replace(&entry.queue, queue);
         entry.queue.copy_from(queue);
     }
 
@@ -187,6 +192,7 @@ impl NameTable {
     {
         let entry = &mut self.entries[place];
         self.queued -= entry.queue.as_slice().len();
+        self.counts.leave_queue(&entry.queue, connection);
         entry.queue.leave(connection);
         self.queued += entry.queue.as_slice().len();
     }
@@ -212,6 +218,7 @@ impl NameTable {
     {
         if let Some(spare) = self.spare.pop() {
             self.queued += queue.as_slice().len();
+            self.counts.add_all(queue.as_slice());
             insert_reserved(&mut self.entries, place, filled(spare, name, queue));
         }
     }
@@ -220,10 +227,7 @@ impl NameTable {
     pub fn count_of(&self, connection: u64) -> usize
         ensures { result ≡ names_of connection self.now }
     {
-        self.entries
-            .iter()
-            .filter(|entry| entry.queue.contains(connection))
-            .count()
+        self.counts.count_of(connection)
     }
 }
 

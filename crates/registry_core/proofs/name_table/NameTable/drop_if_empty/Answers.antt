@@ -1,10 +1,10 @@
-use Rattle.std.proofs.Common.{◌≡◌, ◌<◌, ◌+◌, suc, false, List, [], ◌∷◌, ◌++◌, map, take, drop, get_or, length, refl, sym, ap, ◌∙◌, arith, append-nil, append_assoc, vec_capacity, Box, Global}
+use Rattle.std.proofs.Common.{◌≡◌, ◌<◌, ◌+◌, suc, false, List, [], ◌∷◌, ◌++◌, map, take, drop, get_or, length, refl, sym, ap, ◌∙◌, subst, arith, append-nil, append_assoc, vec_capacity, Box, Global}
 use Rattle.std.proofs.lemmas.List.{length-map, length_push}
 use Rattle.owner_queues.specs.Queues.{Queue, is_free}
 use Rattle.seq_bus_core.specs.BusState.{OwnedName, kept_name}
-use Rattle.registry_core.specs.NameTables.{owned_name}
+use Rattle.registry_core.specs.NameTables.{owned_name, AreCounted}
 use Rattle.registry_core.specs.declared.name_table.NameEntry.{NameEntry}
-use Rattle.registry_core.proofs.NameTableLemmas.{resized, split_at, map_at, map_removed, free_queue, kept_whole, dropped}
+use Rattle.registry_core.proofs.NameTableLemmas.{resized, split_at, map_at, map_removed, free_queue, kept_whole, dropped, counted_dropped}
 use Rattle.registry_core.proofs.name_table.NameTable.drop_if_empty.Goals as goal
 
 abbrev name_in : Box NameEntry Global → OwnedName
@@ -21,11 +21,13 @@ invariant_of-self c =
     let back : List OwnedName = drop (suc c.args.place) (map name_in items) in
     let n : OwnedName = name_in (get_or items c.args.place b) in
     let none : n.queue ≡ [] = ap (λ (m : OwnedName). m.queue) (sym (ap name_in c.index.ensures)) ∙ ap (λ (e : NameEntry). e.queue) (sym c.deref.ensures) ∙ free_queue c.deref.result.now.queue (sym c.is_empty.ensures ∙ c.if-is_empty.true) in
-    let table = dropped (map name_in items) front back n _ _ _ _ c.self.invariant split.0 none in
+    let table = dropped (map name_in items) front back n _ _ _ _ c.self.invariant.0 split.0 none in
     let names_are : map name_in c.remove-entry.new.self.items ≡ front ++ back = ap (map name_in) c.remove-entry.ensures.items ∙ map_removed name_in items c.args.place front back n split.0 split.1 in
-    let spare_is : length c.push_reserved.new.self.items ≡ length r.spare.items + 1 = ap length c.push_reserved.ensures.items ∙ length_push r.spare.items c.remove-entry.result in
-    resized (front ++ back) (map name_in c.remove-entry.new.self.items) (length r.spare.items + 1) (length c.push_reserved.new.self.items) r.queued r.queued (vec_capacity r.entries) (vec_capacity c.remove-entry.new.self)
-    (vec_capacity r.spare) (vec_capacity c.push_reserved.new.self) table names_are spare_is refl (omega (arith, c.remove-entry.ensures.capacity)) (omega (arith, c.push_reserved.ensures.capacity))
+    let spare_is : length c.push_reserved.new.self.items ≡ length r.spare.items + 1 = ap length c.push_reserved.ensures.items ∙ length_push r.spare.items c.remove-entry.result in (
+      resized (front ++ back) (map name_in c.remove-entry.new.self.items) (length r.spare.items + 1) (length c.push_reserved.new.self.items) r.queued r.queued (vec_capacity r.entries) (vec_capacity c.remove-entry.new.self)
+          (vec_capacity r.spare) (vec_capacity c.push_reserved.new.self) table names_are spare_is refl (omega (arith, c.remove-entry.ensures.capacity)) (omega (arith, c.push_reserved.ensures.capacity)),
+      subst (λ ns. AreCounted ns r.counts) (sym names_are) (counted_dropped (map name_in items) front back n r.counts c.self.invariant.1 split.0 none),
+    )
 
 pub returns-then-is_empty : goal.returns-then-is_empty
 returns-then-is_empty c front back n is place_is =

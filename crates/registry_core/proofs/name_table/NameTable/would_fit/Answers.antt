@@ -4,7 +4,8 @@ use Rattle.owner_queues.specs.Queues.{is_in, is_free}
 use Rattle.seq_bus_core.specs.BusState.{OwnedName, with_queue, queued_in}
 use Rattle.registry_core.specs.NameTables.{owned_name, IsAt, WouldStand}
 use Rattle.registry_core.specs.declared.name_table.NameEntry.{NameEntry}
-use Rattle.registry_core.proofs.NameTableLemmas.{map_at, queued_found, queued_absent, count_found, count_absent, length_found, length_absent, one_if_in, within_by}
+use Rattle.registry_core.proofs.NameTableLemmas.{map_at, queued_found, queued_absent, count_found, count_absent, length_found, length_absent, within_by}
+use Rattle.registry_core.proofs.CountLemmas.{one_if_in}
 use Rattle.registry_core.proofs.name_table.NameTable.would_fit.Goals as goal
 
 abbrev name_in : Box NameEntry Global → OwnedName
@@ -32,7 +33,7 @@ overflow_sub-queued c =
     let stands : name_in b ≡ record { name = name; queue = at.queue } =
     ap name_in c.index.ensures ∙ map_at name_in items place b at.front at.back (record { name = name; queue = at.queue }) (c.self.view_is ∙ at.names_are) at.between.place_is in
     let old_is : c.deref.result.now.queue ≡ at.queue = ap (λ (e : NameEntry). e.queue) c.deref.ensures ∙ ap (λ (m : OwnedName). m.queue) stands in
-    let counted : c.self.inside.queued ≡ queued_in names = c.self.invariant.counted ∙ ap queued_in c.self.view_is in
+    let counted : c.self.inside.queued ≡ queued_in names = c.self.invariant.0.counted ∙ ap queued_in c.self.view_is in
     let places : length c.as_slice.result.now ≡ length queue = ap length c.as_slice.ensures.value in
     let places_before : length c.as_slice-in-Ok.result.now ≡ length at.queue = ap length (c.as_slice-in-Ok.ensures.value ∙ old_is) in
     let all_places = queued_found names name place queue at in
@@ -69,7 +70,7 @@ returns-in-Ok c =
     ap name_in c.index.ensures ∙ map_at name_in items place b at.front at.back (record { name = name; queue = at.queue }) (c.self.view_is ∙ at.names_are) at.between.place_is in
     let old_is : c.deref.result.now.queue ≡ at.queue = ap (λ (e : NameEntry). e.queue) c.deref.ensures ∙ ap (λ (m : OwnedName). m.queue) stands in
     let more : c.count.result ≡ (if not (is_free queue) then 1 else 0) = c.count.ensures ∙ ap (λ b. if not b then 1 else 0) c.is_empty.ensures in
-    let counted : c.self.inside.queued ≡ queued_in names = c.self.invariant.counted ∙ ap queued_in c.self.view_is in
+    let counted : c.self.inside.queued ≡ queued_in names = c.self.invariant.0.counted ∙ ap queued_in c.self.view_is in
     let places : length c.as_slice.result.now ≡ length queue = ap length c.as_slice.ensures.value in
     let places_before : length c.as_slice-in-Ok.result.now ≡ length at.queue = ap length (c.as_slice-in-Ok.ensures.value ∙ old_is) in
     let all_places = queued_found names name place queue at in
@@ -90,7 +91,7 @@ returns-in-Err c =
     let place = c.in-Err.field-0 in
     let at : WouldStand names name place = subst (λ ns. WouldStand ns name place) (ap (map name_in) c.as_slice-2.ensures.value ∙ c.self.view_is) c.in-Err.ensures in
     let more : c.count.result ≡ (if not (is_free queue) then 1 else 0) = c.count.ensures ∙ ap (λ b. if not b then 1 else 0) c.is_empty.ensures in
-    let counted : c.self.inside.queued ≡ queued_in names = c.self.invariant.counted ∙ ap queued_in c.self.view_is in
+    let counted : c.self.inside.queued ≡ queued_in names = c.self.invariant.0.counted ∙ ap queued_in c.self.view_is in
     let places : length c.as_slice.result.now ≡ length queue = ap length c.as_slice.ensures.value in
     let its : c.count-2.result ≡ one_if_in c.args.connection queue = c.count-2.ensures ∙ ap (λ b. if b then 1 else 0) c.contains.ensures in
     let all_names = length_absent names name place queue at in

@@ -1,0 +1,44 @@
+-- How many names each connection owns or waits for.
+use Rattle.std.specs.Prelude.{◌≡◌, ◌<◌, ◌≤◌, ◌==◌, ℕ, Result, Ok, Err, List, length, take, drop, get_or, sum_by, if◌then◌else◌}
+use Rattle.std.specs.List.{AllByRecursion as Each}
+use Rattle.seq_bus_core.specs.BusState.{max_queued}
+use Rattle.seq_bus_core.specs.Consistency.{Pairwise}
+use Rattle.registry_core.specs.declared.name_counts.Holder.{Holder}
+
+-- the names of this connection that a holder counts
+abbrev pub share : ℕ → Holder → ℕ
+share c h = if h.connection == c then h.names else 0
+
+-- the names of a connection
+abbrev pub held : ℕ → List Holder → ℕ
+held c holders = sum_by (share c) holders
+
+-- the names of all connections, each as often as it is held
+abbrev pub all_held : List Holder → ℕ
+all_held holders = sum_by (λ h. h.names) holders
+
+abbrev pub Below : Holder → Holder → Type 0
+Below a b = a.connection < b.connection
+
+-- the counts of a table that has so much room
+pub record AreCounts (holders : List Holder) (room : ℕ) : Type 0 where
+  pub rise : Pairwise Below holders
+  pub some : Each (λ h. 0 < h.names) holders
+  pub has_room : max_queued ≤ room
+
+-- a connection stands at a place
+pub record IsHolder (holders : List Holder) (c place : ℕ) : Type 0 where
+  pub there : place < length holders
+  pub number : (d : Holder) → (get_or holders place d).connection ≡ c
+  pub count : (d : Holder) → (get_or holders place d).names ≡ held c holders
+
+-- a connection is not there, and would stand at a place
+pub record IsNoHolder (holders : List Holder) (c place : ℕ) : Type 0 where
+  pub within : place ≤ length holders
+  pub before : Each (λ h. h.connection < c) (take place holders)
+  pub behind : Each (λ h. c < h.connection) (drop place holders)
+  pub count : held c holders ≡ 0
+
+abbrev pub Finds : List Holder → ℕ → Result ℕ ℕ → Type 0
+Finds holders c (Ok place) = IsHolder holders c place
+Finds holders c (Err place) = IsNoHolder holders c place
