@@ -1,15 +1,16 @@
 -- What a Leave does.
-use Rattle.std.proofs.Common.{◌≡◌, ℕ, ◌<◌, ◌==◌, Bool, true, false, cond, not, ◌&&◌, ◌||◌, Option, Some, None, is_some, List, [], ◌∷◌, ◌++◌, map, filter, flat_map, refl, sym, ap, ◌∙◌, subst, arith, if◌then◌else◌}
+use Rattle.std.proofs.Common.{◌≡◌, ℕ, zero, suc, ◌+◌, ◌<◌, ◌==◌, Bool, true, false, cond, not, ◌&&◌, ◌||◌, Option, Some, None, is_some, List, [], ◌∷◌, ◌++◌, map, take, filter, flat_map, refl, sym, ap, ◌∙◌, subst, arith, if◌then◌else◌}
 use Rattle.std.specs.List.{AllByRecursion as Each, find, list_all}
-use Rattle.std.proofs.lemmas.Bool.{and_parts}
+use Rattle.std.proofs.lemmas.Bool.{and_parts, or_parts}
 use Rattle.std.proofs.lemmas.List.{map-append}
+use Rattle.std.proofs.lemmas.List.Sums.{sum_by-cons, sum_by-append}
 use Rattle.std.proofs.lemmas.Bool.Decides.{nat_tests}
 use Rattle.names.specs.Texts.{Text}
 use Rattle.names.specs.UniqueName.{unique_text}
-use Rattle.owner_queues.specs.Queues.{Queue, queue_head, without}
+use Rattle.owner_queues.specs.Queues.{Queue, is_in, queue_head, without}
 use Rattle.match_rules.specs.Facts.{Facts}
 use Rattle.match_rules.specs.Fitting.{Heads, fits}
-use Rattle.seq_bus_core.specs.BusState.{BusState, Connection, AddedRule, OwnedName, conn_of, connection_of, head_of, is_client, is_monitor}
+use Rattle.seq_bus_core.specs.BusState.{BusState, Connection, AddedRule, OwnedName, conn_of, connection_of, head_of, is_client, is_monitor, names_of}
 use Rattle.seq_bus_core.specs.Consistency.{IsConsistent, IsOwned, Pairwise}
 use Rattle.seq_bus_core.specs.Recipients.{all_that_want, conn_at, monitors_shown}
 use Rattle.seq_bus_core.specs.Steps.{acquired, addressed, facts_of, is_owner, leave, names_owned, names_without, next_owner, rules_without, signals_of_leave, step, without_connection}
@@ -309,3 +310,44 @@ leave_of_monitor s seat n h other present = by_found (connection_of s n) refl pr
     by_found None e present = cc
     by_found (Some c) e present =
         ap (λ b. record { reply = Done; signals = map (addressed (without_connection s n)) (signals_if b); tickets = []; start = None }) (monitor (is_monitor c) (sym other ∙ client_found n s.connections c h.connections_rise e))
+
+-- ## A connection whose names are all found
+
+abbrev one_if_in : ℕ → OwnedName → ℕ
+one_if_in c n = if is_in c n.queue then 1 else 0
+
+-- no signal tells of a name that the connection does not own
+pub not_owned : (s : BusState) (c : ℕ) (n : OwnedName) → is_in c n.queue ≡ false → name_left s c n ≡ []
+not_owned s c n absent = by_queue n.queue absent
+  where
+    by_queue : (q : Queue) → is_in c q ≡ false → name_left s c (record n { queue = q }) ≡ []
+    by_queue [] e = refl
+    by_queue (o ∷ os) e = let other : (o.connection == c) ≡ false = (or_parts (o.connection == c) (is_in c os) e).0 in rw other refl
+
+none_told : (s : BusState) (c : ℕ) (names : List OwnedName) → names_of c names ≡ 0 → flat_map (name_left s c) names ≡ []
+none_told s c [] none = refl
+none_told s c (n ∷ names) none =
+    let whole : names_of c (n ∷ names) ≡ one_if_in c n + names_of c names = sum_by-cons (one_if_in c) n names in
+    let here : one_if_in c n ≡ 0 = omega (arith, whole, none) in
+    let more : names_of c names ≡ 0 = omega (arith, whole, none) in
+    ap (λ signals. signals ++ flat_map (name_left s c) names) (not_owned s c n (not_in (is_in c n.queue) here)) ∙ none_told s c names more
+  where
+    not_in : (b : Bool) → ◌≡◌ {A = ℕ} (if b then 1 else 0) 0 → b ≡ false
+    not_in true e = absurd (omega (arith, e))
+    not_in false e = refl
+
+-- once all names of the connection are found, all signals are
+pub told_all : (s : BusState) (c i : ℕ) (names : List OwnedName) → names_of c (take i names) ≡ names_of c names → flat_map (name_left s c) (take i names) ≡ flat_map (name_left s c) names
+told_all s c zero names all = sym (none_told s c names (sym all))
+told_all s c (suc i) [] all = refl
+told_all s c (suc i) (n ∷ names) all =
+    let whole : names_of c (n ∷ names) ≡ one_if_in c n + names_of c names = sum_by-cons (one_if_in c) n names in
+    let some : names_of c (n ∷ take i names) ≡ one_if_in c n + names_of c (take i names) = sum_by-cons (one_if_in c) n (take i names) in
+    ap (λ signals. name_left s c n ++ signals) (told_all s c i names (omega (arith, whole, some, all)))
+
+pub names_push : (c : ℕ) (names : List OwnedName) (n : OwnedName) → names_of c (names ++ n ∷ []) ≡ names_of c names + (if is_in c n.queue then 1 else 0)
+names_push c names n =
+    let whole : names_of c (names ++ n ∷ []) ≡ names_of c names + names_of c (n ∷ []) = sum_by-append (one_if_in c) names (n ∷ []) in
+    let last : names_of c (n ∷ []) ≡ one_if_in c n + names_of c [] = sum_by-cons (one_if_in c) n [] in
+    let none : names_of c [] ≡ 0 = refl in
+    omega (arith, whole, last, none)

@@ -1,8 +1,8 @@
 //! Leave: a connection is closed.
 
-ghost use Rattle.std.specs.Prelude.{◌≡◌, ◌==◌, ◌&&◌, ◌++◌, not, None, [], IfOk, OnOk, if◌then◌else◌};
+ghost use Rattle.std.specs.Prelude.{◌≡◌, ◌==◌, ◌<◌, ◌+◌, ◌&&◌, ◌++◌, not, None, [], flat_map, IfOk, OnOk, if◌then◌else◌};
 ghost use Rattle.names.specs.BusName.{is_bus};
-ghost use Rattle.owner_queues.specs.Queues.{queue_head, without};
+ghost use Rattle.owner_queues.specs.Queues.{is_in, queue_head, without};
 ghost use Rattle.seq_bus_core.specs.BusState.{head_of, is_client, queue_of};
 ghost use Rattle.seq_bus_core.specs.Steps.{step, without_connection};
 ghost use Rattle.seq_bus_core.specs.declared.change.Change.TheVariants.{Leave};
@@ -80,15 +80,34 @@ impl Registry {
         requires { signals.old ≡ [] }
         ensures { OnOk result (signals.new ≡ signals_left self.now connection) }
     {
+        self.tell_of_names(connection, signals)?;
         let left = Left {
             registry: self,
             leaver: connection,
         };
-        for entry in self.names.as_slice() {
-            left.tell_of_name(entry, signals)?;
-        }
         let name = BusName::from(UniqueName::of(connection));
         signals.push(self.announced(&left, Some(connection), name, Some(connection), None))
+    }
+
+    /// The signals of the names that a connection which leaves owns. Once all of its places are found no further name is
+    /// looked at.
+    fn tell_of_names(&self, connection: u64, signals: &mut Signals) -> Result<(), AllocError>
+        requires { signals.old ≡ [] }
+        ensures { OnOk result (signals.new ≡ flat_map (name_left self.now connection) self.now.names) }
+    {
+        let left = Left {
+            registry: self,
+            leaver: connection,
+        };
+        let mut places = self.names.count_of(connection);
+        for entry in self.names.as_slice() {
+            if places == 0 {
+                return Ok(());
+            }
+            places = places_behind(places, &entry.queue, connection);
+            left.tell_of_name(entry, signals)?;
+        }
+        Ok(())
     }
 
     /// A connection leaves.
@@ -161,6 +180,18 @@ impl<'a> Left<'a> {
         )?;
         self.registry
             .push_acquired(self, leaver, entry.name, owner, signals)
+    }
+}
+
+/// How many places of a connection are in the queues behind this one.
+fn places_behind(places: usize, queue: &Queue, connection: u64) -> usize
+    requires { 0 < places }
+    ensures { result + (if is_in connection queue.now then 1 else 0) ≡ places }
+{
+    if queue.contains(connection) {
+        places - 1
+    } else {
+        places
     }
 }
 

@@ -9,16 +9,16 @@ use Rattle.std.proofs.lemmas.List.{length-append, take-append-drop}
 use Rattle.std.proofs.lemmas.List.Edits.{length-insert}
 use Rattle.std.proofs.lemmas.List.Sums.{sum_by-cons, sum_by-append, sum_by-insert}
 use Rattle.names.specs.Texts.{Text, text_eq, text_lt}
-use Rattle.owner_queues.specs.Queues.{Queue, without, is_free}
-use Rattle.owner_queues.proofs.QueueLemmas.{length-without}
+use Rattle.owner_queues.specs.Queues.{Queue, IsQueue, without, is_free, is_in}
+use Rattle.owner_queues.proofs.QueueLemmas.{length-without, without-absent}
 use Rattle.seq_bus_core.specs.BusState.{OwnedName, queue_of, with_queue, kept_name, queued_in, names_of, max_names, max_queued, max_names_of_one}
 use Rattle.seq_bus_core.specs.Steps.{names_without}
 use Rattle.seq_bus_core.proofs.Lists.{each_weaker}
 use Rattle.seq_bus_core.proofs.TextLemmas.{text_lt-trans, text_eq-true, text_eq-swapped, text_lt-itself, text_lt-back, text_lt-other}
 use Rattle.registry_core.specs.NameCounts.{held, all_held}
-use Rattle.registry_core.specs.NameTables.{NamesRise, AreInTable, AreCounted, IsAt, WouldStand, are_within}
+use Rattle.registry_core.specs.NameTables.{NamesRise, AreOwned, AreInTable, AreCounted, IsAt, WouldStand, are_within}
 use Rattle.registry_core.specs.declared.name_counts.Holder.{Holder}
-use Rattle.registry_core.proofs.CountLemmas.{one_if_in}
+use Rattle.registry_core.proofs.CountLemmas.{one_if_in, left_length}
 
 abbrev pub Below : OwnedName → OwnedName → Type 0
 Below a b = text_lt a.name b.name ≡ true
@@ -219,6 +219,24 @@ rise_renewed (m ∷ front) back n queue h = (each_renewed (Below m) front back n
     each_renewed P [] b k q same e = (same q e.0, e.1)
     each_renewed P (o ∷ f) b k q same e = (e.0, each_renewed P f b k q same e.1)
 
+-- each name has an owner
+owned_renewed : (front back : List OwnedName) (n m : OwnedName) → AreOwned (front ++ n ∷ back) → is_free m.queue ≡ false → AreOwned (front ++ m ∷ back)
+owned_renewed [] back n m h some = (some, h.1)
+owned_renewed (o ∷ front) back n m h some = (h.0, owned_renewed front back n m h.1 some)
+
+owned_dropped : (front back : List OwnedName) (n : OwnedName) → AreOwned (front ++ n ∷ back) → AreOwned (front ++ back)
+owned_dropped [] back n h = h.1
+owned_dropped (o ∷ front) back n h = (h.0, owned_dropped front back n h.1)
+
+owned_inserted : (names : List OwnedName) (i : ℕ) (n : OwnedName) → AreOwned names → is_free n.queue ≡ false → AreOwned (insert names i n)
+owned_inserted names zero n h some = (some, h)
+owned_inserted [] (suc i) n h some = (some, tt)
+owned_inserted (m ∷ names) (suc i) n h some = (h.0, owned_inserted names i n h.1 some)
+
+pub owned_at : (front back : List OwnedName) (n : OwnedName) → AreOwned (front ++ n ∷ back) → is_free n.queue ≡ false
+owned_at [] back n h = h.0
+owned_at (o ∷ front) back n h = owned_at front back n h.1
+
 -- ## Places in all queues
 
 abbrev places : OwnedName → ℕ
@@ -244,13 +262,14 @@ pub place_counts : (names front back : List OwnedName) (n : OwnedName) (spare qu
 place_counts names front back n spare queued room spare_room h is = let all : queued ≡ queued_in front + (length n.queue + queued_in back) = h.counted ∙ ap queued_in is ∙ queued_between front back n in omega arith
 
 pub requeued : (names front back : List OwnedName) (n : OwnedName) (queue : Queue) (spare queued room spare_room : ℕ) → AreInTable names spare queued room spare_room → names ≡ front ++ n ∷ back →
-    queued_in (front ++ record n { queue = queue } ∷ back) ≤ max_queued → AreInTable (front ++ record n { queue = queue } ∷ back) spare (queued - length n.queue + length queue) room spare_room
-requeued names front back n queue spare queued room spare_room h is few =
+    is_free queue ≡ false → queued_in (front ++ record n { queue = queue } ∷ back) ≤ max_queued → AreInTable (front ++ record n { queue = queue } ∷ back) spare (queued - length n.queue + length queue) room spare_room
+requeued names front back n queue spare queued room spare_room h is some few =
     let all : queued ≡ queued_in front + (length n.queue + queued_in back) = h.counted ∙ ap queued_in is ∙ queued_between front back n in
     let after : queued_in (front ++ record n { queue = queue } ∷ back) ≡ queued_in front + (length queue + queued_in back) = queued_between front back (record n { queue = queue }) in
     let counted : queued - length n.queue + length queue ≡ queued_in (front ++ record n { queue = queue } ∷ back) = omega arith in
     record {
       rise = rise_renewed front back n queue (subst NamesRise is h.rise);
+      owned = owned_renewed front back n (record n { queue = queue }) (subst AreOwned is h.owned) some;
       entries = ap (λ k. k + spare) (length-append front (record n { queue = queue } ∷ back) ∙ sym (length-append front (n ∷ back)) ∙ ap length (sym is)) ∙ h.entries;
       counted = counted;
       few_places = subst (λ k. k ≤ max_queued) (sym counted) few;
@@ -275,24 +294,28 @@ pub kept_whole : (name : Text) (queue : Queue) → is_free queue ≡ false → k
 kept_whole name [] h = cc
 kept_whole name (owner ∷ waiting) h = refl
 
-pub dropped : (names front back : List OwnedName) (n : OwnedName) (spare queued room spare_room : ℕ) → AreInTable names spare queued room spare_room → names ≡ front ++ n ∷ back → n.queue ≡ [] →
-    AreInTable (front ++ back) (spare + 1) queued room spare_room
-dropped names front back n spare queued room spare_room h is none =
+pub dropped : (names front back : List OwnedName) (n : OwnedName) (spare queued room spare_room : ℕ) → AreInTable names spare queued room spare_room → names ≡ front ++ n ∷ back →
+    AreInTable (front ++ back) (spare + 1) (queued - length n.queue) room spare_room
+dropped names front back n spare queued room spare_room h is =
     let whole : length names ≡ length front + suc (length back) = ap length is ∙ length-append front (n ∷ back) in
     let rest : length (front ++ back) ≡ length front + length back = length-append front back in
     let all : length names + spare ≡ max_names = h.entries in
+    let before : queued ≡ queued_in front + (length n.queue + queued_in back) = h.counted ∙ ap queued_in is ∙ queued_between front back n in
+    let after : queued_in (front ++ back) ≡ queued_in front + queued_in back = sum_by-append places front back in
+    let few : queued ≤ max_queued = h.few_places in
     record {
       rise = subst (λ ns. NamesRise (ns ++ back)) (append-nil front) (rise_kept front back n [] (subst NamesRise is h.rise));
+      owned = owned_dropped front back n (subst AreOwned is h.owned);
       entries = omega arith;
-      counted = h.counted ∙ ap queued_in is ∙ queued_dropped front back n none;
-      few_places = h.few_places;
+      counted = omega arith;
+      few_places = omega arith;
       has_room = h.has_room;
       has_spare_room = h.has_spare_room;
     }
 
 pub added : (names : List OwnedName) (place : ℕ) (n : OwnedName) (spare less queued room spare_room : ℕ) → AreInTable names spare queued room spare_room → place ≤ length names → NamesRise (insert names place n) →
-    spare ≡ less + 1 → queued + length n.queue ≤ max_queued → AreInTable (insert names place n) less (queued + length n.queue) room spare_room
-added names place n spare less queued room spare_room h le rise one few =
+    is_free n.queue ≡ false → spare ≡ less + 1 → queued + length n.queue ≤ max_queued → AreInTable (insert names place n) less (queued + length n.queue) room spare_room
+added names place n spare less queued room spare_room h le rise some one few =
     let longer : length (insert names place n) ≡ length names + 1 = length-insert names place n le in
     let all : length names + spare ≡ max_names = h.entries in
     let parts : names ≡ take place names ++ drop place names = sym (take-append-drop place names) in
@@ -300,6 +323,7 @@ added names place n spare less queued room spare_room h le rise one few =
     let after : queued_in (insert names place n) ≡ queued_in (take place names) + (length n.queue + queued_in (drop place names)) = queued_between (take place names) (drop place names) n in
     record {
       rise = rise;
+      owned = owned_inserted names place n h.owned some;
       entries = omega arith;
       counted = omega arith;
       few_places = few;
@@ -357,6 +381,7 @@ pub resized : (names same : List OwnedName) (spare spare_same queued queued_same
     same ≡ names → spare_same ≡ spare → queued_same ≡ queued → room ≤ more → spare_room ≤ spare_more → AreInTable same spare_same queued_same more spare_more
 resized names same spare spare_same queued queued_same room more spare_room spare_more h e f g k l = record {
   rise = subst NamesRise (sym e) h.rise;
+  owned = subst AreOwned (sym e) h.owned;
   entries = ap (λ ns. length ns + spare_same) e ∙ ap (λ m. length names + m) f ∙ h.entries;
   counted = g ∙ h.counted ∙ ap queued_in (sym e);
   few_places = subst (λ m. m ≤ max_queued) (sym g) h.few_places;
@@ -474,15 +499,22 @@ recounted_at names front back n queue holders after h is counts all = record { c
         let now : queued_in (front ++ record n { queue = queue } ∷ back) ≡ queued_in front + (length queue + queued_in back) = queued_between front back (record n { queue = queue }) in
         omega (arith, before, now, all)
 
-pub counted_dropped : (names front back : List OwnedName) (n : OwnedName) (holders : List Holder) → AreCounted names holders → names ≡ front ++ n ∷ back → n.queue ≡ [] → AreCounted (front ++ back) holders
-counted_dropped names front back n holders h is none = record { counts = each; all = h.all ∙ ap queued_in is ∙ queued_dropped front back n none }
+pub counted_dropped : (names front back : List OwnedName) (n : OwnedName) (holders after : List Holder) → AreCounted names holders → names ≡ front ++ n ∷ back →
+    ((c : ℕ) → held c after + one_if_in c n.queue ≡ held c holders) → all_held after + length n.queue ≡ all_held holders → AreCounted (front ++ back) after
+counted_dropped names front back n holders after h is counts all = record { counts = each; all = whole }
   where
-    each : (c : ℕ) → held c holders ≡ names_of c (front ++ back)
+    each : (c : ℕ) → held c after ≡ names_of c (front ++ back)
     each c =
-        let before : names_of c (front ++ n ∷ back) ≡ names_of c front + (one_if_in c n.queue + names_of c back) = names_between c front back n in
+        let before : held c holders ≡ names_of c front + (one_if_in c n.queue + names_of c back) = h.counts c ∙ ap (names_of c) is ∙ names_between c front back n in
         let now : names_of c (front ++ back) ≡ names_of c front + names_of c back = sum_by-append (OfQueue (one_if_in c)) front back in
-        let empty : one_if_in c n.queue ≡ 0 = ap (one_if_in c) none in
-        h.counts c ∙ ap (names_of c) is ∙ (omega (arith, before, now, empty))
+        let change : held c after + one_if_in c n.queue ≡ held c holders = counts c in
+        omega (arith, before, now, change)
+
+    whole : all_held after ≡ queued_in (front ++ back)
+    whole =
+        let before : all_held holders ≡ queued_in front + (length n.queue + queued_in back) = h.all ∙ ap queued_in is ∙ queued_between front back n in
+        let now : queued_in (front ++ back) ≡ queued_in front + queued_in back = sum_by-append places front back in
+        omega (arith, before, now, all)
 
 pub counted_added : (names : List OwnedName) (place : ℕ) (n : OwnedName) (holders after : List Holder) → AreCounted names holders →
     ((c : ℕ) → held c after ≡ held c holders + one_if_in c n.queue) → all_held after ≡ all_held holders + length n.queue → AreCounted (insert names place n) after
@@ -500,3 +532,67 @@ counted_added names place n holders after h counts all = record { counts = each;
         let now : queued_in (insert names place n) ≡ queued_in names + length n.queue = sum_by-insert places names place n in
         let before : all_held holders ≡ queued_in names = h.all in
         omega (arith, now, before, all)
+
+-- ## A connection whose names are all found
+
+one_absent : (c : ℕ) (queue : Queue) → one_if_in c queue ≡ 0 → is_in c queue ≡ false
+one_absent c queue none = elim (cases_Bool (is_in c queue)) [ inl there ↦ absurd (let one : one_if_in c queue ≡ 1 = rw there refl in omega (arith, one, none)) | inr absent ↦ absent ]
+
+-- once no name is left before a place, all are done
+pub leave_ended : (c p : ℕ) (names : List OwnedName) → AreOwned names → names_of c (take p names) ≡ 0 → take p names ++ names_without c (drop p names) ≡ names_without c names
+leave_ended c zero names h none = refl
+leave_ended c (suc p) [] h none = refl
+leave_ended c (suc p) (n ∷ names) h none =
+    let whole : names_of c (n ∷ take p names) ≡ one_if_in c n.queue + names_of c (take p names) = sum_by-cons (OfQueue (one_if_in c)) n (take p names) in
+    let here : one_if_in c n.queue ≡ 0 = omega (arith, whole, none) in
+    let more : names_of c (take p names) ≡ 0 = omega (arith, whole, none) in
+    ap (λ ns. n ∷ ns) (leave_ended c p names h.1 more)
+    ∙ sym (ap (λ (q : Queue). kept_name n.name q ++ names_without c names) (without-absent c n.queue (one_absent c n.queue here)) ∙ ap (λ ns. ns ++ names_without c names) (kept_whole n.name n.queue h.0))
+
+pub some_before : (c p : ℕ) (names : List OwnedName) → 0 < names_of c (take p names) → 0 < p
+some_before c zero names some = absurd (omega (arith, some))
+some_before c (suc p) names some = omega arith
+
+pub names_before : (c : ℕ) (names : List OwnedName) (p q : ℕ) (d : OwnedName) → p ≡ suc q → p ≤ length names →
+    names_of c (take p names) ≡ names_of c (take q names) + one_if_in c (get_or names q d).queue
+names_before c names p q d is le =
+    let f : OwnedName → ℕ = OfQueue (one_if_in c) in
+    let n : OwnedName = get_or names q d in
+    let more : take p names ≡ take q names ++ n ∷ [] = ap (λ k. take k names) is ∙ take-suc names q d (omega (arith, le, is)) in
+    let all : names_of c (take q names ++ n ∷ []) ≡ names_of c (take q names) + (one_if_in c n.queue + names_of c []) = names_between c (take q names) [] n in
+    let none : names_of c [] ≡ 0 = refl in
+    let same : names_of c (take p names) ≡ names_of c (take q names ++ n ∷ []) = ap (names_of c) more in
+    omega (arith, all, none, same)
+
+pub still_owned : (c : ℕ) (queue : Queue) → IsQueue queue → is_in c queue ≡ true → 1 < length queue → is_free (without c queue) ≡ false
+still_owned c queue h is more =
+    let less : length queue ≡ length (without c queue) + 1 = left_length c queue h is in
+    by_length (without c queue) (omega (arith, less, more))
+  where
+    by_length : (q : Queue) → 0 < length q → is_free q ≡ false
+    by_length [] some = absurd (omega (arith, some))
+    by_length (o ∷ os) some = refl
+
+pub last_leaves : (c : ℕ) (queue : Queue) → IsQueue queue → is_in c queue ≡ true → length queue ≤ 1 → without c queue ≡ []
+last_leaves c queue h is few =
+    let less : length queue ≡ length (without c queue) + 1 = left_length c queue h is in
+    by_length (without c queue) (omega (arith, less, few))
+  where
+    by_length : (q : Queue) → length q ≤ 0 → q ≡ []
+    by_length [] none = refl
+    by_length (o ∷ os) none = absurd (omega (arith, none))
+
+-- ## One name, once a connection stands in its queue no longer
+
+pub kept_absent : (c : ℕ) (front back : List OwnedName) (n : OwnedName) → is_free n.queue ≡ false → is_in c n.queue ≡ false → front ++ n ∷ back ≡ front ++ kept_name n.name (without c n.queue) ++ back
+kept_absent c front back n some absent =
+    sym (append_assoc front (n ∷ []) back) ∙ ap (λ ns. front ++ ns ++ back) (sym (kept_whole n.name n.queue some))
+    ∙ ap (λ (q : Queue). front ++ kept_name n.name q ++ back) (sym (without-absent c n.queue absent))
+
+pub kept_shorter : (c : ℕ) (front back : List OwnedName) (n : OwnedName) → is_free (without c n.queue) ≡ false →
+    front ++ record n { queue = without c n.queue } ∷ back ≡ front ++ kept_name n.name (without c n.queue) ++ back
+kept_shorter c front back n some =
+    sym (append_assoc front (record n { queue = without c n.queue } ∷ []) back) ∙ ap (λ ns. front ++ ns ++ back) (sym (kept_whole n.name (without c n.queue) some))
+
+pub kept_none : (c : ℕ) (front back : List OwnedName) (n : OwnedName) → without c n.queue ≡ [] → front ++ back ≡ front ++ kept_name n.name (without c n.queue) ++ back
+kept_none c front back n none = ap (λ ns. ns ++ back) (sym (append-nil front)) ∙ ap (λ (q : Queue). front ++ kept_name n.name q ++ back) (sym none)

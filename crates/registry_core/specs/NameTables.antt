@@ -1,7 +1,8 @@
 -- Tables of the names that have an owner.
-use Rattle.std.specs.Prelude.{◌≡◌, ℕ, ◌+◌, ◌≤◌, nat_le, ◌&&◌, Bool, true, Result, Ok, Err, List, [], ◌∷◌, ◌++◌, length, filter}
+use Rattle.std.specs.Prelude.{◌≡◌, ℕ, ◌+◌, ◌≤◌, nat_le, ◌&&◌, Bool, true, false, Result, Ok, Err, List, [], ◌∷◌, ◌++◌, length, filter}
+use Rattle.std.specs.List.{AllByRecursion}
 use Rattle.names.specs.Texts.{Text, text_lt}
-use Rattle.owner_queues.specs.Queues.{Queue}
+use Rattle.owner_queues.specs.Queues.{Queue, is_free}
 use Rattle.seq_bus_core.specs.BusState.{OwnedName, queue_of, queued_in, names_of, max_names, max_queued, max_names_of_one}
 use Rattle.seq_bus_core.specs.Consistency.{Pairwise}
 use Rattle.registry_core.specs.declared.name_counts.Holder.{Holder}
@@ -14,9 +15,14 @@ owned_name e = record { name = e.name; queue = e.queue }
 abbrev pub NamesRise : List OwnedName → Type 0
 NamesRise names = Pairwise (λ a b. text_lt a.name b.name ≡ true) names
 
+-- nobody's name is not there
+abbrev pub AreOwned : List OwnedName → Type 0
+AreOwned names = AllByRecursion (λ n. is_free n.queue ≡ false) names
+
 -- the names of a table that has so many spare entries, places in its queues, and room for its entries
 pub record AreInTable (names : List OwnedName) (spare queued room spare_room : ℕ) : Type 0 where
   pub rise : NamesRise names
+  pub owned : AreOwned names
   pub entries : length names + spare ≡ max_names
   pub counted : queued ≡ queued_in names
   pub few_places : queued ≤ max_queued

@@ -94,7 +94,7 @@ impl NameCounts {
     }
 
     /// One name fewer for each connection of a queue.
-    fn take_all(&mut self, queue: &[QueuedOwner])
+    pub fn take_all(&mut self, queue: &[QueuedOwner])
         requires { (c : ℕ) → count_by (λ o. o.connection == c) queue.now ≤ held c self.old }
         ensures counts { (c : ℕ) → held c self.new + count_by (λ o. o.connection == c) queue.now ≡ held c self.old }
         ensures all { all_held self.new + length queue.now ≡ all_held self.old }

@@ -3,7 +3,7 @@
 ghost use Rattle.std.specs.Prelude.{◌≡◌, ◌<◌, ◌≤◌, ◌+◌, ◌++◌, ◌∷◌, [], ℕ, List, length, map, remove, insert, get_or, false, true, take, drop, vec_capacity, nat_le, ◌&&◌, if◌then◌else◌, IfOk, MatchOption};
 ghost use Rattle.std.specs.List.{AllByRecursion};
 ghost use Rattle.names.specs.Texts.{text_lt};
-ghost use Rattle.owner_queues.specs.Queues.{queue_head, without, is_free};
+ghost use Rattle.owner_queues.specs.Queues.{queue_head, without, is_free, is_in};
 ghost use Rattle.seq_bus_core.specs.BusState.{OwnedName, queue_of, with_queue, kept_name, queued_in, names_of, max_names, max_queued, max_names_of_one};
 ghost use Rattle.seq_bus_core.specs.Steps.{names_without};
 ghost use Rattle.registry_core.specs.NameTables.{owned_name, NamesRise, SearchGives, are_within};
@@ -149,8 +149,11 @@ impl NameTable {
     {
         match search(self.entries.as_slice(), name.as_str()) {
             Ok(place) => {
-                self.requeue(place, queue);
-                self.drop_if_empty(place);
+                if queue.is_empty() {
+                    self.remove_at(place);
+                } else {
+                    self.requeue(place, queue);
+                }
             }
             Err(place) => {
                 if !queue.is_empty() {
@@ -160,21 +163,40 @@ impl NameTable {
         }
     }
 
-    /// Takes a connection out of all queues.
+    /// Takes a connection out of all queues. Once all of its places are found no further name is looked at.
     pub fn leave(&mut self, connection: u64)
         ensures { self.new ≡ names_without connection self.old }
     {
+        let mut left = self.count_of(connection);
         let mut place = self.entries.len();
-        while place > 0 {
+        while left > 0 {
             place -= 1;
-            self.leave_at(place, connection);
-            self.drop_if_empty(place);
+            left -= count(self.leave_at(place, connection));
         }
+    }
+
+    /// Takes a connection out of the queue at a place, and says whether it was there. A name goes with its last connection.
+    fn leave_at(&mut self, place: usize, connection: u64) -> bool
+        requires { place < length self.old }
+        ensures was_there { (front back : List OwnedName) (n : OwnedName) → self.old ≡ front ++ n ∷ back → length front ≡ place → result ≡ is_in connection n.queue }
+        ensures names { (front back : List OwnedName) (n : OwnedName) → self.old ≡ front ++ n ∷ back → length front ≡ place → self.new ≡ front ++ kept_name n.name (without connection n.queue) ++ back }
+    {
+        let queue = &self.entries[place].queue;
+        if !queue.contains(connection) {
+            return false;
+        }
+        if queue.as_slice().len() > 1 {
+            self.shorten(place, connection);
+            return true;
+        }
+        self.remove_at(place);
+        true
     }
 
     /// Another queue at a place.
     fn requeue(&mut self, place: usize, queue: &Queue)
         requires there { place < length self.old }
+        requires owned { is_free queue.now ≡ false }
         requires few_places { (front back : List OwnedName) (n : OwnedName) → self.old ≡ front ++ n ∷ back → length front ≡ place → queued_in (front ++ record n { queue = queue.now } ∷ back) ≤ MAX_QUEUED }
         ensures { (front back : List OwnedName) (n : OwnedName) → self.old ≡ front ++ n ∷ back → length front ≡ place → self.new ≡ front ++ record n { queue = queue.now } ∷ back }
     {
@@ -185,9 +207,10 @@ impl NameTable {
         entry.queue.copy_from(queue);
     }
 
-    /// Takes a connection out of the queue at a place.
-    fn leave_at(&mut self, place: usize, connection: u64)
-        requires { place < length self.old }
+    /// Takes a connection out of the queue at a place where others stand too.
+    fn shorten(&mut self, place: usize, connection: u64)
+        requires there { place < length self.old }
+        requires owned { (front back : List OwnedName) (n : OwnedName) → self.old ≡ front ++ n ∷ back → length front ≡ place → is_free (without connection n.queue) ≡ false }
         ensures { (front back : List OwnedName) (n : OwnedName) → self.old ≡ front ++ n ∷ back → length front ≡ place → self.new ≡ front ++ record n { queue = without connection n.queue } ∷ back }
     {
         let entry = &mut self.entries[place];
@@ -197,21 +220,22 @@ impl NameTable {
         self.queued += entry.queue.as_slice().len();
     }
 
-    /// Takes out the name at a place if its queue is empty.
-    fn drop_if_empty(&mut self, place: usize)
+    /// Takes out the name at a place.
+    fn remove_at(&mut self, place: usize)
         requires { place < length self.old }
-        ensures { (front back : List OwnedName) (n : OwnedName) → self.old ≡ front ++ n ∷ back → length front ≡ place → self.new ≡ front ++ kept_name n.name n.queue ++ back }
+        ensures { (front back : List OwnedName) (n : OwnedName) → self.old ≡ front ++ n ∷ back → length front ≡ place → self.new ≡ front ++ back }
     {
-        if self.entries[place].queue.is_empty() {
-            let entry = self.entries.remove(place);
-            self.spare.push_reserved(entry);
-        }
+        let entry = self.entries.remove(place);
+        self.queued -= entry.queue.as_slice().len();
+        self.counts.take_all(entry.queue.as_slice());
+        self.spare.push_reserved(entry);
     }
 
     /// A name that was not there, at its place.
     fn add(&mut self, place: usize, name: &BusName, queue: &Queue)
         requires there { place ≤ length self.old }
         requires rise { NamesRise (insert self.old place (record { name = name.now; queue = queue.now })) }
+        requires owned { is_free queue.now ≡ false }
         requires few_names { length self.old < MAX_NAMES }
         requires few_places { queued_in self.old + length queue.now ≤ MAX_QUEUED }
         ensures { self.new ≡ insert self.old place (record { name = name.now; queue = queue.now }) }

@@ -34,7 +34,7 @@ invariant_of-self c =
     let le_items : place ≤ length items = omega (arith, le, length-map items name_in) in
     let names_are : map name_in c.insert_reserved.new.entries.items ≡ insert names place n =
     ap (map name_in) c.insert_reserved.ensures.items ∙ map_inserted name_in items place c.filled.result le_items ∙ ap (insert names place) c.filled.ensures in
-    let table = added names place n _ (length c.pop.new.self.items) _ _ _ c.self.invariant.0 le rise less few in
+    let table = added names place n _ (length c.pop.new.self.items) _ _ _ c.self.invariant.0 le rise c.requires.owned less few in
     let before = r.counts in
     let after = c.add_all.new.self in
     let counts : (k : ℕ) → held k after ≡ held k before + one_if_in k c.args.queue.now =

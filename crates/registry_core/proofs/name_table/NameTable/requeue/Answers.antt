@@ -78,7 +78,7 @@ invariant_of-self c =
     let all : all_held after + length n.queue ≡ all_held before + length c.args.queue.now =
     subst (λ (q : Queue). all_held after + length q ≡ all_held before + length c.args.queue.now) old_is c.replace.ensures.all in (
       rw (map_set name_in items c.args.place _ front back n split.0 split.1, left_is, queue_is, c.as_slice-2.ensures.value)
-          (requeued (map name_in items) front back n c.args.queue.now _ _ _ _ c.self.invariant.0 split.0 (c.requires.few_places front back n (sym c.self.view_is ∙ split.0) split.1)),
+          (requeued (map name_in items) front back n c.args.queue.now _ _ _ _ c.self.invariant.0 split.0 c.requires.owned (c.requires.few_places front back n (sym c.self.view_is ∙ split.0) split.1)),
       rw (map_set name_in items c.args.place _ front back n split.0 split.1, left_is) (recounted_at (map name_in items) front back n c.args.queue.now before after c.self.invariant.1 split.0 counts all),
     )
 

@@ -22,11 +22,11 @@ would_stand c =
 
 pub add-requires-clause-rise : goal.add-requires-clause-rise
 add-requires-clause-rise c =
-    let is = added_is c.args.self.now c.args.name.now c.in-Err.place c.args.queue.now (would_stand c) (sym c.is_empty.ensures ∙ c.if-not-is_empty.true) in
+    let is = added_is c.args.self.now c.args.name.now c.in-Err.place c.args.queue.now (would_stand c) (sym c.is_empty-in-Err.ensures ∙ c.if-not-is_empty.true) in
     subst NamesRise (sym is) (with_queue_rises c.args.name.now c.args.queue.now c.args.self.now (subst NamesRise c.self.view_is c.self.invariant.0.rise))
 
 pub returns-then-not-is_empty : goal.returns-then-not-is_empty
 returns-then-not-is_empty c =
     let at : WouldStand c.args.self.now c.args.name.now c.in-Err.place =
     subst (λ ns. WouldStand ns c.args.name.now c.in-Err.place) (ap (map name_in) c.as_slice.ensures.value ∙ c.self.view_is) (subst (λ t. WouldStand (map name_in c.as_slice.result.now) t c.in-Err.place) c.as_str.ensures.value c.in-Err.ensures) in
-    c.add.ensures ∙ added_is c.args.self.now c.args.name.now c.in-Err.place c.args.queue.now at (sym c.is_empty.ensures ∙ c.if-not-is_empty.true)
+    c.add.ensures ∙ added_is c.args.self.now c.args.name.now c.in-Err.place c.args.queue.now at (sym c.is_empty-in-Err.ensures ∙ c.if-not-is_empty.true)
