@@ -1,12 +1,4 @@
-pub mod Refusals
-pub mod Putting
-pub mod Asking
-pub mod Delivering
 pub mod Slots
-pub mod Choices
-pub mod Tellings
-pub mod Sequels
-pub mod Rounds
-pub mod Receiving
-pub mod Signing
-pub mod Hellos
+pub mod Ticks
+pub mod FoundMail
+pub mod Greetings

@@ -3,13 +3,17 @@
 ghost use Rattle.std.specs.Prelude.{◌≡◌, ◌<◌, length};
 ghost use Rattle.message_core.specs.Said.{said};
 ghost use Rattle.router_core.specs.Standing.{next_serial};
-ghost use Rattle.router.specs.Refusing.{AreRefusals};
+ghost use Rattle.envelopes.specs.Contents.{said_of};
+ghost use Rattle.router_hands.specs.Refusing.{AreRefusals};
+ghost use Rattle.router_hands.specs.Writing.{IsSpelled};
 
 use super::*;
-use crate::relay_tests::message_of;
-use crate::tests::{FIRST, bus, spelled};
+use crate::tests::{FIRST, bus};
+use envelopes::Content;
+use message::Framer;
 use message_core::Message;
 use router_core::{Action, OpenGate};
+use router_hands::{HelloErrors, Peer, bytes_of, serial_after};
 use seq_bus::SeqBus;
 use std::alloc::Global;
 use std::process::Abort;
@@ -21,6 +25,35 @@ const HELLO: &[u8] =
 /// The reply to it: `:1.1`.
 const WELCOME: &[u8] =
     b"l\x02\x01\x01\x09\0\0\0\x01\0\0\0?\0\0\0\x05\x01u\0\x01\0\0\0\x06\x01s\0\x04\0\0\0:1.1\0\0\0\0\x07\x01s\0\x14\0\0\0org.freedesktop.DBus\0\0\0\0\x08\x01g\0\x01s\0\0\x04\0\0\0:1.1\0";
+
+/// The message that the bytes are, read once more where one allocation failed.
+fn message_of(rt: &impl Abort, alloc: Global, bytes: &[u8]) -> Message {
+    let mut framer = Framer::new(alloc);
+    if framer.feed(bytes).is_err() {
+        framer.feed(bytes).expect(rt, "one allocation fails");
+    }
+    match framer.next() {
+        Ok(Some(message)) => message,
+        _ => match framer.next() {
+            Ok(Some(message)) => message,
+            _ => panic!(rt; "one allocation fails"),
+        },
+    }
+}
+
+/// The bytes of a content, once more where one allocation failed.
+fn spelled(rt: &impl Abort, alloc: Global, content: &Content, serial: u32) -> Vec<u8>
+    requires { 0 < serial }
+    ensures { IsSpelled (said_of content.now) serial result.items }
+{
+    match bytes_of(alloc, content, serial) {
+        Ok(bytes) => bytes,
+        Err(_) => match bytes_of(alloc, content, serial) {
+            Ok(bytes) => bytes,
+            Err(_) => panic!(rt; "one allocation fails"),
+        },
+    }
+}
 
 /// Connections over a plain bus, one of them of key 0, with room for three actions.
 fn one_opened(rt: &impl Abort, alloc: Global) -> Served<SeqBus, OpenGate>

@@ -1,20 +1,17 @@
 //! Mail from other routers.
 
-ghost use Rattle.std.specs.Prelude.{◌≡◌, ◌<◌, option_map, position, OnOk, OnErr};
+ghost use Rattle.std.specs.Prelude.{◌≡◌, option_map, position, OnOk, OnErr};
 ghost use Rattle.envelopes.specs.Contents.{said_of};
-ghost use Rattle.router_core.specs.Events.{write as writing, for_slot, mail_found, noted, IsOwnNote};
+ghost use Rattle.router_core.specs.Events.{mail_found, noted, IsOwnNote};
 ghost use Rattle.router_core.specs.Scripts.{Comes};
 ghost use Rattle.router_core.specs.Standing.{is_conn};
-ghost use Rattle.router.specs.Noting.{once_noted, IsHeeded};
 
-use crate::hands::Hands;
-use crate::mail::{bytes_of, serial_after};
-use crate::peer::{Peer, Stage};
 use crate::served::Served;
 use bus_view::BusView;
 use envelopes::Envelope;
 use router_core::Gate;
-use std::alloc::{AllocError, Global};
+use router_hands::{Peer, Stage};
+use std::alloc::AllocError;
 
 /// Whether this is the connection of this slot and this number. One that was closed is not.
 fn is_addressed(peer: &Option<Peer>, slot: u16, number: u64) -> bool
@@ -37,62 +34,6 @@ fn find_addressed(peers: &[Option<Peer>], slot: u16, number: u64) -> Option<usiz
     peers
         .iter()
         .position(|peer| is_addressed(peer, slot, number))
-}
-
-impl<V: BusView, G: Gate> Hands<V, G> {
-    /// Takes in the note that came with an envelope, if there is one.
-    fn heed(&mut self, note: &Option<V::Note>)
-        requires { IsOwnNote V.registry_of self.old.world.view.registry note.now }
-        ensures heeds { IsHeeded V.alone (option_map V.told note.now) self.old.world self.new.world }
-        ensures room { self.new.room ≡ self.old.room }
-    {
-        if let Some(note) = note {
-            self.take_note(note);
-        }
-    }
-
-    /// Takes the note of an envelope, and writes to its connection what it brings. Without memory nothing changes.
-    fn bring(
-        &mut self,
-        alloc: Global,
-        key: usize,
-        peer: &mut Peer,
-        envelope: &Envelope<V::Note>,
-    ) -> Result<(), AllocError>
-        requires room { 0 < self.old.room }
-        requires own { IsOwnNote V.registry_of self.old.world.view.registry envelope.now.note }
-        ensures comes { OnOk result (Comes V.told G.passes V.alone (once_noted (option_map V.told envelope.now.note) (writing key (said_of envelope.now.content) peer.old)) self.old.world peer.new self.new.world) }
-        ensures err { OnErr result (peer.new ≡ peer.old) }
-        ensures world { OnErr result (self.new.world ≡ self.old.world) }
-    {
-        let bytes = bytes_of(alloc, &envelope.content, serial_after(peer.serial()))?;
-        self.heed(&envelope.note);
-        self.deliver(key, peer, &envelope.content, bytes);
-        Ok(())
-    }
-
-    /// The same for a key that a connection may have.
-    fn bring_to(
-        &mut self,
-        alloc: Global,
-        key: usize,
-        slot: &mut Option<Peer>,
-        envelope: &Envelope<V::Note>,
-    ) -> Result<(), AllocError>
-        requires room { 0 < self.old.room }
-        requires own { IsOwnNote V.registry_of self.old.world.view.registry envelope.now.note }
-        ensures comes { OnOk result (Comes V.told G.passes V.alone (once_noted (option_map V.told envelope.now.note) (for_slot slot.old (writing key (said_of envelope.now.content)))) self.old.world slot.new self.new.world) }
-        ensures err { OnErr result (slot.new ≡ slot.old) }
-        ensures world { OnErr result (self.new.world ≡ self.old.world) }
-    {
-        match slot {
-            None => {
-                self.heed(&envelope.note);
-                Ok(())
-            }
-            Some(peer) => self.bring(alloc, key, peer, envelope),
-        }
-    }
 }
 
 impl<V: BusView, G: Gate> Served<V, G> {

@@ -1,14 +1,13 @@
 //! The connections with what serves them, while an event is served.
 
-ghost use Rattle.std.specs.Prelude.{◌≡◌, ◌<◌, ◌≤◌, ◌+◌, [], OnOk, OnErr};
-ghost use Rattle.router_core.specs.Events.{fed, for_peer, for_slot, IsFree};
+ghost use Rattle.std.specs.Prelude.{◌≡◌, [], OnOk, OnErr};
+ghost use Rattle.router_core.specs.Events.{fed, for_peer, IsFree};
 ghost use Rattle.router_core.specs.Scripts.{Gives, Comes};
-ghost use Rattle.router_core.specs.Standing.{fresh, newcomer, opened, peer_at};
+ghost use Rattle.router_core.specs.Standing.{fresh, opened, peer_at};
 
-use crate::hands::Hands;
-use crate::peer::Peer;
 use bus_view::BusView;
 use router_core::{Action, Gate};
+use router_hands::{Hands, Peer};
 use std::alloc::{AllocError, Global};
 use std::marker::Model;
 
@@ -22,24 +21,11 @@ pub struct Served<V: BusView, G: Gate> {
 }
 
 impl<V: BusView, G: Gate> Model for Served<V, G> {
-    ghost use Rattle.router.specs.Work.{Table};
+    ghost use Rattle.router.specs.Tables.{Table};
 
     ghost Value = { Table V.Note G };
 
     ghost view = { λ s. record { standing = record { peers = s.peers.items; leaves = s.leaves.items }; work = s.hands } };
-}
-
-impl<V: BusView, G: Gate> Hands<V, G> {
-    /// Takes a piece of the bytes of a connection, if it is there.
-    fn feed_slot(&self, slot: &mut Option<Peer>, piece: &[u8]) -> Result<(), AllocError>
-        ensures ok { OnOk result (Comes V.told G.passes V.alone (for_slot slot.old (λ p. Gives (fed piece.now p p.stage))) self.now.world slot.new self.now.world) }
-        ensures err { OnErr result (slot.new ≡ slot.old) }
-    {
-        match slot {
-            None => Ok(()),
-            Some(peer) => peer.feed(piece),
-        }
-    }
 }
 
 impl<V: BusView, G: Gate> Served<V, G> {

@@ -5,8 +5,8 @@ use Rattle.router_core.specs.declared.cause.CloseCause.TheVariants.{Left}
 use Rattle.router_core.specs.Events.{closing, for_slot, close_former}
 use Rattle.router_core.specs.Scripts.{Comes}
 use Rattle.router_core.specs.Standing.{Peer, Standing, has_slot, peer_at, with_peer}
-use Rattle.router.specs.Work.{Table}
-use Rattle.router.proofs.Hellos.{closes_former}
+use Rattle.router.specs.Tables.{Table}
+use Rattle.router.proofs.Greetings.{closes_former}
 use Rattle.router.proofs.served.Served.close_former.Goals as goal
 
 pub returns-in-Some-clause-comes : goal.returns-in-Some-clause-comes

@@ -6,9 +6,9 @@ use Rattle.envelopes.specs.Contents.{said_of}
 use Rattle.router_core.specs.Events.{write, for_slot, mail_found, noted}
 use Rattle.router_core.specs.Scripts.{Comes}
 use Rattle.router_core.specs.Standing.{Standing, is_conn, peer_at}
-use Rattle.router.specs.Noting.{once_noted, IsHeeded}
-use Rattle.router.specs.Work.{Table}
-use Rattle.router.proofs.Receiving.{dropped, delivered}
+use Rattle.router_hands.specs.Noting.{once_noted, IsHeeded}
+use Rattle.router.specs.Tables.{Table}
+use Rattle.router.proofs.FoundMail.{dropped, delivered}
 use Rattle.router.proofs.served.Served.mail.Goals as goal
 
 pub returns-in-None-clause-comes : goal.returns-in-None-clause-comes

@@ -4,8 +4,8 @@ use Rattle.router_core.specs.Answers.{error_for, refusal_of}
 use Rattle.router_core.specs.Events.{for_peer, refuse_with}
 use Rattle.router_core.specs.Scripts.{Comes}
 use Rattle.router_core.specs.Standing.{Standing, with_peer}
-use Rattle.router.specs.Work.{Table}
-use Rattle.router.proofs.Hellos.{for_some}
+use Rattle.router.specs.Tables.{Table}
+use Rattle.router.proofs.Greetings.{for_some}
 use Rattle.router.proofs.served.Served.refuse_at.Goals as goal
 
 pub returns : goal.returns

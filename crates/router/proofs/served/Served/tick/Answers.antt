@@ -3,8 +3,8 @@ use Rattle.std.proofs.lemmas.List.{take_at}
 use Rattle.router_core.specs.Events.{leave_all, look_all, tick}
 use Rattle.router_core.specs.Scripts.{Comes}
 use Rattle.router_core.specs.Standing.{Standing}
-use Rattle.router.specs.Work.{Table}
-use Rattle.router.proofs.Rounds.{ticks}
+use Rattle.router.specs.Tables.{Table}
+use Rattle.router.proofs.Ticks.{ticks}
 use Rattle.router.proofs.served.Served.tick.Goals as goal
 
 pub returns-clause-comes : goal.returns-clause-comes

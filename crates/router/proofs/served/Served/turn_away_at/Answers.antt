@@ -3,8 +3,8 @@ use Rattle.message_core.specs.Said.{said}
 use Rattle.router_core.specs.Events.{for_peer, turn_away}
 use Rattle.router_core.specs.Scripts.{Comes}
 use Rattle.router_core.specs.Standing.{Standing, with_peer}
-use Rattle.router.specs.Work.{Table}
-use Rattle.router.proofs.Hellos.{for_some}
+use Rattle.router.specs.Tables.{Table}
+use Rattle.router.proofs.Greetings.{for_some}
 use Rattle.router.proofs.served.Served.turn_away_at.Goals as goal
 
 pub returns : goal.returns

@@ -5,8 +5,8 @@ use Rattle.router_core.specs.Events.{welcome}
 use Rattle.router_core.specs.Scripts.{Gives, Announcing, Comes}
 use Rattle.router_core.specs.Serving.{reply_with}
 use Rattle.router_core.specs.Standing.{Peer, Standing, Named, with_peer}
-use Rattle.router.specs.Work.{Table}
-use Rattle.router.proofs.Sequels.{comes_then}
+use Rattle.router.specs.Tables.{Table}
+use Rattle.router_hands.proofs.Sequels.{comes_then}
 use Rattle.router.proofs.served.Served.welcome.Goals as goal
 
 pub returns : goal.returns

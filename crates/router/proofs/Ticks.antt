@@ -1,0 +1,20 @@
+-- What is done as time passes.
+use Rattle.std.proofs.Common.{ℕ, Bool, Option, List, [], refl}
+use Rattle.seq_bus_core.specs.Histories.{History}
+use Rattle.router_core.specs.Deeds.{GatedCall}
+use Rattle.router_core.specs.Events.{leave_all, look_all, look_at_all, tick}
+use Rattle.router_core.specs.Scripts.{Gives, World, Comes}
+use Rattle.router_core.specs.Standing.{Peer, Standing}
+use Rattle.router_hands.proofs.Sequels.{comes_then}
+
+module _ {N G : Type 0} (told : N → History) (passes : G → GatedCall → G → Type 0) (alone : Bool) (w m v : World N G) where
+  -- the Leaves, then the connections
+  pub ticks : (s : Standing) (kept : List ℕ) (ys : List (Option Peer)) →
+      Comes told passes alone (leave_all s.leaves (record s { leaves = [] })) w (record s { leaves = kept }) m → Comes told passes alone (look_all [] s.peers) m ys v →
+      Comes told passes alone (tick s) w (record { peers = ys; leaves = kept }) v
+  ticks s kept ys made looked =
+      let between : Standing = record s { leaves = kept } in
+      let end : Standing = record { peers = ys; leaves = kept } in
+      comes_then told passes alone look_at_all between m end v
+      (comes_then told passes alone (λ peers. Gives (record between { peers = peers })) ys v end v (refl, refl) (look_all [] s.peers) m looked)
+      (leave_all s.leaves (record s { leaves = [] })) w made

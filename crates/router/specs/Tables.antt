@@ -1,0 +1,7 @@
+-- The connections, and what is at hand.
+use Rattle.router_core.specs.Standing.{Standing}
+use Rattle.router_hands.specs.Work.{Work}
+
+pub record Table (N G : Type 0) : Type 0 where
+  pub standing : Standing
+  pub work : Work N G

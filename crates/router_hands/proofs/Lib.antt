@@ -1,0 +1,11 @@
+pub mod Refusals
+pub mod Putting
+pub mod Asking
+pub mod Delivering
+pub mod Choices
+pub mod Tellings
+pub mod Sequels
+pub mod Rounds
+pub mod Receiving
+pub mod Signing
+pub mod Hellos

@@ -1,0 +1,18 @@
+use Rattle.std.proofs.Common.{◌<◌, length, arith}
+use Rattle.router_core.specs.Standing.{Standing}
+use Rattle.router_hands.proofs.Rounds.{leaves_more}
+use Rattle.router_hands.proofs.hands.Hands.leave_all.Goals as goal
+
+pub loop-number-preserved : goal.loop-number-preserved
+loop-number-preserved g c =
+    let numbers = c.args.numbers.now in
+    let inside : c.loop-number.number-index < length numbers = omega arith in
+    record {
+      room = omega arith;
+      spare = omega arith;
+      comes = λ peers end v later.
+          let before : Standing = record { peers = peers; leaves = c.loop-number.leaves.items } in
+          let after : Standing = record { peers = peers; leaves = c.leave.new.leaves.items } in
+          c.loop-number.invariant.comes peers end v
+          (leaves_more g.V.BusView.told g.G.Gate.passes g.V.BusView.alone c.loop-number.self.world c.leave.new.self.world v numbers c.loop-number.number-index inside before after end (c.leave.ensures.comes peers) later);
+    }

@@ -1,0 +1,13 @@
+use Rattle.std.proofs.Common.{◌≡◌, ◌-◌}
+use Rattle.router_hands.proofs.hands.Hands.reserve.Given as goal
+
+abbrev pub invariant-loop-self : goal.invariant-loop-self
+invariant-loop-self g l = record {
+  view : l.self-inside.view ≡ l.initial.self-inside.view;
+  gate : l.self-inside.gate ≡ l.initial.self-inside.gate;
+  actions : l.self-inside.actions ≡ l.initial.self-inside.actions;
+  room : l.self-inside.room ≡ 0;
+}
+
+abbrev pub decreases-loop-self : goal.decreases-loop-self
+decreases-loop-self g l = l.count - l.self-inside.crowds.len

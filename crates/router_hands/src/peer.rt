@@ -1,0 +1,159 @@
+//! One connection.
+
+ghost use Rattle.std.specs.Prelude.{◌≡◌, ◌<◌, ◌≤◌, ◌+◌, OnOk, OnErr};
+ghost use Rattle.router_core.specs.Events.{closing, fed, look};
+ghost use Rattle.router_core.specs.Scripts.{Comes};
+ghost use Rattle.router_core.specs.Standing.{Named, newcomer, next_serial, conn_of, shut};
+ghost use Rattle.router_hands.specs.Hearing.{heard_present};
+ghost use Rattle.router_hands.specs.Stages.{stage_of};
+
+use crate::hands::Hands;
+use crate::mail::serial_after;
+use bus_view::BusView;
+use message::Framer;
+use router_core::{CloseCause, Gate};
+use seq_bus_core::Conn;
+use std::alloc::{AllocError, Global};
+use std::marker::Model;
+
+/// How far a connection has come.
+#[derive(Clone, Copy, Debug)]
+pub enum Stage {
+    /// It has no name yet. It is privileged where it proved to be its user's.
+    Unnamed { privileged: bool },
+    /// Its Hello gave it a number and a slot.
+    Named(Conn),
+    /// The bus closed it, and it is not gone yet.
+    Shut(Option<Conn>),
+}
+
+impl Stage {
+    /// What its Hello gave it.
+    pub fn conn(self) -> Option<Conn>
+        ensures { result ≡ conn_of (stage_of self) }
+    {
+        match self {
+            Stage::Unnamed { privileged: _ } => None,
+            Stage::Named(conn) => Some(conn),
+            Stage::Shut(conn) => conn,
+        }
+    }
+}
+
+/// A connection: how far it has come, its bytes that were not served, and the serial of the last message of the bus to it.
+#[derive(Drop)]
+pub struct Peer {
+    alloc: Global,
+    stage: Stage,
+    unread: Framer,
+    serial: u32,
+}
+
+impl Model for Peer {
+    ghost use Rattle.std.specs.Prelude.{◌≡◌, None};
+    ghost use Rattle.router_core.specs.Standing.{Peer as Standing_peer};
+    ghost use Rattle.router_hands.specs.Stages.{stage_of};
+
+    ghost Value = { Standing_peer };
+
+    ghost view = { λ p. record { stage = stage_of p.stage; unread = p.unread.bytes; serial = p.serial } };
+
+    ghost invariant = { λ p. p.unread.fault ≡ None };
+}
+
+impl Peer {
+    /// A connection that has sent nothing. Nobody asked who it is: it counts as the bus's own user's.
+    pub fn new(alloc: Global) -> Peer
+        ensures { result ≡ newcomer }
+    {
+        Peer {
+            alloc,
+            stage: Stage::Unnamed { privileged: true },
+            unread: Framer::new(alloc),
+            serial: 0,
+        }
+    }
+
+    /// How far it has come.
+    pub fn stage(&self) -> Stage
+        ensures { stage_of result ≡ self.now.stage }
+    {
+        self.stage
+    }
+
+    /// Takes a piece of its bytes. Once it was closed they are let go. Without memory nothing changes.
+    pub fn feed(&mut self, piece: &[u8]) -> Result<(), AllocError>
+        ensures ok { OnOk result (self.new ≡ fed piece.now self.old self.old.stage) }
+        ensures err { OnErr result (self.new ≡ self.old) }
+    {
+        match self.stage {
+            Stage::Shut(_) => Ok(()),
+            Stage::Unnamed { privileged: _ } | Stage::Named(_) => self.unread.feed(piece),
+        }
+    }
+
+    /// The serial of the last message of the bus that was written to it.
+    pub fn serial(&self) -> u32
+        ensures { result ≡ self.now.serial }
+    {
+        self.serial
+    }
+
+    /// One more message of the bus is written to it.
+    pub fn count(&mut self)
+        ensures { self.new ≡ record self.old { serial = next_serial self.old.serial } }
+    {
+        self.serial = serial_after(self.serial);
+    }
+
+    /// Its Hello gave it this number and this slot.
+    pub fn welcome(&mut self, conn: Conn)
+        ensures { self.new ≡ record self.old { stage = Named conn } }
+    {
+        self.stage = Stage::Named(conn);
+    }
+
+    /// Closes it: its bytes are let go.
+    pub fn shut(&mut self)
+        ensures { self.new ≡ shut self.old }
+    {
+        self.stage = Stage::Shut(self.stage.conn());
+        self.unread = Framer::new(self.alloc);
+    }
+}
+
+impl<V: BusView, G: Gate> Hands<V, G> {
+    /// Closes a connection.
+    pub fn close_peer(&mut self, key: usize, peer: &mut Peer, cause: CloseCause)
+        requires { 0 < self.old.room }
+        ensures comes { Comes V.told G.passes V.alone (closing key cause peer.old) self.old.world peer.new self.new.world }
+        ensures room { self.old.room ≤ self.new.room + 1 }
+    {
+        peer.shut();
+        self.close(key, cause);
+    }
+
+    /// Closes a connection that has a name, if it has left.
+    fn look_at(&mut self, key: usize, peer: &mut Peer, conn: Conn)
+        requires { 0 < self.old.room }
+        ensures comes { Comes V.told G.passes V.alone (look key peer.old (Named conn)) self.old.world peer.new self.new.world }
+        ensures room { self.old.room ≤ self.new.room + 1 }
+    {
+        match self.look(conn.number) {
+            Ok(false) => self.close_peer(key, peer, CloseCause::Left),
+            Ok(true) => {}
+            Err(_) => {}
+        }
+    }
+
+    /// Closes a connection that has left.
+    pub fn look_after(&mut self, key: usize, peer: &mut Peer)
+        requires { 0 < self.old.room }
+        ensures comes { Comes V.told G.passes V.alone (look key peer.old peer.old.stage) self.old.world peer.new self.new.world }
+        ensures room { self.old.room ≤ self.new.room + 1 }
+    {
+        if let Stage::Named(conn) = peer.stage() {
+            self.look_at(key, peer, conn);
+        }
+    }
+}

@@ -1,0 +1,126 @@
+//! Messages that connections send one another. (D-Bus Specification: "Message Bus Message Routing")
+
+ghost use Rattle.std.specs.Prelude.{◌≡◌, ◌<◌, ◌≤◌, ◌+◌, Option, length, IfOk};
+ghost use Rattle.envelopes.specs.Contents.{Relays, said_of};
+ghost use Rattle.message_core.specs.Said.{said};
+ghost use Rattle.message_relay.specs.MessageBytes.{message_bytes, is_too_long};
+ghost use Rattle.router_core.specs.Deeds.{all_of};
+ghost use Rattle.router_core.specs.Scripts.{World, Comes};
+ghost use Rattle.router_core.specs.Serving.{Fated, signed, relayed, shown};
+ghost use Rattle.router_core.specs.declared.cause.CloseCause.{CloseCause as Cause};
+ghost use Rattle.router_hands.specs.OncePut.{is_long, once_put};
+
+use crate::hands::Hands;
+use bus_view::BusView;
+use envelopes::{Content, SharedBytes};
+use message_core::Message;
+use message_relay::{RelayFault, relayed_length, with_sender};
+use names::UniqueName;
+use router_core::Gate;
+use seq_bus_core::{Conn, Recipients};
+use std::sync::Arc;
+
+impl<V: BusView, G: Gate> Hands<V, G> {
+    /// The message as it is passed on, with its sender's name.
+    #[tactic(auto, using(crate::proofs::Signing::long_is))]
+    fn sign(&self, message: &Message, sender: Conn) -> Result<Content, RelayFault>
+        ensures bytes { IfOk result (λ content. said_of content ≡ Relays (message_bytes (signed (said message.now) sender))) }
+        ensures too_long { is_too_long (signed (said message.now) sender) ≡ is_long result }
+    {
+        let mut bytes = Vec::new(self.alloc);
+        if let Err(fault) = with_sender(message, &UniqueName::of(sender.number), &mut bytes) {
+            return Err(fault);
+        }
+        match Arc::new(self.alloc, bytes) {
+            Ok(bytes) => Ok(Content::Relayed(SharedBytes::new(bytes))),
+            Err(_) => Err(RelayFault::NoMemory),
+        }
+    }
+
+    /// Puts a message to some, with its sender's name.
+    fn relay_to_some(
+        &mut self,
+        message: &Message,
+        sender: Conn,
+        to: Recipients,
+        monitors: Recipients,
+    ) -> Result<(), RelayFault>
+        requires room { 0 < self.old.room }
+        requires some { length to ≡ 0 → length monitors ≡ 0 → ⊥ }
+        ensures comes { (goes_on : Fated) (fate : Option Cause) (end : World V.Note G) → Comes V.told G.passes V.alone (once_put result (said message.now) sender goes_on) self.new.world fate end → Comes V.told G.passes V.alone (relayed (said message.now) sender (all_of to monitors) goes_on) self.old.world fate end }
+        ensures room { self.old.room ≤ self.new.room + 1 }
+    {
+        match self.sign(message, sender) {
+            Ok(content) => {
+                self.put_to(to, monitors, content);
+                Ok(())
+            }
+            Err(fault) => Err(fault),
+        }
+    }
+
+    /// Puts a message to recipients and to monitors, each once, with its sender's name. To nobody it is not put, only measured.
+    ///
+    /// # Errors
+    ///
+    /// It would be too long with that name, or there is no memory for it: then it is dropped whole.
+    pub fn relay_to(
+        &mut self,
+        message: &Message,
+        sender: Conn,
+        to: Recipients,
+        monitors: Recipients,
+    ) -> Result<(), RelayFault>
+        requires { 0 < self.old.room }
+        ensures comes { (goes_on : Fated) (fate : Option Cause) (end : World V.Note G) → Comes V.told G.passes V.alone (once_put result (said message.now) sender goes_on) self.new.world fate end → Comes V.told G.passes V.alone (relayed (said message.now) sender (all_of to monitors) goes_on) self.old.world fate end }
+        ensures room { self.old.room ≤ self.new.room + 1 }
+    {
+        if to.as_slice().is_empty() && monitors.as_slice().is_empty() {
+            return match relayed_length(message, &UniqueName::of(sender.number)) {
+                Ok(_) => Ok(()),
+                Err(fault) => Err(fault),
+            };
+        }
+        self.relay_to_some(message, sender, to, monitors)
+    }
+
+    /// Puts a message to the monitors that are shown it, with its sender's name. To nobody it is not put, only measured.
+    ///
+    /// # Errors
+    ///
+    /// As those of `relay_to`.
+    #[tactic(auto, using(crate::proofs::Signing::all_of_none))]
+    pub(crate) fn relay_to_monitors(
+        &mut self,
+        message: &Message,
+        sender: Conn,
+        monitors: Recipients,
+    ) -> Result<(), RelayFault>
+        requires { 0 < self.old.room }
+        ensures comes { (goes_on : Fated) (fate : Option Cause) (end : World V.Note G) → Comes V.told G.passes V.alone (once_put result (said message.now) sender goes_on) self.new.world fate end → Comes V.told G.passes V.alone (relayed (said message.now) sender monitors goes_on) self.old.world fate end }
+        ensures room { self.old.room ≤ self.new.room + 1 }
+    {
+        self.relay_to(message, sender, Recipients::new(), monitors)
+    }
+
+    /// Puts a message to the bus to the monitors that are shown it. Where there is none, it is not even measured.
+    ///
+    /// # Errors
+    ///
+    /// As those of `relay_to`.
+    pub fn show(
+        &mut self,
+        message: &Message,
+        sender: Conn,
+        monitors: Recipients,
+    ) -> Result<(), RelayFault>
+        requires { 0 < self.old.room }
+        ensures comes { (goes_on : Fated) (fate : Option Cause) (end : World V.Note G) → Comes V.told G.passes V.alone (once_put result (said message.now) sender goes_on) self.new.world fate end → Comes V.told G.passes V.alone (shown (said message.now) sender monitors goes_on) self.old.world fate end }
+        ensures room { self.old.room ≤ self.new.room + 1 }
+    {
+        if monitors.as_slice().is_empty() {
+            return Ok(());
+        }
+        self.relay_to_monitors(message, sender, monitors)
+    }
+}

@@ -1,0 +1,130 @@
+//! Messages of the bus to one connection.
+
+ghost use Rattle.std.specs.Prelude.{◌≡◌, ◌<◌, ◌≤◌, ◌+◌, [], ◌∷◌};
+ghost use Rattle.seq_bus_core.specs.declared.verdict.Verdict.{Verdict as Told};
+ghost use Rattle.message_core.specs.Said.{said};
+ghost use Rattle.message_relay.specs.FactsOf.{facts_of};
+ghost use Rattle.envelopes.specs.Contents.{carried_of, own_of, own_message, said_of};
+ghost use Rattle.router_core.specs.Answers.{Heard};
+ghost use Rattle.router_core.specs.Deeds.{all_of};
+ghost use Rattle.router_core.specs.Scripts.{putting, Routes, Comes};
+ghost use Rattle.router_core.specs.Serving.{answer_with as answering, call_of as call_in, err_if_call as erring_if_call, err_with as erring, is_method_call as is_method_call_in, monitors_in, nothing, reply_with as replying, tell as telling};
+ghost use Rattle.router_hands.specs.Carrying.{answer_of};
+
+use crate::hands::Hands;
+use bus_view::BusView;
+use driver::{ReplyTo, expects_reply};
+use envelopes::{CallToAnswer, Content, OwnMessage, ReplyContent};
+use match_rules::MessageKind;
+use message_core::Message;
+use router_core::{Addressees, Gate};
+use seq_bus_core::{Conn, ErrorKind, Recipients};
+
+/// The call, as it is answered.
+fn call_of(message: &Message, caller: Conn) -> CallToAnswer
+    ensures { result ≡ call_in (said message.now) caller }
+{
+    let _bytes = message.as_bytes();
+    CallToAnswer::new(ReplyTo {
+        caller: Some(caller.number),
+        call: message.serial(),
+    })
+}
+
+/// Whether the message calls a method.
+pub fn is_method_call(message: &Message) -> bool
+    ensures { result ≡ is_method_call_in (said message.now) }
+{
+    message.kind() == MessageKind::MethodCall
+}
+
+impl<V: BusView, G: Gate> Hands<V, G> {
+    /// Puts a message to one connection, and to the monitors that are shown it.
+    fn put_to_one(&mut self, conn: Conn, monitors: Recipients, content: Content)
+        requires { 0 < self.old.room }
+        ensures comes { Comes V.told G.passes V.alone (putting (all_of (conn ∷ []) monitors) (said_of content) nothing) self.old.world tt self.new.world }
+        ensures room { self.old.room ≤ self.new.room + 1 }
+    {
+        if monitors.as_slice().is_empty() {
+            self.put(Addressees::one(conn), content);
+        } else {
+            let mut to = Recipients::new();
+            to.push(conn);
+            self.put_to(to, monitors, content);
+        }
+    }
+
+    /// The monitors that are shown a message of the bus. Where the bus does not say, it is shown to none.
+    pub(crate) fn monitors_of(&mut self, own: &OwnMessage) -> Recipients
+        ensures routes { (heard : Heard Told) × Routes V.alone 0 (facts_of (own_message 1 (own_of own.now))) self.old.world heard self.new.world × (result ≡ monitors_in heard) }
+        ensures room { self.new.room ≡ self.old.room }
+    {
+        let names = own.names();
+        match self.route(0, &own.facts(&names)) {
+            Ok(verdict) => verdict.monitors,
+            Err(_) => Recipients::new(),
+        }
+    }
+
+    /// Tells a connection a message of the bus. The monitors are shown it too.
+    pub fn tell(&mut self, conn: Conn, own: OwnMessage)
+        requires { 0 < self.old.room }
+        ensures comes { Comes V.told G.passes V.alone (telling conn (own_of own)) self.old.world tt self.new.world }
+        ensures room { self.old.room ≤ self.new.room + 1 }
+    {
+        let monitors = self.monitors_of(&own);
+        self.put_to_one(conn, monitors, Content::Own(own));
+    }
+
+    /// Replies to a call. One that wants no reply gets none.
+    pub fn reply_with(&mut self, call: &Message, caller: Conn, content: ReplyContent)
+        requires { 0 < self.old.room }
+        ensures comes { Comes V.told G.passes V.alone (replying (said call.now) caller (carried_of content)) self.old.world tt self.new.world }
+        ensures room { self.old.room ≤ self.new.room + 1 }
+    {
+        if expects_reply(call) {
+            let to = call_of(call, caller);
+            self.tell(caller, OwnMessage::Reply { to, content });
+        }
+    }
+
+    /// Answers a call an error. One that wants no reply gets none.
+    pub fn err_with(&mut self, call: &Message, caller: Conn, error: ErrorKind)
+        requires { 0 < self.old.room }
+        ensures comes { Comes V.told G.passes V.alone (erring (said call.now) caller error) self.old.world tt self.new.world }
+        ensures room { self.old.room ≤ self.new.room + 1 }
+    {
+        if expects_reply(call) {
+            let to = call_of(call, caller);
+            self.tell(caller, OwnMessage::Error { to, error });
+        }
+    }
+
+    /// Answers a call an error; another message is dropped.
+    pub fn err_if_call(&mut self, message: &Message, sender: Conn, error: ErrorKind)
+        requires { 0 < self.old.room }
+        ensures comes { Comes V.told G.passes V.alone (erring_if_call (said message.now) sender error) self.old.world tt self.new.world }
+        ensures room { self.old.room ≤ self.new.room + 1 }
+    {
+        if is_method_call(message) {
+            self.err_with(message, sender, error);
+        }
+    }
+
+    /// Answers a call: a reply, or an error.
+    pub fn answer_with(
+        &mut self,
+        call: &Message,
+        caller: Conn,
+        answer: Result<ReplyContent, ErrorKind>,
+    )
+        requires { 0 < self.old.room }
+        ensures comes { Comes V.told G.passes V.alone (answering (said call.now) caller (answer_of answer)) self.old.world tt self.new.world }
+        ensures room { self.old.room ≤ self.new.room + 1 }
+    {
+        match answer {
+            Ok(content) => self.reply_with(call, caller, content),
+            Err(error) => self.err_with(call, caller, error),
+        }
+    }
+}
