@@ -1,6 +1,6 @@
 //! The view of a bus.
 
-ghost use Rattle.std.specs.Prelude.{◌≡◌, true, false, Some, is_some, option_map, IfOk, IfErr, IfSome, OnOk, OnErr};
+ghost use Rattle.std.specs.Prelude.{◌≡◌, true, false, [], Some, is_some, option_map, IfOk, IfErr, IfSome, OnOk, OnErr};
 ghost use Rattle.seq_bus_core.specs.Answers.{answer};
 ghost use Rattle.seq_bus_core.specs.BusState.{connection_of};
 ghost use Rattle.seq_bus_core.specs.Histories.{History};
@@ -43,7 +43,8 @@ pub trait BusView {
 
     /// Makes a change, and tells of it in a note.
     ///
-    /// A change that is refused is handed back, and is not made, then or later.
+    /// A change that is refused is handed back, and is not made, then or later. Today no call waits for a service, so no
+    /// tickets are settled.
     fn change(
         &mut self,
         right: &Self::Right,
@@ -51,6 +52,7 @@ pub trait BusView {
     ) -> Result<(Outcome, Self::Note), Refused>
         requires { IsServedChange change }
         ensures made { IfOk result (λ r. IsChanged alone (knows self.old) change r.0 (knows self.new)) }
+        ensures settled { IfOk result (λ r. r.0.tickets ≡ []) }
         ensures note { IfOk result (λ r. registry_of r.1 ≡ (knows self.new).registry) }
         ensures told { alone ≡ false → IfOk result (λ r. told r.1 ≡ (knows self.new).seen) }
         ensures handed_back { IfErr result (λ refused. refused.change ≡ change) }

@@ -6,9 +6,9 @@ use crate::{Desk, Note};
 use arrayvec::ArrayVec;
 use bus_view::{Again, BusView, Cause};
 use match_rules::{Facts, MessageKind, Rule};
-use names::BusName;
+use names::{BusName, WellKnown};
 use owner_queues::{Profile, Reply as QueueReply, RequestFlags};
-use registry_snapshots::{Naming, Seat, Serve, Shared, start};
+use registry_snapshots::{Naming, Seat, Serve, Shared, StartFault, start};
 use seq_bus::{AskFault, Asked};
 use seq_bus_core::{Change, Conn, Outcome, Query, Reply, VerdictKind};
 use std::alloc::Global;
@@ -251,4 +251,61 @@ fn two_desks(rt: HostRuntime) {
         }
     };
     assert!(rt; served.is_ok(), "one allocation fails");
+}
+
+/// The names that programs can be started for, of a registry with one service.
+fn answer_services<J: Naming, R: Wait + Abort>(rt: &R, alloc: Global, mut desk: Desk<'_, J, R>) {
+    let names =
+        b"\x2c\0\0\0\x14\0\0\0org.freedesktop.DBus\0\0\0\0\x0b\0\0\0com.example\0".as_slice();
+    let query = Query::ListActivatableNames;
+    is_told(rt, alloc, &mut desk, &query, Asked::Body, names);
+}
+
+/// One router, of a bus with a service.
+#[derive(Drop)]
+struct OneService<'a, R> {
+    rt: &'a R,
+    alloc: Global,
+    service: WellKnown,
+}
+
+impl<'a, R: Wait + Abort> Serve for OneService<'a, R> {
+    ghost use Rattle.std.specs.Prelude.{[], ◌∷◌};
+    ghost use Rattle.owner_queues.specs.declared.request.Profile.TheVariants.{One};
+    ghost use Rattle.seq_bus_core.specs.Tickets.{opening_bus};
+
+    type Out = ();
+
+    ghost bus = { λ s. opening_bus One 1 (s.service ∷ []) };
+
+    fn serve<J: Naming + Send + Sync>(self, shared: Shared<J>, mut seats: Vec<Seat<J>>) {
+        let OneService {
+            rt,
+            alloc,
+            service: _,
+        } = self;
+        let seat = seats.pop().expect(rt, "there are two seats");
+        answer_services(rt, alloc, Desk::new(alloc, seat, &shared));
+        shared.end(rt);
+    }
+}
+
+fn serve_one<R: Wait + Abort>(rt: &R, alloc: Global, service: WellKnown) -> Result<(), StartFault> {
+    let server = OneService { rt, alloc, service };
+    start(rt, alloc, &[service], 1, Profile::One, server)
+}
+
+#[test]
+fn names_of_services(rt: HostRuntime) {
+    let alloc = rt.alloc();
+    let service = WellKnown::parse("com.example")
+        .ok()
+        .expect(&rt, "a well-known name");
+    if let Err(fault) = serve_one(&rt, alloc, service) {
+        assert_eq!(rt; fault.code(), 57);
+        assert!(rt;
+            serve_one(&rt, alloc, service).is_ok(),
+            "one allocation fails"
+        );
+    }
 }

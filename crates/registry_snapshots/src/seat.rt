@@ -180,6 +180,7 @@ impl<J: Naming> Seat<J> {
     ) -> Result<(Outcome, Note<J>), Refused>
         requires { IsServedChange change }
         ensures changed { IfOk result (λ r. IsChanged J.opening self.old.seen self.old.number self.old.made change r.0 self.new.seen) }
+        ensures settled { IfOk result (λ r. r.0.tickets ≡ []) }
         ensures note { IfOk result (λ r. (r.1 ≡ self.new.seen) × (self.new.held ≡ Some self.new.seen)) }
         ensures made { OnOk result (self.new.made ≡ self.old.made + 1) }
         ensures number { self.new.number ≡ self.old.number }

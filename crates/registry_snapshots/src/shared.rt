@@ -127,6 +127,7 @@ impl<J: Naming> Shared<J> {
         requires book { known.now.book ≡ J.book }
         requires served { IsServedChange change }
         ensures made { IfOk result (λ r. IsChanged J.opening known.now.log seat made change r.0 r.1.log) }
+        ensures settled { IfOk result (λ r. r.0.tickets ≡ []) }
         ensures next { IfOk result (λ r. (r.1.book ≡ J.book) × (made < 2 ^ 63)) }
         ensures refused { IfErr result (λ e. e.change ≡ change) }
     {

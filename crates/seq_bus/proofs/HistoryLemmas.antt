@@ -10,6 +10,7 @@ use Rattle.owner_queues.specs.Queues.{Queue}
 use Rattle.owner_queues.specs.declared.owner.QueuedOwner.{QueuedOwner}
 use Rattle.owner_queues.specs.declared.request.Profile.{Profile}
 use Rattle.seq_bus_core.specs.Answers.{names_there, owner_name, queued_names, queue_names}
+use Rattle.seq_bus_core.specs.Consistency.{IsWithinLimits}
 use Rattle.seq_bus_core.specs.Histories.{History, CanOpen, IsLegal, numbers_of, has_whole_publications}
 use Rattle.seq_bus_core.specs.Tickets.{WholeBus, opening_bus, bus_step, bus_after}
 use Rattle.seq_bus_core.specs.declared.entry.Entry.{Entry}
@@ -139,16 +140,19 @@ few_filter test (x ∷ xs) = by_test (test x) (few_filter test xs)
     by_test true few = omega (arith, few)
     by_test false few = omega (arith, few)
 
-pub few_names : (b : WholeBus) → IsSound b → length (bus_text ∷ names_there b.state) ≤ 2048
-few_names b sound =
-    let clients : List Connection = filter (λ c. not (is_monitor c)) b.state.connections in
+pub few_there : (s : BusState) → IsWithinLimits s → length (bus_text ∷ names_there s) ≤ 2048
+few_there s within =
+    let clients : List Connection = filter (λ c. not (is_monitor c)) s.connections in
     let unique : Connection → Text = λ c. unique_text c.number in
     let named : OwnedName → Text = λ n. n.name in
-    let whole : length (map unique clients ++ map named b.state.names) ≡ length (map unique clients) + length (map named b.state.names) = length-append (map unique clients) (map named b.state.names) in
+    let whole : length (map unique clients ++ map named s.names) ≡ length (map unique clients) + length (map named s.names) = length-append (map unique clients) (map named s.names) in
     let front : length (map unique clients) ≡ length clients = length-map clients unique in
-    let back : length (map named b.state.names) ≡ length b.state.names = length-map b.state.names named in
-    let few : length clients ≤ length b.state.connections = few_filter (λ (c : Connection). not (is_monitor c)) b.state.connections in
-    omega (arith, whole, front, back, few, sound.within.connections, sound.within.names)
+    let back : length (map named s.names) ≡ length s.names = length-map s.names named in
+    let few : length clients ≤ length s.connections = few_filter (λ (c : Connection). not (is_monitor c)) s.connections in
+    omega (arith, whole, front, back, few, within.connections, within.names)
+
+pub few_names : (b : WholeBus) → IsSound b → length (bus_text ∷ names_there b.state) ≤ 2048
+few_names b sound = few_there b.state sound.within
 
 few_by : (b : Bool) (o : Option Text) (q : Queue) (items : List Text) → length q ≤ 256 → ◌≡◌ {A = Option (List Text)} (Some items) (if b then option_map (λ owner. owner ∷ []) o else queued_names q) → length items ≤ 2048
 few_by true None q items h e = cc

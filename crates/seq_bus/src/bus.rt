@@ -79,6 +79,7 @@ impl SeqBus {
     pub fn change(&mut self, change: Change) -> Result<Outcome, Refused>
         requires { IsServedChange change }
         ensures made { IfOk result (λ outcome. IsMade self.old self.new change outcome) }
+        ensures settled { IfOk result (λ outcome. outcome.tickets ≡ []) }
         ensures handed_back { IfErr result (λ refused. refused ≡ record { change = change; cause = NoMemory }) }
         ensures unchanged { OnErr result (self.new ≡ self.old) }
     {

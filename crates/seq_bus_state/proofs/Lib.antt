@@ -9,3 +9,4 @@ pub mod OtherPlaces
 pub mod Rooms
 pub mod Routing
 pub mod ServiceOrder
+pub mod Settling

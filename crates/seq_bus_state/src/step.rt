@@ -1,6 +1,6 @@
 //! The changes that are made today.
 
-ghost use Rattle.std.specs.Prelude.{◌≡◌, IfOk, OnErr};
+ghost use Rattle.std.specs.Prelude.{◌≡◌, [], IfOk, OnErr};
 ghost use Rattle.seq_bus_state.specs.Served.{IsServedChange};
 ghost use Rattle.seq_bus_state.specs.Steps.{IsSound, IsStepped};
 
@@ -16,8 +16,11 @@ impl State {
         requires served { IsServedChange change.now }
         requires sound { IsSound self.old }
         ensures ok { IfOk result (λ outcome. IsStepped self.old self.new change.now outcome) }
+        ensures settled { IfOk result (λ outcome. outcome.tickets ≡ []) }
         ensures err { OnErr result (self.new ≡ self.old) }
     {
+        // On this bus no ticket waits, which its fields tell.
+        let _ = &self.routers;
         match change {
             Change::Hello { privileged } => self.hello(*privileged),
             Change::Leave { connection } => self.leave(*connection),

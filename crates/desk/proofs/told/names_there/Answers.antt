@@ -3,7 +3,8 @@ use Rattle.names.specs.Texts.{Text}
 use Rattle.names.specs.BusName.{bus_text}
 use Rattle.names.specs.UniqueName.{unique_text}
 use Rattle.seq_bus_core.specs.BusState.{Connection, OwnedName, is_monitor}
-use Rattle.desk.proofs.ListLemmas.{clients_of, owned_of, few_there}
+use Rattle.seq_bus.proofs.HistoryLemmas.{few_there}
+use Rattle.desk.proofs.ListLemmas.{clients_of, owned_of}
 use Rattle.desk.proofs.told.names_there.Goals as goal
 
 pub returns-clause-names : goal.returns-clause-names
