@@ -9,3 +9,5 @@ pub mod Rounds
 pub mod Receiving
 pub mod Signing
 pub mod Hellos
+pub mod Nexts
+pub mod Judging

@@ -6,3 +6,5 @@ pub mod Carrying
 pub mod Noting
 pub mod OncePut
 pub mod Refusing
+pub mod Pending
+pub mod Reading

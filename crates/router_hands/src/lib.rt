@@ -6,6 +6,11 @@
 
 #[cfg(test)]
 mod call_tests;
+mod closing;
+mod first;
+#[cfg(test)]
+mod first_tests;
+mod front;
 mod hands;
 mod hello_errors;
 mod leaving;
@@ -20,6 +25,8 @@ mod telling;
 #[cfg(test)]
 mod tests;
 
+pub use first::{First, Greeting};
+pub use front::Front;
 pub use hands::Hands;
 pub use hello_errors::HelloErrors;
 pub use mail::{bytes_of, serial_after};

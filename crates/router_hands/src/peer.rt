@@ -11,6 +11,7 @@ use crate::hands::Hands;
 use crate::mail::serial_after;
 use bus_view::BusView;
 use message::Framer;
+use message_core::Message;
 use router_core::{CloseCause, Gate};
 use seq_bus_core::Conn;
 use std::alloc::{AllocError, Global};
@@ -43,22 +44,25 @@ impl Stage {
 /// A connection: how far it has come, its bytes that were not served, and the serial of the last message of the bus to it.
 #[derive(Drop)]
 pub struct Peer {
-    alloc: Global,
+    pub(crate) alloc: Global,
     stage: Stage,
-    unread: Framer,
-    serial: u32,
+    /// A message that was taken off its bytes, and for whose serving there was no memory.
+    pub(crate) pending: Option<Message>,
+    pub(crate) unread: Framer,
+    pub(crate) serial: u32,
 }
 
 impl Model for Peer {
-    ghost use Rattle.std.specs.Prelude.{◌≡◌, None};
+    ghost use Rattle.std.specs.Prelude.{◌≡◌, ◌++◌, None, IfSome};
     ghost use Rattle.router_core.specs.Standing.{Peer as Standing_peer};
     ghost use Rattle.router_hands.specs.Stages.{stage_of};
+    ghost use Rattle.router_hands.specs.Pending.{IsWithin, pending_bytes};
 
     ghost Value = { Standing_peer };
 
-    ghost view = { λ p. record { stage = stage_of p.stage; unread = p.unread.bytes; serial = p.serial } };
+    ghost view = { λ p. record { stage = stage_of p.stage; unread = pending_bytes p.pending ++ p.unread.bytes; serial = p.serial } };
 
-    ghost invariant = { λ p. p.unread.fault ≡ None };
+    ghost invariant = { λ p. (p.unread.fault ≡ None) × IfSome p.pending IsWithin };
 }
 
 impl Peer {
@@ -69,6 +73,7 @@ impl Peer {
         Peer {
             alloc,
             stage: Stage::Unnamed { privileged: true },
+            pending: None,
             unread: Framer::new(alloc),
             serial: 0,
         }
@@ -118,6 +123,7 @@ impl Peer {
         ensures { self.new ≡ shut self.old }
     {
         self.stage = Stage::Shut(self.stage.conn());
+        self.pending = None;
         self.unread = Framer::new(self.alloc);
     }
 }

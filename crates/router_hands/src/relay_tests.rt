@@ -17,7 +17,7 @@ const SECOND: Conn = Conn {
 };
 
 /// A reply to `:1.2`.
-const REPLY: &[u8] =
+pub(crate) const REPLY: &[u8] =
     b"l\x02\x01\x01\0\0\0\0\x03\0\0\0\x1d\0\0\0\x05\x01u\0\x05\0\0\0\x06\x01s\0\x04\0\0\0:1.2\0\0\0\0\
     \xc8\x01y\0\x07\0\0\0";
 
