@@ -1,9 +1,11 @@
 //! The message bus as a program: `busd run` serves the message stream on standard input.
 #![tactic(auto)]
 
-ghost use Rattle.std.specs.Prelude.{◌≡◌, ◌⊎◌};
+ghost use Rattle.std.specs.Prelude.{◌≡◌, ◌⊎◌, []};
 ghost use Rattle.std.specs.Process.{exit_status};
 ghost use Rattle.clap.specs.Values.{kind_of};
+ghost use Rattle.owner_queues.specs.declared.request.Profile.TheVariants.{Two};
+ghost use Rattle.seq_bus_core.specs.Tickets.{opening_bus};
 ghost use Rattle.busd_core.specs.Statuses.{status_of};
 ghost use Rattle.busd_core.specs.declared.fault.RunFault.TheVariants.{Output};
 ghost use Rattle.busd.specs.Statuses.{refusal_status};
@@ -11,9 +13,14 @@ ghost use Rattle.busd.specs.Statuses.{refusal_status};
 use busd_core::{RunFault, run};
 use clap::error::ErrorKind;
 use clap::{Command, Error};
+use desk::Desk;
+use owner_queues::Profile;
+use registry_snapshots::{Naming, Opened, Seat, Shared};
 use std::alloc::{AllocError, Global};
+use std::marker::Brand;
 use std::process::ExitCode;
 use std::rt::Env;
+use std::sync::Wait;
 use std::{env, io};
 
 fn command_line<'a>(alloc: Global) -> Result<Command<'a>, AllocError> {
@@ -48,8 +55,43 @@ fn fail<R: Eprint>(rt: &R, fault: RunFault) -> ExitCode
     ExitCode::from(fault.status())
 }
 
-fn serve<R: Input + Print + Eprint + AllocGlobal>(rt: &R) -> ExitCode {
-    match run(rt.alloc(), &mut rt.reader(), &mut io::writer(rt)) {
+/// Serves the stream as the router of this seat.
+fn serve_at<J: Naming, R: Input + Print + AllocGlobal + Wait>(
+    rt: &R,
+    shared: &Shared<J>,
+    seat: Seat<J>,
+) -> Result<(), RunFault> {
+    let mut desk = Desk::new(rt.alloc(), seat, shared);
+    run(
+        rt.alloc(),
+        &mut desk,
+        rt,
+        &mut rt.reader(),
+        &mut io::writer(rt),
+    )
+}
+
+/// Opens a registry with one router and no services, and serves the stream over it.
+fn serve_over<J: Naming, R: Input + Print + AllocGlobal + Wait>(
+    rt: &R,
+    opened: Opened,
+) -> Result<(), RunFault>
+    requires { (opened ≡ J.book) × (J.opening ≡ opening_bus Two 1 []) }
+{
+    let Ok((shared, mut seats)) = Shared::<J>::new(rt, rt.alloc(), opened, &[], 1, Profile::Two)
+    else {
+        return Err(RunFault::Memory);
+    };
+    let end = match seats.pop() {
+        Some(router) => serve_at(rt, &shared, router),
+        None => Err(RunFault::Memory),
+    };
+    shared.end(rt);
+    end
+}
+
+fn serve<R: Input + Print + Eprint + AllocGlobal + Wait>(rt: &R) -> ExitCode {
+    match serve_over::<Brand, R>(rt, Opened::new()) {
         Ok(()) => ExitCode::SUCCESS,
         Err(fault) => fail(rt, fault),
     }

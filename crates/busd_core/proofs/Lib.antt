@@ -1,10 +1,10 @@
+pub mod Asking
 pub mod Known
 pub mod OneReading
 pub mod Reading
 pub mod Repeats
 pub mod Sending
 pub mod Served
-pub mod Stages
 pub mod Steps
 pub mod Streams
 pub mod Telling

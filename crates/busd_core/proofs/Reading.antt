@@ -17,4 +17,4 @@ fault_told f old new fine (inr (was, judged, same)) = (judged, ap (λ (u : Unrea
 
 pub stops_reading : (f : FrameFault) (old : Session) (unread : Unread) → old.framer.fault ≡ None → FaultIs limit f old.framer unread → StopsReading (stop_of f) old (record old { framer = unread })
 stops_reading NoMemory old unread fine h = tt
-stops_reading f old unread fine h = let t = fault_told f old.framer unread fine h in (t.0, t.1, refl)
+stops_reading f old unread fine h = let t = fault_told f old.framer unread fine h in (t.0, t.1, refl, refl)

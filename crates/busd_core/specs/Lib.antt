@@ -1,6 +1,7 @@
 pub mod Courses
 pub mod Serving
 pub mod Runs
+pub mod Refusals
 pub mod Repeats
 pub mod Transfers
 pub mod Sessions

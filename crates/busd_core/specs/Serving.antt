@@ -4,26 +4,25 @@ use Rattle.names.specs.UniqueName.{unique_text}
 use Rattle.marshal_core.specs.Types.{no_types, one_type}
 use Rattle.marshal_core.specs.Values.{no_values, values}
 use Rattle.owner_queues.specs.Replies.{code_of}
-use Rattle.owner_queues.specs.declared.request.Profile.TheVariants.{Two}
 use Rattle.match_rules.specs.Kinds.{kind_of}
 use Rattle.seq_bus_core.specs.Answers.{Answer, answer}
+use Rattle.seq_bus_core.specs.Histories.{History}
 use Rattle.seq_bus_core.specs.Recipients.{is_call}
 use Rattle.seq_bus_core.specs.declared.change.Change.{Change}
 use Rattle.seq_bus_core.specs.declared.change.Change.TheVariants.{Hello as SaysHello, Request as Requests, Release, AddMatch, RemoveMatch}
 use Rattle.seq_bus_core.specs.declared.error_kind.ErrorKind.{ErrorKind}
-use Rattle.seq_bus_core.specs.declared.error_kind.ErrorKind.TheVariants.{Failed, NoMemory, InvalidArgs, NameHasNoOwner, ServiceUnknown, UnknownMethod, MatchRuleNotFound, LimitsExceeded as LimitsError}
+use Rattle.seq_bus_core.specs.declared.error_kind.ErrorKind.TheVariants.{Failed, NoMemory as NoMemoryError, InvalidArgs, NameHasNoOwner, ServiceUnknown, UnknownMethod, MatchRuleNotFound, LimitsExceeded as LimitsError}
 use Rattle.seq_bus_core.specs.declared.outcome.Outcome.{Outcome}
 use Rattle.seq_bus_core.specs.declared.outcome.Reply.{Reply as ChangeReply}
-use Rattle.seq_bus_core.specs.declared.outcome.Reply.TheVariants.{Welcome, Done, OfQueue, InvalidName, RuleNotFound}
+use Rattle.seq_bus_core.specs.declared.outcome.Reply.TheVariants.{Welcome, Gone, Done, OfQueue, InvalidName, RuleNotFound}
 use Rattle.seq_bus_core.specs.declared.outcome.Reply.TheVariants as of_change
 use Rattle.seq_bus_core.specs.declared.query.Query.TheVariants as query
 use Rattle.seq_bus_core.specs.declared.signal.AddressedSignal.{AddressedSignal}
 use Rattle.seq_bus_core.specs.declared.signal.BusSignal.{BusSignal}
 use Rattle.seq_bus_core.specs.declared.signal.BusSignal.TheVariants.{NameAcquired}
-use Rattle.seq_bus_core.specs.Tickets.{opening_bus, bus_step}
-use Rattle.seq_bus.specs.declared.TheConstants.{SEAT}
+use Rattle.seq_bus_core.specs.Tickets.{WholeBus, bus_step, bus_after}
 use Rattle.seq_bus.specs.Bodies.{answer_type, answer_value}
-use Rattle.seq_bus.specs.PlainBus.{PlainBus, bus_now, next_entry}
+use Rattle.bus_view.specs.Views.{Knowledge, next_entry, having_changed}
 use Rattle.message_core.specs.Messages.{Message}
 use Rattle.message_core.specs.Headers.{message_of}
 use Rattle.driver.specs.declared.call.Call.{Call}
@@ -36,21 +35,23 @@ use Rattle.busd_core.specs.declared.course.Course.{Course}
 use Rattle.busd_core.specs.declared.course.Course.TheVariants.{Dropped, Returned, Undeliverable, TooLong, Left}
 use Rattle.busd_core.specs.declared.fault.Cause.TheVariants.{NotHello, LimitsExceeded}
 use Rattle.busd_core.specs.declared.fault.Cause.TheVariants as cause
+use Rattle.busd_core.specs.declared.refusal.Refusal.{Refusal}
+use Rattle.busd_core.specs.declared.refusal.Refusal.TheVariants.{NoMemory, Lost}
 use Rattle.busd_core.specs.declared.request.Request.{Request}
 use Rattle.busd_core.specs.declared.request.Request.TheVariants.{Ask, Make}
 use Rattle.busd_core.specs.declared.stage.Stage.{Stage}
 use Rattle.busd_core.specs.declared.stage.Stage.TheVariants.{Unnamed, Named, Closed}
 use Rattle.busd_core.specs.Courses.{goes_to, relayed, course_of}
 
--- a connection: how far it has come, the serial of the last message that the bus sent it, and the bus
+-- a connection: how far it has come, the serial of the last message that the bus sent it, and what its view knows of the bus
 pub record Standing : Type 0 where
   pub stage : Stage
   pub serial : ℕ
-  pub bus : PlainBus
+  pub bus : Knowledge
 
--- a bus with one router and no services, and a connection that has sent nothing
-abbrev pub opening : Standing
-opening = record { stage = Unnamed; serial = 0; bus = record { opening = opening_bus Two 1 []; seen = [] } }
+-- a connection that has sent nothing
+abbrev pub opening : Knowledge → Standing
+opening bus = record { stage = Unnamed; serial = 0; bus = bus }
 
 -- the standing after a message, and the messages that it brought: those of the bus, and what is relayed
 pub record Served : Type 0 where
@@ -59,6 +60,32 @@ pub record Served : Type 0 where
 
 abbrev pub quiet : Standing → Served
 quiet s = record { standing = s; sent = [] }
+
+-- ## The bus at a point of its history, which begins with all that the view has seen
+
+abbrev pub bus_at : Standing → History → WholeBus
+bus_at s at = bus_after s.bus.opening at
+
+-- the bus was read there
+abbrev pub found : Standing → History → Standing
+found s at = record s { bus = record s.bus { seen = at } }
+
+-- a change was added there
+abbrev pub changed : Standing → History → Change → Standing
+changed s at change = record s { bus = having_changed s.bus (at ++ next_entry s.bus change ∷ []) }
+
+-- what the change is told
+abbrev pub told_at : Standing → History → Change → Outcome
+told_at s at change = (bus_step (bus_at s at) s.bus.seat change).1
+
+-- The error that a call is answered which is not served: for want of memory, or as the bus is gone.
+abbrev pub error_for : Refusal → ErrorKind
+error_for NoMemory = NoMemoryError
+error_for Lost = Failed
+
+-- What a call is read as, or why the message is not served.
+abbrev pub Known : Type 0
+Known = Result (Reading Call) Refusal
 
 -- ## Messages of the bus
 
@@ -103,10 +130,6 @@ closing cause v = record v { standing = record v.standing { stage = Closed cause
 abbrev pub hello_change : Change
 hello_change = SaysHello true
 
--- the bus after a change of its own
-abbrev pub with_change : PlainBus → Change → PlainBus
-with_change bus change = record bus { seen = bus.seen ++ next_entry bus change ∷ [] }
-
 -- its unique name, in the reply and in a signal
 abbrev pub welcome_by : Message → ℕ → ℕ → Message
 welcome_by m number serial = of_strings (reply_header serial (reply_to m (Some number))) (unique_text number ∷ [])
@@ -126,19 +149,16 @@ abbrev pub greeting : Message → Standing → ChangeReply → Served
 greeting m s (Welcome conn) = naming m conn.number s
 greeting m s reply = turning_away m s
 
-abbrev pub welcoming : Message → Standing → Served
-welcoming m s = greeting m (record s { bus = with_change s.bus hello_change }) (bus_step (bus_now s.bus) SEAT hello_change).1.reply
+abbrev pub welcoming : Message → Standing → History → Served
+welcoming m s at = greeting m (changed s at hello_change) (told_at s at hello_change).reply
 
--- What a call is read as; none where there is no memory to serve the message.
-abbrev pub Known : Type 0
-Known = Option (Reading Call)
+-- A Hello that is refused leaves the connection without a name: it may say Hello again.
+abbrev pub hello : Known → History → Standing → Message → Served
+hello (Err refusal) at s m = refusing m None (error_for refusal) s
+hello (Ok reading) at s m = welcoming m s at
 
-abbrev pub hello : Known → Standing → Message → Served
-hello None s m = refusing m None NoMemory s
-hello (Some reading) s m = welcoming m s
-
-abbrev pub serve_unnamed : Known → Standing → Message → Served
-serve_unnamed known s m = if is_hello m then hello known s m else closing NotHello (quiet s)
+abbrev pub serve_unnamed : Known → History → Standing → Message → Served
+serve_unnamed known at s m = if is_hello m then hello known at s m else closing NotHello (quiet s)
 
 -- ## Once it has a name
 
@@ -192,26 +212,32 @@ answering m number (Err error) v = replying m (error_by m (Some number) error) v
 abbrev pub telling_change : Message → ℕ → Outcome → Served → Served
 telling_change m number outcome v = answering m number (answer_told outcome.reply) (announcing number outcome.signals v)
 
+-- A change of a connection that has left in the meantime is made by nobody: the connection is closed.
+abbrev pub made_by : Message → ℕ → Outcome → ChangeReply → Served → Served
+made_by m number outcome Gone v = closing cause.Left v
+made_by m number outcome other v = telling_change m number outcome v
+
 -- the bus makes the change, and what it is told is sent
-abbrev pub making : Message → ℕ → Standing → Change → Served
-making m number s change = telling_change m number (bus_step (bus_now s.bus) SEAT change).1 (quiet (record s { bus = with_change s.bus change }))
+abbrev pub making : Message → ℕ → Standing → History → Change → Served
+making m number s at change = made_by m number (told_at s at change) (told_at s at change).reply (quiet (changed s at change))
 
-abbrev pub asking : Message → ℕ → Standing → Result Request ErrorKind → Served
-asking m number s (Err error) = refusing m (Some number) error s
-asking m number s (Ok (Ask asked)) = telling m number s (answer (bus_now s.bus).state asked)
-asking m number s (Ok (Make change)) = making m number s change
+abbrev pub asking : Message → ℕ → Standing → History → Result Request ErrorKind → Served
+asking m number s at (Err error) = refusing m (Some number) error s
+asking m number s at (Ok (Ask asked)) = telling m number (found s at) (answer (bus_at s at).state asked)
+asking m number s at (Ok (Make change)) = making m number s at change
 
-abbrev pub serve_known : Message → ℕ → Standing → Known → Served
-serve_known m number s None = refusing m (Some number) NoMemory s
-serve_known m number s (Some reading) = asking m number s (request_in number reading)
+-- A query that is not answered may have found the bus at a later point all the same.
+abbrev pub serve_known : Message → ℕ → Standing → History → Known → Served
+serve_known m number s at (Err refusal) = refusing m (Some number) (error_for refusal) (found s at)
+serve_known m number s at (Ok reading) = asking m number s at (request_in number reading)
 
 -- a message that was relayed
 abbrev pub relaying : Message → Served → Served
 relaying m v = record v { sent = v.sent ++ m ∷ [] }
 
--- without memory for it a message is dropped, and a call answered so
-abbrev pub losing : Message → ℕ → Standing → Served
-losing m number s = if is_call (kind_of m.kind) then refusing m (Some number) NoMemory s else quiet s
+-- a message that is not served is dropped, and a call answered an error
+abbrev pub losing : Message → ℕ → ErrorKind → Standing → Served
+losing m number error s = if is_call (kind_of m.kind) then refusing m (Some number) error s else quiet s
 
 -- what becomes of a message of the connection of this number
 abbrev pub taking : Message → ℕ → Standing → Course → Served
@@ -222,20 +248,21 @@ taking m number s TooLong = closing cause.TooLong (quiet s)
 taking m number s Left = closing cause.Left (quiet s)
 
 -- A message that is no call to the bus goes where the bus routes it. What it would be read as is not looked at.
-abbrev pub passing : Message → ℕ → Standing → Known → Served
-passing m number s None = losing m number s
-passing m number s (Some reading) = taking m number s (course_of (bus_now s.bus).state number m)
+abbrev pub passing : Message → ℕ → Standing → History → Known → Served
+passing m number s at (Err refusal) = losing m number (error_for refusal) (found s at)
+passing m number s at (Ok reading) = taking m number (found s at) (course_of (bus_at s at).state number m)
 
-abbrev pub serve_named : Known → ℕ → Standing → Message → Served
-serve_named known number s m = if is_call_to_bus m then serve_known m number s known else passing m number s known
+abbrev pub serve_named : Known → History → ℕ → Standing → Message → Served
+serve_named known at number s m = if is_call_to_bus m then serve_known m number s at known else passing m number s at known
 
 -- ## At each stage
 
-abbrev pub serve_at : Stage → Known → Standing → Message → Served
-serve_at Unnamed known s m = serve_unnamed known s m
-serve_at (Named number) known s m = serve_named known number s m
-serve_at (Closed cause) known s m = quiet s
+abbrev pub serve_at : Stage → Known → History → Standing → Message → Served
+serve_at Unnamed known at s m = serve_unnamed known at s m
+serve_at (Named number) known at s m = serve_named known at number s m
+serve_at (Closed cause) known at s m = quiet s
 
--- Serves a message. Without memory for it a call is answered NoMemory, another message is dropped, and nothing changes.
-unfoldable pub serve : Known → Standing → Message → Served
-serve known s m = serve_at s.stage known s m
+-- Serves a message; the bus is found at this point of its history. A message that is not served changes nothing: a call is
+-- answered an error, another message is dropped. Where the bus is not asked, the point is not looked at.
+unfoldable pub serve : Known → History → Standing → Message → Served
+serve known at s m = serve_at s.stage known at s m

@@ -1,17 +1,18 @@
 //! What becomes of messages that are no calls to the bus.
 
-ghost use Rattle.std.specs.Prelude.{◌≡◌};
+ghost use Rattle.std.specs.Prelude.{◌≡◌, true, IfOk, OnOk, OnErr};
 ghost use Rattle.seq_bus_core.specs.Recipients.{is_call};
-ghost use Rattle.seq_bus.specs.PlainBus.{bus_now};
+ghost use Rattle.bus_view.specs.Views.{bus_seen};
 ghost use Rattle.message_core.specs.Said.{said};
-ghost use Rattle.busd_core.specs.Courses.{is_unknown, goes_to, undelivered, delivered, where_it_fits, course_of};
+ghost use Rattle.busd_core.specs.Courses.{is_unknown, goes_to, undelivered, delivered, where_it_fits, course_of, course_to};
+ghost use Rattle.busd_core.specs.Sessions.{Reads};
 
+use bus_view::{BusView, Gone};
 use match_rules::MessageKind;
 use message::Message;
 use message_relay::{facts, relayed_length};
 use names::UniqueName;
-use seq_bus::SeqBus;
-use seq_bus_core::{Conn, VerdictKind};
+use seq_bus_core::{Conn, Verdict, VerdictKind};
 
 /// What becomes of a message that is no call to the bus.
 #[derive(Clone, Copy, Debug, PartialEq, Eq)]
@@ -78,24 +79,35 @@ fn where_it_fits(number: u64, message: &Message, course: Course) -> Course
     }
 }
 
-/// What becomes of a message of the connection of this number, which is no call to the bus.
-pub fn course_of(bus: &SeqBus, number: u64, message: &Message) -> Course
-    ensures { result ≡ course_of (bus_now bus.now).state number (said message.now) }
+/// What becomes of a message that the bus routes so.
+fn course_to(number: u64, message: &Message, verdict: &Verdict) -> Course
+    ensures { result ≡ course_to number (said message.now) verdict.now }
 {
-    let kind = message.kind();
-    if is_unknown(kind) {
-        return Course::Dropped;
-    }
-    let verdict = bus.route(number, &facts(message));
     match verdict.kind {
         VerdictKind::Plain => {
             let returned = goes_to(number, verdict.to.as_slice());
             where_it_fits(number, message, delivered(returned))
         }
         VerdictKind::Start | VerdictKind::Nobody => {
-            where_it_fits(number, message, undelivered(kind))
+            where_it_fits(number, message, undelivered(message.kind()))
         }
         VerdictKind::Bus => Course::Dropped,
         VerdictKind::Absent => Course::Left,
+    }
+}
+
+/// What becomes of a message of the connection of this number, which is no call to the bus.
+pub fn course_of<V: BusView>(bus: &mut V, number: u64, message: &Message) -> Result<Course, Gone>
+    ensures course { IfOk result (λ course. course ≡ course_of (bus_seen (V.knows bus.new)).state number (said message.now)) }
+    ensures read { OnOk result (Reads V.alone (V.knows bus.old) (V.knows bus.new)) }
+    ensures gone { OnErr result (V.knows bus.new ≡ V.knows bus.old) }
+    ensures there { V.alone ≡ true → OnErr result ⊥ }
+{
+    if is_unknown(message.kind()) {
+        return Ok(Course::Dropped);
+    }
+    match bus.route(number, &facts(message)) {
+        Ok(verdict) => Ok(course_to(number, message, &verdict)),
+        Err(gone) => Err(gone),
     }
 }

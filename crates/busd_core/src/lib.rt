@@ -1,4 +1,4 @@
-//! Serves the message stream of one connection that needs no authentication, over a bus of its own.
+//! Serves the message stream of one connection that needs no authentication, over a view of a bus.
 //!
 //! [`run`] is the whole of it: `specs/Serving` says what the bus does for one message, and `specs/Runs` what it writes
 //! for a stream.
@@ -11,6 +11,7 @@ mod greeting;
 mod laws;
 mod outgoing;
 mod passing;
+mod refusal;
 mod request;
 mod session;
 mod stage;

@@ -1,28 +1,30 @@
 //! What is sent to the connection.
 
-ghost use Rattle.std.specs.Prelude.{Some};
+ghost use Rattle.std.specs.Prelude.{Some, Ok};
 ghost use Rattle.marshal_core.specs.Types.{Tys};
 ghost use Rattle.marshal_core.specs.Values.{Vals};
-ghost use Rattle.seq_bus_core.specs.declared.error_kind.ErrorKind.TheVariants.{NoMemory};
 ghost use Rattle.message_core.specs.Headers.{message_of};
 ghost use Rattle.message_core.specs.Said.{said};
 ghost use Rattle.driver.specs.OwnMessages.{reply_header, IsReplyBody};
-ghost use Rattle.busd_core.specs.Serving.{quiet, sending, replying, reply_to, refusing, acquired_by, signal_by, announcing, answering, telling_change};
-ghost use Rattle.busd_core.specs.Sessions.{standing_of, Does, Stops};
+ghost use Rattle.busd_core.specs.Serving.{quiet, sending, replying, reply_to, refusing, error_for, acquired_by, signal_by, announcing, answering, telling_change, made_by};
+ghost use Rattle.busd_core.specs.Runs.{IsOpenAt};
+ghost use Rattle.busd_core.specs.Sessions.{JustDoes, JustStops, JustCloses, StopsOrWants};
 
 use crate::course::goes_to;
+use crate::fault::Cause;
+use crate::refusal::Refusal;
 use crate::request::{answer_told, reply_to};
 use crate::session::{Session, Stop};
 use driver::{ReplyBody, expects_reply, write_error, write_reply, write_signal};
 use message::Message;
 use names::{BusName, UniqueName};
-use seq_bus_core::{AddressedSignal, BusSignal, ErrorKind, Outcome};
+use seq_bus_core::{AddressedSignal, BusSignal, ErrorKind, Outcome, Reply};
 use std::alloc::AllocError;
 
 impl Session {
     /// Sends a signal of the bus.
     pub fn send(&mut self, signal: &BusSignal, out: &mut Vec<u8>) -> Result<(), AllocError>
-        ensures { Does self.old self.new (sending (signal_by signal.now) (quiet (standing_of self.old))) out.old.items out.new.items result }
+        ensures { JustDoes self.old self.new (λ s. sending (signal_by signal.now) (quiet s)) out.old.items out.new.items result }
     {
         match write_signal(self.next_serial(), signal, out) {
             Ok(()) => {
@@ -35,7 +37,7 @@ impl Session {
 
     /// Tells the connection that it has its unique name.
     pub fn acquire(&mut self, number: u64, out: &mut Vec<u8>) -> Result<(), AllocError>
-        ensures { Does self.old self.new (sending (acquired_by number) (quiet (standing_of self.old))) out.old.items out.new.items result }
+        ensures { JustDoes self.old self.new (λ s. sending (acquired_by number) (quiet s)) out.old.items out.new.items result }
     {
         let signal = BusSignal::NameAcquired {
             name: BusName::from(UniqueName::of(number)),
@@ -52,7 +54,7 @@ impl Session {
         body: ReplyBody<'_>,
         out: &mut Vec<u8>,
     ) -> Result<(), AllocError>
-        ensures { (types : Tys) (values : Vals) → IsReplyBody body.entry types values → Does self.old self.new (replying (said call.now) (λ serial. message_of (reply_header serial (reply_to (said call.now) (Some caller))) types values) (quiet (standing_of self.old))) out.old.items out.new.items result }
+        ensures { (types : Tys) (values : Vals) → IsReplyBody body.entry types values → JustDoes self.old self.new (λ s. replying (said call.now) (λ serial. message_of (reply_header serial (reply_to (said call.now) (Some caller))) types values) (quiet s)) out.old.items out.new.items result }
     {
         if !expects_reply(call) {
             return Ok(());
@@ -75,7 +77,7 @@ impl Session {
         error: ErrorKind,
         out: &mut Vec<u8>,
     ) -> Result<(), AllocError>
-        ensures { Does self.old self.new (refusing (said call.now) caller error (standing_of self.old)) out.old.items out.new.items result }
+        ensures { JustDoes self.old self.new (λ s. refusing (said call.now) caller error s) out.old.items out.new.items result }
     {
         if !expects_reply(call) {
             return Ok(());
@@ -90,18 +92,51 @@ impl Session {
         }
     }
 
-    /// Answers a call for which there is no memory. Without memory for that either, nothing goes on.
-    pub fn want(
+    /// Answers a call that is not served. Without memory for that, nothing goes on.
+    pub fn decline(
         &mut self,
         call: &Message,
         caller: Option<u64>,
+        refusal: Refusal,
         out: &mut Vec<u8>,
     ) -> Result<(), Stop>
-        ensures { Stops self.old self.new (refusing (said call.now) caller NoMemory (standing_of self.old)) out.old.items out.new.items result }
+        ensures { JustStops self.old self.new (λ s. refusing (said call.now) caller (error_for refusal) s) out.old.items out.new.items result }
     {
-        match self.refuse(call, caller, ErrorKind::NoMemory, out) {
+        match self.refuse(call, caller, refusal.error(), out) {
             Ok(()) => Ok(()),
             Err(_) => Err(Stop::Memory),
+        }
+    }
+
+    /// Answers a call by an error, where there is memory for it.
+    pub fn deny(
+        &mut self,
+        call: &Message,
+        caller: u64,
+        error: ErrorKind,
+        out: &mut Vec<u8>,
+    ) -> Result<(), Stop>
+        ensures { StopsOrWants (said call.now) caller self.old self.new (λ s. refusing (said call.now) (Some caller) error s) out.old.items out.new.items result }
+    {
+        match self.refuse(call, Some(caller), error, out) {
+            Ok(()) => Ok(()),
+            Err(_) => self.decline(call, Some(caller), Refusal::NoMemory, out),
+        }
+    }
+
+    /// Replies to a call, where there is memory for it.
+    pub fn tell(
+        &mut self,
+        call: &Message,
+        caller: u64,
+        body: ReplyBody<'_>,
+        out: &mut Vec<u8>,
+    ) -> Result<(), Stop>
+        ensures { (types : Tys) (values : Vals) → IsReplyBody body.entry types values → StopsOrWants (said call.now) caller self.old self.new (λ s. replying (said call.now) (λ serial. message_of (reply_header serial (reply_to (said call.now) (Some caller))) types values) (quiet s)) out.old.items out.new.items result }
+    {
+        match self.reply(call, caller, body, out) {
+            Ok(()) => Ok(()),
+            Err(_) => self.decline(call, Some(caller), Refusal::NoMemory, out),
         }
     }
 
@@ -112,7 +147,7 @@ impl Session {
         signals: &[AddressedSignal],
         out: &mut Vec<u8>,
     ) -> Result<(), Stop>
-        ensures { Stops self.old self.new (announcing number signals.now (quiet (standing_of self.old))) out.old.items out.new.items result }
+        ensures { JustStops self.old self.new (λ s. announcing number signals.now (quiet s)) out.old.items out.new.items result }
     {
         for addressed in signals {
             if goes_to(number, addressed.to.as_slice()) {
@@ -120,6 +155,22 @@ impl Session {
             }
         }
         Ok(())
+    }
+
+    /// Answers a call by nothing or a number.
+    fn answer_with(
+        &mut self,
+        call: &Message,
+        caller: u64,
+        told: Option<u32>,
+        out: &mut Vec<u8>,
+    ) -> Result<(), AllocError>
+        ensures { JustDoes self.old self.new (λ s. answering (said call.now) caller (Ok told) (quiet s)) out.old.items out.new.items result }
+    {
+        match told {
+            None => self.reply(call, caller, ReplyBody::Empty, out),
+            Some(number) => self.reply(call, caller, ReplyBody::Number(number), out),
+        }
     }
 
     /// Answers a call by nothing, a number or an error.
@@ -130,11 +181,10 @@ impl Session {
         answer: Result<Option<u32>, ErrorKind>,
         out: &mut Vec<u8>,
     ) -> Result<(), AllocError>
-        ensures { Does self.old self.new (answering (said call.now) caller answer (quiet (standing_of self.old))) out.old.items out.new.items result }
+        ensures { JustDoes self.old self.new (λ s. answering (said call.now) caller answer (quiet s)) out.old.items out.new.items result }
     {
         match answer {
-            Ok(None) => self.reply(call, caller, ReplyBody::Empty, out),
-            Ok(Some(number)) => self.reply(call, caller, ReplyBody::Number(number), out),
+            Ok(told) => self.answer_with(call, caller, told, out),
             Err(error) => self.refuse(call, Some(caller), error, out),
         }
     }
@@ -147,12 +197,29 @@ impl Session {
         outcome: &Outcome,
         out: &mut Vec<u8>,
     ) -> Result<(), Stop>
-        ensures { Stops self.old self.new (telling_change (said call.now) caller outcome.now (quiet (standing_of self.old))) out.old.items out.new.items result }
+        ensures { JustStops self.old self.new (λ s. telling_change (said call.now) caller outcome.now (quiet s)) out.old.items out.new.items result }
     {
         self.announce(caller, outcome.signals.as_slice(), out)?;
         match self.answer(call, caller, answer_told(outcome.reply), out) {
             Ok(()) => Ok(()),
             Err(_) => Err(Stop::Memory),
+        }
+    }
+
+    /// Sends what a change is told, or closes a connection that has left the bus in the meantime.
+    pub fn tell_made(
+        &mut self,
+        call: &Message,
+        caller: u64,
+        outcome: &Outcome,
+        out: &mut Vec<u8>,
+    ) -> Result<(), Stop>
+        requires { IsOpenAt self.old.stage }
+        ensures { JustCloses self.old self.new (λ s. made_by (said call.now) caller outcome.now outcome.now.reply (quiet s)) out.old.items out.new.items result }
+    {
+        match outcome.reply {
+            Reply::Gone => Err(self.close(Cause::Left)),
+            _ => self.tell_change(call, caller, outcome, out),
         }
     }
 }

@@ -3,16 +3,15 @@
 ghost use Rattle.std.specs.Prelude.{◌≡◌, ◌<◌, None, IfOk, IfErr, IfSome, IfNone};
 ghost use Rattle.message_core.specs.Said.{said};
 ghost use Rattle.busd_core.specs.Serving.{next_serial, serve};
-ghost use Rattle.busd_core.specs.Runs.{IsOpen};
+ghost use Rattle.busd_core.specs.Runs.{IsOpenAt, LeavesAs};
 ghost use Rattle.busd_core.specs.declared.stage.Stage.TheVariants.{Closed};
 ghost use Rattle.busd_core.specs.declared.session.Stop.TheVariants.{Closed as StopClosed};
-ghost use Rattle.busd_core.specs.Sessions.{standing_of, IsFresh, IsReady, TakesOff, IsAtRest, StopsReading, ServesKnown, ServesOne, Leaves, Receives};
+ghost use Rattle.busd_core.specs.Sessions.{side_of, standing_of, IsFresh, IsReady, TakesOff, IsAtRest, StopsReading, ServesKnown, ServesOne, Receives};
 
 use crate::fault::{Cause, RunFault};
 use crate::stage::Stage;
+use bus_view::BusView;
 use message::{FrameFault, Framer, Message};
-use owner_queues::Profile;
-use seq_bus::SeqBus;
 use seq_bus_core::Change;
 use std::alloc::{AllocError, Global};
 
@@ -66,28 +65,26 @@ impl From<Stop> for RunFault {
     }
 }
 
-/// A connection and the bus that serves it alone.
+/// A connection. The bus is handed to what asks it.
 #[derive(Drop)]
 pub struct Session {
     pub framer: Framer,
     pub stage: Stage,
     pub serial: u32,
-    pub bus: SeqBus,
     pub alloc: Global,
 }
 
 impl Session {
-    /// A connection that has sent nothing, to a bus without services.
-    pub fn new(alloc: Global) -> Result<Session, AllocError>
-        ensures { IfOk result IsFresh }
+    /// A connection that has sent nothing.
+    pub fn new(alloc: Global) -> Session
+        ensures { IsFresh result }
     {
-        Ok(Session {
+        Session {
             framer: Framer::new(alloc),
             stage: Stage::Unnamed,
             serial: 0,
-            bus: SeqBus::new(alloc, &[], 1, Profile::Two)?,
             alloc,
-        })
+        }
     }
 
     /// The next whole message.
@@ -130,47 +127,66 @@ impl Session {
         self.serial = self.next_serial();
     }
 
-    fn serve_at_stage(&mut self, message: &Message, out: &mut Vec<u8>) -> Result<(), Stop>
-        requires { IsOpen (standing_of self.old) }
-        ensures { ServesKnown (λ known. serve known (standing_of self.old) (said message.now)) (said message.now) self.old self.new out.old.items out.new.items result }
+    fn serve_at_stage<V: BusView>(
+        &mut self,
+        bus: &mut V,
+        right: &V::Right,
+        message: &Message,
+        out: &mut Vec<u8>,
+    ) -> Result<(), Stop>
+        requires { IsOpenAt self.old.stage }
+        ensures { let s = standing_of (side_of (V.knows bus.old) self.old) in
+            ServesKnown V.alone (λ known at. serve known at s (said message.now)) (said message.now) (side_of (V.knows bus.old) self.old) (side_of (V.knows bus.new) self.new) out.old.items out.new.items result }
     {
         match self.stage {
-            Stage::Unnamed => self.serve_unnamed(message, out),
-            Stage::Named(number) => self.serve_named(number, message, out),
+            Stage::Unnamed => self.serve_unnamed(bus, right, message, out),
+            Stage::Named(number) => self.serve_named(bus, right, number, message, out),
             Stage::Closed(cause) => Err(Stop::Closed(cause)),
         }
     }
 
     /// Serves one message. Where there is no memory for it, nothing is appended.
-    fn serve(&mut self, message: &Message, out: &mut Vec<u8>) -> Result<(), Stop>
-        requires { IsOpen (standing_of self.old) }
-        ensures { ServesOne self.old self.new message.now out.old.items out.new.items result }
+    fn serve<V: BusView>(
+        &mut self,
+        bus: &mut V,
+        right: &V::Right,
+        message: &Message,
+        out: &mut Vec<u8>,
+    ) -> Result<(), Stop>
+        requires { IsOpenAt self.old.stage }
+        ensures { ServesOne V.alone (side_of (V.knows bus.old) self.old) (side_of (V.knows bus.new) self.new) message.now out.old.items out.new.items result }
     {
         let length = out.len();
-        let served = self.serve_at_stage(message, out);
+        let served = self.serve_at_stage(bus, right, message, out);
         if served == Err(Stop::Memory) {
             out.truncate(length);
         }
         served
     }
 
-    /// Takes the connection from the bus. Without memory for it the bus is left as it is.
-    pub fn leave(&mut self)
-        ensures { Leaves self.old self.new }
+    /// Takes the connection from the bus. Where that is refused the bus is left as it is.
+    pub fn leave<V: BusView>(&self, bus: &mut V, right: &V::Right)
+        ensures { LeavesAs V.alone self.now.stage (V.knows bus.old) (V.knows bus.new) }
     {
         if let Stage::Named(connection) = self.stage {
-            let _ = self.bus.change(Change::Leave { connection });
+            let _ = bus.change(right, Change::Leave { connection });
         }
     }
 
     /// Takes a piece of the stream, and appends what the bus answers to the messages that are whole now.
-    pub fn receive(&mut self, piece: &[u8], out: &mut Vec<u8>) -> Result<(), Stop>
+    pub fn receive<V: BusView>(
+        &mut self,
+        bus: &mut V,
+        right: &V::Right,
+        piece: &[u8],
+        out: &mut Vec<u8>,
+    ) -> Result<(), Stop>
         requires { IsReady self.old }
-        ensures { Receives self.old self.new piece.now out.old.items out.new.items result }
+        ensures { Receives V.alone (side_of (V.knows bus.old) self.old) (side_of (V.knows bus.new) self.new) piece.now out.old.items out.new.items result }
     {
         self.framer.feed(piece)?;
         while let Some(message) = self.next()? {
-            self.serve(&message, out)?;
+            self.serve(bus, right, &message, out)?;
         }
         Ok(())
     }

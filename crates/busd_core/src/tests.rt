@@ -1,14 +1,24 @@
-//! Runs over memory.
+//! Runs over memory, and over plain buses.
 
 mod messages;
 mod owners;
 
-use crate::{Cause, RunFault, run};
+use crate::{Cause, RunFault, run as run_over};
 use messages::*;
+use owner_queues::Profile;
+use seq_bus::SeqBus;
 use std::alloc::{AllocError, Global};
 use std::io;
 use std::io::{ErrorKind, Read, Write};
 use std::test::Fail;
+
+/// Runs over a bus of its own, with one router and no services.
+fn run<R: Read, W: Write>(alloc: Global, reader: &mut R, writer: &mut W) -> Result<(), RunFault> {
+    let Ok(mut bus) = SeqBus::new(alloc, &[], 1, Profile::Two) else {
+        return Err(RunFault::Memory);
+    };
+    run_over(alloc, &mut bus, &(), reader, writer)
+}
 
 fn joined(alloc: Global, parts: &[&[u8]]) -> Result<Vec<u8>, AllocError> {
     let mut bytes = Vec::new(alloc);

@@ -1,8 +1,7 @@
 //! Names that are listed, requested and released.
 
-use super::joined;
 use super::messages::*;
-use crate::run;
+use super::{joined, run};
 use std::process::Abort;
 use std::test::Fail;
 

@@ -6,4 +6,4 @@ use Rattle.busd_core.proofs.stream.run.Given as goal
 abbrev pub invariant-loop : goal.invariant-loop
 invariant-loop g l =
     (l.out.items ≡ [])
-    × IsUnderWay (g.R.Read.remaining l.initial.reader) (g.R.Read.remaining l.reader) (g.W.Write.contents l.initial.writer) (g.W.Write.contents l.writer) l.session
+    × IsUnderWay g.V.BusView.alone (g.V.BusView.knows l.initial.bus) (g.R.Read.remaining l.initial.reader) (g.R.Read.remaining l.reader) (g.W.Write.contents l.initial.writer) (g.W.Write.contents l.writer) l.session (g.V.BusView.knows l.bus)

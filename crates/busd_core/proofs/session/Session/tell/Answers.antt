@@ -1,15 +1,15 @@
-use Rattle.std.proofs.Common.{[], ◌∷◌}
-use Rattle.marshal_core.specs.Types.{one_type}
-use Rattle.marshal_core.specs.Values.{values}
-use Rattle.seq_bus_core.specs.Answers.{answer}
-use Rattle.seq_bus.specs.Bodies.{answer_type, answer_value}
-use Rattle.seq_bus.specs.PlainBus.{bus_now}
+use Rattle.std.proofs.Common.{Some, inl, inr}
+use Rattle.seq_bus_core.specs.declared.error_kind.ErrorKind.TheVariants.{NoMemory}
 use Rattle.message_core.specs.Said.{said}
-use Rattle.busd_core.proofs.Telling.{answer_told, as_body}
+use Rattle.busd_core.specs.Serving.{refusing}
+use Rattle.busd_core.specs.Sessions.{side_of}
+use Rattle.busd_core.proofs.Sending.{stops_since}
 use Rattle.busd_core.proofs.session.Session.tell.Goals as goal
 
-pub returns-in-Ok-Body : goal.returns-in-Ok-Body
-returns-in-Ok-Body c =
-    answer_told c.args.self.now c.reply.new.self (said c.args.call.now) c.args.caller c.ask.new.self (answer (bus_now c.args.self.now.bus).state c.args.query.now) c.ask.new.body.items c.args.out.now.items c.reply.new.out.items c.reply.result
-    c.in-Ok-Body.ensures.unchanged (as_body _ _ _ _ c.in-Ok-Body.field-0-is c.new-body.ensures.items c.in-Ok-Body.ensures.answered)
-    (λ told is body. c.reply.ensures (one_type (answer_type told)) (values (answer_value told ∷ [])) (c.body_of.ensures (bus_now c.args.self.now.bus).state told is (rw c.as_slice.ensures.value body)))
+pub returns-in-Ok : goal.returns-in-Ok
+returns-in-Ok c = λ types values is. inl (c.in-Ok.ensures types values is)
+
+pub returns-in-Err : goal.returns-in-Err
+returns-in-Err c = λ types values is.
+    inr (λ bus. stops_since (side_of bus c.args.self.now) (side_of bus c.reply.new.self) (side_of bus c.decline.new.self) (λ s. refusing (said c.args.call.now) (Some c.args.caller) NoMemory s) c.args.out.now.items c.reply.new.out.items c.decline.new.out.items c.decline.result
+    (c.in-Err.ensures types values is bus) (c.decline.ensures bus))
