@@ -11,3 +11,4 @@ pub mod Signing
 pub mod Hellos
 pub mod Nexts
 pub mod Judging
+pub mod Answering

@@ -1,6 +1,6 @@
 //! What serves connections: the view of the bus, the gate, and the actions so far.
 
-ghost use Rattle.std.specs.Prelude.{◌≡◌, ◌<◌, ◌≤◌, ◌+◌, ◌++◌, ◌∷◌, [], Option, OnOk};
+ghost use Rattle.std.specs.Prelude.{◌≡◌, ◌<◌, ◌≤◌, ◌+◌, ◌++◌, ◌∷◌, [], Option, IfOk, OnOk};
 ghost use Rattle.message_core.specs.Messages.{Message, IsWritten};
 ghost use Rattle.seq_bus.specs.Served.{IsServedChange};
 ghost use Rattle.seq_bus_core.specs.Answers.{Answer};
@@ -178,6 +178,7 @@ impl<V: BusView, G: Gate> Hands<V, G> {
     pub fn change(&mut self, right: &V::Right, change: Change) -> Result<Outcome, Cause>
         requires { IsServedChange change }
         ensures changes { Changes V.alone change self.old.world (heard_change result) self.new.world }
+        ensures settled { IfOk result (λ outcome. outcome.tickets ≡ []) }
         ensures room { self.new.room ≡ self.old.room }
     {
         match self.view.change(right, change) {

@@ -4,26 +4,19 @@
 //! Each of its methods makes one step of the scripts that `router_core` defines. [`Peer`] is one connection.
 #![tactic(auto)]
 
-#[cfg(test)]
-mod call_tests;
+mod calls;
 mod closing;
 mod first;
-#[cfg(test)]
-mod first_tests;
 mod front;
 mod hands;
 mod hello_errors;
 mod leaving;
 mod mail;
 mod peer;
-#[cfg(test)]
-mod relay_tests;
 mod relaying;
 mod room;
 mod slot;
 mod telling;
-#[cfg(test)]
-mod tests;
 
 pub use first::{First, Greeting};
 pub use front::Front;

@@ -4,12 +4,12 @@ ghost use Rattle.std.specs.Prelude.{◌≡◌, ◌<◌};
 ghost use Rattle.envelopes.specs.Contents.{said_of};
 ghost use Rattle.router_hands.specs.Writing.{IsSpelled};
 
-use super::*;
 use driver::Call;
 use envelopes::{Content, OwnMessage};
 use names::{BusName, UniqueName};
 use owner_queues::Profile;
 use router_core::{Action, Addressees, CloseCause, OpenGate};
+use router_hands::{Hands, Peer, Stage, bytes_of, serial_after};
 use seq_bus::{SeqBus, can_open};
 use seq_bus_core::{BusSignal, Change, Conn, Outcome, Reply};
 use std::alloc::Global;
@@ -42,7 +42,7 @@ pub(crate) fn ready(rt: &impl Abort, alloc: Global) -> Hands<SeqBus, OpenGate>
 }
 
 /// Says Hello, once more where one allocation failed.
-fn greet(rt: &impl Abort, hands: &mut Hands<SeqBus, OpenGate>) -> Outcome
+pub(crate) fn greet(rt: &impl Abort, hands: &mut Hands<SeqBus, OpenGate>) -> Outcome
     ensures { hands.new.room ≡ hands.old.room }
 {
     match hands.change(&(), Change::Hello { privileged: true }) {

@@ -3,10 +3,10 @@
 ghost use Rattle.std.specs.Prelude.{◌≡◌, true, IfOk};
 ghost use Rattle.router_core.specs.Standing.{Unnamed};
 
-use super::*;
-use crate::relay_tests::REPLY;
-use crate::tests::ready;
+use crate::relays::REPLY;
+use crate::steps::ready;
 use router_core::{Action, CloseCause};
+use router_hands::Peer;
 use std::alloc::Global;
 use std::test::Fail;
 

@@ -1,7 +1,6 @@
 //! Messages that connections send one another, over a plain bus.
 
-use super::*;
-use crate::tests::{FIRST, ready};
+use crate::steps::{FIRST, ready};
 use envelopes::Content;
 use message::Framer;
 use message_core::Message;
