@@ -2,3 +2,4 @@ pub mod Slots
 pub mod Ticks
 pub mod FoundMail
 pub mod Greetings
+pub mod Bringing

@@ -4,6 +4,9 @@
 //! serve one connection at a time. Each of its methods serves one event, as `router_core` defines its script.
 #![tactic(auto)]
 
+mod engine;
+#[cfg(test)]
+mod engine_tests;
 mod greeting;
 #[cfg(test)]
 mod greeting_tests;
@@ -14,4 +17,5 @@ mod served;
 mod tests;
 mod tick;
 
+pub use engine::Engine;
 pub use served::Served;

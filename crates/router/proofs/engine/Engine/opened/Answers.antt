@@ -1,0 +1,9 @@
+use Rattle.std.proofs.Common.{ap}
+use Rattle.router_core.specs.declared.event.Event.TheVariants.{Opened}
+use Rattle.router.proofs.Bringing.{brings}
+use Rattle.router.proofs.engine.Engine.opened.Goals as goal
+
+pub returns-clause-brings : goal.returns-clause-brings
+returns-clause-brings g c =
+    brings g.V.BusView.told g.G.Gate.passes g.V.BusView.alone (Opened c.args.key) c.self.inside.served c.open.new.self c.take_actions.new.self c.take_actions.result.items c.args.self.now c.self.view_is c.self.invariant
+    (c.in_ok-open.ensures.ok, ap (λ k. k.world) c.open.ensures.work) c.take_actions.ensures.standing c.take_actions.ensures.actions c.take_actions.ensures.world
