@@ -8,6 +8,7 @@ use message_core::{Header, Message, NO_REPLY_EXPECTED};
 use names::{BusName, Interface, Member, ObjectPath};
 use router_core::{Action, CloseCause, OpenGate};
 use router_hands::{Hands, bytes_of, is_method_call};
+use router_serving::serve_bus;
 use seq_bus::SeqBus;
 use seq_bus_core::{Change, ErrorKind};
 use std::alloc::Global;
@@ -140,7 +141,7 @@ fn serve(
     message: &Message,
 ) -> Result<Vec<Action<()>>, Fail> {
     hands.reserve(2)?;
-    assert!(rt; hands.serve_bus(alloc, &(), message, FIRST).is_none());
+    assert!(rt; serve_bus(alloc, hands, &(), message, FIRST).is_none());
     Ok(hands.take_actions())
 }
 
@@ -384,7 +385,7 @@ fn caller_that_left(rt: HostRuntime) -> Result<(), Fail> {
     assert!(rt; hands.change(&(), Change::Leave { connection: 1 }).is_ok());
     hands.reserve(2)?;
     let message = message_of(rt.alloc(), 0, (BUS, "ReleaseName", "s", A))?;
-    let fate = hands.serve_bus(rt.alloc(), &(), &message, FIRST);
+    let fate = serve_bus(rt.alloc(), &mut hands, &(), &message, FIRST);
     assert!(rt; matches!(fate, Some(CloseCause::Left)));
     assert!(rt; hands.take_actions().is_empty());
     Ok(())

@@ -1,6 +1,6 @@
 //! Whole messages out of a stream that comes in pieces.
 
-ghost use Rattle.std.specs.Prelude.{◌≡◌, ◌≢◌, ◌≤◌, ◌++◌, ℕ, List, [], Ok, Some, None, length, take, drop, OnOk, OnErr, IfOk, IfErr, IfSome, IfNone};
+ghost use Rattle.std.specs.Prelude.{◌≡◌, ◌≢◌, ◌≤◌, ◌++◌, ℕ, true, false, List, [], Ok, Some, None, length, take, drop, OnOk, OnErr, IfOk, IfErr, IfSome, IfNone};
 ghost use Rattle.message_core.specs.declared.fault.FrameFault.TheVariants.{NoMemory};
 ghost use Rattle.message_core.specs.Announcements.{announced};
 ghost use Rattle.message_core.specs.Messages.{Message as Record, IsMessage};
@@ -49,6 +49,14 @@ fn whole_length(bytes: &[u8]) -> Result<Option<usize>, FrameFault>
     Ok(Some(length))
 }
 
+/// Whether the bytes don't announce a message yet, or fewer are there than they announce.
+fn is_short(bytes: &[u8]) -> bool
+    ensures short { result ≡ true → IsWaiting MESSAGE_LIMIT bytes.now }
+    ensures whole { result ≡ false → IsWaiting MESSAGE_LIMIT bytes.now → ⊥ }
+{
+    matches!(whole_length(bytes), Ok(None))
+}
+
 impl Framer {
     /// A framer that holds nothing.
     pub fn new(alloc: Global) -> Framer
@@ -81,6 +89,14 @@ impl Framer {
         self.buffer = fresh;
         self.from = 0;
         Ok(())
+    }
+
+    /// Whether bytes are missing: then [`next`](Framer::next) answers `None`, and else a message or a fault.
+    pub fn is_waiting(&self) -> bool
+        ensures waiting { result ≡ true → (self.now.fault ≡ None) × IsWaiting MESSAGE_LIMIT self.now.bytes }
+        ensures ready { result ≡ false → self.now.fault ≡ None → IsWaiting MESSAGE_LIMIT self.now.bytes → ⊥ }
+    {
+        self.fault.is_none() && is_short(&self.buffer[self.from..])
     }
 
     /// The next whole message; `None` where bytes are missing. The first fault is answered for good,

@@ -11,4 +11,4 @@ pub mod Signing
 pub mod Hellos
 pub mod Nexts
 pub mod Judging
-pub mod Answering
+pub mod Waiting

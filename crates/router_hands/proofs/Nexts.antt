@@ -1,5 +1,5 @@
 -- What comes of the next message.
-use Rattle.std.proofs.Common.{◌≡◌, ℕ, Bool, true, false, Option, Some, None, List, [], refl, sym, ap, ◌∙◌, subst, if◌then◌else◌}
+use Rattle.std.proofs.Common.{◌≡◌, ℕ, Bool, false, Option, Some, None, List, [], refl, sym, ap, ◌∙◌, subst, if◌then◌else◌}
 use Rattle.std.proofs.lemmas.List.{set-get_or}
 use Rattle.seq_bus_core.specs.Histories.{History}
 use Rattle.seq_bus_core.specs.declared.connection.Conn.{Conn}
@@ -11,9 +11,9 @@ use Rattle.router_core.specs.declared.cause.CloseCause.TheVariants as cause
 use Rattle.router_core.specs.Deeds.{GatedCall}
 use Rattle.router_core.specs.Events.{OfPeer, closing, close_if, for_slot, for_peer, greet, serve_at, read, next_at, next}
 use Rattle.router_core.specs.Fronts.{Waits, Whole, Faulty, IsFront}
-use Rattle.router_core.specs.Scripts.{Script, Gives, Fronting, World, Comes, and_then}
+use Rattle.router_core.specs.Scripts.{Gives, Fronting, World, Comes, and_then}
 use Rattle.router_core.specs.Serving.{serve}
-use Rattle.router_core.specs.Standing.{Peer, Standing, Stage, Unnamed, Named, Shut, peer_at, with_peer, shut}
+use Rattle.router_core.specs.Standing.{Peer, Standing, Stage, Unnamed, Named, peer_at, with_peer}
 use Rattle.router_hands.specs.Reading.{IsRest}
 use Rattle.router_hands.proofs.Hellos.{for_there}
 use Rattle.router_hands.proofs.Sequels.{comes_then}

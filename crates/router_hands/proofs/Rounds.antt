@@ -1,5 +1,5 @@
 -- One turn of what is done for each of several.
-use Rattle.std.proofs.Common.{ℕ, ◌+◌, ◌<◌, ◌≤◌, Bool, Option, None, List, [], ◌∷◌, ◌++◌, length, get_or, set, take, drop, refl, sym, subst, arith}
+use Rattle.std.proofs.Common.{ℕ, ◌+◌, ◌<◌, ◌≤◌, Bool, Option, None, List, [], ◌∷◌, ◌++◌, length, get_or, set, take, drop, sym, subst, arith}
 use Rattle.std.proofs.lemmas.List.{drop_more, length-take-le, take_more_set, drop-set-lt}
 use Rattle.seq_bus_core.specs.Histories.{History}
 use Rattle.router_core.specs.Deeds.{GatedCall}

@@ -8,4 +8,4 @@ pub mod OncePut
 pub mod Refusing
 pub mod Pending
 pub mod Reading
-pub mod Requesting
+pub mod Quiet

@@ -7,7 +7,7 @@ use Rattle.router_core.specs.Deeds.{GatedCall}
 use Rattle.router_core.specs.Events.{next}
 use Rattle.router_core.specs.Fronts.{Waits, Whole, Faulty, IsFront}
 use Rattle.router_core.specs.Scripts.{World, Comes}
-use Rattle.router_core.specs.Standing.{Stage, Unnamed, Peer, Standing, peer_at, with_peer, next_serial}
+use Rattle.router_core.specs.Standing.{Unnamed, Peer, Standing, peer_at, with_peer, next_serial}
 use Rattle.router_hands.specs.declared.first.First.{First}
 use Rattle.router_hands.specs.declared.first.First.TheVariants as first
 use Rattle.router_hands.specs.declared.front.Front.{Front}

@@ -1,8 +1,8 @@
 //! The first message of a connection. (D-Bus Specification: "org.freedesktop.DBus.Hello")
 
-ghost use Rattle.std.specs.Prelude.{◌≡◌, ◌<◌, ◌≤◌, ◌+◌, Some, None, IfOk, IfSome, OnErr};
+ghost use Rattle.std.specs.Prelude.{◌≡◌, ◌<◌, ◌≤◌, ◌+◌, Some, None, IfOk, IfSome, OnOk, OnErr};
 ghost use Rattle.router_core.specs.Standing.{Unnamed};
-ghost use Rattle.router_hands.specs.Reading.{HasFirst, ComesOfNext};
+ghost use Rattle.router_hands.specs.Reading.{HasFront, HasFirst, IsRest, ComesOfNext};
 
 use crate::front::{Front, take_front};
 use crate::hands::Hands;
@@ -41,6 +41,15 @@ pub struct Greeting {
 }
 
 impl Peer {
+    /// Takes its next message off its bytes; at a fault they are let go. Without memory nothing changes.
+    pub fn take_next(&mut self) -> Result<Front, AllocError>
+        ensures front { IfOk result (λ front. HasFront front self.old.unread self.new.unread) }
+        ensures rest { OnOk result (IsRest self.old self.new) }
+        ensures err { OnErr result (self.new ≡ self.old) }
+    {
+        take_front(self.alloc, &mut self.pending, &mut self.unread)
+    }
+
     /// Takes its first message off its bytes. Without memory nothing changes.
     fn take_first(&mut self) -> Result<First, AllocError>
         ensures ok { IfOk result (λ first. HasFirst first self.old self.new) }

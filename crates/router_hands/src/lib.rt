@@ -4,7 +4,6 @@
 //! Each of its methods makes one step of the scripts that `router_core` defines. [`Peer`] is one connection.
 #![tactic(auto)]
 
-mod calls;
 mod closing;
 mod first;
 mod front;

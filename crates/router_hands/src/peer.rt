@@ -1,10 +1,12 @@
 //! One connection.
 
-ghost use Rattle.std.specs.Prelude.{◌≡◌, ◌<◌, ◌≤◌, ◌+◌, OnOk, OnErr};
+ghost use Rattle.std.specs.Prelude.{◌≡◌, ◌<◌, ◌≤◌, ◌+◌, true, false, OnOk, OnErr};
 ghost use Rattle.router_core.specs.Events.{closing, fed, look};
+ghost use Rattle.router_core.specs.Fronts.{Waits, IsFront};
 ghost use Rattle.router_core.specs.Scripts.{Comes};
 ghost use Rattle.router_core.specs.Standing.{Named, newcomer, next_serial, conn_of, shut};
 ghost use Rattle.router_hands.specs.Hearing.{heard_present};
+ghost use Rattle.router_hands.specs.Quiet.{IsQuiet};
 ghost use Rattle.router_hands.specs.Stages.{stage_of};
 
 use crate::hands::Hands;
@@ -95,6 +97,27 @@ impl Peer {
             Stage::Shut(_) => Ok(()),
             Stage::Unnamed { privileged: _ } | Stage::Named(_) => self.unread.feed(piece),
         }
+    }
+
+    /// Whether there is something of it to be served: a whole message at the front of its bytes, or what is none.
+    pub fn has_next(&self) -> bool
+        ensures quiet { result ≡ false → IsQuiet self.now }
+        ensures ready { result ≡ true → IsQuiet self.now → ⊥ }
+    {
+        match self.stage {
+            Stage::Shut(_) => false,
+            Stage::Unnamed { privileged: _ } => self.has_front(),
+            Stage::Named(_) => self.has_front(),
+        }
+    }
+
+    /// Whether a message stands at the front of its bytes, or what is none.
+    #[tactic(auto, using(crate::proofs::Waiting::pending_is_whole))]
+    fn has_front(&self) -> bool
+        ensures waits { result ≡ false → IsFront self.now.unread Waits }
+        ensures there { result ≡ true → IsFront self.now.unread Waits → ⊥ }
+    {
+        self.pending.is_some() || !self.unread.is_waiting()
     }
 
     /// The serial of the last message of the bus that was written to it.

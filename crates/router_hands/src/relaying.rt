@@ -90,7 +90,7 @@ impl<V: BusView, G: Gate> Hands<V, G> {
     ///
     /// As those of `relay_to`.
     #[tactic(auto, using(crate::proofs::Signing::all_of_none))]
-    pub(crate) fn relay_to_monitors(
+    pub fn relay_to_monitors(
         &mut self,
         message: &Message,
         sender: Conn,

@@ -1,8 +1,0 @@
-use Rattle.message_core.specs.Said.{said}
-use Rattle.router_hands.proofs.Answering.{read_so}
-use Rattle.router_hands.proofs.hands.Hands.serve_call.Goals as goal
-
-pub returns-clause-comes : goal.returns-clause-comes
-returns-clause-comes g c =
-    read_so g.V.BusView.told g.G.Gate.passes g.V.BusView.alone (said c.args.message.now) c.args.caller c.read_call-reading.result
-    c.args.self.now.world c.serve_reading.new.self.world c.serve_reading.result c.read_call-reading.ensures c.serve_reading.ensures.comes

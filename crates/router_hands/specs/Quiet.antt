@@ -1,0 +1,11 @@
+-- Whether there is nothing of a connection to be served.
+use Rattle.router_core.specs.Fronts.{Waits, IsFront}
+use Rattle.router_core.specs.Standing.{Stage, Shut, Peer}
+
+abbrev pub IsQuietAt : Peer → Stage → Type 0
+IsQuietAt p (Shut conn) = Unit {0}
+IsQuietAt p stage = IsFront p.unread Waits
+
+-- It was closed, or more of its bytes are wanted.
+abbrev pub IsQuiet : Peer → Type 0
+IsQuiet p = IsQuietAt p p.stage

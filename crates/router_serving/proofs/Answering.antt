@@ -1,0 +1,105 @@
+-- What a call is answered that asks the bus, or has it changed.
+use Rattle.std.proofs.Common.{◌≡◌, ℕ, Bool, List, [], Option, Some, None, Result, Ok, Err, inl, inr, true, false, refl, sym, subst}
+use Rattle.seq_bus_core.specs.Answers.{Answer, answer}
+use Rattle.seq_bus_core.specs.BusState.{BusState}
+use Rattle.seq_bus_core.specs.Histories.{History}
+use Rattle.seq_bus_core.specs.declared.change.Change.{Change}
+use Rattle.seq_bus_core.specs.declared.connection.Conn.{Conn}
+use Rattle.seq_bus_core.specs.declared.error_kind.ErrorKind.{ErrorKind}
+use Rattle.seq_bus_core.specs.declared.error_kind.ErrorKind.TheVariants as error
+use Rattle.seq_bus_core.specs.declared.outcome.Outcome.{Outcome}
+use Rattle.seq_bus_core.specs.declared.outcome.Reply.{Reply}
+use Rattle.seq_bus_core.specs.declared.outcome.Reply.TheVariants as reply
+use Rattle.seq_bus_core.specs.declared.query.Query.{Query}
+use Rattle.seq_bus_core.specs.declared.ticket.SettledTicket.{SettledTicket}
+use Rattle.seq_bus.specs.declared.answer.Asked.{Asked}
+use Rattle.seq_bus.specs.declared.answer.Asked.TheVariants.{Body, NameHasNoOwner}
+use Rattle.seq_bus.specs.declared.answer.AskFault.{AskFault}
+use Rattle.message_core.specs.Messages.{Message}
+use Rattle.driver.specs.declared.call.Call.{Call}
+use Rattle.driver.specs.declared.fault.DriverFault.{DriverFault}
+use Rattle.driver.specs.Calls.{Reading, error_of, IsCallOrWants}
+use Rattle.bus_view.specs.Views.{bus_seen}
+use Rattle.envelopes.specs.Answers.{Carries, kind_of}
+use Rattle.envelopes.specs.Contents.{Carried}
+use Rattle.envelopes.specs.declared.answer.BodyKind.{BodyKind}
+use Rattle.router_core.specs.declared.cause.CloseCause.{CloseCause}
+use Rattle.router_core.specs.Answers.{Heard, Says, Refuses, error_for, unanswered_for}
+use Rattle.router_core.specs.Deeds.{GatedCall}
+use Rattle.router_core.specs.Scripts.{Asking, World, Changes, Asks, Passes, Announces, Comes}
+use Rattle.router_core.specs.Serving.{Work, Request, Makes, and_stays, stays_open, answer_told, answer_with, answered, err_with, made, made_by, release_all, request_of, serve_call, serve_reading, serve_request, tell_change}
+use Rattle.router_hands.specs.Hearing.{IsTold}
+use Rattle.router_hands.proofs.Sequels.{comes_then}
+
+module _ {N G : Type 0} (told : N → History) (passes : G → GatedCall → G → Type 0) (alone : Bool) where
+  -- after the work the connection stays open
+  pub stays : (work : Work) (w v : World N G) → Comes told passes alone work w tt v → Comes told passes alone (and_stays work) w None v
+  stays work w v comes = comes_then told passes alone (λ done. stays_open) tt v None v (refl, refl) work w comes
+
+  module _ (m : Message) (caller : Conn) where
+    -- where no ticket was settled
+    pub tells_change : (o : Outcome) (answered_so : Result Carried ErrorKind) (w n v : World N G) → o.tickets ≡ [] → Announces told alone o.signals w n → answered_so ≡ answer_told o.reply →
+        Comes told passes alone (answer_with m caller answered_so) n tt v → Comes told passes alone (tell_change m caller o) w tt v
+    tells_change o answered_so w n v none announces is comes =
+        let last : Comes told passes alone (release_all caller o.tickets) v tt v = subst (λ (tickets : List SettledTicket). Comes told passes alone (release_all caller tickets) v tt v) (sym none) (refl, refl) in
+        let first = subst (λ (a : Result Carried ErrorKind). Comes told passes alone (answer_with m caller a) n tt v) is comes in
+        (n, announces, comes_then told passes alone (λ done. release_all caller o.tickets) tt v tt v last (answer_with m caller (answer_told o.reply)) n first)
+
+    pub made_still : (o : Outcome) (told_so : Reply) (w v : World N G) → (told_so ≡ reply.Gone → ⊥) →
+        Comes told passes alone (tell_change m caller o) w tt v → Comes told passes alone (made_by m caller o told_so) w None v
+    made_still o reply.Gone w v there comes = absurd (there refl)
+    made_still o other w v there comes = stays (tell_change m caller o) w v comes
+
+    module _ (query : Query) (r : Result Asked AskFault) (bytes : List ℕ) (w n v : World N G) (asks : (heard : Heard (Option Answer)) × Asks alone query w heard n × IsTold r heard bytes) where
+      pub asked_body : (kind : BodyKind) → r ≡ Ok Body → ((state : BusState) (a : Answer) → answer state query ≡ Some a → kind ≡ kind_of a) →
+          ((a : Answer) → Carries (record { kind = kind; bytes = bytes }) a → Comes told passes alone (answered m caller (Says (Some a))) n tt v) →
+          Comes told passes alone (Asking query (λ heard. and_stays (answered m caller heard))) w None v
+      asked_body kind is kinds comes =
+          let so : IsTold (Ok Body) asks.0 bytes = subst (λ (x : Result Asked AskFault). IsTold x asks.0 bytes) is asks.2 in
+          let says : Asks alone query w (Says (Some so.0)) n = subst (λ (h : Heard (Option Answer)). Asks alone query w h n) so.1 asks.1 in
+          let carries : Carries (record { kind = kind; bytes = bytes }) so.0 = record { kind = kinds (bus_seen n.view).state so.0 (sym says.hears.1); spelled = so.2 } in
+          (Says (Some so.0), n, says, stays (answered m caller (Says (Some so.0))) n v (comes so.0 carries))
+
+      pub asked_none : r ≡ Ok NameHasNoOwner → Comes told passes alone (err_with m caller error.NameHasNoOwner) n tt v →
+          Comes told passes alone (Asking query (λ heard. and_stays (answered m caller heard))) w None v
+      asked_none is comes =
+          let so : IsTold (Ok NameHasNoOwner) asks.0 bytes = subst (λ (x : Result Asked AskFault). IsTold x asks.0 bytes) is asks.2 in
+          let says : Asks alone query w (Says None) n = subst (λ (h : Heard (Option Answer)). Asks alone query w h n) so.0 asks.1 in
+          (Says None, n, says, stays (answered m caller (Says None)) n v comes)
+
+      pub asked_fault : (why : AskFault) (told_so : ErrorKind) → r ≡ Err why → told_so ≡ error_for (unanswered_for why) → Comes told passes alone (err_with m caller told_so) n tt v →
+          Comes told passes alone (Asking query (λ heard. and_stays (answered m caller heard))) w None v
+      asked_fault why told_so is errs comes =
+          let so : IsTold (Err why) asks.0 bytes = subst (λ (x : Result Asked AskFault). IsTold x asks.0 bytes) is asks.2 in
+          let says : Asks alone query w (Refuses (unanswered_for why)) n = subst (λ (h : Heard (Option Answer)). Asks alone query w h n) so.0 asks.1 in
+          let first : Comes told passes alone (answered m caller (Refuses (unanswered_for why))) n tt v = subst (λ (e : ErrorKind). Comes told passes alone (err_with m caller e) n tt v) errs comes in
+          (Refuses (unanswered_for why), n, says, stays (answered m caller (Refuses (unanswered_for why))) n v first)
+
+    pub requests_change : (q : Result Request ErrorKind) (change : Change) (heard : Heard Outcome) (w n v : World N G) (fate : Option CloseCause) → q ≡ Ok (Makes change) →
+        Changes alone change w heard n → Comes told passes alone (made m caller heard) n fate v → Comes told passes alone (serve_request m caller q) w fate v
+    requests_change q change heard w n v fate is changes comes =
+        subst (λ (x : Result Request ErrorKind). Comes told passes alone (serve_request m caller x) w fate v) (sym is) (heard, n, changes, comes)
+
+    pub requests_nothing : (q : Result Request ErrorKind) (error : ErrorKind) (w v : World N G) → q ≡ Err error →
+        Comes told passes alone (err_with m caller error) w tt v → Comes told passes alone (serve_request m caller q) w None v
+    requests_nothing q error w v is comes =
+        subst (λ (x : Result Request ErrorKind). Comes told passes alone (serve_request m caller x) w None v) (sym is) (stays (err_with m caller error) w v comes)
+
+    pub reads_call : (reading : Reading Call) (call : Call) (q : Result Request ErrorKind) (w n v : World N G) (fate : Option CloseCause) → reading ≡ Ok call → Passes passes call w n →
+        q ≡ request_of caller.number call → Comes told passes alone (serve_request m caller q) n fate v → Comes told passes alone (serve_reading m caller reading) w fate v
+    reads_call reading call q w n v fate is shown asks comes =
+        let first = subst (λ (x : Result Request ErrorKind). Comes told passes alone (serve_request m caller x) n fate v) asks comes in
+        subst (λ (x : Reading Call). Comes told passes alone (serve_reading m caller x) w fate v) (sym is) (n, shown, first)
+
+    pub reads_fault : (reading : Reading Call) (why : DriverFault) (error : ErrorKind) (w v : World N G) → reading ≡ Err why → error ≡ error_of why →
+        Comes told passes alone (err_with m caller error) w tt v → Comes told passes alone (serve_reading m caller reading) w None v
+    reads_fault reading why error w v is errs comes =
+        let first = subst (λ (e : ErrorKind). Comes told passes alone (err_with m caller e) w tt v) errs comes in
+        subst (λ (x : Reading Call). Comes told passes alone (serve_reading m caller x) w None v) (sym is) (stays (err_with m caller (error_of why)) w v first)
+
+    -- a call as it was read, if there was memory
+    pub read_so : (reading : Reading Call) (w v : World N G) (fate : Option CloseCause) → IsCallOrWants m reading →
+        Comes told passes alone (serve_reading m caller reading) w fate v → Comes told passes alone (serve_call m caller) w fate v
+    read_so reading w v fate (inl is) comes = (true, (reading, is, comes))
+    read_so reading w v fate (inr wants) comes =
+        (false, subst (λ (r : Reading Call). Comes told passes alone (serve_reading m caller r) w fate v) wants comes)

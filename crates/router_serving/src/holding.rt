@@ -1,0 +1,34 @@
+//! Calls to names whose service is not running. (D-Bus Specification: "Message Bus Starting Services (Activation)")
+
+ghost use Rattle.std.specs.Prelude.{◌≡◌, ◌<◌, ◌≤◌, ◌+◌};
+ghost use Rattle.message_core.specs.Said.{said};
+ghost use Rattle.message_core.specs.HeaderFields.{text_field};
+ghost use Rattle.message_core.specs.declared.header_field.HeaderField.TheVariants.{Destination};
+ghost use Rattle.router_core.specs.Scripts.{Comes};
+ghost use Rattle.router_core.specs.Serving.{hold as holding};
+
+use bus_view::BusView;
+use message_core::Message;
+use router_core::{CloseCause, Gate};
+use router_hands::Hands;
+use seq_bus_core::{Conn, ErrorKind};
+
+/// Answers a call that would wait until the service of its name runs. There is no memory for such calls yet: each is
+/// answered so.
+pub(crate) fn hold<V: BusView, G: Gate>(
+    hands: &mut Hands<V, G>,
+    message: &Message,
+    sender: Conn,
+) -> Option<CloseCause>
+    requires { 0 < hands.old.room }
+    ensures comes { Comes V.told G.passes V.alone (holding (said message.now) sender (text_field Destination (said message.now).fields)) hands.old.world result hands.new.world }
+    ensures room { hands.old.room ≤ hands.new.room + 1 }
+{
+    match message.destination() {
+        None => None,
+        Some(_) => {
+            hands.err_with(message, sender, ErrorKind::NoMemory);
+            None
+        }
+    }
+}

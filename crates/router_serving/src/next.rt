@@ -1,0 +1,69 @@
+//! The next message of a connection.
+
+ghost use Rattle.std.specs.Prelude.{◌≡◌, ◌<◌, ◌≤◌, ◌+◌, Some, IfOk, IfSome, OnOk, OnErr};
+ghost use Rattle.router_core.specs.Events.{next_at};
+ghost use Rattle.router_core.specs.Scripts.{Comes};
+ghost use Rattle.router_core.specs.Standing.{Standing, Named, peer_at, with_peer};
+ghost use Rattle.router_hands.specs.Reading.{ComesOfNext};
+
+use crate::routing::serve;
+use bus_view::BusView;
+use router_core::{CloseCause, Gate};
+use router_hands::{Front, Greeting, Hands, Peer, Stage};
+use seq_bus_core::Conn;
+use std::alloc::{AllocError, Global};
+
+/// Serves the next whole message of a connection that has its name, and closes it if there is a cause. Without memory
+/// nothing changes.
+fn serve_next<V: BusView, G: Gate>(
+    alloc: Global,
+    hands: &mut Hands<V, G>,
+    right: &V::Right,
+    key: usize,
+    peer: &mut Peer,
+    conn: Conn,
+) -> Result<(), AllocError>
+    requires room { 3 < hands.old.room }
+    requires named { peer.old.stage ≡ Named conn }
+    ensures comes { OnOk result ((s : Standing) → peer_at s key ≡ Some peer.old → Comes V.told G.passes V.alone (next_at s key peer.old (Named conn)) hands.old.world (with_peer s key (Some peer.new)) hands.new.world) }
+    ensures err { OnErr result (peer.new ≡ peer.old) }
+    ensures world { OnErr result (hands.new.world ≡ hands.old.world) }
+{
+    match peer.take_next()? {
+        Front::Waits => {}
+        Front::Faulty(fault) => hands.close_peer(key, peer, CloseCause::Faulty(fault)),
+        Front::Whole(message) => {
+            let fate = serve(alloc, hands, right, &message, conn);
+            hands.close_if(key, peer, fate);
+        }
+    }
+    Ok(())
+}
+
+/// Serves the next whole message of the connection of a key, if it is there. A connection that says Hello is handed out
+/// of its place, as the bus has to give it a name; it leaves the room as it was. Without memory nothing changes.
+pub fn next_in<V: BusView, G: Gate>(
+    alloc: Global,
+    hands: &mut Hands<V, G>,
+    right: &V::Right,
+    key: usize,
+    slot: &mut Option<Peer>,
+) -> Result<Option<Greeting>, AllocError>
+    requires room { 3 < hands.old.room }
+    ensures next { IfOk result (λ greeting. ComesOfNext V.told G.passes V.alone key greeting slot.old slot.new hands.old.world hands.new.world) }
+    ensures kept { IfOk result (λ greeting. IfSome greeting (λ _. hands.new.room ≡ hands.old.room)) }
+    ensures err { OnErr result (slot.new ≡ slot.old) }
+    ensures world { OnErr result (hands.new.world ≡ hands.old.world) }
+{
+    let Some(peer) = slot else {
+        return Ok(None);
+    };
+    match peer.stage() {
+        Stage::Shut(_) => Ok(None),
+        Stage::Unnamed { privileged } => hands.greet_or_close(key, slot, privileged),
+        Stage::Named(conn) => {
+            serve_next(alloc, hands, right, key, peer, conn)?;
+            Ok(None)
+        }
+    }
+}
