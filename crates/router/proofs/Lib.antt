@@ -3,3 +3,4 @@ pub mod Ticks
 pub mod FoundMail
 pub mod Greetings
 pub mod Bringing
+pub mod Greeted

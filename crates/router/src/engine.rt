@@ -1,15 +1,16 @@
 //! The engine: what serves the events of a router.
 
-ghost use Rattle.std.specs.Prelude.{◌≡◌, OnErr, IfOk};
+ghost use Rattle.std.specs.Prelude.{◌≡◌, ◌↔◌, IsTrue, true, false, OnErr, IfOk};
 ghost use Rattle.router_core.specs.Acts.{Brings};
 ghost use Rattle.router_core.specs.Events.{CanHappen, IsFree};
 ghost use Rattle.router_core.specs.Standing.{fresh};
-ghost use Rattle.router_core.specs.declared.event.Event.TheVariants.{Opened, Bytes, Mail, Closed, Tick};
+ghost use Rattle.router_core.specs.declared.event.Event.TheVariants.{Opened, Bytes, Next, Mail, Closed, Tick};
+ghost use Rattle.router.specs.Upcoming.{HasNoNext};
 
 use crate::served::Served;
 use bus_view::BusView;
 use envelopes::Envelope;
-use router_core::{Action, Gate};
+use router_core::{Action, Event, Gate};
 use std::alloc::{AllocError, Global};
 use std::marker::Model;
 
@@ -48,6 +49,13 @@ impl<V: BusView, G: Gate> Engine<V, G> {
         self.served.free_key()
     }
 
+    /// Whether a key is one for the next connection, as [`free_key`](Engine::free_key) finds one.
+    pub fn is_free(&self, key: usize) -> bool
+        ensures { IsTrue result ↔ IsFree self.now.standing key }
+    {
+        self.served.is_free(key)
+    }
+
     /// A connection came, and has this key.
     pub fn opened(&mut self, key: usize) -> Result<Vec<Action<V::Note>>, AllocError>
         requires { CanHappen V.registry_of self.old.view.registry self.old.standing (Opened key) }
@@ -64,6 +72,24 @@ impl<V: BusView, G: Gate> Engine<V, G> {
         ensures err { OnErr result (self.new ≡ self.old) }
     {
         self.served.feed(key, &piece)?;
+        Ok(self.served.take_actions())
+    }
+
+    /// Whether a connection has sent a whole message that was not served, or what is no message:
+    /// [`next`](Engine::next) does nothing where it has not.
+    pub fn has_next(&self, key: usize) -> bool
+        ensures quiet { result ≡ false → HasNoNext self.now.standing key }
+        ensures ready { result ≡ true → HasNoNext self.now.standing key → ⊥ }
+    {
+        self.served.has_next(key)
+    }
+
+    /// The next whole message of a connection is served. There are no actions where there is none.
+    pub fn next(&mut self, right: &V::Right, key: usize) -> Result<Vec<Action<V::Note>>, AllocError>
+        ensures brings { IfOk result (λ actions. Brings V.told G.passes V.alone self.old (Next key) actions.items self.new) }
+        ensures err { OnErr result (self.new ≡ self.old) }
+    {
+        self.served.next(right, key)?;
         Ok(self.served.take_actions())
     }
 
@@ -101,5 +127,25 @@ impl<V: BusView, G: Gate> Engine<V, G> {
     {
         self.served.tick(right)?;
         Ok(self.served.take_actions())
+    }
+
+    /// Something happened.
+    pub fn event(
+        &mut self,
+        right: &V::Right,
+        event: Event<V::Note>,
+    ) -> Result<Vec<Action<V::Note>>, AllocError>
+        requires { CanHappen V.registry_of self.old.view.registry self.old.standing event }
+        ensures brings { IfOk result (λ actions. Brings V.told G.passes V.alone self.old event actions.items self.new) }
+        ensures err { OnErr result (self.new ≡ self.old) }
+    {
+        match event {
+            Event::Opened { key } => self.opened(key),
+            Event::Bytes { key, piece } => self.bytes(key, piece),
+            Event::Next { key } => self.next(right, key),
+            Event::Mail { slot, envelope } => self.mail(slot, envelope),
+            Event::Closed { key } => self.closed(right, key),
+            Event::Tick => self.tick(right),
+        }
     }
 }

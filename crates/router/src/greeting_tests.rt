@@ -19,11 +19,11 @@ use std::alloc::Global;
 use std::process::Abort;
 
 /// Hello, of serial 1.
-const HELLO: &[u8] =
+pub(crate) const HELLO: &[u8] =
     b"l\x01\0\x01\0\0\0\0\x01\0\0\0m\0\0\0\x01\x01o\0\x15\0\0\0/org/freedesktop/DBus\0\0\0\x02\x01s\0\x14\0\0\0org.freedesktop.DBus\0\0\0\0\x03\x01s\0\x05\0\0\0Hello\0\0\0\x06\x01s\0\x14\0\0\0org.freedesktop.DBus\0\0\0\0";
 
 /// The reply to it: `:1.1`.
-const WELCOME: &[u8] =
+pub(crate) const WELCOME: &[u8] =
     b"l\x02\x01\x01\x09\0\0\0\x01\0\0\0?\0\0\0\x05\x01u\0\x01\0\0\0\x06\x01s\0\x04\0\0\0:1.1\0\0\0\0\x07\x01s\0\x14\0\0\0org.freedesktop.DBus\0\0\0\0\x08\x01g\0\x01s\0\0\x04\0\0\0:1.1\0";
 
 /// The message that the bytes are, read once more where one allocation failed.
@@ -42,7 +42,7 @@ fn message_of(rt: &impl Abort, alloc: Global, bytes: &[u8]) -> Message {
 }
 
 /// The bytes of a content, once more where one allocation failed.
-fn spelled(rt: &impl Abort, alloc: Global, content: &Content, serial: u32) -> Vec<u8>
+pub(crate) fn spelled(rt: &impl Abort, alloc: Global, content: &Content, serial: u32) -> Vec<u8>
     requires { 0 < serial }
     ensures { IsSpelled (said_of content.now) serial result.items }
 {

@@ -12,6 +12,7 @@ mod greeting;
 mod greeting_tests;
 mod inbox;
 mod leaving;
+mod next;
 mod served;
 #[cfg(test)]
 mod tests;

@@ -1,6 +1,6 @@
 //! The connections with what serves them, while an event is served.
 
-ghost use Rattle.std.specs.Prelude.{◌≡◌, [], OnOk, OnErr};
+ghost use Rattle.std.specs.Prelude.{◌≡◌, ◌↔◌, IsTrue, [], OnOk, OnErr};
 ghost use Rattle.router_core.specs.Events.{fed, for_peer, IsFree};
 ghost use Rattle.router_core.specs.Scripts.{Gives, Comes};
 ghost use Rattle.router_core.specs.Standing.{fresh, opened, peer_at};
@@ -71,6 +71,17 @@ impl<V: BusView, G: Gate> Served<V, G> {
             }
         }
         self.peers.len()
+    }
+
+    /// Whether no connection has a key, and none above it is left out.
+    #[tactic(auto, using(crate::proofs::Slots::none_beyond))]
+    pub fn is_free(&self, key: usize) -> bool
+        ensures { IsTrue result ↔ IsFree self.now.standing key }
+    {
+        if key >= self.peers.len() {
+            return key == self.peers.len();
+        }
+        self.peers[key].is_none()
     }
 
     /// A connection came, and has this key. Without memory nothing changes.

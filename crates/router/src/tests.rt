@@ -39,7 +39,7 @@ fn greet(rt: &impl Abort, hands: &mut Hands<SeqBus, OpenGate>) -> Outcome {
 }
 
 /// What the first connection of a bus is shown.
-fn acquired() -> OwnMessage {
+pub(crate) fn acquired() -> OwnMessage {
     OwnMessage::Signal(BusSignal::NameAcquired {
         name: BusName::from(UniqueName::of(1)),
         owner: 1,
