@@ -1,0 +1,25 @@
+//! Why a run ends early.
+
+use std::alloc::AllocError;
+use thiserror::Error;
+
+/// Why a run ends before its events do.
+#[derive(Clone, Copy, Debug, PartialEq, Eq, Error)]
+pub enum RunFault {
+    /// A connection comes at the event of this index, and its key is not free.
+    #[error("event {0}: the key is not free")]
+    KeyTaken(usize),
+    #[error("out of memory")]
+    NoMemory,
+}
+
+impl From<AllocError> for RunFault {
+    ghost use Rattle.std.specs.Prelude.{◌≡◌};
+    ghost use Rattle.router_runs.specs.declared.fault.RunFault.TheVariants.{NoMemory};
+
+    ghost from_gives = { λ _ fault. fault ≡ NoMemory };
+
+    fn from(_error: AllocError) -> RunFault {
+        RunFault::NoMemory
+    }
+}
