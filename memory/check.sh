@@ -20,7 +20,8 @@ wrong() {
     exit 1
 }
 
-# The replies where the Hello or the GetNameOwner of the sample is refused for memory.
+# The reply to the Hello of the sample, with its signal, and those where the Hello or the GetNameOwner is refused for memory.
+head -c 89 "$crates/busd/stdout" > "$room/named"
 head -c 258 "$crates/busd/stdout" > "$room/welcome"
 printf 'l\3\1\1\22\0\0\0\1\0\0\0_\0\0\0\4\1s\0#\0\0\0org.freedesktop.DBus.Error.NoMemory\0\0\0\0\0\5\1u\0\1\0\0\0\7\1s\0\24\0\0\0org.freedesktop.DBus\0\0\0\0\10\1g\0\1s\0\0\15\0\0\0Out of memory\0' > "$room/no_hello"
 {
@@ -44,7 +45,8 @@ for number in $(seq "$count"); do
     run_busd "$number"
     said 0 "$crates/busd/stdout" "" || said 0 "$room/no_owner" "" ||
         said 3 "$room/no_hello" "busd: closed: 64" ||
-        said 5 /dev/null "busd: memory" || said 5 "$room/welcome" "busd: memory" || wrong
+        said 5 /dev/null "busd: memory" || said 5 "$room/named" "busd: memory" ||
+        said 5 "$room/welcome" "busd: memory" || said 5 "$crates/busd/stdout" "busd: memory" || wrong
 done
 echo "busd: $count allocations refused in turn, each answered as it should be"
 

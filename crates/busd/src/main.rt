@@ -10,12 +10,15 @@ ghost use Rattle.busd_core.specs.Statuses.{status_of};
 ghost use Rattle.busd_core.specs.declared.fault.RunFault.TheVariants.{Output};
 ghost use Rattle.busd.specs.Statuses.{refusal_status};
 
+use bus_view::BusView;
 use busd_core::{RunFault, run};
 use clap::error::ErrorKind;
 use clap::{Command, Error};
 use desk::Desk;
 use owner_queues::Profile;
 use registry_snapshots::{Naming, Opened, Seat, Shared};
+use router::Engine;
+use router_core::OpenGate;
 use std::alloc::{AllocError, Global};
 use std::marker::Brand;
 use std::process::ExitCode;
@@ -61,11 +64,14 @@ fn serve_at<J: Naming, R: Input + Print + AllocGlobal + Wait>(
     shared: &Shared<J>,
     seat: Seat<J>,
 ) -> Result<(), RunFault> {
-    let mut desk = Desk::new(rt.alloc(), seat, shared);
+    let desk = Desk::new(rt.alloc(), seat, shared);
+    let number = desk.seat();
+    let mut engine = Engine::new(rt.alloc(), desk, OpenGate);
     run(
         rt.alloc(),
-        &mut desk,
+        &mut engine,
         rt,
+        number,
         &mut rt.reader(),
         &mut io::writer(rt),
     )

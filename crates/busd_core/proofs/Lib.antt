@@ -1,10 +1,8 @@
-pub mod Asking
 pub mod Known
-pub mod OneReading
-pub mod Reading
-pub mod Repeats
-pub mod Sending
-pub mod Served
-pub mod Steps
-pub mod Streams
-pub mod Telling
+pub mod Each
+pub mod Closing
+pub mod Quiet
+pub mod Mailing
+pub mod Letters
+pub mod Courses
+pub mod Endings

@@ -1,9 +1,4 @@
-pub mod Courses
-pub mod Serving
-pub mod Runs
-pub mod Refusals
-pub mod Repeats
-pub mod Transfers
 pub mod Sessions
-pub mod Stops
+pub mod Parts
+pub mod Transfers
 pub mod Statuses

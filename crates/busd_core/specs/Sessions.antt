@@ -1,165 +1,203 @@
--- What the parts of a session do.
-use Rattle.std.specs.Prelude.{◌≡◌, ◌⊎◌, ℕ, Bool, List, [], ◌++◌, None, Some, Result, Ok, Err}
-use Rattle.std.specs.declared.alloc.AllocError.{AllocError}
+-- How the engine of a router serves the stream of one connection.
+use Rattle.std.specs.Prelude.{◌≡◌, ◌⊎◌, ℕ, Bool, ◌==◌, Option, Some, None, Result, Ok, Err, List, [], ◌∷◌, ◌++◌, if◌then◌else◌}
+use Rattle.std.specs.Io.KnownBytes.{Consumes, Appends}
+use Rattle.std.specs.List.{flat_map, AllByRecursion}
+use Rattle.std.specs.Option.{option_or}
 use Rattle.seq_bus_core.specs.Histories.{History}
-use Rattle.seq_bus_core.specs.declared.error_kind.ErrorKind.{ErrorKind}
-use Rattle.seq_bus_core.specs.declared.error_kind.ErrorKind.TheVariants.{NoMemory as NoMemoryError}
-use Rattle.seq_bus.specs.Served.{IsServedChange}
-use Rattle.bus_view.specs.Views.{Knowledge, Reaches, IsRead}
-use Rattle.message_core.specs.Messages.{Message}
-use Rattle.message_core.specs.Said.{said}
-use Rattle.message.specs.Framing.{Unread, IsWaiting, IsTaken, IsJudged}
-use Rattle.driver.specs.declared.call.Call.{Call}
-use Rattle.driver.specs.Calls.{Reading, IsCall}
-use Rattle.busd_core.specs.declared.fault.Cause.{Cause}
-use Rattle.busd_core.specs.declared.fault.Cause.TheVariants.{Faulty}
-use Rattle.busd_core.specs.declared.refusal.Refusal.{Refusal}
-use Rattle.busd_core.specs.declared.request.Request.{Request}
-use Rattle.busd_core.specs.declared.request.Request.TheVariants.{Ask, Make}
-use Rattle.busd_core.specs.declared.stage.Stage.{Stage}
-use Rattle.busd_core.specs.declared.stage.Stage.TheVariants.{Unnamed, Closed}
-use Rattle.busd_core.specs.declared.session.Stop.{Stop}
-use Rattle.busd_core.specs.declared.session.Stop.TheVariants.{Closed as StopClosed, Memory}
-use Rattle.busd_core.specs.declared.session.Session.{Session}
-use Rattle.busd_core.specs.Serving.{Standing, Served, Known, error_for, found, refusing, losing, request_in, serve}
-use Rattle.busd_core.specs.Runs.{limit, Serves, IsLost, IsFound, IsOwn, IsOpen, IsOpenAt, ClosesFor, Moves, AreWritten}
+use Rattle.seq_bus_core.specs.declared.connection.Conn.{Conn}
+use Rattle.seq_bus_core.specs.declared.signal.AddressedSignal.{AddressedSignal}
+use Rattle.envelopes.specs.Contents.{Said, Tells, Signals, said_of}
+use Rattle.envelopes.specs.declared.envelope.Envelope.{Envelope}
+use Rattle.router_core.specs.declared.action.Action.{Action}
+use Rattle.router_core.specs.declared.action.Action.TheVariants.{Write, Put, Announce, Close}
+use Rattle.router_core.specs.declared.cause.CloseCause.{CloseCause}
+use Rattle.router_core.specs.declared.event.Event.{Event}
+use Rattle.router_core.specs.declared.event.Event.TheVariants.{Opened, Bytes, Next, Mail, Closed}
+use Rattle.router_core.specs.Acts.{State, Brings}
+use Rattle.router_core.specs.Deeds.{GatedCall, all_of}
+use Rattle.router_core.specs.Events.{IsFree}
+use Rattle.router.specs.Upcoming.{HasNoNext}
+use Rattle.busd_core.specs.declared.fault.RunFault.{RunFault}
+use Rattle.busd_core.specs.declared.fault.RunFault.TheVariants as fault
 
--- the bus's side of a connection: the unread bytes, how it stands, and what its view knows of the bus
-pub record Side : Type 0 where
-  pub framer : Unread
-  pub stage : Stage
-  pub serial : ℕ
-  pub bus : Knowledge
+-- ## What actions do to the connection of a key
 
-abbrev pub side_of : Knowledge → Session → Side
-side_of bus s = record { framer = s.framer; stage = s.stage; serial = s.serial; bus = bus }
+abbrev pub bytes_for : {N : Type 0} → ℕ → Action N → List ℕ
+bytes_for key (Write to bytes) = if to == key then bytes.items else []
+bytes_for key other = []
 
-abbrev pub standing_of : Side → Standing
-standing_of s = record { stage = s.stage; serial = s.serial; bus = s.bus }
+-- all that is written to it
+abbrev pub written_to : {N : Type 0} → ℕ → List (Action N) → List ℕ
+written_to key actions = flat_map (bytes_for key) actions
 
--- nothing was received yet
-abbrev pub IsFresh : Session → Type 0
-IsFresh s = (s.framer ≡ record { bytes = []; fault = None }) × (s.stage ≡ Unnamed) × (s.serial ≡ 0)
+abbrev pub close_of : {N : Type 0} → ℕ → Action N → Option CloseCause
+close_of key (Close closed cause) = if closed == key then Some cause else None
+close_of key other = None
 
--- more can be received
-abbrev pub IsReady : Session → Type 0
-IsReady s = (s.framer.fault ≡ None) × IsOpenAt s.stage
+-- why it is closed, if it is
+abbrev pub closed_by : {N : Type 0} → ℕ → List (Action N) → Option CloseCause
+closed_by key [] = None
+closed_by key (action ∷ actions) = option_or (close_of key action) (closed_by key actions)
 
--- a whole message is taken off the unread bytes
-abbrev pub TakesOff : List ℕ → Session → Session → Type 0
-TakesOff m old new = IsTaken limit m old.framer new.framer × (new.stage ≡ old.stage) × (new.serial ≡ old.serial)
+-- ## Mail
 
-abbrev pub IsAtRest : Session → Type 0
-IsAtRest s = (s.framer.fault ≡ None) × IsWaiting limit s.framer.bytes
+-- what is on its way to the connection of this number, in this slot
+pub record Delivery : Type 0 where
+  pub slot : ℕ
+  pub number : ℕ
+  pub said : Said
 
-abbrev pub StopsReading : Stop → Session → Session → Type 0
-StopsReading Memory old new = Unit {0}
-StopsReading (StopClosed (Faulty f)) old new = IsJudged limit f old.framer.bytes × (new.framer.bytes ≡ old.framer.bytes) × (new.stage ≡ old.stage) × (new.serial ≡ old.serial)
-StopsReading (StopClosed cause) old new = ⊥
+-- A connection gets it that is of the router of this seat.
+abbrev pub mail_to : ℕ → Said → Conn → List Delivery
+mail_to seat said conn = if conn.router == seat then record { slot = conn.slot; number = conn.number; said = said } ∷ [] else []
 
--- ## What is appended
+abbrev pub mail_to_all : ℕ → Said → List Conn → List Delivery
+mail_to_all seat said conns = flat_map (mail_to seat said) conns
 
--- More is appended, which may be a part of what was to be written.
-abbrev pub Grows : (before after : List ℕ) → Type 0
-Grows before after = (more : List ℕ) × (after ≡ before ++ more)
+abbrev pub mail_of_signal : ℕ → AddressedSignal → List Delivery
+mail_of_signal seat s = mail_to_all seat (Tells (Signals s.signal)) (all_of s.to s.monitors)
 
--- The connection stands as after this, and the messages are appended.
-abbrev pub Shows : Side → Side → Served → (before after : List ℕ) → Type 0
-Shows old new served before after =
-    (new.framer ≡ old.framer) × (standing_of new ≡ served.standing) × ((written : List ℕ) × AreWritten served.sent written × (after ≡ before ++ written))
+abbrev pub mail_of : {N : Type 0} → ℕ → Action N → List Delivery
+mail_of seat (Put to carried content) = mail_to_all seat (said_of content) (all_of to.to to.monitors)
+mail_of seat (Announce signals carried) = flat_map (mail_of_signal seat) signals
+mail_of seat other = []
 
--- It is done, or there was no memory, and nothing is done.
-abbrev pub Does : Side → Side → Served → (before after : List ℕ) → Result (Unit {0}) AllocError → Type 0
-Does old new served before after (Ok u) = Shows old new served before after
-Does old new served before after (Err e) = (new ≡ old) × (after ≡ before)
+-- all that the actions put, in order
+abbrev pub mails_of : {N : Type 0} → ℕ → List (Action N) → List Delivery
+mails_of seat actions = flat_map (mail_of seat) actions
 
--- ## What a message brings
+-- the envelope carries it, without a note
+pub record Carries {N : Type 0} (envelope : Envelope N) (delivery : Delivery) : Type 0 where
+  pub number : envelope.number ≡ delivery.number
+  pub note : envelope.note ≡ None
+  pub said : said_of envelope.content ≡ delivery.said
 
--- the connection is closed for what the message asks
-abbrev pub ClosesBy : Cause → Side → Type 0
-ClosesBy (Faulty f) new = ⊥
-ClosesBy cause new = new.stage ≡ Closed cause
+module _ {N G : Type 0} (told : N → History) (passes : G → GatedCall → G → Type 0) (alone : Bool) (seat key : ℕ) where
+  -- The delivery comes as mail, and what that brings is written. It puts nothing, and closes nothing.
+  pub record IsMailed (before : State G) (delivery : Delivery) (written : List ℕ) (after : State G) : Type 0 where
+    pub envelope : Envelope N
+    pub actions : List (Action N)
+    pub carries : Carries envelope delivery
+    pub brings : Brings told passes alone before (Mail delivery.slot envelope) actions after
+    pub nothing : mails_of seat actions ≡ []
+    pub is_open : closed_by key actions ≡ None
+    pub writes : written ≡ written_to key actions
 
--- It is done, and the connection may be closed; or there was no memory to go on, perhaps as the bus was asked already.
-abbrev pub Ends : Bool → Side → Side → Served → (before after : List ℕ) → Result (Unit {0}) Stop → Type 0
-Ends alone old new served before after (Ok u) = Shows old new served before after × IsOpen (standing_of new)
-Ends alone old new served before after (Err Memory) = Grows before after × Moves alone old.bus new.bus
-Ends alone old new served before after (Err (StopClosed cause)) = Shows old new served before after × ClosesBy cause new
+  -- one after the other
+  abbrev pub AreMailed : State G → List Delivery → List ℕ → State G → Type 0
+  AreMailed before [] written after = (after ≡ before) × (written ≡ [])
+  AreMailed before (delivery ∷ deliveries) written after =
+      (between : State G) × (first later : List ℕ)
+      × IsMailed before delivery first between × AreMailed between deliveries later after × (written ≡ first ++ later)
 
--- A step that keeps the connection as it is, or there was no memory to go on.
-abbrev pub Stops : Side → Side → Served → (before after : List ℕ) → Result (Unit {0}) Stop → Type 0
-Stops old new served before after (Ok u) = Shows old new served before after
-Stops old new served before after (Err Memory) = Grows before after
-Stops old new served before after (Err (StopClosed cause)) = ⊥
+  -- ## Events
 
--- A step after which the connection may be closed, or there was no memory to go on.
-abbrev pub Closes : Side → Side → Served → (before after : List ℕ) → Result (Unit {0}) Stop → Type 0
-Closes old new served before after (Ok u) = Shows old new served before after × IsOpen (standing_of new)
-Closes old new served before after (Err Memory) = Grows before after
-Closes old new served before after (Err (StopClosed cause)) = Shows old new served before after × ClosesBy cause new
+  -- The event happens: what its actions write is written, then what they put comes as mail, and the connection stays open.
+  pub record Happens (before : State G) (event : Event N) (written : List ℕ) (after : State G) : Type 0 where
+    pub actions : List (Action N)
+    pub between : State G
+    pub later : List ℕ
+    pub brings : Brings told passes alone before event actions between
+    pub is_open : closed_by key actions ≡ None
+    pub mailed : AreMailed between (mails_of seat actions) later after
+    pub writes : written ≡ written_to key actions ++ later
 
--- ## Where the bus is not asked: whatever is known of it
+  -- one after the other
+  abbrev pub AllHappen : State G → List (Event N) → List ℕ → State G → Type 0
+  AllHappen before [] written after = (after ≡ before) × (written ≡ [])
+  AllHappen before (event ∷ events) written after =
+      (between : State G) × (first later : List ℕ)
+      × Happens before event first between × AllHappen between events later after × (written ≡ first ++ later)
 
-abbrev pub JustDoes : Session → Session → (Standing → Served) → (before after : List ℕ) → Result (Unit {0}) AllocError → Type 0
-JustDoes old new serving before after result = (bus : Knowledge) → Does (side_of bus old) (side_of bus new) (serving (standing_of (side_of bus old))) before after result
+  -- The event closes the connection.
+  pub record Closes (before : State G) (event : Event N) (cause : CloseCause) (written : List ℕ) (after : State G) : Type 0 where
+    pub actions : List (Action N)
+    pub brings : Brings told passes alone before event actions after
+    pub closes : closed_by key actions ≡ Some cause
+    pub writes : written ≡ written_to key actions
 
-abbrev pub JustStops : Session → Session → (Standing → Served) → (before after : List ℕ) → Result (Unit {0}) Stop → Type 0
-JustStops old new serving before after result = (bus : Knowledge) → Stops (side_of bus old) (side_of bus new) (serving (standing_of (side_of bus old))) before after result
+  -- The event happens in part: some of the mail does not come, and of what is written the last bytes are missing.
+  pub record Breaks (before : State G) (event : Event N) (written missing : List ℕ) (after : State G) : Type 0 where
+    pub actions : List (Action N)
+    pub between : State G
+    pub come : List Delivery
+    pub left : List Delivery
+    pub later : List ℕ
+    pub brings : Brings told passes alone before event actions between
+    pub put : mails_of seat actions ≡ come ++ left
+    pub mailed : AreMailed between come later after
+    pub writes : written ++ missing ≡ written_to key actions ++ later
 
-abbrev pub JustCloses : Session → Session → (Standing → Served) → (before after : List ℕ) → Result (Unit {0}) Stop → Type 0
-JustCloses old new serving before after result = (bus : Knowledge) → Closes (side_of bus old) (side_of bus new) (serving (standing_of (side_of bus old))) before after result
+-- ## A run
 
--- a call of the connection of this number is served, or there was no memory, and it is answered so
-abbrev pub StopsOrWants : Message → ℕ → Session → Session → (Standing → Served) → (before after : List ℕ) → Result (Unit {0}) Stop → Type 0
-StopsOrWants m number old new serving before after result =
-    JustStops old new serving before after result ⊎ JustStops old new (refusing m (Some number) NoMemoryError) before after result
+abbrev pub piece_of : {N : Type 0} → Event N → List ℕ
+piece_of (Bytes key piece) = piece.items
+piece_of other = []
 
--- a message of the connection of this number goes its way, or there was no memory for it
-abbrev pub ClosesOrLoses : Message → ℕ → Session → Session → (Standing → Served) → (before after : List ℕ) → Result (Unit {0}) Stop → Type 0
-ClosesOrLoses m number old new serving before after result =
-    JustCloses old new serving before after result ⊎ JustCloses old new (losing m number NoMemoryError) before after result
+-- Bytes of the connection come, or its next message is served.
+abbrev pub IsServing : {N : Type 0} → ℕ → Event N → Type 0
+IsServing key (Bytes of piece) = of ≡ key
+IsServing key (Next of) = of ≡ key
+IsServing key other = ⊥
 
--- ## Where the bus is asked
+-- The connection comes, and is served from then on.
+abbrev pub IsLife : {N : Type 0} → ℕ → List (Event N) → Type 0
+IsLife key [] = Unit {0}
+IsLife key (event ∷ events) = (event ≡ Opened key) × AllByRecursion (IsServing key) events
 
--- the bus was not asked, or it was read
-abbrev pub Reads : Bool → Knowledge → Knowledge → Type 0
-Reads alone before after = (after ≡ before) ⊎ IsRead alone before after
+-- what happens to the connection
+abbrev pub IsOf : {N : Type 0} → ℕ → Event N → Type 0
+IsOf key (Opened of) = of ≡ key
+IsOf key (Closed of) = of ≡ key
+IsOf key event = IsServing key event
 
--- a call is read, or there was no memory for it
-abbrev pub ReadsOrWants : Message → ℕ → Result Request ErrorKind → Type 0
-ReadsOrWants m number result = ((reading : Reading Call) × IsCall m reading × (result ≡ request_in number reading)) ⊎ (result ≡ Err NoMemoryError)
+module _ {N G : Type 0} (told : N → History) (passes : G → GatedCall → G → Type 0) (alone : Bool) (seat key : ℕ) where
+  -- So far these events happened to the connection, by which these bytes were read and these written.
+  pub record Serves (before : State G) (events : List (Event N)) (read written : List ℕ) (after : State G) : Type 0 where
+    pub life : IsLife key events
+    pub happen : AllHappen told passes alone seat key before events written after
+    pub reads : read ≡ flat_map piece_of events
 
--- what a bus serves today
-abbrev pub IsServedRequest : Request → Type 0
-IsServedRequest (Ask query) = Unit {0}
-IsServedRequest (Make change) = IsServedChange change
+  -- The run ends at an event, so.
+  pub record EndsAt (so : State G → Event N → List ℕ → State G → Type 0) (before : State G) (read written : List ℕ) (after : State G) : Type 0 where
+    pub events : List (Event N)
+    pub event : Event N
+    pub between : State G
+    pub fed : List ℕ
+    pub first : List ℕ
+    pub last : List ℕ
+    pub serves : Serves before events fed first between
+    pub is_of : IsOf key event
+    pub ends : so between event last after
+    pub reads : read ≡ fed ++ piece_of event
+    pub writes : written ≡ first ++ last
 
--- A call of the connection of this number is served, at some point of the history; or it is refused, and answered so.
-abbrev pub AsksOrIsRefused : Bool → Message → ℕ → Side → Side → (History → Served) → (before after : List ℕ) → Result (Unit {0}) Stop → Type 0
-AsksOrIsRefused alone m number old new serving before after result =
-    ((at : History) × Reaches alone old.bus.seen at × (((serving at).standing.bus ≡ old.bus) ⊎ IsOwn (serving at).standing.bus) × Ends alone old new (serving at) before after result)
-    ⊎ ((refusal : Refusal) × (at : History) × IsLost alone refusal × Reaches alone old.bus.seen at
-    × Ends alone old new (refusing m (Some number) (error_for refusal) (found (standing_of old) at)) before after result)
+  -- At the end of the input nothing is left to be served, and the connection goes.
+  pub record Goes (before : State G) (read written : List ℕ) (after : State G) : Type 0 where
+    pub later : List (Event N)
+    pub between : State G
+    pub first : List ℕ
+    pub last : List ℕ
+    pub serves : Serves before (Opened key ∷ later) read first between
+    pub quiet : HasNoNext between.standing key
+    pub goes : Happens told passes alone seat key between (Closed key) last after
+    pub writes : written ≡ first ++ last
 
--- a message is served, whatever it is read as, at some point of the history
-abbrev pub ServesKnown : Bool → (Known → History → Served) → Message → Side → Side → (before after : List ℕ) → Result (Unit {0}) Stop → Type 0
-ServesKnown alone serving m old new before after result =
-    (known : Known) × (at : History) × IsFound alone old.bus m known at (serving known at).standing.bus × Ends alone old new (serving known at) before after result
+  -- Nothing more is done; what was read last is lost.
+  abbrev pub Rests : State G → (read written : List ℕ) → State G → Type 0
+  Rests before read written after = (events : List (Event N)) × (fed lost : List ℕ) × Serves before events fed written after × (read ≡ fed ++ lost)
 
--- one message is served
-abbrev pub ServesOne : Bool → Side → Side → List ℕ → (before after : List ℕ) → Result (Unit {0}) Stop → Type 0
-ServesOne alone old new m before after result =
-    ServesKnown alone (λ known at. serve known at (standing_of old) (said m)) (said m) old new before after result × (result ≡ Err Memory → after ≡ before)
+  -- How a run ends: with the input; by a close; by a device that fails; or for want of memory, perhaps in the midst of an event.
+  abbrev pub Ends : (before after : State G) → (read written : List ℕ) → Result (Unit {0}) RunFault → Type 0
+  Ends before after read written (Ok u) = Goes before read written after
+  Ends before after read written (Err (fault.Closed cause)) = EndsAt (λ s event last t. Closes told passes alone seat key s event cause last t) before read written after
+  Ends before after read written (Err fault.Input) = (later : List (Event N)) × Serves before (Opened key ∷ later) read written after × HasNoNext after.standing key
+  Ends before after read written (Err fault.Output) = EndsAt (λ s event last t. (missing : List ℕ) × Breaks told passes alone seat key s event last missing t) before read written after
+  Ends before after read written (Err fault.Memory) = Rests before read written after ⊎ EndsAt (λ s event last t. Breaks told passes alone seat key s event last [] t) before read written after
 
--- ## What a piece brings
-
-abbrev pub Receives : Bool → Side → Side → List ℕ → (before after : List ℕ) → Result (Unit {0}) Stop → Type 0
-Receives alone old new piece before after (Ok u) =
-    (written : List ℕ) × Serves alone (old.framer.bytes ++ piece) (standing_of old) new.framer.bytes (standing_of new) written
-    × (after ≡ before ++ written) × (new.framer.fault ≡ None) × IsWaiting limit new.framer.bytes × IsOpen (standing_of new)
-Receives alone old new piece before after (Err (StopClosed cause)) =
-    (written : List ℕ) × Serves alone (old.framer.bytes ++ piece) (standing_of old) new.framer.bytes (standing_of new) written
-    × (after ≡ before ++ written) × ClosesFor cause new.framer.bytes (standing_of new)
-Receives alone old new piece before after (Err Memory) =
-    (rest : List ℕ) × (t : Standing) × (written : List ℕ) × Serves alone (old.framer.bytes ++ piece) (standing_of old) rest t written
-    × (after ≡ before ++ written) × Moves alone t.bus new.bus
+-- a run over a reader and a writer, by the bytes that they are known to have
+abbrev pub Runs : {N G : Type 0} → (N → History) → (G → GatedCall → G → Type 0) → Bool → (seat : ℕ) → (before after : State G)
+    → (read_old read_new wrote_old wrote_new : Option (List ℕ)) → Result (Unit {0}) RunFault → Type 0
+Runs told passes alone seat before after read_old read_new wrote_old wrote_new result =
+    (key : ℕ) × (read written : List ℕ) × IsFree before.standing key
+    × Consumes read_old read_new read × Appends wrote_old wrote_new written × Ends told passes alone seat key before after read written result

@@ -2,44 +2,15 @@
 
 ghost use Rattle.std.specs.Prelude.{◌≡◌};
 
-use message::FrameFault;
-use std::fmt;
+use router_core::CloseCause;
 use thiserror::Error;
-
-/// Why the bus closes a connection. It is shown as its code: `64`, `66`, `68`, `27`, or that of the fault, as `28` or
-/// `25/9`.
-#[derive(Clone, Copy, Debug, PartialEq, Eq)]
-pub enum Cause {
-    /// Its first message is not the call of Hello.
-    NotHello,
-    /// It has left the bus.
-    Left,
-    /// Its Hello would exceed a limit of the bus.
-    LimitsExceeded,
-    /// What it sent would be too long with its name as the sender.
-    TooLong,
-    /// What it sent is no message.
-    Faulty(FrameFault),
-}
-
-impl fmt::Display for Cause {
-    fn fmt<W: fmt::Write>(&self, f: &mut fmt::Formatter<W>) -> fmt::Result {
-        match self {
-            Cause::NotHello => write!(f, "64"),
-            Cause::Left => write!(f, "66"),
-            Cause::LimitsExceeded => write!(f, "68"),
-            Cause::TooLong => write!(f, "27"),
-            Cause::Faulty(fault) => write!(f, "{}", fault.code()),
-        }
-    }
-}
 
 /// Why a run ended before its input did.
 #[derive(Clone, Copy, Debug, PartialEq, Eq, Error)]
 pub enum RunFault {
     /// The bus closed the connection.
     #[error("closed: {0}")]
-    Closed(Cause),
+    Closed(CloseCause),
     /// The input can't be read.
     #[error("device: input")]
     Input,

@@ -1,25 +1,17 @@
-//! Serves the message stream of one connection that needs no authentication, over a view of a bus.
+//! Serves the message stream of one connection that needs no authentication, by the engine of a router.
 //!
-//! [`run`] is the whole of it: `specs/Serving` says what the bus does for one message, and `specs/Runs` what it writes
-//! for a stream.
+//! [`run`] is the whole of it: `specs/Sessions` says which events happen to the engine, and what becomes of the actions
+//! that they bring.
 #![tactic(auto)]
 
-mod calls;
-mod course;
+mod actions;
+mod carrying;
 mod fault;
-mod greeting;
-mod laws;
-mod outgoing;
-mod passing;
-mod refusal;
-mod request;
-mod session;
-mod stage;
+mod mail;
 mod stream;
 mod transfer;
 
-pub use fault::{Cause, RunFault};
-pub use laws::runs_are_repeated;
+pub use fault::RunFault;
 pub use stream::run;
 
 #[cfg(test)]

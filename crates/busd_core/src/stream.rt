@@ -1,60 +1,104 @@
 //! One stream, served from its first byte to its end.
 
-ghost use Rattle.busd_core.specs.Runs.{Runs};
+ghost use Rattle.std.specs.Prelude.{◌≡◌, ◌<◌, [], length, IfOk, IfErr, IfSome, IfNone, OnOk};
+ghost use Rattle.std.specs.Io.KnownBytes.{Consumes, IsAtEnd};
+ghost use Rattle.router_core.specs.Events.{CanHappen};
+ghost use Rattle.busd_core.specs.Parts.{LosesPiece, IsCarriedOut};
+ghost use Rattle.busd_core.specs.Sessions.{Runs};
 
+use crate::actions::closed_by;
+use crate::carrying::{Place, bring};
 use crate::fault::RunFault;
-use crate::session::Session;
-use crate::transfer::{read_piece, write_whole};
+use crate::mail::deliver_all;
+use crate::transfer::read_piece;
 use bus_view::BusView;
+use router::Engine;
+use router_core::{Event, Gate};
 use std::alloc::Global;
 use std::io::{Read, Write};
 
 /// The most bytes that are read at once.
 const PIECE: usize = 4096;
 
-/// Serves the message stream of one connection over a view of a bus. The connection needs no authentication, and counts
-/// as the bus's own user ("Message Bus Messages" of the D-Bus Specification).
-///
-/// Calls to the bus are answered, and other messages go where the bus routes them: one whose recipients include the
-/// connection itself is relayed to it, with its unique name as the sender, and a call to a name that has no owner is
-/// answered ServiceUnknown ("Message Bus Message Routing").
-///
-/// However the reader cuts the stream, what is written is the answer to what was read, message after message. Each
-/// message finds the bus at a point of its history that begins with all that was seen before it, and the changes that
-/// are made stand in that history each once and in order. Over a bus that is alone, each message finds just what was
-/// seen.
-///
-/// At the end of the input the connection leaves, and a rest that is no whole message is ignored. The run ends earlier
-/// where the bus closes the connection, with all replies up to there written, and it closes one that has left it; where
-/// the reader or the writer fails; and where there is not enough memory to go on. A call that finds no memory, be it
-/// for its reply, is answered NoMemory, one that the bus refuses otherwise is answered Failed, and neither changes
-/// anything; the run ends where there is no memory for that either. Another message that is not served is dropped.
-pub fn run<V: BusView, R: Read, W: Write>(
+/// The next bytes of the input, or none at its end.
+fn next_piece<R: Read>(
     alloc: Global,
-    bus: &mut V,
+    reader: &mut R,
+    buffer: &mut [u8],
+) -> Result<Option<Vec<u8>>, RunFault>
+    requires { 0 < length buffer.old }
+    ensures piece { IfOk result (λ o. IfSome o (λ piece. Consumes (R.remaining reader.old) (R.remaining reader.new) piece.items)) }
+    ensures end { IfOk result (λ o. IfNone o (Consumes (R.remaining reader.old) (R.remaining reader.new) [] × IsAtEnd (R.remaining reader.new))) }
+    ensures err { IfErr result (λ fault. LosesPiece (R.remaining reader.old) (R.remaining reader.new) fault) }
+    ensures room { length buffer.new ≡ length buffer.old }
+{
+    let Ok(count) = read_piece(reader, buffer) else {
+        return Err(RunFault::Input);
+    };
+    if count == 0 {
+        return Ok(None);
+    }
+    match Vec::from_slice(alloc, &buffer[..count]) {
+        Ok(piece) => Ok(Some(piece)),
+        Err(_) => Err(RunFault::Memory),
+    }
+}
+
+/// Serves an event, and carries out its actions: what they write is written, then what they put comes back as mail. Where
+/// they close the connection, the run ends.
+fn carry_out<V: BusView, G: Gate, W: Write>(
+    engine: &mut Engine<V, G>,
     right: &V::Right,
+    place: Place,
+    event: Event<V::Note>,
+    writer: &mut W,
+) -> Result<(), RunFault>
+    requires { CanHappen V.registry_of engine.old.view.registry engine.old.standing event }
+    ensures { IsCarriedOut V.told G.passes V.alone place.seat place.key engine.old event (W.contents writer.old) (W.contents writer.new) engine.new result }
+{
+    let actions = bring(engine, right, place.key, event, writer)?;
+    if let Some(cause) = closed_by(place.key, &actions) {
+        return Err(RunFault::Closed(cause));
+    }
+    deliver_all(engine, right, place, &actions, writer)
+}
+
+/// Serves the message stream of one connection by the engine of the router of a seat. The connection needs no
+/// authentication, and counts as the bus's own user ("Message Bus Messages" of the D-Bus Specification).
+///
+/// The connection comes, with a key that is free. Its bytes come as they are read, and each whole message is served before
+/// more is read. What the actions of an event write to the connection is written at once; what they put to connections of
+/// this router comes back as mail, in order, without a note, as the router that made it has nothing to learn from it. At
+/// the end of the input the connection is gone, and a rest that is no whole message is ignored.
+///
+/// # Errors
+///
+/// The run ends earlier where the connection is closed, with all that was written to it up to there; where the reader or
+/// the writer fails; and where there is not enough memory to go on.
+pub fn run<V: BusView, G: Gate, R: Read, W: Write>(
+    alloc: Global,
+    engine: &mut Engine<V, G>,
+    right: &V::Right,
+    seat: u8,
     reader: &mut R,
     writer: &mut W,
 ) -> Result<(), RunFault>
-    ensures { Runs V.alone (V.knows bus.old) (V.knows bus.new) (R.remaining reader.old) (R.remaining reader.new) (W.contents writer.old) (W.contents writer.new) result }
+    ensures runs { Runs V.told G.passes V.alone seat engine.old engine.new (R.remaining reader.old) (R.remaining reader.new) (W.contents writer.old) (W.contents writer.new) result }
+    ensures whole { OnOk result (IsAtEnd (R.remaining reader.new)) }
 {
-    let mut piece = [0u8; PIECE];
-    let mut session = Session::new(alloc);
-    let mut out = Vec::new(alloc);
+    let key = engine.free_key();
+    let place = Place { seat, key };
+    carry_out(engine, right, place, Event::Opened { key }, writer)?;
+    let mut buffer = [0u8; PIECE];
     for _ in 0..u64::MAX {
-        let Ok(count) = read_piece(reader, &mut piece) else {
-            return Err(RunFault::Input);
-        };
-        if count == 0 {
-            session.leave(bus, right);
-            return Ok(());
+        if engine.has_next(key) {
+            carry_out(engine, right, place, Event::Next { key }, writer)?;
+            continue;
         }
-        let end = session.receive(bus, right, &piece[..count], &mut out);
-        let Ok(()) = write_whole(writer, out.as_slice()) else {
-            return Err(RunFault::Output);
+        let Some(piece) = next_piece(alloc, reader, &mut buffer)? else {
+            return carry_out(engine, right, place, Event::Closed { key }, writer);
         };
-        end?;
-        out.clear();
+        carry_out(engine, right, place, Event::Bytes { key, piece }, writer)?;
     }
-    Err(RunFault::Input)
+    Err(RunFault::Memory)
 }

@@ -1,23 +1,27 @@
-//! Runs over memory, and over plain buses.
+//! Runs over memory, by engines over plain buses.
 
 mod messages;
 mod owners;
 
-use crate::{Cause, RunFault, run as run_over};
+use crate::{RunFault, run as run_by};
 use messages::*;
 use owner_queues::Profile;
+use router::Engine;
+use router_core::{CloseCause, OpenGate};
 use seq_bus::SeqBus;
 use std::alloc::{AllocError, Global};
 use std::io;
 use std::io::{ErrorKind, Read, Write};
-use std::test::Fail;
+use std::process::Abort;
 
 /// Runs over a bus of its own, with one router and no services.
 fn run<R: Read, W: Write>(alloc: Global, reader: &mut R, writer: &mut W) -> Result<(), RunFault> {
-    let Ok(mut bus) = SeqBus::new(alloc, &[], 1, Profile::Two) else {
+    let Ok(bus) = SeqBus::new(alloc, &[], 1, Profile::Two) else {
         return Err(RunFault::Memory);
     };
-    run_over(alloc, &mut bus, &(), reader, writer)
+    let seat = bus.seat();
+    let mut engine = Engine::new(alloc, bus, OpenGate);
+    run_by(alloc, &mut engine, &(), seat, reader, writer)
 }
 
 fn joined(alloc: Global, parts: &[&[u8]]) -> Result<Vec<u8>, AllocError> {
@@ -26,6 +30,32 @@ fn joined(alloc: Global, parts: &[&[u8]]) -> Result<Vec<u8>, AllocError> {
         bytes.extend_from_slice(part)?;
     }
     Ok(bytes)
+}
+
+/// Whether a run on the first parts writes the others, and ends so.
+fn is_answered(
+    alloc: Global,
+    sent: &[&[u8]],
+    answers: &[&[u8]],
+    end: Result<(), RunFault>,
+) -> Result<bool, AllocError> {
+    let input = joined(alloc, sent)?;
+    let expected = joined(alloc, answers)?;
+    let mut output = Vec::new(alloc);
+    let ended = run(alloc, &mut input.as_slice(), &mut output);
+    Ok(ended == end && output.as_slice() == expected.as_slice())
+}
+
+/// A run on the first parts writes the others, and ends so: once more where one allocation failed.
+fn answered<R: Abort + AllocGlobal>(
+    rt: &R,
+    sent: &[&[u8]],
+    answers: &[&[u8]],
+    end: Result<(), RunFault>,
+) {
+    let once = is_answered(rt.alloc(), sent, answers, end);
+    let is_due = once == Ok(true) || is_answered(rt.alloc(), sent, answers, end) == Ok(true);
+    assert!(rt; is_due, "{sent:?}");
 }
 
 /// Gives one byte at a time, and then ends or fails.
@@ -77,7 +107,7 @@ impl Write for Room {
 }
 
 #[test]
-fn calls_after_hello(rt: HostRuntime) -> Result<(), Fail> {
+fn calls_after_hello(rt: HostRuntime) {
     let none: &[u8] = b"";
     let cases = [
         (none, none),
@@ -105,144 +135,169 @@ fn calls_after_hello(rt: HostRuntime) -> Result<(), Fail> {
         (UNKNOWN_KIND, none),
     ];
     for (sent, answer) in cases {
-        let input = joined(rt.alloc(), &[HELLO, sent])?;
-        let expected = joined(rt.alloc(), &[WELCOME, ACQUIRED, answer])?;
-        let mut output = Vec::new(rt.alloc());
-        assert_eq!(rt; run(rt.alloc(), &mut input.as_slice(), &mut output), Ok(()));
-        assert_eq!(rt; output.as_slice(), expected.as_slice(), "{sent:?}");
+        answered(&rt, &[HELLO, sent], &[WELCOME, ACQUIRED, answer], Ok(()));
     }
-    Ok(())
 }
 
 #[test]
-fn rule_that_is_added_and_removed(rt: HostRuntime) -> Result<(), Fail> {
-    let input = joined(rt.alloc(), &[HELLO, ADD_MATCH, REMOVE_MATCH])?;
-    let expected = joined(rt.alloc(), &[WELCOME, ACQUIRED, ADDED, REMOVED])?;
-    let mut output = Vec::new(rt.alloc());
-    assert_eq!(rt; run(rt.alloc(), &mut input.as_slice(), &mut output), Ok(()));
-    assert_eq!(rt; output.as_slice(), expected.as_slice());
-    Ok(())
+fn lengths_of_samples(rt: HostRuntime) {
+    let greeted = WELCOME.len() + ACQUIRED.len();
+    assert_eq!(rt; greeted, 258);
+    assert_eq!(rt; greeted + OWNER.len(), 347);
+    assert_eq!(rt; greeted + ADDED.len() + BROADCAST_RELAYED.len(), 410);
 }
 
 #[test]
-fn signal_that_comes_back(rt: HostRuntime) -> Result<(), Fail> {
-    let input = joined(rt.alloc(), &[HELLO, ADD_MATCH, BROADCAST])?;
-    let parts = [WELCOME, ACQUIRED, ADDED, BROADCAST_RELAYED];
-    let expected = joined(rt.alloc(), &parts)?;
-    let mut output = Vec::new(rt.alloc());
-    assert_eq!(rt; run(rt.alloc(), &mut input.as_slice(), &mut output), Ok(()));
-    assert_eq!(rt; output.as_slice(), expected.as_slice());
-    assert_eq!(rt; output.len(), 410);
-    Ok(())
+fn rule_that_is_added_and_removed(rt: HostRuntime) {
+    let answers = [WELCOME, ACQUIRED, ADDED, REMOVED];
+    answered(&rt, &[HELLO, ADD_MATCH, REMOVE_MATCH], &answers, Ok(()));
 }
 
 #[test]
-fn first_messages(rt: HostRuntime) -> Result<(), Fail> {
-    let mut output = Vec::new(rt.alloc());
-    let mut input = SILENT_HELLO;
-    assert_eq!(rt; run(rt.alloc(), &mut input, &mut output), Ok(()));
-    assert_eq!(rt; output.as_slice(), ACQUIRED_FIRST);
+fn signal_that_comes_back(rt: HostRuntime) {
+    let answers = [WELCOME, ACQUIRED, ADDED, BROADCAST_RELAYED];
+    answered(&rt, &[HELLO, ADD_MATCH, BROADCAST], &answers, Ok(()));
+}
+
+#[test]
+fn first_messages(rt: HostRuntime) {
+    answered(&rt, &[SILENT_HELLO], &[ACQUIRED_FIRST], Ok(()));
+    let closed = Err(RunFault::Closed(CloseCause::NotHello));
     for sent in [GET_NAME_OWNER, HELLO_WITH_ARGUMENT, SIGNAL, UNKNOWN_KIND] {
-        let mut input = sent;
-        let mut output = Vec::new(rt.alloc());
-        let end = run(rt.alloc(), &mut input, &mut output);
-        assert_eq!(rt; end, Err(RunFault::Closed(Cause::NotHello)), "{sent:?}");
-        assert!(rt; output.is_empty());
+        answered(&rt, &[sent], &[], closed);
     }
-    Ok(())
 }
 
-#[test]
-fn one_byte_at_a_time(rt: HostRuntime) -> Result<(), Fail> {
-    let input = joined(rt.alloc(), &[HELLO, GET_NAME_OWNER])?;
-    let expected = joined(rt.alloc(), &[WELCOME, ACQUIRED, OWNER])?;
+/// Whether the sample is answered whole where one byte is read at a time.
+fn is_answered_by_bytes(alloc: Global) -> Result<bool, AllocError> {
+    let input = joined(alloc, &[HELLO, GET_NAME_OWNER])?;
+    let expected = joined(alloc, &[WELCOME, ACQUIRED, OWNER])?;
     let mut reader = OneByOne {
         bytes: input.as_slice(),
         fails: false,
     };
-    let mut output = Vec::new(rt.alloc());
-    assert_eq!(rt; run(rt.alloc(), &mut reader, &mut output), Ok(()));
-    assert_eq!(rt; output.as_slice(), expected.as_slice());
-    Ok(())
+    let mut output = Vec::new(alloc);
+    let end = run(alloc, &mut reader, &mut output);
+    Ok(end == Ok(()) && output.as_slice() == expected.as_slice())
 }
 
 #[test]
-fn devices_that_fail(rt: HostRuntime) -> Result<(), Fail> {
-    let input = joined(rt.alloc(), &[HELLO, GET_NAME_OWNER])?;
-    let expected = joined(rt.alloc(), &[WELCOME, ACQUIRED, OWNER])?;
+fn one_byte_at_a_time(rt: HostRuntime) {
+    let once = is_answered_by_bytes(rt.alloc());
+    assert!(rt; once == Ok(true) || is_answered_by_bytes(rt.alloc()) == Ok(true));
+}
+
+/// Whether the run ends for a reader that fails after 200 bytes, with the Hello answered.
+fn fails_to_read(alloc: Global) -> Result<bool, AllocError> {
+    let input = joined(alloc, &[HELLO, GET_NAME_OWNER])?;
+    let expected = joined(alloc, &[WELCOME, ACQUIRED])?;
     let mut reader = OneByOne {
-        bytes: input.get(..200).ok_or("short")?,
+        bytes: &input[..200.min(input.len())],
         fails: true,
     };
-    let mut output = Vec::new(rt.alloc());
-    assert_eq!(rt;
-        run(rt.alloc(), &mut reader, &mut output),
-        Err(RunFault::Input)
-    );
-    assert_eq!(rt; Some(output.as_slice()), expected.get(..258));
+    let mut output = Vec::new(alloc);
+    let end = run(alloc, &mut reader, &mut output);
+    Ok(end == Err(RunFault::Input) && output.as_slice() == expected.as_slice())
+}
+
+/// Whether the run ends for a writer that has room for so many bytes, with these written.
+fn fails_to_write(alloc: Global, room: usize) -> Result<bool, AllocError> {
+    let input = joined(alloc, &[HELLO, GET_NAME_OWNER])?;
+    let expected = joined(alloc, &[WELCOME, ACQUIRED, OWNER])?;
+    let mut writer = Room {
+        held: Vec::new(alloc),
+        room,
+    };
+    let end = run(alloc, &mut input.as_slice(), &mut writer);
+    Ok(end == Err(RunFault::Output) && Some(writer.held.as_slice()) == expected.get(..room))
+}
+
+#[test]
+fn devices_that_fail(rt: HostRuntime) {
+    let alloc = rt.alloc();
+    let once = fails_to_read(alloc);
+    assert!(rt; once == Ok(true) || fails_to_read(alloc) == Ok(true));
     for room in [0, 100, 258, 300] {
-        let mut writer = Room {
-            held: Vec::new(rt.alloc()),
-            room,
-        };
-        assert_eq!(rt;
-            run(rt.alloc(), &mut input.as_slice(), &mut writer),
-            Err(RunFault::Output)
-        );
-        assert_eq!(rt; Some(writer.held.as_slice()), expected.get(..room));
+        let once = fails_to_write(alloc, room);
+        let is_due = once == Ok(true) || fails_to_write(alloc, room) == Ok(true);
+        assert!(rt; is_due, "{room}");
     }
-    Ok(())
 }
 
 #[test]
-fn beginnings(rt: HostRuntime) -> Result<(), Fail> {
-    let input = joined(rt.alloc(), &[HELLO, GET_NAME_OWNER])?;
-    let expected = joined(rt.alloc(), &[WELCOME, ACQUIRED, OWNER])?;
-    for length in 0..input.len() {
-        let mut output = Vec::new(rt.alloc());
-        let mut beginning = input.get(..length).ok_or("short")?;
-        assert_eq!(rt;
-            run(rt.alloc(), &mut beginning, &mut output),
-            Ok(()),
-            "{length}"
-        );
-        let answered = if length < HELLO.len() { 0 } else { 258 };
-        assert_eq!(rt;
-            Some(output.as_slice()),
-            expected.get(..answered),
-            "{length}"
-        );
+fn beginnings(rt: HostRuntime) {
+    for length in 0..HELLO.len() {
+        answered(&rt, &[&HELLO[..length]], &[], Ok(()));
     }
-    Ok(())
+    for length in 0..GET_NAME_OWNER.len() {
+        let sent = [HELLO, &GET_NAME_OWNER[..length]];
+        answered(&rt, &sent, &[WELCOME, ACQUIRED], Ok(()));
+    }
+}
+
+fn shown(alloc: Global, fault: RunFault) -> Result<String, AllocError> {
+    match format!(in alloc; "{fault}") {
+        Ok(text) => Ok(text),
+        Err(_) => Err(AllocError),
+    }
+}
+
+/// Whether the run ends with the input or is closed by a known code, where one byte of the sample is another.
+fn is_known(alloc: Global, place: usize, byte: u8) -> Result<bool, AllocError> {
+    let mut changed = joined(alloc, &[HELLO, GET_NAME_OWNER])?;
+    if let Some(slot) = changed.get_mut(place) {
+        *slot = byte;
+    }
+    let mut output = Vec::new(alloc);
+    match run(alloc, &mut changed.as_slice(), &mut output) {
+        Ok(()) => Ok(true),
+        Err(RunFault::Closed(cause)) => {
+            let code = shown(alloc, RunFault::Closed(cause))?;
+            let code = code.as_str();
+            Ok(code == "closed: 64" || code.starts_with("closed: 2"))
+        }
+        Err(_) => Ok(false),
+    }
 }
 
 #[test]
-fn bytes_set_to_others(rt: HostRuntime) -> Result<(), Fail> {
-    let input = joined(rt.alloc(), &[HELLO, GET_NAME_OWNER])?;
-    for place in 0..input.len() {
+fn bytes_set_to_others(rt: HostRuntime) {
+    let alloc = rt.alloc();
+    for place in 0..HELLO.len() + GET_NAME_OWNER.len() {
         for byte in [0, 255] {
-            let mut changed = input.clone()?;
-            if let Some(slot) = changed.get_mut(place) {
-                *slot = byte;
-            }
-            let mut output = Vec::new(rt.alloc());
-            let end = run(rt.alloc(), &mut changed.as_slice(), &mut output);
-            let is_known = matches!(end, Ok(()) | Err(RunFault::Closed(_)));
-            assert!(rt; is_known, "{place}, {byte}: {end:?}");
-            let code = match end {
-                Err(fault) => format!(in rt.alloc(); "{fault}")?,
-                Ok(()) => format!(in rt.alloc(); "closed: 2")?,
-            };
-            let is_coded = code.as_str() == "closed: 64" || code.as_str().starts_with("closed: 2");
-            assert!(rt; is_coded, "{place}, {byte}: {code}");
+            let once = is_known(alloc, place, byte);
+            let is_due = once == Ok(true) || is_known(alloc, place, byte) == Ok(true);
+            assert!(rt; is_due, "{place}, {byte}");
         }
     }
-    Ok(())
+}
+
+/// Whether the run ends as it may where memory runs out, for a call after Hello with this reply, and this one for want of
+/// memory.
+fn ends_well(alloc: Global, call: &[u8], reply: &[u8], lost: &[u8]) -> Result<bool, AllocError> {
+    let input = joined(alloc, &[HELLO, call])?;
+    let whole = joined(alloc, &[WELCOME, ACQUIRED, reply])?;
+    let greeted = joined(alloc, &[WELCOME, ACQUIRED])?;
+    let unanswered = joined(alloc, &[WELCOME, ACQUIRED, lost])?;
+    let mut output = Vec::new(alloc);
+    let end = run(alloc, &mut input.as_slice(), &mut output);
+    let written = output.as_slice();
+    let is_over = written == whole.as_slice() || written == unanswered.as_slice();
+    let is_between = written.is_empty() || written == WELCOME || written == greeted.as_slice();
+    Ok(match end {
+        Ok(()) => is_over,
+        Err(RunFault::Memory) => is_between || is_over,
+        // The output is memory too.
+        Err(RunFault::Output) => is_between,
+        Err(RunFault::Closed(cause)) => {
+            cause == CloseCause::NotHello && written == MEMORY_AT_HELLO
+        }
+        Err(RunFault::Input) => false,
+    })
 }
 
 #[test]
-fn memory_that_runs_out(rt: HostRuntime) -> Result<(), Fail> {
-    let alloc = rt.alloc();
+fn memory_that_runs_out(rt: HostRuntime) {
     let none: &[u8] = b"";
     for (call, reply, lost) in [
         (GET_NAME_OWNER, OWNER, NO_MEMORY),
@@ -251,41 +306,37 @@ fn memory_that_runs_out(rt: HostRuntime) -> Result<(), Fail> {
         (TO_ITSELF, TO_ITSELF_RELAYED, NO_MEMORY),
         (SIGNAL, none, none),
     ] {
-        let input = joined(alloc, &[HELLO, call])?;
-        let whole = joined(alloc, &[WELCOME, ACQUIRED, reply])?;
-        let greeted = joined(alloc, &[WELCOME, ACQUIRED])?;
-        let unanswered = joined(alloc, &[WELCOME, ACQUIRED, lost])?;
-        let mut output = Vec::new(alloc);
-        let end = run(alloc, &mut input.as_slice(), &mut output);
-        let written = output.as_slice();
-        let is_due = match end {
-            Ok(()) => written == whole.as_slice() || written == unanswered.as_slice(),
-            Err(RunFault::Memory) => written.is_empty() || written == greeted.as_slice(),
-            Err(RunFault::Closed(cause)) => {
-                cause == Cause::NotHello && written == MEMORY_AT_HELLO
-            }
-            Err(_) => false,
-        };
-        assert!(rt; is_due, "{end:?}");
+        let is_wrong = ends_well(rt.alloc(), call, reply, lost) == Ok(false);
+        assert!(rt; !is_wrong, "{call:?}");
     }
-    Ok(())
+}
+
+/// Whether the fault is shown so.
+fn is_shown(alloc: Global, fault: RunFault, text: &str) -> Result<bool, AllocError> {
+    let shown = shown(alloc, fault)?;
+    Ok(shown.as_str() == text)
 }
 
 #[test]
-fn texts_and_statuses(rt: HostRuntime) -> Result<(), Fail> {
+fn texts_and_statuses(rt: HostRuntime) {
+    let alloc = rt.alloc();
     let faults = [
-        (RunFault::Closed(Cause::NotHello), "closed: 64", 3),
-        (RunFault::Closed(Cause::Left), "closed: 66", 3),
-        (RunFault::Closed(Cause::LimitsExceeded), "closed: 68", 3),
-        (RunFault::Closed(Cause::TooLong), "closed: 27", 3),
+        (RunFault::Closed(CloseCause::NotHello), "closed: 64", 3),
+        (RunFault::Closed(CloseCause::Left), "closed: 66", 3),
+        (
+            RunFault::Closed(CloseCause::LimitsExceeded),
+            "closed: 68",
+            3,
+        ),
+        (RunFault::Closed(CloseCause::TooLong), "closed: 27", 3),
         (RunFault::Input, "device: input", 4),
         (RunFault::Output, "device: output", 4),
         (RunFault::Memory, "memory", 5),
     ];
     for (fault, text, status) in faults {
-        let shown = format!(in rt.alloc(); "{fault}")?;
-        assert_eq!(rt; shown.as_str(), text);
+        let once = is_shown(alloc, fault, text);
+        let is_due = once == Ok(true) || is_shown(alloc, fault, text) == Ok(true);
+        assert!(rt; is_due, "{text}");
         assert_eq!(rt; fault.status(), status);
     }
-    Ok(())
 }

@@ -2,8 +2,8 @@
 
 use super::messages::*;
 use super::{joined, run};
+use std::alloc::{AllocError, Global};
 use std::process::Abort;
-use std::test::Fail;
 
 /// ListNames.
 const LIST_NAMES: &[u8] =
@@ -81,9 +81,8 @@ const NAMES_WITH_OWNED: &[u8] =
 const REQUEST_UNIQUE: &[u8] =
     b"l\x01\0\x01\x10\0\0\0\x02\0\0\0\x80\0\0\0\x01\x01o\0\x15\0\0\0/org/freedesktop/DBus\0\0\0\x02\x01s\0\x14\0\0\0org.freedesktop.DBus\0\0\0\0\x03\x01s\0\x0b\0\0\0RequestName\0\0\0\0\0\x06\x01s\0\x14\0\0\0org.freedesktop.DBus\0\0\0\0\x08\x01g\0\x02su\0\x04\0\0\0:1.1\0\0\0\0\0\0\0\0";
 
-/// After Hello this is sent, and the bus answers so, with serials from 3 on.
-fn exchange<R: Abort + AllocGlobal>(rt: &R, sent: &[&[u8]], answers: &[&[u8]]) -> Result<(), Fail> {
-    let alloc = rt.alloc();
+/// Whether the bus answers so where this is sent after Hello, with serials from 3 on.
+fn is_exchanged(alloc: Global, sent: &[&[u8]], answers: &[&[u8]]) -> Result<bool, AllocError> {
     let mut input = joined(alloc, &[HELLO])?;
     input.extend_from_slice(joined(alloc, sent)?.as_slice())?;
     let mut expected = joined(alloc, &[WELCOME, ACQUIRED])?;
@@ -91,26 +90,34 @@ fn exchange<R: Abort + AllocGlobal>(rt: &R, sent: &[&[u8]], answers: &[&[u8]]) -
     for answer in answers {
         serial = serial.wrapping_add(1);
         let mut numbered = joined(alloc, &[*answer])?;
-        *numbered.get_mut(8).ok_or("short")? = serial;
+        if let Some(slot) = numbered.get_mut(8) {
+            *slot = serial;
+        }
         expected.append(&mut numbered)?;
     }
     let mut output = Vec::new(alloc);
-    assert_eq!(rt; run(alloc, &mut input.as_slice(), &mut output), Ok(()));
-    assert_eq!(rt; output.as_slice(), expected.as_slice());
-    Ok(())
+    let end = run(alloc, &mut input.as_slice(), &mut output);
+    Ok(end == Ok(()) && output.as_slice() == expected.as_slice())
+}
+
+/// After Hello this is sent, and the bus answers so: once more where one allocation failed.
+fn exchange<R: Abort + AllocGlobal>(rt: &R, sent: &[&[u8]], answers: &[&[u8]]) {
+    let once = is_exchanged(rt.alloc(), sent, answers);
+    let is_due = once == Ok(true) || is_exchanged(rt.alloc(), sent, answers) == Ok(true);
+    assert!(rt; is_due, "{sent:?}");
 }
 
 #[test]
-fn lists_of_names(rt: HostRuntime) -> Result<(), Fail> {
-    exchange(&rt, &[LIST_NAMES], &[NAMES])?;
-    exchange(&rt, &[LIST_ACTIVATABLE_NAMES], &[ACTIVATABLE_NAMES])?;
-    exchange(&rt, &[LIST_OWN_QUEUE], &[OWN_QUEUE])?;
-    exchange(&rt, &[LIST_NO_QUEUE], &[NO_OWNER])
+fn lists_of_names(rt: HostRuntime) {
+    exchange(&rt, &[LIST_NAMES], &[NAMES]);
+    exchange(&rt, &[LIST_ACTIVATABLE_NAMES], &[ACTIVATABLE_NAMES]);
+    exchange(&rt, &[LIST_OWN_QUEUE], &[OWN_QUEUE]);
+    exchange(&rt, &[LIST_NO_QUEUE], &[NO_OWNER]);
 }
 
 #[test]
-fn free_name_is_acquired_before_the_reply(rt: HostRuntime) -> Result<(), Fail> {
-    exchange(&rt, &[REQUEST_NAME], &[NAME_ACQUIRED, PRIMARY_OWNER])?;
+fn free_name_is_acquired_before_the_reply(rt: HostRuntime) {
+    exchange(&rt, &[REQUEST_NAME], &[NAME_ACQUIRED, PRIMARY_OWNER]);
     exchange(
         &rt,
         &[REQUEST_NAME, REQUEST_NAME, LIST_NAMES],
@@ -120,21 +127,21 @@ fn free_name_is_acquired_before_the_reply(rt: HostRuntime) -> Result<(), Fail> {
             ALREADY_OWNER,
             NAMES_WITH_OWNED,
         ],
-    )
+    );
 }
 
 #[test]
-fn released_name_is_lost_before_the_reply(rt: HostRuntime) -> Result<(), Fail> {
-    exchange(&rt, &[RELEASE_NAME], &[NON_EXISTENT])?;
+fn released_name_is_lost_before_the_reply(rt: HostRuntime) {
+    exchange(&rt, &[RELEASE_NAME], &[NON_EXISTENT]);
     exchange(
         &rt,
         &[REQUEST_NAME, RELEASE_NAME, LIST_NAMES],
         &[NAME_ACQUIRED, PRIMARY_OWNER, NAME_LOST, RELEASED, NAMES],
-    )
+    );
 }
 
 #[test]
-fn changes_of_owner_are_told_to_who_asks(rt: HostRuntime) -> Result<(), Fail> {
+fn changes_of_owner_are_told_to_who_asks(rt: HostRuntime) {
     exchange(
         &rt,
         &[ADD_MATCH, REQUEST_NAME, RELEASE_NAME],
@@ -147,10 +154,10 @@ fn changes_of_owner_are_told_to_who_asks(rt: HostRuntime) -> Result<(), Fail> {
             OWNER_GONE,
             RELEASED,
         ],
-    )
+    );
 }
 
 #[test]
-fn unique_names_are_not_requested(rt: HostRuntime) -> Result<(), Fail> {
-    exchange(&rt, &[REQUEST_UNIQUE], &[INVALID_ARGS])
+fn unique_names_are_not_requested(rt: HostRuntime) {
+    exchange(&rt, &[REQUEST_UNIQUE], &[INVALID_ARGS]);
 }

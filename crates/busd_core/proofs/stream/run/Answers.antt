@@ -1,47 +1,81 @@
-use Rattle.std.proofs.Common.{take, Ok, Err, refl}
+use Rattle.std.proofs.Common.{refl, ◌∙◌}
+use Rattle.std.proofs.KnownBytes.{Consumes-nil}
 use Rattle.std.proofs.lemmas.Result.{err_from_is_err_and}
-use Rattle.busd_core.specs.Sessions.{side_of}
-use Rattle.busd_core.proofs.Streams.{begins, ends, fails_to_read, gives_up, goes_on, stops, fails_to_write, received}
+use Rattle.router_core.specs.declared.event.Event.TheVariants.{Bytes, Next}
+use Rattle.busd_core.proofs.Endings.{begins, begins_not, serves_on, stops, is_gone, loses}
 use Rattle.busd_core.proofs.stream.run.Goals as goal
 
-pub loop-init : goal.loop-init
-loop-init g c = (c.new-out.ensures.items, begins g.V.BusView.alone (g.V.BusView.knows c.args.bus.now) _ _ _ c.new-session.ensures)
-
-pub returns-in_default : goal.returns-in_default
-returns-in_default g c = fails_to_read g.V.BusView.alone _ _ _ _ _ _ _ _ c.loop.invariant.1 c.in_default.ensures
-
-pub returns-then-count-eq0 : goal.returns-then-count-eq0
-returns-then-count-eq0 g c =
-    ends g.V.BusView.alone _ _ _ _ _ _ c.loop.session (g.V.BusView.knows c.loop.bus) (g.V.BusView.knows c.leave.new.bus) c.in-Ok.count c.read_piece.new.piece c.loop.invariant.1 c.if-count-eq0.true c.in-Ok.ensures.1 c.leave.ensures
-
-pub returns-in_default-write_whole : goal.returns-in_default-write_whole
-returns-in_default-write_whole g c =
-    let alone = g.V.BusView.alone in
-    let knows = g.V.BusView.knows in
-    let piece = take c.in-Ok.count c.read_piece.new.piece in
-    fails_to_write alone _ _ _ _ _ _ _ c.loop.session c.receive-end.new.self (knows c.loop.bus) (knows c.receive-end.new.bus) piece c.receive-end.new.out.items c.receive-end.result c.loop.invariant.1 c.in-Ok.ensures.1
-    (received alone (knows c.args.bus.now) (side_of (knows c.loop.bus) c.loop.session) (side_of (knows c.receive-end.new.bus) c.receive-end.new.self) piece c.loop.out.items c.receive-end.new.out.items c.receive-end.result _ c.receive-end.ensures c.loop.invariant.0 refl) (rw (← c.as_slice.ensures.value) c.in_default-write_whole.ensures)
-
-pub returns-in_err-end : goal.returns-in_err-end
-returns-in_err-end g c =
-    let alone = g.V.BusView.alone in
-    let knows = g.V.BusView.knows in
-    let piece = take c.in-Ok.count c.read_piece.new.piece in
+pub returns-in_err-carry_out-clause-runs : goal.returns-in_err-carry_out-clause-runs
+returns-in_err-carry_out-clause-runs g c =
+    let contents = g.W.Write.contents in
     let p = err_from_is_err_and c.from_residual.result c.from_residual.ensures.1 in
-    rw (p.1, p.2) (stops alone _ _ _ _ _ _ _ c.loop.session c.receive-end.new.self (knows c.loop.bus) (knows c.receive-end.new.bus) piece c.receive-end.new.out.items c.in_err-end.field-0.0 c.loop.invariant.1 c.in-Ok.ensures.1
-    (rw (← c.as_slice.ensures.value) c.in-Ok-write_whole.ensures)
-    (received alone (knows c.args.bus.now) (side_of (knows c.loop.bus) c.loop.session) (side_of (knows c.receive-end.new.bus) c.receive-end.new.self) piece c.loop.out.items c.receive-end.new.out.items _ (Err c.in_err-end.field-0.0) c.in_err-end.ensures c.loop.invariant.0 refl))
+    rw (p.1, p.2) (begins_not g.V.BusView.told g.G.Gate.passes g.V.BusView.alone c.args.seat c.free_key-key.result c.args.engine.now c.carry_out.new.engine (g.R.Read.remaining c.args.reader.now) (contents c.args.writer.now)
+    (contents c.carry_out.new.writer) c.in_err-carry_out.field-0.0 c.free_key-key.ensures c.in_err-carry_out.ensures)
 
-pub returns : goal.returns
-returns g c = gives_up g.V.BusView.alone _ _ _ _ _ _ _ c.loop.invariant.1
+pub loop-init : goal.loop-init
+loop-init g c =
+    let contents = g.W.Write.contents in (
+      refl,
+      begins g.V.BusView.told g.G.Gate.passes g.V.BusView.alone c.args.seat c.free_key-key.result c.args.engine.now c.carry_out.new.engine (g.R.Read.remaining c.args.reader.now) (contents c.args.writer.now)
+          (contents c.carry_out.new.writer) c.in_ok-carry_out.ensures,
+    )
+
+pub returns-in_err-carry_out-2-clause-runs : goal.returns-in_err-carry_out-2-clause-runs
+returns-in_err-carry_out-2-clause-runs g c =
+    let contents = g.W.Write.contents in
+    let remaining = g.R.Read.remaining in
+    let key = c.free_key-key.result in
+    let p = err_from_is_err_and c.from_residual-in_err-carry_out-2.result c.from_residual-in_err-carry_out-2.ensures.1 in
+    rw (p.1, p.2) (stops g.V.BusView.told g.G.Gate.passes g.V.BusView.alone c.args.seat key c.args.engine.now c.loop.engine c.carry_out-then-has_next.new.engine (remaining c.args.reader.now) (remaining c.loop.reader)
+    (remaining c.loop.reader) (contents c.args.writer.now) (contents c.loop.writer) (contents c.carry_out-then-has_next.new.writer) (Next key) c.in_err-carry_out-2.field-0.0 c.free_key-key.ensures c.loop.invariant.1 refl
+    (Consumes-nil (remaining c.loop.reader)) c.in_err-carry_out-2.ensures)
+
+pub loop-preserved-then-has_next : goal.loop-preserved-then-has_next
+loop-preserved-then-has_next g c =
+    let contents = g.W.Write.contents in
+    let remaining = g.R.Read.remaining in
+    let key = c.free_key-key.result in (
+      c.loop.invariant.0,
+      serves_on g.V.BusView.told g.G.Gate.passes g.V.BusView.alone c.args.seat key c.args.engine.now c.loop.engine c.carry_out-then-has_next.new.engine (remaining c.args.reader.now) (remaining c.loop.reader)
+          (remaining c.loop.reader) (contents c.args.writer.now) (contents c.loop.writer) (contents c.carry_out-then-has_next.new.writer) (Next key) c.loop.invariant.1 refl (Consumes-nil (remaining c.loop.reader))
+          c.in_ok-carry_out-2.ensures,
+    )
+
+pub returns-in_err-piece-clause-runs : goal.returns-in_err-piece-clause-runs
+returns-in_err-piece-clause-runs g c =
+    let contents = g.W.Write.contents in
+    let remaining = g.R.Read.remaining in
+    let p = err_from_is_err_and c.from_residual-in_err-piece.result c.from_residual-in_err-piece.ensures.1 in
+    rw (p.1, p.2) (loses g.V.BusView.told g.G.Gate.passes g.V.BusView.alone c.args.seat c.free_key-key.result c.args.engine.now c.loop.engine (remaining c.args.reader.now) (remaining c.loop.reader) (remaining c.next_piece.new.reader)
+    (contents c.args.writer.now) (contents c.loop.writer) c.in_err-piece.field-0.0 c.free_key-key.ensures c.loop.invariant.1 (c.has_next.ensures.quiet c.if-has_next.false) c.in_err-piece.ensures.err)
+
+pub returns-in_default-clause-runs : goal.returns-in_default-clause-runs
+returns-in_default-clause-runs g c =
+    let contents = g.W.Write.contents in
+    let remaining = g.R.Read.remaining in
+    let end = rw c.in_default.is at c.in_ok-piece.ensures.end in
+    is_gone g.V.BusView.told g.G.Gate.passes g.V.BusView.alone c.args.seat c.free_key-key.result c.args.engine.now c.loop.engine c.carry_out-in_default.new.engine (remaining c.args.reader.now) (remaining c.loop.reader)
+    (remaining c.next_piece.new.reader) (contents c.args.writer.now) (contents c.loop.writer) (contents c.carry_out-in_default.new.writer) c.carry_out-in_default.result c.free_key-key.ensures c.loop.invariant.1
+    (c.has_next.ensures.quiet c.if-has_next.false) end.0 c.carry_out-in_default.ensures
+
+pub returns-in_err-carry_out-3-clause-runs : goal.returns-in_err-carry_out-3-clause-runs
+returns-in_err-carry_out-3-clause-runs g c =
+    let contents = g.W.Write.contents in
+    let remaining = g.R.Read.remaining in
+    let key = c.free_key-key.result in
+    let read = rw c.in-Some.is at c.in_ok-piece.ensures.piece in
+    let p = err_from_is_err_and c.from_residual-in_err-carry_out-3.result c.from_residual-in_err-carry_out-3.ensures.1 in
+    rw (p.1, p.2) (stops g.V.BusView.told g.G.Gate.passes g.V.BusView.alone c.args.seat key c.args.engine.now c.loop.engine c.carry_out-in-loop.new.engine (remaining c.args.reader.now) (remaining c.loop.reader)
+    (remaining c.next_piece.new.reader) (contents c.args.writer.now) (contents c.loop.writer) (contents c.carry_out-in-loop.new.writer) (Bytes key c.in-Some.piece) c.in_err-carry_out-3.field-0.0 c.free_key-key.ensures
+    c.loop.invariant.1 refl read c.in_err-carry_out-3.ensures)
 
 pub loop-preserved : goal.loop-preserved
 loop-preserved g c =
-    let alone = g.V.BusView.alone in
-    let knows = g.V.BusView.knows in
-    let piece = take c.in-Ok.count c.read_piece.new.piece in (
-      c.clear.ensures.items,
-      goes_on alone _ _ _ _ _ _ _ c.loop.session c.receive-end.new.self (knows c.loop.bus) (knows c.receive-end.new.bus) piece c.receive-end.new.out.items c.loop.invariant.1 c.in-Ok.ensures.1
-          (rw (← c.as_slice.ensures.value) c.in-Ok-write_whole.ensures)
-          (received alone (knows c.args.bus.now) (side_of (knows c.loop.bus) c.loop.session) (side_of (knows c.receive-end.new.bus) c.receive-end.new.self) piece c.loop.out.items c.receive-end.new.out.items (Ok tt) (Ok tt) c.in_ok-end.ensures c.loop.invariant.0 refl),
+    let contents = g.W.Write.contents in
+    let remaining = g.R.Read.remaining in
+    let key = c.free_key-key.result in
+    let read = rw c.in-Some.is at c.in_ok-piece.ensures.piece in (
+      c.next_piece.ensures.room ∙ c.loop.invariant.0,
+      serves_on g.V.BusView.told g.G.Gate.passes g.V.BusView.alone c.args.seat key c.args.engine.now c.loop.engine c.carry_out-in-loop.new.engine (remaining c.args.reader.now) (remaining c.loop.reader)
+          (remaining c.next_piece.new.reader) (contents c.args.writer.now) (contents c.loop.writer) (contents c.carry_out-in-loop.new.writer) (Bytes key c.in-Some.piece) c.loop.invariant.1 refl read c.in_ok-carry_out-3.ensures,
     )

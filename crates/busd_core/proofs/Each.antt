@@ -1,0 +1,43 @@
+-- What each of several brings, one after the other.
+use Rattle.std.proofs.Common.{◌≡◌, ℕ, ◌+◌, ◌<◌, ◌≤◌, Option, List, [], ◌∷◌, ◌++◌, length, get_or, take, drop, sym, ap, ◌∙◌, subst, append_assoc, append-nil, take-append-drop}
+use Rattle.std.specs.Io.KnownBytes.{Appends}
+use Rattle.std.specs.List.{flat_map}
+use Rattle.std.proofs.KnownBytes.{Appends-trans}
+use Rattle.std.proofs.lemmas.Grind.{flat_map-append}
+use Rattle.std.proofs.lemmas.List.{take_more, take_all}
+
+module _ {X B : Type 0} (f : X → List B) (xs : List X) (i : ℕ) (x d : X) (inside : i < length xs) (is : x ≡ get_or xs i d) where
+  pub one_more : flat_map f (take (i + 1) xs) ≡ flat_map f (take i xs) ++ f x
+  one_more =
+      ap (flat_map f) (take_more xs i d inside)
+      ∙ flat_map-append f (take i xs) (get_or xs i d ∷ [])
+      ∙ ap (λ (y : X). flat_map f (take i xs) ++ (f y ++ [])) (sym is)
+      ∙ ap (λ (l : List B). flat_map f (take i xs) ++ l) (append-nil (f x))
+
+  pub split_at : flat_map f xs ≡ (flat_map f (take i xs) ++ f x) ++ flat_map f (drop (i + 1) xs)
+  split_at =
+      ap (flat_map f) (sym (take-append-drop (i + 1) xs))
+      ∙ flat_map-append f (take (i + 1) xs) (drop (i + 1) xs)
+      ∙ ap (λ (l : List B). l ++ flat_map f (drop (i + 1) xs)) one_more
+
+module _ {X : Type 0} (f : X → List ℕ) (xs : List X) (i : ℕ) (o p q : Option (List ℕ)) (begun : Appends o p (flat_map f (take i xs))) where
+  pub writes_more : (x d : X) → i < length xs → x ≡ get_or xs i d → Appends p q (f x) → Appends o q (flat_map f (take (i + 1) xs))
+  writes_more x d inside is more =
+      subst (Appends o q) (sym (one_more f xs i x d inside is)) (Appends-trans o p q (flat_map f (take i xs)) (f x) begun more)
+
+  pub writes_front : (x d : X) → i < length xs → x ≡ get_or xs i d → (front missing : List ℕ) × (f x ≡ front ++ missing) × Appends p q front →
+      (front missing : List ℕ) × (flat_map f xs ≡ front ++ missing) × Appends o q front
+  writes_front x d inside is (front, missing, whole, more) =
+      let begin : List ℕ = flat_map f (take i xs) in
+      let rest : List ℕ = flat_map f (drop (i + 1) xs) in (
+        begin ++ front,
+        missing ++ rest,
+        split_at f xs i x d inside is
+            ∙ ap (λ (l : List ℕ). (begin ++ l) ++ rest) whole
+            ∙ ap (λ (l : List ℕ). l ++ rest) (sym (append_assoc begin front missing))
+            ∙ append_assoc (begin ++ front) missing rest,
+        Appends-trans o p q begin front begun more,
+      )
+
+  pub writes_all : length xs ≤ i → Appends o p (flat_map f xs)
+  writes_all over = subst (λ (l : List X). Appends o p (flat_map f l)) (take_all i xs over) begun

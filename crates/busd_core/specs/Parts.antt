@@ -1,0 +1,60 @@
+-- What the parts of a run do.
+use Rattle.std.specs.Prelude.{◌≡◌, ◌⊎◌, ℕ, Bool, List, [], ◌++◌, Option, Result, Ok, Err}
+use Rattle.std.specs.Io.KnownBytes.{Consumes, Appends}
+use Rattle.seq_bus_core.specs.Histories.{History}
+use Rattle.router_core.specs.declared.action.Action.{Action}
+use Rattle.router_core.specs.declared.event.Event.{Event}
+use Rattle.router_core.specs.Acts.{State, Brings}
+use Rattle.router_core.specs.Deeds.{GatedCall}
+use Rattle.busd_core.specs.declared.fault.RunFault.{RunFault}
+use Rattle.busd_core.specs.declared.fault.RunFault.TheVariants as fault
+use Rattle.busd_core.specs.Sessions.{written_to, Delivery, AreMailed, Happens, Closes, Breaks}
+
+-- Nothing was read; or there was no memory for what was read.
+abbrev pub LosesPiece : Option (List ℕ) → Option (List ℕ) → RunFault → Type 0
+LosesPiece old new fault.Input = Consumes old new []
+LosesPiece old new fault.Memory = (lost : List ℕ) × Consumes old new lost
+LosesPiece old new other = ⊥
+
+module _ {N G : Type 0} (told : N → History) (passes : G → GatedCall → G → Type 0) (alone : Bool) (key : ℕ) where
+  -- The event brought these actions, and what they write was written.
+  pub record IsBrought (before : State G) (event : Event N) (actions : List (Action N)) (wrote_old wrote_new : Option (List ℕ)) (after : State G) : Type 0 where
+    pub brings : Brings told passes alone before event actions after
+    pub appends : Appends wrote_old wrote_new (written_to key actions)
+
+  -- There was no memory for the event, and nothing was done; or of what its actions write a front was written.
+  abbrev pub IsCutShort : State G → Event N → (wrote_old wrote_new : Option (List ℕ)) → State G → RunFault → Type 0
+  IsCutShort before event wrote_old wrote_new after fault.Memory = (after ≡ before) × Appends wrote_old wrote_new []
+  IsCutShort before event wrote_old wrote_new after fault.Output =
+      (actions : List (Action N)) × (front missing : List ℕ)
+      × Brings told passes alone before event actions after × (written_to key actions ≡ front ++ missing) × Appends wrote_old wrote_new front
+  IsCutShort before event wrote_old wrote_new after other = ⊥
+
+module _ {N G : Type 0} (told : N → History) (passes : G → GatedCall → G → Type 0) (alone : Bool) (seat key : ℕ) where
+  -- The first deliveries came as mail, and of what was written then the last bytes are missing.
+  abbrev pub AreMailedInPart : State G → List Delivery → (written missing : List ℕ) → State G → Type 0
+  AreMailedInPart before deliveries written missing after =
+      (come left : List Delivery) × (deliveries ≡ come ++ left) × AreMailed told passes alone seat key before come (written ++ missing) after
+
+  -- All came, or some of them before a fault.
+  abbrev pub AreMailedSo : State G → List Delivery → List ℕ → State G → Result (Unit {0}) RunFault → Type 0
+  AreMailedSo before deliveries written after (Ok u) = AreMailed told passes alone seat key before deliveries written after
+  AreMailedSo before deliveries written after (Err fault.Output) = (missing : List ℕ) × AreMailedInPart before deliveries written missing after
+  AreMailedSo before deliveries written after (Err fault.Memory) = AreMailedInPart before deliveries written [] after
+  AreMailedSo before deliveries written after (Err other) = ⊥
+
+  abbrev pub Delivers : State G → List Delivery → (wrote_old wrote_new : Option (List ℕ)) → State G → Result (Unit {0}) RunFault → Type 0
+  Delivers before deliveries wrote_old wrote_new after result =
+      (written : List ℕ) × Appends wrote_old wrote_new written × AreMailedSo before deliveries written after result
+
+  -- What becomes of an event.
+  abbrev pub HappensSo : State G → Event N → List ℕ → State G → Result (Unit {0}) RunFault → Type 0
+  HappensSo before event written after (Ok u) = Happens told passes alone seat key before event written after
+  HappensSo before event written after (Err (fault.Closed cause)) = Closes told passes alone seat key before event cause written after
+  HappensSo before event written after (Err fault.Output) = (missing : List ℕ) × Breaks told passes alone seat key before event written missing after
+  HappensSo before event written after (Err fault.Memory) = ((after ≡ before) × (written ≡ [])) ⊎ Breaks told passes alone seat key before event written [] after
+  HappensSo before event written after (Err fault.Input) = ⊥
+
+  abbrev pub IsCarriedOut : State G → Event N → (wrote_old wrote_new : Option (List ℕ)) → State G → Result (Unit {0}) RunFault → Type 0
+  IsCarriedOut before event wrote_old wrote_new after result =
+      (written : List ℕ) × Appends wrote_old wrote_new written × HappensSo before event written after result

@@ -1,0 +1,40 @@
+//! Events that are served, and what they write.
+
+ghost use Rattle.std.specs.Prelude.{IfOk, IfErr};
+ghost use Rattle.router_core.specs.Events.{CanHappen};
+ghost use Rattle.busd_core.specs.Parts.{IsBrought, IsCutShort};
+
+use crate::actions::write_out;
+use crate::fault::RunFault;
+use bus_view::BusView;
+use router::Engine;
+use router_core::{Action, Event, Gate};
+use std::io::Write;
+
+/// Which connection is served: the seat of its router, and its key there.
+#[derive(Clone, Copy, Debug, PartialEq, Eq)]
+pub struct Place {
+    pub seat: u8,
+    pub key: usize,
+}
+
+/// Serves an event, and writes what its actions write to the connection of a key.
+pub fn bring<V: BusView, G: Gate, W: Write>(
+    engine: &mut Engine<V, G>,
+    right: &V::Right,
+    key: usize,
+    event: Event<V::Note>,
+    writer: &mut W,
+) -> Result<Vec<Action<V::Note>>, RunFault>
+    requires { CanHappen V.registry_of engine.old.view.registry engine.old.standing event }
+    ensures ok { IfOk result (λ actions. IsBrought V.told G.passes V.alone key engine.old event actions.items (W.contents writer.old) (W.contents writer.new) engine.new) }
+    ensures err { IfErr result (λ fault. IsCutShort V.told G.passes V.alone key engine.old event (W.contents writer.old) (W.contents writer.new) engine.new fault) }
+{
+    let Ok(actions) = engine.event(right, event) else {
+        return Err(RunFault::Memory);
+    };
+    let Ok(()) = write_out(writer, key, &actions) else {
+        return Err(RunFault::Output);
+    };
+    Ok(actions)
+}

@@ -1,0 +1,173 @@
+//! Messages that are put, as they come back as mail.
+
+ghost use Rattle.std.specs.Prelude.{◌≡◌, not, filter};
+ghost use Rattle.std.specs.List.{flat_map};
+ghost use Rattle.seq_bus_core.specs.Steps.{is_among};
+ghost use Rattle.envelopes.specs.Contents.{said_of};
+ghost use Rattle.router_core.specs.Deeds.{all_of};
+ghost use Rattle.busd_core.specs.Sessions.{mail_to, mail_to_all, mail_of_signal, mail_of, mails_of};
+ghost use Rattle.busd_core.specs.Parts.{Delivers};
+
+use crate::carrying::{Place, bring};
+use crate::fault::RunFault;
+use bus_view::BusView;
+use envelopes::{Content, Envelope, OwnMessage};
+use router::Engine;
+use router_core::{Action, Event, Gate};
+use seq_bus_core::{AddressedSignal, Conn};
+use std::io::Write;
+
+/// Brings a message to a connection, if it is one of the same router.
+fn deliver_to<V: BusView, G: Gate, W: Write>(
+    engine: &mut Engine<V, G>,
+    right: &V::Right,
+    place: Place,
+    conn: Conn,
+    content: &Content,
+    writer: &mut W,
+) -> Result<(), RunFault>
+    ensures { Delivers V.told G.passes V.alone place.seat place.key engine.old (mail_to place.seat (said_of content.now) conn) (W.contents writer.old) (W.contents writer.new) engine.new result }
+{
+    if conn.router != place.seat {
+        return Ok(());
+    }
+    let Ok(content) = content.again() else {
+        return Err(RunFault::Memory);
+    };
+    let envelope = Envelope {
+        number: conn.number,
+        note: None,
+        content,
+    };
+    let mail = Event::Mail {
+        slot: conn.slot,
+        envelope,
+    };
+    bring(engine, right, place.key, mail, writer)?;
+    Ok(())
+}
+
+/// Brings a message to its recipients, one after the other.
+fn deliver_to_all<V: BusView, G: Gate, W: Write>(
+    engine: &mut Engine<V, G>,
+    right: &V::Right,
+    place: Place,
+    to: &[Conn],
+    content: &Content,
+    writer: &mut W,
+) -> Result<(), RunFault>
+    ensures { Delivers V.told G.passes V.alone place.seat place.key engine.old (mail_to_all place.seat (said_of content.now) to.now) (W.contents writer.old) (W.contents writer.new) engine.new result }
+{
+    for conn in to {
+        deliver_to(engine, right, place, *conn, content, writer)?;
+    }
+    Ok(())
+}
+
+fn is_among(conns: &[Conn], conn: Conn) -> bool
+    ensures { result ≡ is_among conns.now conn }
+{
+    conns.iter().any(|other| other.number == conn.number)
+}
+
+/// Brings a message to the monitors that are shown it and are no recipients.
+fn show_to_others<V: BusView, G: Gate, W: Write>(
+    engine: &mut Engine<V, G>,
+    right: &V::Right,
+    place: Place,
+    to: &[Conn],
+    monitors: &[Conn],
+    content: &Content,
+    writer: &mut W,
+) -> Result<(), RunFault>
+    ensures { Delivers V.told G.passes V.alone place.seat place.key engine.old (mail_to_all place.seat (said_of content.now) (filter (λ m. not (is_among to.now m)) monitors.now)) (W.contents writer.old) (W.contents writer.new) engine.new result }
+{
+    for conn in monitors {
+        if !is_among(to, *conn) {
+            deliver_to(engine, right, place, *conn, content, writer)?;
+        }
+    }
+    Ok(())
+}
+
+/// Brings a message to its recipients, and then to the monitors.
+fn deliver<V: BusView, G: Gate, W: Write>(
+    engine: &mut Engine<V, G>,
+    right: &V::Right,
+    place: Place,
+    to: &[Conn],
+    monitors: &[Conn],
+    content: &Content,
+    writer: &mut W,
+) -> Result<(), RunFault>
+    ensures { Delivers V.told G.passes V.alone place.seat place.key engine.old (mail_to_all place.seat (said_of content.now) (all_of to.now monitors.now)) (W.contents writer.old) (W.contents writer.new) engine.new result }
+{
+    deliver_to_all(engine, right, place, to, content, writer)?;
+    show_to_others(engine, right, place, to, monitors, content, writer)
+}
+
+/// Brings the signals of a change to their recipients, in order.
+fn announce<V: BusView, G: Gate, W: Write>(
+    engine: &mut Engine<V, G>,
+    right: &V::Right,
+    place: Place,
+    signals: &[AddressedSignal],
+    writer: &mut W,
+) -> Result<(), RunFault>
+    ensures { Delivers V.told G.passes V.alone place.seat place.key engine.old (flat_map (mail_of_signal place.seat) signals.now) (W.contents writer.old) (W.contents writer.new) engine.new result }
+{
+    for addressed in signals {
+        let content = Content::Own(OwnMessage::Signal(addressed.signal));
+        let to = addressed.to.as_slice();
+        let monitors = addressed.monitors.as_slice();
+        deliver(engine, right, place, to, monitors, &content, writer)?;
+    }
+    Ok(())
+}
+
+/// Brings what an action puts.
+fn deliver_one<V: BusView, G: Gate, W: Write>(
+    engine: &mut Engine<V, G>,
+    right: &V::Right,
+    place: Place,
+    action: &Action<V::Note>,
+    writer: &mut W,
+) -> Result<(), RunFault>
+    ensures { Delivers V.told G.passes V.alone place.seat place.key engine.old (mail_of place.seat action.now) (W.contents writer.old) (W.contents writer.new) engine.new result }
+{
+    match action {
+        Action::Put {
+            to,
+            note: _,
+            content,
+        } => deliver(
+            engine,
+            right,
+            place,
+            to.to(),
+            to.monitors(),
+            content,
+            writer,
+        ),
+        Action::Announce { signals, note: _ } => {
+            announce(engine, right, place, signals.as_slice(), writer)
+        }
+        _ => Ok(()),
+    }
+}
+
+/// Brings what the actions put, in order.
+pub fn deliver_all<V: BusView, G: Gate, W: Write>(
+    engine: &mut Engine<V, G>,
+    right: &V::Right,
+    place: Place,
+    actions: &[Action<V::Note>],
+    writer: &mut W,
+) -> Result<(), RunFault>
+    ensures { Delivers V.told G.passes V.alone place.seat place.key engine.old (mails_of place.seat actions.now) (W.contents writer.old) (W.contents writer.new) engine.new result }
+{
+    for action in actions {
+        deliver_one(engine, right, place, action, writer)?;
+    }
+    Ok(())
+}
