@@ -1,6 +1,6 @@
 //! The bytes that go to each connection.
 
-ghost use Rattle.std.specs.Prelude.{◌≡◌, ◌+◌, ◌++◌, ◌≤◌, List, length, map, OnOk, IfOk};
+ghost use Rattle.std.specs.Prelude.{◌≡◌, ◌++◌, map, OnOk, IfOk};
 ghost use Rattle.router_core.specs.OneThread.{bytes_if, opening_of as opening_in};
 ghost use Rattle.router_runs.specs.Outputs.{Adds, bytes_by, bytes_by_all, met, no_output};
 ghost use Rattle.router_runs.specs.Runs.{happening};

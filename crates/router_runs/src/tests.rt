@@ -15,7 +15,6 @@ use seq_bus_core::BusSignal;
 use std::alloc::{AllocError, Global};
 use std::process::Abort;
 use std::sync::Arc;
-use std::test::Fail;
 
 /// What happens, before memory is taken for it.
 #[derive(Clone, Copy)]
@@ -240,16 +239,30 @@ fn key_of_a_connection_that_is_gone(rt: HostRuntime) {
 }
 
 #[test]
-fn keys_that_are_not_free(rt: HostRuntime) -> Result<(), Fail> {
+fn keys_that_are_not_free(rt: HostRuntime) {
     let twice = [Step::Opens(0), Step::Waits, Step::Opens(0)];
     must_end(&rt, rt.alloc(), &twice, 2);
     let beyond = [Step::Opens(0), Step::Opens(2)];
     must_end(&rt, rt.alloc(), &beyond, 1);
-    let text = format!(in rt.alloc(); "{}", RunFault::KeyTaken(7))?;
-    assert_eq!(rt; text.as_str(), "event 7: the key is not free");
-    let text = format!(in rt.alloc(); "{}", RunFault::from(AllocError))?;
-    assert_eq!(rt; text.as_str(), "out of memory");
-    Ok(())
+}
+
+/// Whether a fault is shown so.
+fn shows(alloc: Global, fault: RunFault, text: &str) -> Result<bool, AllocError> {
+    let shown = format!(in alloc; "{fault}")?;
+    Ok(shown.as_str() == text)
+}
+
+#[test]
+fn faults_are_shown(rt: HostRuntime) {
+    let cases = [
+        (RunFault::KeyTaken(7), "event 7: the key is not free"),
+        (RunFault::from(AllocError), "out of memory"),
+    ];
+    for (fault, text) in cases {
+        if !matches!(shows(rt.alloc(), fault, text), Ok(true)) {
+            assert!(rt; matches!(shows(rt.alloc(), fault, text), Ok(true)));
+        }
+    }
 }
 
 type Plain = Engine<SeqBus, OpenGate>;
@@ -320,15 +333,16 @@ fn answers(rt: &impl Abort, alloc: Global) -> Result<Vec<u8>, AllocError> {
     Ok(written)
 }
 
+/// Whether the call and the Hello are answered as they should be.
+fn answers_well(rt: &impl Abort, alloc: Global) -> Result<bool, AllocError> {
+    let expected = joined(alloc, &[WELCOME, ACQUIRED, OWNER])?;
+    let written = answers(rt, alloc)?;
+    Ok(written.as_slice() == expected.as_slice())
+}
+
 #[test]
-fn mail_that_comes_back(rt: HostRuntime) -> Result<(), Fail> {
-    let expected = joined(rt.alloc(), &[WELCOME, ACQUIRED, OWNER])?;
-    if let Ok(written) = answers(&rt, rt.alloc()) {
-        if written.as_slice() == expected.as_slice() {
-            return Ok(());
-        }
+fn mail_that_comes_back(rt: HostRuntime) {
+    if !matches!(answers_well(&rt, rt.alloc()), Ok(true)) {
+        assert!(rt; matches!(answers_well(&rt, rt.alloc()), Ok(true)));
     }
-    let written = answers(&rt, rt.alloc())?;
-    assert_eq!(rt; written.as_slice(), expected.as_slice());
-    Ok(())
 }
