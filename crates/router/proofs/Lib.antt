@@ -4,3 +4,6 @@ pub mod FoundMail
 pub mod Greetings
 pub mod Bringing
 pub mod Greeted
+pub mod Indexing
+pub mod Endings
+pub mod Keeping

@@ -1,3 +1,4 @@
 pub mod Tables
 pub mod Welcomes
 pub mod Upcoming
+pub mod Indexed

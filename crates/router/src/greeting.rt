@@ -1,6 +1,6 @@
 //! Connections that say Hello. (D-Bus Specification: "org.freedesktop.DBus.Hello")
 
-ghost use Rattle.std.specs.Prelude.{◌≡◌, ◌<◌, ◌≤◌, ◌+◌, length, position, Some};
+ghost use Rattle.std.specs.Prelude.{◌≡◌, ◌<◌, ◌≤◌, ◌+◌, length, position, slice_set, Some};
 ghost use Rattle.message_core.specs.Said.{said};
 ghost use Rattle.router_core.specs.Answers.{error_for, refusal_of};
 ghost use Rattle.router_core.specs.Events.{refuse_with, turn_away, for_peer, close_former, welcome, greeted, greeted_by, greet};
@@ -8,9 +8,10 @@ ghost use Rattle.router_core.specs.Scripts.{Comes};
 ghost use Rattle.router_core.specs.Standing.{next_serial, has_slot};
 ghost use Rattle.router_hands.specs.Hearing.{heard_change};
 ghost use Rattle.router_hands.specs.Refusing.{IsRefusal, AreRefusals};
+ghost use Rattle.router.specs.Indexed.{slot_count, IsIndexed, IsUnnamed, IsVacant};
 ghost use Rattle.router.specs.Welcomes.{welcomed};
 
-use crate::served::Served;
+use crate::served::{SLOT_COUNT, Served};
 use bus_view::{BusView, Cause};
 use driver::Call;
 use envelopes::ReplyContent;
@@ -44,10 +45,33 @@ fn has_slot(peer: &Option<Peer>, slot: u16) -> bool
 }
 
 /// The key of the connection that has a name, and this slot.
-fn find_slot(peers: &[Option<Peer>], slot: u16) -> Option<usize>
+fn find_slot(peers: &[Option<Peer>], places: &[usize; SLOT_COUNT], slot: u16) -> Option<usize>
+    requires { IsIndexed peers.now places.now }
     ensures { result ≡ position (has_slot slot) peers.now }
 {
-    peers.iter().position(|peer| has_slot(peer, slot))
+    let at = usize::from(slot);
+    if at >= SLOT_COUNT {
+        return peers.iter().position(|peer| has_slot(peer, slot));
+    }
+    let key = places[at];
+    if key >= peers.len() {
+        return None;
+    }
+    if has_slot(&peers[key], slot) {
+        return Some(key);
+    }
+    None
+}
+
+/// Keeps the key of the connection that has a slot from now on.
+fn keep_key(places: &mut [usize; SLOT_COUNT], slot: u16, key: usize)
+    ensures set { places.new ≡ slice_set places.old slot key }
+    ensures count { length places.old ≡ slot_count }
+{
+    let at = usize::from(slot);
+    if at < SLOT_COUNT {
+        places[at] = key;
+    }
 }
 
 impl<V: BusView, G: Gate> Served<V, G> {
@@ -57,9 +81,11 @@ impl<V: BusView, G: Gate> Served<V, G> {
         ensures comes { Comes V.told G.passes V.alone (close_former self.old.standing conn) self.old.work.world self.new.standing self.new.work.world }
         ensures room { self.old.work.room ≤ self.new.work.room + 1 }
         ensures keys { length self.new.standing.peers ≡ length self.old.standing.peers }
+        ensures vacant { IsVacant conn.slot self.new.standing.peers }
     {
-        if let Some(key) = find_slot(&self.peers, conn.slot) {
-            self.hands.close_left(key, &mut self.peers[key]);
+        match find_slot(&self.peers, &self.places, conn.slot) {
+            Some(key) => self.hands.close_left(key, &mut self.peers[key]),
+            None => {}
         }
     }
 
@@ -67,6 +93,7 @@ impl<V: BusView, G: Gate> Served<V, G> {
     fn welcome(&mut self, key: usize, hello: &Message, mut peer: Peer, outcome: Outcome, conn: Conn)
         requires room { 1 < self.old.work.room }
         requires key { key < length self.old.standing.peers }
+        requires vacant { IsVacant conn.slot self.old.standing.peers }
         ensures { Comes V.told G.passes V.alone (welcome key (said hello.now) peer outcome conn self.old.standing) self.old.work.world self.new.standing self.new.work.world }
     {
         self.hands
@@ -74,6 +101,7 @@ impl<V: BusView, G: Gate> Served<V, G> {
         self.hands.announce(outcome.signals);
         peer.welcome(conn);
         self.peers[key] = Some(peer);
+        keep_key(&mut self.places, conn.slot, key);
     }
 
     /// The bus refused the Hello: the connection stays without a name.
@@ -86,6 +114,7 @@ impl<V: BusView, G: Gate> Served<V, G> {
         errors: HelloErrors,
     )
         requires room { 1 < self.old.work.room }
+        requires unnamed { IsUnnamed peer.stage }
         requires key { key < length self.old.standing.peers }
         requires written { AreRefusals (said hello.now) (next_serial peer.serial) errors }
         ensures { Comes V.told G.passes V.alone (for_peer self.old.standing key (Some peer) (refuse_with key (said hello.now) (error_for (refusal_of why)))) self.old.work.world self.new.standing self.new.work.world }
@@ -138,6 +167,7 @@ impl<V: BusView, G: Gate> Served<V, G> {
         errors: HelloErrors,
     )
         requires room { 2 < self.old.work.room }
+        requires unnamed { IsUnnamed peer.stage }
         requires key { key < length self.old.standing.peers }
         requires written { AreRefusals (said hello.now) (next_serial peer.serial) errors }
         ensures { Comes V.told G.passes V.alone (greeted self.old.standing key (said hello.now) peer (heard_change heard)) self.old.work.world self.new.standing self.new.work.world }
@@ -153,7 +183,7 @@ impl<V: BusView, G: Gate> Served<V, G> {
     /// is closed. Where the bus refuses, the connection is answered an error; where a limit would be exceeded, it is closed too.
     ///
     /// It takes no memory: room was made, and the errors were made too.
-    pub fn greet(
+    pub(crate) fn greet(
         &mut self,
         right: &V::Right,
         key: usize,
@@ -163,6 +193,7 @@ impl<V: BusView, G: Gate> Served<V, G> {
         errors: HelloErrors,
     )
         requires room { 2 < self.old.work.room }
+        requires unnamed { IsUnnamed peer.stage }
         requires key { key < length self.old.standing.peers }
         requires written { AreRefusals (said hello.now) (next_serial peer.serial) errors }
         ensures { Comes V.told G.passes V.alone (greet self.old.standing key (said hello.now) peer privileged) self.old.work.world self.new.standing self.new.work.world }

@@ -5,8 +5,9 @@ ghost use Rattle.envelopes.specs.Contents.{said_of};
 ghost use Rattle.router_core.specs.Events.{mail_found, noted, IsOwnNote};
 ghost use Rattle.router_core.specs.Scripts.{Comes};
 ghost use Rattle.router_core.specs.Standing.{is_conn};
+ghost use Rattle.router.specs.Indexed.{IsIndexed};
 
-use crate::served::Served;
+use crate::served::{SLOT_COUNT, Served};
 use bus_view::BusView;
 use envelopes::Envelope;
 use router_core::Gate;
@@ -28,12 +29,29 @@ fn is_addressed(peer: &Option<Peer>, slot: u16, number: u64) -> bool
 }
 
 /// The key of the connection of this slot and this number.
-fn find_addressed(peers: &[Option<Peer>], slot: u16, number: u64) -> Option<usize>
+fn find_addressed(
+    peers: &[Option<Peer>],
+    places: &[usize; SLOT_COUNT],
+    slot: u16,
+    number: u64,
+) -> Option<usize>
+    requires { IsIndexed peers.now places.now }
     ensures { result ≡ position (is_conn slot number) peers.now }
 {
-    peers
-        .iter()
-        .position(|peer| is_addressed(peer, slot, number))
+    let at = usize::from(slot);
+    if at >= SLOT_COUNT {
+        return peers
+            .iter()
+            .position(|peer| is_addressed(peer, slot, number));
+    }
+    let key = places[at];
+    if key >= peers.len() {
+        return None;
+    }
+    if is_addressed(&peers[key], slot, number) {
+        return Some(key);
+    }
+    None
 }
 
 impl<V: BusView, G: Gate> Served<V, G> {
@@ -47,7 +65,7 @@ impl<V: BusView, G: Gate> Served<V, G> {
         ensures world { OnErr result (self.new.work.world ≡ self.old.work.world) }
     {
         self.hands.reserve(1)?;
-        match find_addressed(&self.peers, slot, envelope.number) {
+        match find_addressed(&self.peers, &self.places, slot, envelope.number) {
             None => {
                 self.hands.heed(&envelope.note);
                 Ok(())

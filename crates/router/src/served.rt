@@ -11,21 +11,38 @@ use router_hands::{Hands, Peer};
 use std::alloc::{AllocError, Global};
 use std::marker::Model;
 
+/// The bus gives slots below this.
+pub(crate) const SLOT_COUNT: usize = 256;
+
 /// The connections by their keys, the numbers of those that left and whose Leave is not made yet, and what is at hand.
 #[derive(Drop)]
 pub struct Served<V: BusView, G: Gate> {
     pub(crate) alloc: Global,
     pub(crate) hands: Hands<V, G>,
     pub(crate) peers: Vec<Option<Peer>>,
+    /// The key of the connection that has a slot, if there is one.
+    pub(crate) places: [usize; SLOT_COUNT],
+    /// Keys of connections that are gone; the last of them is given out first.
+    pub(crate) vacated: Vec<usize>,
     pub(crate) leaves: Vec<u64>,
 }
 
 impl<V: BusView, G: Gate> Model for Served<V, G> {
+    ghost use Rattle.router.specs.Indexed.{IsIndexed};
     ghost use Rattle.router.specs.Tables.{Table};
 
     ghost Value = { Table V.Note G };
 
     ghost view = { λ s. record { standing = record { peers = s.peers.items; leaves = s.leaves.items }; work = s.hands } };
+
+    ghost invariant = { λ s. IsIndexed s.peers.items s.places };
+}
+
+/// A key that was given up is in use again.
+fn forget(vacated: &mut Vec<usize>, key: usize) {
+    if vacated.last().copied() == Some(key) {
+        vacated.pop();
+    }
 }
 
 impl<V: BusView, G: Gate> Served<V, G> {
@@ -38,6 +55,8 @@ impl<V: BusView, G: Gate> Served<V, G> {
             alloc,
             hands: Hands::new(alloc, view, gate),
             peers: Vec::new(alloc),
+            places: [0; SLOT_COUNT],
+            vacated: Vec::new(alloc),
             leaves: Vec::new(alloc),
         }
     }
@@ -60,14 +79,14 @@ impl<V: BusView, G: Gate> Served<V, G> {
         self.hands.take_actions()
     }
 
-    /// A key that no connection has.
+    /// A key that no connection has: the last that was given up, or the next.
     #[tactic(auto, using(crate::proofs::Slots::none_beyond))]
     pub fn free_key(&self) -> usize
         ensures { IsFree self.now.standing result }
     {
-        for key in 0..self.peers.len() {
-            if self.peers[key].is_none() {
-                return key;
+        if let Some(key) = self.vacated.last() {
+            if self.is_free(*key) {
+                return *key;
             }
         }
         self.peers.len()
@@ -94,9 +113,10 @@ impl<V: BusView, G: Gate> Served<V, G> {
         let peer = Peer::new(self.alloc);
         if key == self.peers.len() {
             self.peers.push(Some(peer))?;
-        } else {
-            self.peers[key] = Some(peer);
+            return Ok(());
         }
+        self.peers[key] = Some(peer);
+        forget(&mut self.vacated, key);
         Ok(())
     }
 

@@ -1,14 +1,15 @@
 //! Events over a plain bus.
 
 use super::*;
+use crate::greeting_tests::HELLO;
 use envelopes::{Content, Envelope, OwnMessage};
 use match_rules::Rule;
 use names::{BusName, UniqueName};
 use owner_queues::Profile;
 use router_core::{Action, CloseCause, OpenGate};
-use router_hands::Hands;
+use router_hands::Stage;
 use seq_bus::{SeqBus, can_open};
-use seq_bus_core::{BusSignal, Change, Conn, Outcome, Reply};
+use seq_bus_core::{BusSignal, Change, Conn};
 use std::alloc::Global;
 use std::process::Abort;
 
@@ -24,17 +25,6 @@ pub(crate) fn bus(rt: &impl Abort, alloc: Global) -> SeqBus {
     match SeqBus::new(alloc, &[], 1, Profile::One) {
         Ok(bus) => bus,
         Err(_) => SeqBus::new(alloc, &[], 1, Profile::One).expect(rt, "one allocation fails"),
-    }
-}
-
-/// Says Hello, once more where one allocation failed.
-fn greet(rt: &impl Abort, hands: &mut Hands<SeqBus, OpenGate>) -> Outcome {
-    match hands.change(&(), Change::Hello { privileged: true }) {
-        Ok(outcome) => outcome,
-        Err(_) => match hands.change(&(), Change::Hello { privileged: true }) {
-            Ok(outcome) => outcome,
-            Err(_) => panic!(rt; "one allocation fails"),
-        },
     }
 }
 
@@ -72,17 +62,37 @@ fn opened(rt: &impl Abort, served: &mut Served<SeqBus, OpenGate>) -> usize {
     key
 }
 
-/// A connection whose Hello the bus has answered.
+/// A connection says Hello, once more where one allocation failed.
+fn say_hello(rt: &impl Abort, served: &mut Served<SeqBus, OpenGate>, key: usize) {
+    if served.feed(key, HELLO).is_err() {
+        served.feed(key, HELLO).expect(rt, "one allocation fails");
+    }
+    if served.next(&(), key).is_err() {
+        served.next(&(), key).expect(rt, "one allocation fails");
+    }
+    let _greeted = served.take_actions();
+}
+
+/// What its Hello gave the connection of a key.
+fn conn_at(served: &Served<SeqBus, OpenGate>, key: usize) -> Option<Conn> {
+    let Some(Some(peer)) = served.peers.get(key) else {
+        return None;
+    };
+    match peer.stage() {
+        Stage::Named(conn) => Some(conn),
+        _ => None,
+    }
+}
+
+/// A connection whose Hello the bus has answered. Where the bus had no memory it says Hello again.
 fn named(rt: &impl Abort, served: &mut Served<SeqBus, OpenGate>) -> Conn {
     let key = opened(rt, served);
-    let Reply::Welcome(conn) = greet(rt, &mut served.hands).reply else {
-        panic!(rt; "there is room for it");
-    };
-    match served.peers.get_mut(key) {
-        Some(Some(peer)) => peer.welcome(conn),
-        _ => panic!(rt; "it was opened"),
+    say_hello(rt, served, key);
+    if let Some(conn) = conn_at(served, key) {
+        return conn;
     }
-    conn
+    say_hello(rt, served, key);
+    conn_at(served, key).expect(rt, "one allocation fails")
 }
 
 /// The connection hears of names that change their owners, once more where one allocation failed.

@@ -7,6 +7,9 @@ use Rattle.router_core.specs.Scripts.{Comes}
 use Rattle.router_core.specs.Standing.{Peer, Standing, has_slot, peer_at, with_peer}
 use Rattle.router.specs.Tables.{Table}
 use Rattle.router.proofs.Greetings.{closes_former}
+use Rattle.router.specs.Indexed.{IsVacant}
+use Rattle.router.proofs.Indexing.{vacant_closed, vacant_unfound}
+use Rattle.router.proofs.Keeping.{closed_has_none}
 use Rattle.router.proofs.served.Served.close_former.Goals as goal
 
 pub returns-in-Some-clause-comes : goal.returns-in-Some-clause-comes
@@ -23,3 +26,22 @@ returns-in-Some-clause-comes g c =
     let found = subst (λ (o : Option Peer). Comes g.V.BusView.told g.G.Gate.passes g.V.BusView.alone (for_slot o (λ (p : Peer). closing key Left p)) w q v) there c.close_left.ensures.comes in
     subst (λ (k : Table g.row.V-Note.Denot g.row.G.Denot). Comes g.V.BusView.told g.G.Gate.passes g.V.BusView.alone (close_former k.standing conn) k.work.world (with_peer s key q) v) c.self.view_is
     (closes_former g.V.BusView.told g.G.Gate.passes g.V.BusView.alone s conn key q w v some found)
+
+pub returns-in-Some-clause-vacant : goal.returns-in-Some-clause-vacant
+returns-in-Some-clause-vacant g c =
+    let conn = c.args.conn in
+    let test = has_slot conn.slot in
+    let key = c.in-Some.key in
+    let peers = c.self.inside.peers.items in
+    let some : position test peers ≡ Some key = sym (c.in-Some.ensures ∙ ap (position test) c.deref.ensures.value) in
+    let has = (position-Some test peers key None some).1 in
+    let gone = closed_has_none g.V.BusView.told g.G.Gate.passes g.V.BusView.alone c.self.inside.hands.world c.close_left.new.self.world key Left c.index_mut.result.now c.close_left.new.slot c.close_left.ensures.comes in
+    vacant_closed conn.slot key c.close_left.new.slot peers c.self.inside.places c.self.invariant has gone
+
+pub returns-in-None-clause-vacant : goal.returns-in-None-clause-vacant
+returns-in-None-clause-vacant g c =
+    let conn = c.args.conn in
+    let test = has_slot conn.slot in
+    let peers = c.self.inside.peers.items in
+    let none : position test peers ≡ None = sym (c.in-None.ensures ∙ ap (position test) c.deref.ensures.value) in
+    subst (λ (k : Table g.row.V-Note.Denot g.row.G.Denot). IsVacant conn.slot k.standing.peers) c.self.view_is (vacant_unfound conn.slot peers none)

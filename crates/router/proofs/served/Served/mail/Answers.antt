@@ -9,6 +9,8 @@ use Rattle.router_core.specs.Standing.{Standing, is_conn, peer_at}
 use Rattle.router_hands.specs.Noting.{once_noted, IsHeeded}
 use Rattle.router.specs.Tables.{Table}
 use Rattle.router.proofs.FoundMail.{dropped, delivered}
+use Rattle.router.proofs.Indexing.{index_at, same_keeps, either_way}
+use Rattle.router.proofs.Keeping.{brought_keeps}
 use Rattle.router.proofs.served.Served.mail.Goals as goal
 
 pub returns-in-None-clause-comes : goal.returns-in-None-clause-comes
@@ -49,3 +51,20 @@ returns-in-Some-clause-comes g c =
     subst (λ (k : Table g.row.V-Note.Denot g.row.G.Denot). Comes told passes alone (noted held (mail_found k.standing said (position test k.standing.peers))) k.work.world t v) c.self.view_is
     (delivered told passes alone w v held s said (position test s.peers) key q some found))
     c.bring_to.ensures.comes
+
+pub invariant_of-self-in-Some : goal.invariant_of-self-in-Some
+invariant_of-self-in-Some g c =
+    let key = c.in-Some.key in
+    let peers = c.self.inside.peers.items in
+    let test = is_conn c.args.slot c.args.envelope.now.number in
+    let old = c.index_mut.result.now in
+    let new = c.bring_to.new.slot in
+    let some : position test peers ≡ Some key = sym (c.in-Some.ensures ∙ ap (position test) c.deref.ensures.value) in
+    let there = get_or_read peers key old (position-Some test peers key None some).0 c.index_mut.ensures.value None in
+    let held = option_map g.V.BusView.told c.args.envelope.now.note in
+    let said = said_of c.args.envelope.now.content in
+    let keeps =
+    either_way c.bring_to.result c.bring_to.ensures.comes c.bring_to.ensures.err
+    (λ came. brought_keeps g.V.BusView.told g.G.Gate.passes g.V.BusView.alone c.reserve.new.self.world c.bring_to.new.self.world held key said old new came) (λ same. same_keeps old new same)
+    in
+    index_at peers c.self.inside.places key old new there keeps c.self.invariant

@@ -5,6 +5,9 @@ use Rattle.router_core.specs.Scripts.{Comes}
 use Rattle.router_core.specs.Standing.{Standing}
 use Rattle.router.specs.Tables.{Table}
 use Rattle.router.proofs.Ticks.{ticks}
+use Rattle.router.specs.Indexed.{IsIndexed}
+use Rattle.router.proofs.Indexing.{index_kept}
+use Rattle.router.proofs.Keeping.{looked_keeps}
 use Rattle.router.proofs.served.Served.tick.Goals as goal
 
 pub returns-clause-comes : goal.returns-clause-comes
@@ -32,3 +35,20 @@ returns-clause-comes g c =
     subst (λ xs. let end : Standing = record { peers = xs; leaves = kept } in Comes told passes alone (tick c.args.self.now.standing) c.args.self.now.work.world end v) (sym back)
     (subst (λ (k : Table g.row.V-Note.Denot g.row.G.Denot). Comes told passes alone (tick k.standing) k.work.world (record { peers = ys; leaves = kept }) v) c.self.view_is
     (ticks told passes alone w m v s kept ys made looked))
+
+pub invariant_of-self-2 : goal.invariant_of-self-2
+invariant_of-self-2 g c =
+    let told = g.V.BusView.told in
+    let passes = g.G.Gate.passes in
+    let alone = g.V.BusView.alone in
+    let peers = c.self.inside.peers.items in
+    let places = c.self.inside.places in
+    let ys = c.look_at_all.new.peers in
+    let m = c.leave_all.new.self.world in
+    let v = c.look_at_all.new.self.world in
+    let looked = subst (λ xs. Comes told passes alone (look_all [] xs) m ys v) c.deref_mut.ensures.value c.look_at_all.ensures in
+    let kept_length = c.look_at_all.auto.peers in
+    let all = c.deref_mut.ensures.len in
+    let full : length ys ≡ c.self.inside.peers.len = omega (arith, kept_length, all) in
+    let back = take_at ys (drop (length ys) peers) c.self.inside.peers.len full in
+    subst (λ xs. IsIndexed xs places) (sym back) (index_kept peers ys places (looked_keeps told passes alone m v peers ys looked) c.self.invariant)

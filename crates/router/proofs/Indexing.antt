@@ -1,0 +1,178 @@
+-- The index of slots: what is found in it, and what keeps it true.
+use Rattle.std.proofs.Common.{◌≡◌, ◌≢◌, ◌⊎◌, ℕ, zero, suc, ◌<◌, ◌≤◌, Bool, true, false, ◌==◌, ◌&&◌, nat_lt, cond, Option, Some, None, Result, Ok, Err, OnOk, OnErr, List, [], ◌∷◌, ◌++◌, length, get_or, set, position, refl, sym, ap, ◌∙◌, inl, inr, arith, subst}
+use Rattle.std.specs.List.{position_or_len}
+use Rattle.std.proofs.lemmas.Bool.{false≢true, false_from_ne_true, eqb-true, lt-ltb, le-ltb, cases_eq, cases_lt, and_parts}
+use Rattle.std.proofs.lemmas.List.{get_or-set_same, get_or-set_other, get_or_past, set_past}
+use Rattle.std.proofs.lemmas.List.Sums.{position_or_len_is, fails_before_first}
+use Rattle.seq_bus_core.specs.declared.connection.Conn.{Conn}
+use Rattle.router_core.specs.Standing.{Peer, Stage, Unnamed, Named, Shut, has_slot, is_conn}
+use Rattle.router.specs.Indexed.{slot_count, IsIndexed, IsVacant, IsUnnamed}
+
+-- ---- what is found
+
+-- a connection of a slot and a number has the slot
+pub slot_of_conn : (slot number : ℕ) (o : Option Peer) → is_conn slot number o ≡ true → has_slot slot o ≡ true
+slot_of_conn slot number None is = is
+slot_of_conn slot number (Some p) is = in_stage p.stage is
+  where
+    in_stage : (stage : Stage) → is_conn slot number (Some (record p { stage = stage })) ≡ true → has_slot slot (Some (record p { stage = stage })) ≡ true
+    in_stage (Named conn) is = (and_parts (conn.slot == slot) (conn.number == number) is).0
+    in_stage (Unnamed privileged) is = is
+    in_stage (Shut conn) is = is
+
+module _ (test : Option Peer → Bool) (slot : ℕ) (of_slot : (o : Option Peer) → test o ≡ true → has_slot slot o ≡ true) (peers : List (Option Peer)) (places : List ℕ) (indexed : IsIndexed peers places) (below : slot < slot_count) where
+  only : (k : ℕ) → (get_or places slot 0 ≡ k → ⊥) → test (get_or peers k None) ≡ false
+  only k other = false_from_ne_true (test (get_or peers k None)) (λ is. other (indexed k slot below (of_slot (get_or peers k None) is)))
+
+  pub found_here : (key : ℕ) → key < length peers → get_or places slot 0 ≡ key → test (get_or peers key None) ≡ true → position test peers ≡ Some key
+  found_here key inside kept is =
+      let first = position_or_len_is test peers key None (omega arith) (λ k before. only k (λ e. omega (arith, before, e, kept))) (λ _. is) in
+      ap (λ n. cond (nat_lt n (length peers)) (Some n) None) first ∙ ap (λ b. cond b (Some key) None) (lt-ltb key (length peers) inside)
+
+  pub found_nowhere : (key : ℕ) → get_or places slot 0 ≡ key → test (get_or peers key None) ≡ false → position test peers ≡ None
+  found_nowhere key kept isnt =
+      let none : (k : ℕ) → test (get_or peers k None) ≡ false = λ k.
+      elim (cases_eq key k) [
+        | inl e ↦ subst (λ n. test (get_or peers n None) ≡ false) e isnt
+        | inr ne ↦ only k (λ e. ne (sym kept ∙ e))
+      ] in
+      let past = position_or_len_is test peers (length peers) None (omega arith) (λ k before. none k) (λ inside. absurd (omega (arith, inside))) in
+      ap (λ n. cond (nat_lt n (length peers)) (Some n) None) past ∙ ap (λ b. cond b (Some (length peers)) None) (le-ltb (length peers) (length peers) (omega arith))
+
+-- ---- what keeps it true
+
+-- whoever has a slot then had it before
+abbrev pub Keeps : Option Peer → Option Peer → Type 0
+Keeps old new = (slot : ℕ) → has_slot slot new ≡ true → has_slot slot old ≡ true
+
+abbrev pub KeepsAll : List (Option Peer) → List (Option Peer) → Type 0
+KeepsAll old new = (k : ℕ) → Keeps (get_or old k None) (get_or new k None)
+
+pub index_kept : (old new : List (Option Peer)) (places : List ℕ) → KeepsAll old new → IsIndexed old places → IsIndexed new places
+index_kept old new places keeps indexed = λ key slot below has. indexed key slot below (keeps key slot has)
+
+pub set_keeps : (peers : List (Option Peer)) (key : ℕ) (new : Option Peer) → Keeps (get_or peers key None) new → KeepsAll peers (set peers key new)
+set_keeps [] key new keeps k = λ slot has. has
+set_keeps (x ∷ xs) zero new keeps zero = keeps
+set_keeps (x ∷ xs) zero new keeps (suc k) = λ slot has. has
+set_keeps (x ∷ xs) (suc key) new keeps zero = λ slot has. has
+set_keeps (x ∷ xs) (suc key) new keeps (suc k) = set_keeps xs key new keeps k
+
+pub push_keeps : (peers : List (Option Peer)) (new : Option Peer) → Keeps None new → KeepsAll peers (peers ++ new ∷ [])
+push_keeps [] new keeps zero = keeps
+push_keeps [] new keeps (suc k) = λ slot has. has
+push_keeps (x ∷ xs) new keeps zero = λ slot has. has
+push_keeps (x ∷ xs) new keeps (suc k) = push_keeps xs new keeps k
+
+pub same_keeps : (old new : Option Peer) → new ≡ old → Keeps old new
+same_keeps old new same = λ slot has. subst (λ o. has_slot slot o ≡ true) same has
+
+-- a place was written, of which this was read
+pub index_at : (peers : List (Option Peer)) (places : List ℕ) (key : ℕ) (old new : Option Peer) → old ≡ get_or peers key None → Keeps old new → IsIndexed peers places → IsIndexed (set peers key new) places
+index_at peers places key old new there keeps indexed =
+    index_kept peers (set peers key new) places (set_keeps peers key new (subst (λ o. Keeps o new) there keeps)) indexed
+
+-- one that has no slot was written
+pub index_without : (peers : List (Option Peer)) (places : List ℕ) (key : ℕ) (new : Option Peer) → Keeps None new → IsIndexed peers places → IsIndexed (set peers key new) places
+index_without peers places key new without indexed =
+    index_kept peers (set peers key new) places (set_keeps peers key new (λ slot has. absurd (false≢true (without slot has)))) indexed
+
+pub either_way : {T E P Q R : Type 0} (r : Result T E) → OnOk r P → OnErr r Q → (P → R) → (Q → R) → R
+either_way (Ok x) p q f g = f p
+either_way (Err e) p q f g = g q
+
+-- ---- a connection that got its name
+
+-- an element is the one that was written, or as it was
+either_set : {A : Type 0} (xs : List A) (key k : ℕ) (x d : A) → ((k ≡ key) × (get_or (set xs key x) k d ≡ x)) ⊎ (get_or (set xs key x) k d ≡ get_or xs k d)
+either_set [] key k x d = inr refl
+either_set (y ∷ ys) zero zero x d = inl (refl, refl)
+either_set (y ∷ ys) zero (suc k) x d = inr refl
+either_set (y ∷ ys) (suc key) zero x d = inr refl
+either_set (y ∷ ys) (suc key) (suc k) x d =
+    elim (either_set ys key k x d) [
+      | inl p ↦ inl (ap suc p.0, p.1)
+      | inr same ↦ inr same
+    ]
+
+module _ (peers : List (Option Peer)) (places : List ℕ) (indexed : IsIndexed peers places) (key : ℕ) (p : Peer) (conn : Conn) (vacant : IsVacant conn.slot peers) where
+  abbrev named : Option Peer
+  named = Some (record p { stage = Named conn })
+
+  index_within : length places ≡ slot_count → conn.slot < slot_count → IsIndexed (set peers key named) (set places conn.slot key)
+  index_within whole inside = λ k slot below has.
+      elim (either_set peers key k named None) [
+        | inl e ↦
+            let is : conn.slot ≡ slot = eqb-true conn.slot slot (subst (λ o. has_slot slot o ≡ true) e.1 has) in
+            let there : conn.slot < length places = omega (arith, whole, inside) in
+            subst (λ n. get_or (set places conn.slot key) n 0 ≡ k) is (get_or-set_same places conn.slot key 0 there ∙ sym e.0)
+        | inr same ↦
+            let had : has_slot slot (get_or peers k None) ≡ true = subst (λ o. has_slot slot o ≡ true) same has in
+            let other : slot ≢ conn.slot = λ e. vacant k inside (subst (λ n. has_slot n (get_or peers k None) ≡ true) e had) in
+            get_or-set_other places conn.slot slot key 0 other ∙ indexed k slot below had
+      ]
+
+  -- no key is kept for its slot
+  index_beyond : slot_count ≤ conn.slot → IsIndexed (set peers key named) places
+  index_beyond beyond = λ k slot below has.
+      elim (either_set peers key k named None) [
+        | inl e ↦
+            let is : conn.slot ≡ slot = eqb-true conn.slot slot (subst (λ o. has_slot slot o ≡ true) e.1 has) in
+            absurd (omega (arith, is, beyond, below))
+        | inr same ↦ indexed k slot below (subst (λ o. has_slot slot o ≡ true) same has)
+      ]
+
+  pub index_named : length places ≡ slot_count → IsIndexed (set peers key named) (set places conn.slot key)
+  index_named whole =
+      elim (cases_lt conn.slot slot_count) [
+        | inl inside ↦ index_within whole inside
+        | inr beyond ↦
+            let past : length places ≤ conn.slot = omega (arith, whole, beyond) in
+            subst (λ ns. IsIndexed (set peers key named) ns) (sym (set_past places conn.slot key past)) (index_beyond beyond)
+      ]
+
+inside_from_has : (slot key : ℕ) (peers : List (Option Peer)) → has_slot slot (get_or peers key None) ≡ true → key < length peers
+inside_from_has slot key peers has =
+    elim (cases_lt key (length peers)) [
+      | inl inside ↦ inside
+      | inr past ↦
+          let never : false ≡ true = ap (has_slot slot) (sym (get_or_past peers key None past)) ∙ has in
+          absurd (false≢true never)
+    ]
+
+none_or_some : (n : ℕ) → ◌≡◌ {A = Option ℕ} None (Some n) → ⊥
+none_or_some n e = cc
+
+-- where nobody is found who has the slot
+pub vacant_unfound : (slot : ℕ) (peers : List (Option Peer)) → position (has_slot slot) peers ≡ None → IsVacant slot peers
+vacant_unfound slot peers none = λ k below has.
+    let first = position_or_len (has_slot slot) peers in
+    let inside : k < length peers = inside_from_has slot k peers has in
+    elim (cases_lt first (length peers)) [
+      | inl found ↦
+          let some : position (has_slot slot) peers ≡ Some first = ap (λ b. cond b (Some first) None) (lt-ltb first (length peers) found) in
+          none_or_some first (sym none ∙ some)
+      | inr past ↦ false≢true (sym (fails_before_first (has_slot slot) peers k None (omega (arith, inside, past))) ∙ has)
+    ]
+
+-- whoever has the slot is closed
+pub vacant_closed : (slot key : ℕ) (new : Option Peer) (peers : List (Option Peer)) (places : List ℕ) → IsIndexed peers places → has_slot slot (get_or peers key None) ≡ true → Keeps None new → IsVacant slot (set peers key new)
+vacant_closed slot key new peers places indexed has gone = λ k below still.
+    elim (cases_eq k key) [
+      | inl e ↦
+          let here = subst (λ n. has_slot slot (get_or (set peers key new) n None) ≡ true) e still in
+          let is_new = get_or-set_same peers key new None (inside_from_has slot key peers has) in
+          false≢true (gone slot (subst (λ o. has_slot slot o ≡ true) is_new here))
+      | inr ne ↦
+          let had = subst (λ o. has_slot slot o ≡ true) (get_or-set_other peers key k new None ne) still in
+          ne (sym (indexed k slot below had) ∙ indexed key slot below has)
+    ]
+
+-- a connection without a name has no slot
+pub unnamed_keeps : (p q : Peer) → IsUnnamed p.stage → q.stage ≡ p.stage → Keeps None (Some q)
+unnamed_keeps p q unnamed same = λ slot has. absurd (false≢true (sym (none slot q.stage (subst (λ (stage : Stage). IsUnnamed stage) (sym same) unnamed)) ∙ has))
+  where
+    none : (slot : ℕ) (stage : Stage) → IsUnnamed stage → has_slot slot (Some (record q { stage = stage })) ≡ false
+    none slot (Unnamed privileged) is = refl
+    none slot (Named conn) is = absurd is
+    none slot (Shut conn) is = absurd is

@@ -1,0 +1,317 @@
+-- No connection gets a slot but by its Hello.
+use Rattle.std.proofs.Common.{◌≡◌, ◌≢◌, ℕ, zero, suc, ◌<◌, Bool, true, false, not, ◌+◌, Option, Some, None, List, [], ◌∷◌, ◌++◌, length, get_or, set, position, cond, nat_lt, refl, sym, ap, ◌∙◌, subst, inl, inr, arith, append_assoc, if◌then◌else◌}
+use Rattle.std.proofs.lemmas.Bool.{false≢true, cases_Bool, cases_eq, eqb-true, eq-eqb, lt-ltb}
+use Rattle.std.proofs.lemmas.List.{append-nil, get_or-set_other}
+use Rattle.std.specs.List.{position_or_len}
+use Rattle.seq_bus_core.specs.Histories.{History}
+use Rattle.seq_bus_core.specs.declared.connection.Conn.{Conn}
+use Rattle.seq_bus_core.specs.declared.error_kind.ErrorKind.{ErrorKind}
+use Rattle.seq_bus_core.specs.declared.error_kind.ErrorKind.TheVariants as error
+use Rattle.seq_bus_core.specs.declared.outcome.Outcome.{Outcome}
+use Rattle.seq_bus_core.specs.declared.outcome.Reply.{Reply}
+use Rattle.seq_bus_core.specs.declared.outcome.Reply.TheVariants.{Welcome}
+use Rattle.seq_bus_core.specs.declared.verdict.Verdict.{Verdict}
+use Rattle.message_core.specs.Messages.{Message}
+use Rattle.message_core.specs.Said.{said as message_said}
+use Rattle.message_relay.specs.FactsOf.{facts_of}
+use Rattle.driver.specs.Calls.{expects_reply, is_hello}
+use Rattle.envelopes.specs.Contents.{Said, Relays, Tells, Own, Errs, UniqueName, own_message}
+use Rattle.router_core.specs.declared.cause.CloseCause.{CloseCause}
+use Rattle.router_core.specs.declared.cause.CloseCause.TheVariants as cause
+use Rattle.router_core.specs.Answers.{Heard, Says, Refuses, error_for}
+use Rattle.router_core.specs.Deeds.{GatedCall}
+use Rattle.router_core.specs.Events.{OfPeer, Stands, closing, close_if, close_at, close_found, close_former, write, for_slot, for_peer, fed, refuse, refuse_with, turn_away, welcome, greeted, greeted_by, greet, serve_at, read, next, next_at, looked, look, look_all}
+use Rattle.router_core.specs.Fronts.{Front, Waits, Whole, Faulty}
+use Rattle.router_core.specs.Scripts.{Script, Gives, Routing, Announcing, World, Comes, and_then}
+use Rattle.router_core.specs.Serving.{monitors_in, reply_with, serve}
+use Rattle.router_core.specs.Standing.{Peer, Standing, Stage, Unnamed, Named, Shut, peer_at, with_peer, next_serial, has_slot, shut}
+use Rattle.router_hands.specs.Noting.{once_noted}
+use Rattle.router_hands.specs.Refusing.{hello_of}
+use Rattle.router.proofs.Endings.{AllGive, given, then_give, all_give, weaker_give, if_give, putting_give}
+use Rattle.router.proofs.Indexing.{Keeps, KeepsAll}
+
+-- ---- one connection
+
+fed_keeps : (piece : List ℕ) (p : Peer) → Keeps (Some p) (Some (fed piece p p.stage))
+fed_keeps piece p = in_stage p.stage
+  where
+    in_stage : (stage : Stage) → Keeps (Some (record p { stage = stage })) (Some (fed piece (record p { stage = stage }) stage))
+    in_stage (Unnamed privileged) = λ slot has. has
+    in_stage (Named conn) = λ slot has. has
+    in_stage (Shut conn) = λ slot has. has
+
+pub feeding : (piece : List ℕ) (old : Option Peer) → AllGive (λ new. Keeps old new) (for_slot old (λ p. Gives (fed piece p p.stage)))
+feeding piece None = λ slot has. has
+feeding piece (Some p) = fed_keeps piece p
+
+-- one that is closed has no slot
+pub leaving : (key : ℕ) (why : CloseCause) (old : Option Peer) → AllGive (λ new. Keeps None new) (for_slot old (λ p. closing key why p))
+leaving key why None = λ slot has. has
+leaving key why (Some p) = λ slot has. has
+
+writing_there : (key : ℕ) (said : Said) (p : Peer) → AllGive (λ new. Keeps (Some p) new) (for_slot (Some p) (write key said))
+writing_there key (Relays bytes) p = λ slot has. has
+writing_there key (Tells own) p = λ slot has. has
+
+writing : (key : ℕ) (said : Said) (old : Option Peer) → AllGive (λ new. Keeps old new) (for_slot old (write key said))
+writing key said None = λ slot has. has
+writing key said (Some p) = writing_there key said p
+
+pub bringing : (held : Option History) (key : ℕ) (said : Said) (old : Option Peer) → AllGive (λ new. Keeps old new) (once_noted held (for_slot old (write key said)))
+bringing None key said old = writing key said old
+bringing (Some told) key said old = writing key said old
+
+-- ---- all connections, as time passes
+
+look_keeps : (key : ℕ) (old : Option Peer) → AllGive (λ new. Keeps old new) (for_slot old (λ p. look key p p.stage))
+look_keeps key None = λ slot has. has
+look_keeps key (Some p) = in_stage p.stage
+  where
+    heard_keeps : (conn : Conn) (heard : Heard Bool) → AllGive (λ new. Keeps (Some (record p { stage = Named conn })) new) (and_then (looked key (record p { stage = Named conn }) heard) (λ q. Gives (Some q)))
+    heard_keeps conn (Says true) = λ slot has. has
+    heard_keeps conn (Says false) = λ slot has. absurd (false≢true has)
+    heard_keeps conn (Refuses refusal) = λ slot has. has
+
+    in_stage : (stage : Stage) → AllGive (λ new. Keeps (Some (record p { stage = stage })) new) (and_then (look key (record p { stage = stage }) stage) (λ q. Gives (Some q)))
+    in_stage (Unnamed privileged) = λ slot has. has
+    in_stage (Named conn) = heard_keeps conn
+    in_stage (Shut conn) = λ slot has. has
+
+keeps_more : (x y : Option Peer) (xs ys : List (Option Peer)) → Keeps x y → KeepsAll xs ys → KeepsAll (x ∷ xs) (y ∷ ys)
+keeps_more x y xs ys here rest zero = here
+keeps_more x y xs ys here rest (suc k) = rest k
+
+-- those behind the ones that were looked at
+abbrev KeepsRest : List (Option Peer) → List (Option Peer) → List (Option Peer) → Type 0
+KeepsRest done old all = (new : List (Option Peer)) × (all ≡ done ++ new) × KeepsAll old new
+
+looking : (done old : List (Option Peer)) → AllGive (λ all. KeepsRest done old all) (look_all done old)
+looking done [] = ([], sym (append-nil done), λ k slot has. has)
+looking done (x ∷ xs) =
+    then_give (λ y. Keeps x y) (λ all. KeepsRest done (x ∷ xs) all) (λ y. look_all (done ++ y ∷ []) xs)
+    (λ y here.
+    weaker_give (λ all. KeepsRest (done ++ y ∷ []) xs all) (λ all. KeepsRest done (x ∷ xs) all)
+    (λ all rest. (y ∷ rest.0, rest.1 ∙ append_assoc done (y ∷ []) rest.0, keeps_more x y xs rest.0 here rest.2))
+    (look_all (done ++ y ∷ []) xs) (looking (done ++ y ∷ []) xs))
+    (for_slot x (λ p. look (length done) p p.stage)) (look_keeps (length done) x)
+
+-- ---- the next message
+
+-- A list in which two connections stand, one after the other.
+two : ℕ → Option Peer → Option Peer → List (Option Peer)
+two zero x y = x ∷ y ∷ []
+two (suc k) x y = None ∷ two k x y
+
+first_of : (k : ℕ) (x y : Option Peer) → get_or (two k x y) k None ≡ x
+unfolding two
+first_of zero x y = refl
+first_of (suc k) x y = first_of k x y
+
+set_first : (k : ℕ) (x y z : Option Peer) → set (two k x y) k z ≡ two k z y
+unfolding two
+set_first zero x y z = refl
+set_first (suc k) x y z = ap (λ xs. None ∷ xs) (set_first k x y z)
+
+second_of : (k : ℕ) (x y : Option Peer) → get_or (two k x y) (suc k) None ≡ y
+unfolding two
+second_of zero x y = refl
+second_of (suc k) x y = second_of k x y
+
+length_two : (k : ℕ) (x y : Option Peer) → length (two k x y) ≡ suc (suc k)
+unfolding two
+length_two zero x y = refl
+length_two (suc k) x y = ap suc (length_two k x y)
+
+place_of_second : (slot k : ℕ) (x y : Option Peer) → has_slot slot x ≡ false → has_slot slot y ≡ true → position_or_len (has_slot slot) (two k x y) ≡ suc k
+unfolding two
+place_of_second slot zero x y isnt is =
+    ap (λ b. cond (not b) (1 + cond (not (has_slot slot y)) 1 0) 0) isnt ∙ ap (λ b. 1 + cond (not b) 1 0) is
+place_of_second slot (suc k) x y isnt is = omega (arith, place_of_second slot k x y isnt is)
+
+second_is_found : (slot k : ℕ) (x y : Option Peer) → has_slot slot x ≡ false → has_slot slot y ≡ true → position (has_slot slot) (two k x y) ≡ Some (suc k)
+second_is_found slot k x y isnt is =
+    let inside : suc k < length (two k x y) = omega (arith, length_two k x y) in
+    ap (λ n. cond (nat_lt n (length (two k x y))) (Some n) None) (place_of_second slot k x y isnt is)
+    ∙ ap (λ b. cond b (Some (suc k)) None) (lt-ltb (suc k) (length (two k x y)) inside)
+
+-- what is read where something was written is that, or nothing
+written_keeps : (xs : List (Option Peer)) (k : ℕ) (x : Option Peer) → Keeps x (get_or (set xs k x) k None)
+written_keeps [] k x = λ slot has. absurd (false≢true has)
+written_keeps (y ∷ ys) zero x = λ slot has. has
+written_keeps (y ∷ ys) (suc k) x = written_keeps ys k x
+
+-- a connection for which something is done
+module _ (u : Standing) (key : ℕ) (p : Peer) (work : Peer → OfPeer) (Q : Peer → Type 0) (P : Standing → Type 0) (later : (q : Peer) → Q q → P (with_peer u key (Some q))) where
+  for_give : AllGive Q (work p) → AllGive P (for_peer u key (Some p) work)
+  for_give all =
+      then_give (λ o. P (with_peer u key o)) P (λ o. Gives (with_peer u key o)) (λ o done. done) (for_slot (Some p) work)
+      (then_give Q (λ o. P (with_peer u key o)) (λ q. Gives (Some q)) later (work p) all)
+
+-- An error leaves a connection at its stage.
+module _ (key : ℕ) (m : Message) (p : Peer) where
+  abbrev pub IsLike : Peer → Type 0
+  IsLike q = q.stage ≡ p.stage
+
+  refused_by : (own : Own) (heard : Heard Verdict) → AllGive IsLike (refuse key own p heard)
+  refused_by own heard = putting_give IsLike (monitors_in heard) (Tells own) (Gives (record p { serial = next_serial p.serial })) refl
+
+  pub refusing : (kind : ErrorKind) → AllGive IsLike (refuse_with key m kind p)
+  refusing kind =
+      let own = Errs (hello_of m) kind in
+      if_give IsLike (expects_reply m) (Routing 0 (facts_of (own_message 1 own)) (λ heard. refuse key own p heard)) (Gives p) (λ heard. refused_by own heard) refl
+
+  -- one that is turned away has no slot
+  pub turning_away : AllGive (λ q. Keeps None (Some q)) (turn_away key m p)
+  turning_away =
+      then_give IsLike (λ q. Keeps None (Some q)) (λ q. closing key cause.LimitsExceeded q) (λ q like. λ slot has. has) (refuse_with key m error.LimitsExceeded p) (refusing error.LimitsExceeded)
+
+-- A connection without a name, or a slot that is another's.
+module _ (slot key : ℕ) where
+  -- the connection and the one behind it have not both the slot
+  abbrev NotBoth : Standing → Type 0
+  NotBoth u = has_slot slot (get_or u.peers key None) ≡ true → has_slot slot (get_or u.peers (suc key) None) ≡ true → ⊥
+
+  abbrev HasNot : Option Peer → Type 0
+  HasNot o = has_slot slot o ≡ true → ⊥
+
+  not_first : (u : Standing) (q : Option Peer) → HasNot q → NotBoth (with_peer u key q)
+  not_first u q hasnt = λ first second. hasnt (written_keeps u.peers key q slot first)
+
+  not_second : (u : Standing) (q : Option Peer) → HasNot (get_or u.peers (suc key) None) → NotBoth (with_peer u key q)
+  not_second u q hasnt = λ first second.
+      let other : suc key ≢ key = λ e. absurd (omega (arith, e)) in
+      hasnt (subst (λ o. has_slot slot o ≡ true) (get_or-set_other u.peers key (suc key) q None other) second)
+
+  unnamed_has_not : (q : Peer) (privileged : Bool) → q.stage ≡ Unnamed privileged → HasNot (Some q)
+  unnamed_has_not q privileged is = λ has.
+      let r : Peer = record q { stage = Unnamed privileged } in
+      let same : q ≡ r = λ i. record q { stage = is i } in
+      false≢true (subst (λ x. has_slot slot (Some x) ≡ true) same has)
+
+  module _ (m : Message) (p : Peer) (privileged : Bool) (unnamed : p.stage ≡ Unnamed privileged) where
+    turned_away : (u : Standing) → AllGive NotBoth (for_peer u key (Some p) (turn_away key m))
+    turned_away u =
+        for_give u key p (turn_away key m) (λ q. Keeps None (Some q)) NotBoth (λ q keeps. not_first u (Some q) (λ has. false≢true (keeps slot has))) (turning_away key m p)
+
+    refused : (u : Standing) (kind : ErrorKind) → AllGive NotBoth (for_peer u key (Some p) (refuse_with key m kind))
+    refused u kind =
+        for_give u key p (refuse_with key m kind) (IsLike key m p) NotBoth (λ q like. not_first u (Some q) (unnamed_has_not q privileged (like ∙ unnamed))) (refusing key m p kind)
+
+    welcoming : (o : Outcome) (conn : Conn) (u : Standing) → ((q : Peer) → NotBoth (with_peer u key (Some (record q { stage = Named conn })))) → AllGive NotBoth (welcome key m p o conn u)
+    welcoming o conn u done =
+        then_give (λ x. Unit {0}) NotBoth (λ x. Announcing o.signals (Gives (with_peer u key (Some (record p { stage = Named conn }))))) (λ x y. done p) (reply_with m conn (UniqueName conn.number))
+        (all_give (λ x. Unit {0}) (λ x. tt) (reply_with m conn (UniqueName conn.number)))
+
+    -- whoever had the slot is closed
+    closing_second : (u : Standing) (found : Option ℕ) → found ≡ Some (suc key) → AllGive (λ t. HasNot (get_or t.peers (suc key) None)) (close_found u found)
+    closing_second u found is = subst (λ f. AllGive (λ t. HasNot (get_or t.peers (suc key) None)) (close_found u f)) (sym is) (of_it (peer_at u (suc key)))
+      where
+        of_it : (o : Option Peer) → AllGive (λ t. HasNot (get_or t.peers (suc key) None)) (close_at u (suc key) o)
+        of_it None = λ has. false≢true (written_keeps u.peers (suc key) None slot has)
+        of_it (Some q) = λ has. false≢true (written_keeps u.peers (suc key) (Some (shut q)) slot has)
+
+    welcomed_by : (x y : Option Peer) (o : Outcome) (conn : Conn) → has_slot slot x ≡ false → has_slot slot y ≡ true →
+        AllGive NotBoth (and_then (close_former (record { peers = two key x y; leaves = [] }) conn) (λ t. welcome key m p o conn t))
+    welcomed_by x y o conn isnt is =
+        let s : Standing = record { peers = two key x y; leaves = [] } in
+        elim (cases_eq conn.slot slot) [
+          | inl e ↦
+              let found : position (has_slot conn.slot) s.peers ≡ Some (suc key) = subst (λ n. position (has_slot n) s.peers ≡ Some (suc key)) (sym e) (second_is_found slot key x y isnt is) in
+              then_give (λ t. HasNot (get_or t.peers (suc key) None)) NotBoth (λ t. welcome key m p o conn t)
+              (λ t hasnt. welcoming o conn t (λ q. not_second t (Some (record q { stage = Named conn })) hasnt))
+              (close_former s conn) (closing_second s (position (has_slot conn.slot) s.peers) found)
+          | inr ne ↦
+              then_give (λ t. Unit {0}) NotBoth (λ t. welcome key m p o conn t)
+              (λ t done. welcoming o conn t (λ q. not_first t (Some (record q { stage = Named conn })) (λ has. ne (eqb-true conn.slot slot has))))
+              (close_former s conn) (all_give (λ t. Unit {0}) (λ t. tt) (close_former s conn))
+        ]
+
+    greeting : (x y : Option Peer) (known : Bool) → has_slot slot x ≡ false → has_slot slot y ≡ true → AllGive NotBoth (greet (record { peers = two key x y; leaves = [] }) key m p known)
+    greeting x y known isnt is = by_answer
+      where
+        by_reply : (o : Outcome) (reply : Reply) → AllGive NotBoth (greeted_by (record { peers = two key x y; leaves = [] }) key m p o reply)
+        by_reply o (Welcome conn) = welcomed_by x y o conn isnt is
+        by_reply o other = turned_away (record { peers = two key x y; leaves = [] })
+
+        by_answer : (heard : Heard Outcome) → AllGive NotBoth (greeted (record { peers = two key x y; leaves = [] }) key m p heard)
+        by_answer (Says o) = by_reply o o.reply
+        by_answer (Refuses refusal) = refused (record { peers = two key x y; leaves = [] }) (error_for refusal)
+
+  module _ (y : Option Peer) (has_second : has_slot slot y ≡ true) where
+    abbrev standing_of : Option Peer → Standing
+    standing_of x = record { peers = two key x y; leaves = [] }
+
+    as_it_was : (x : Option Peer) → has_slot slot x ≡ false → NotBoth (standing_of x)
+    as_it_was x isnt = λ first second. false≢true (sym isnt ∙ ap (has_slot slot) (sym (first_of key x y)) ∙ first)
+
+    serving : (p : Peer) (m : Message) (rest : List ℕ) (stage : Stage) → has_slot slot (Some (record p { stage = stage })) ≡ false → AllGive NotBoth (serve_at (standing_of (Some (record p { stage = stage }))) key m (record p { stage = stage; unread = rest }) stage)
+    serving p m rest (Shut conn) isnt = as_it_was (Some (record p { stage = Shut conn })) isnt
+    serving p m rest (Unnamed privileged) isnt =
+        let s : Standing = standing_of (Some (record p { stage = Unnamed privileged })) in
+        let q : Peer = record p { stage = Unnamed privileged; unread = rest } in
+        if_give NotBoth (is_hello m) (greet s key m q privileged) (for_peer s key (Some q) (closing key cause.NotHello))
+        (greeting m q privileged refl (Some (record p { stage = Unnamed privileged })) y privileged isnt has_second)
+        (not_first s (Some (shut q)) (λ has. false≢true has))
+    serving p m rest (Named conn) isnt =
+        let s : Standing = standing_of (Some (record p { stage = Named conn })) in
+        let q : Peer = record p { stage = Named conn; unread = rest } in
+        for_give s key q (λ r. and_then (serve m conn) (λ fate. close_if key fate r)) (λ r. HasNot (Some r)) NotBoth (λ r hasnt. not_first s (Some r) hasnt)
+        (then_give (λ fate. Unit {0}) (λ r. HasNot (Some r)) (λ fate. close_if key fate q) (λ fate done. by_fate fate) (serve m conn) (all_give (λ fate. Unit {0}) (λ fate. tt) (serve m conn)))
+      where
+        by_fate : (fate : Option CloseCause) → AllGive (λ r. HasNot (Some r)) (close_if key fate (record p { stage = Named conn; unread = rest }))
+        by_fate None = λ has. false≢true (sym isnt ∙ has)
+        by_fate (Some why) = λ has. false≢true has
+
+    reading : (p : Peer) (stage : Stage) → has_slot slot (Some (record p { stage = stage })) ≡ false → (front : Front) → AllGive NotBoth (read (standing_of (Some (record p { stage = stage }))) key (record p { stage = stage }) front)
+    reading p stage isnt Waits = as_it_was (Some (record p { stage = stage })) isnt
+    reading p stage isnt (Faulty fault) = not_first (standing_of (Some (record p { stage = stage }))) (Some (shut (record p { stage = stage }))) (λ has. false≢true has)
+    reading p stage isnt (Whole bytes rest) = serving p (message_said bytes) rest stage isnt
+
+    coming : (x : Option Peer) → has_slot slot x ≡ false → AllGive NotBoth (next (standing_of x) key x)
+    coming None isnt = as_it_was None isnt
+    coming (Some p) isnt = in_stage p.stage isnt
+      where
+        in_stage : (stage : Stage) → has_slot slot (Some (record p { stage = stage })) ≡ false → AllGive NotBoth (next_at (standing_of (Some (record p { stage = stage }))) key (record p { stage = stage }) stage)
+        in_stage (Unnamed privileged) isnt = reading p (Unnamed privileged) isnt
+        in_stage (Named conn) isnt = reading p (Named conn) isnt
+        in_stage (Shut conn) isnt = as_it_was (Some (record p { stage = Shut conn })) isnt
+
+-- ---- what came
+
+module _ {N G : Type 0} (told : N → History) (passes : G → GatedCall → G → Type 0) (alone : Bool) (w v : World N G) where
+  pub feed_keeps : (piece : List ℕ) (old new : Option Peer) → Comes told passes alone (for_slot old (λ p. Gives (fed piece p p.stage))) w new v → Keeps old new
+  feed_keeps piece old new came = given told passes alone (λ o. Keeps old o) new v (for_slot old (λ p. Gives (fed piece p p.stage))) w (feeding piece old) came
+
+  pub closed_has_none : (key : ℕ) (why : CloseCause) (old new : Option Peer) → Comes told passes alone (for_slot old (λ p. closing key why p)) w new v → Keeps None new
+  closed_has_none key why old new came = given told passes alone (λ o. Keeps None o) new v (for_slot old (λ p. closing key why p)) w (leaving key why old) came
+
+  pub brought_keeps : (held : Option History) (key : ℕ) (said : Said) (old new : Option Peer) → Comes told passes alone (once_noted held (for_slot old (write key said))) w new v → Keeps old new
+  brought_keeps held key said old new came = given told passes alone (λ o. Keeps old o) new v (once_noted held (for_slot old (write key said))) w (bringing held key said old) came
+
+  pub looked_keeps : (old new : List (Option Peer)) → Comes told passes alone (look_all [] old) w new v → KeepsAll old new
+  looked_keeps old new came =
+      let rest = given told passes alone (λ all. KeepsRest [] old all) new v (look_all [] old) w (looking [] old) came in
+      subst (λ xs. KeepsAll old xs) (sym rest.1) rest.2
+
+  pub refused_is_like : (key : ℕ) (m : Message) (kind : ErrorKind) (p q : Peer) → Comes told passes alone (refuse_with key m kind p) w q v → q.stage ≡ p.stage
+  refused_is_like key m kind p q came = given told passes alone (λ r. r.stage ≡ p.stage) q v (refuse_with key m kind p) w (refusing key m p kind) came
+
+  pub turned_away_has_none : (key : ℕ) (m : Message) (p q : Peer) → Comes told passes alone (turn_away key m p) w q v → Keeps None (Some q)
+  turned_away_has_none key m p q came = given told passes alone (λ r. Keeps None (Some r)) q v (turn_away key m p) w (turning_away key m p) came
+
+-- A connection whose next message is served where it stands gets no slot, whoever else is there.
+pub next_keeps : {N G : Type 0} (told : N → History) (passes : G → GatedCall → G → Type 0) (alone : Bool) (key : ℕ) (old new : Option Peer) (w v : World N G) →
+    ((s : Standing) → peer_at s key ≡ old → Comes told passes alone (next s key old) w (with_peer s key new) v) → Keeps old new
+next_keeps told passes alone key old new w v comes slot has =
+    let other : Option Peer = Some (record { stage = Named (record { number = 0; slot = slot; router = 0 }); unread = []; serial = 0 }) in
+    let is : has_slot slot other ≡ true = eq-eqb slot slot refl in
+    let s : Standing = record { peers = two key old other; leaves = [] } in
+    elim (cases_Bool (has_slot slot old)) [
+      | inl had ↦ had
+      | inr hadnt ↦
+          let done = comes s (first_of key old other) in
+          let never = given told passes alone (NotBoth slot key) (with_peer s key new) v (next s key old) w (coming slot key other is old hadnt) done in
+          let first : get_or (set s.peers key new) key None ≡ new = ap (λ xs. get_or xs key None) (set_first key old other new) ∙ first_of key new other in
+          let second : get_or (set s.peers key new) (suc key) None ≡ other = ap (λ xs. get_or xs (suc key) None) (set_first key old other new) ∙ second_of key new other in
+          absurd (never (subst (λ o. has_slot slot o ≡ true) (sym first) has) (subst (λ o. has_slot slot o ≡ true) (sym second) is))
+    ]

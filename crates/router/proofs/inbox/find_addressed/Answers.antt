@@ -1,0 +1,47 @@
+use Rattle.std.proofs.Common.{◌≡◌, ◌<◌, ◌≤◌, None, true, false, length, get_or, rules, arith, sym, ap, ◌∙◌}
+use Rattle.std.proofs.lemmas.List.{get_or_read, get_or_past}
+use Rattle.router_core.specs.Standing.{is_conn}
+use Rattle.router.specs.Indexed.{slot_count}
+use Rattle.router.proofs.Indexing.{found_here, found_nowhere, slot_of_conn}
+use Rattle.router.proofs.inbox.find_addressed.Goals as goal
+
+pub returns-then-key-peers : goal.returns-then-key-peers
+returns-then-key-peers c =
+    let slot = c.args.slot in
+    let peers = c.args.peers.now in
+    let places = c.args.places.now in
+    let test = is_conn slot c.args.number in
+    let at : c.from-at.result ≡ slot = search rules in
+    let below : slot < slot_count = omega (arith, at, c.if-at-ge-SLOT_COUNT.false) in
+    let key = get_or places c.from-at.result 0 in
+    let kept : get_or places slot 0 ≡ key = ap (λ n. get_or places n 0) (sym at) in
+    let isnt : test (get_or peers key None) ≡ false = ap test (get_or_past peers key None c.if-key-peers.true) in
+    sym (found_nowhere test slot (slot_of_conn slot c.args.number) peers places c.requires below key kept isnt)
+
+pub returns-then-is_addressed : goal.returns-then-is_addressed
+returns-then-is_addressed c =
+    let slot = c.args.slot in
+    let peers = c.args.peers.now in
+    let places = c.args.places.now in
+    let test = is_conn slot c.args.number in
+    let at : c.from-at.result ≡ slot = search rules in
+    let below : slot < slot_count = omega (arith, at, c.if-at-ge-SLOT_COUNT.false) in
+    let key = get_or places c.from-at.result 0 in
+    let kept : get_or places slot 0 ≡ key = ap (λ n. get_or places n 0) (sym at) in
+    let there = get_or_read peers key c.index-peers-key.result c.if-key-peers.false c.index-peers-key.is None in
+    let is : test (get_or peers key None) ≡ true = ap test (sym there) ∙ sym c.if-is_addressed.ensures in
+    sym (found_here test slot (slot_of_conn slot c.args.number) peers places c.requires below key c.if-key-peers.false kept is)
+
+pub returns : goal.returns
+returns c =
+    let slot = c.args.slot in
+    let peers = c.args.peers.now in
+    let places = c.args.places.now in
+    let test = is_conn slot c.args.number in
+    let at : c.from-at.result ≡ slot = search rules in
+    let below : slot < slot_count = omega (arith, at, c.if-at-ge-SLOT_COUNT.false) in
+    let key = get_or places c.from-at.result 0 in
+    let kept : get_or places slot 0 ≡ key = ap (λ n. get_or places n 0) (sym at) in
+    let there = get_or_read peers key c.index-peers-key.result c.if-key-peers.false c.index-peers-key.is None in
+    let isnt : test (get_or peers key None) ≡ false = ap test (sym there) ∙ sym c.if-is_addressed.ensures in
+    sym (found_nowhere test slot (slot_of_conn slot c.args.number) peers places c.requires below key kept isnt)

@@ -1,0 +1,21 @@
+-- Where a connection that has a slot is found.
+use Rattle.std.specs.Prelude.{◌≡◌, ℕ, ◌<◌, true, Option, None, List, slice_index, slice_index_or}
+use Rattle.router_core.specs.Standing.{Peer, Stage, Unnamed, Named, Shut, has_slot}
+
+-- the bus gives slots below this
+abbrev pub slot_count : ℕ
+slot_count = 256
+
+-- For each slot a key is kept: that of the connection which has the slot, if there is one. So no two have the same slot.
+abbrev pub IsIndexed : List (Option Peer) → List ℕ → Type 0
+IsIndexed peers places = (key slot : ℕ) → slot < slot_count → has_slot slot (slice_index_or peers key None) ≡ true → slice_index places slot ≡ key
+
+-- nobody has the slot
+abbrev pub IsVacant : ℕ → List (Option Peer) → Type 0
+IsVacant slot peers = (key : ℕ) → slot < slot_count → has_slot slot (slice_index_or peers key None) ≡ true → ⊥
+
+-- a connection that has no name yet
+abbrev pub IsUnnamed : Stage → Type 0
+IsUnnamed (Unnamed privileged) = Unit {0}
+IsUnnamed (Named conn) = ⊥
+IsUnnamed (Shut conn) = ⊥
