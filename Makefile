@@ -28,3 +28,6 @@ memory:
 bench:
 	@$(MAKE) -s -C crates/bench/rust bench
 	@$(MAKE) -s -C crates/bench_bus/rust bench
+	@mkdir -p crates/bench_engine/out
+	@cd crates/bench_engine && rt run > out/bench.log 2>&1 || { cat out/bench.log; exit 1; }
+	@cd crates/bench_engine && rt run -- --time
