@@ -176,3 +176,25 @@ fn registry_answers_as_a_plain_bus(rt: HostRuntime) {
     let served = start(&rt, alloc, &[], 1, Profile::One, Router { rt: &rt, alloc });
     assert!(rt; served.is_ok(), "there is memory");
 }
+
+#[test]
+fn one_more_than_there_is_room_for(rt: HostRuntime) -> Result<(), Fail> {
+    let alloc = rt.alloc();
+    let mut host = Host::new(alloc, bus(&rt, alloc));
+    for _connection in 0..256 {
+        let key = host.connect()?;
+        host.send(&(), key, HELLO, HELLO.len())?;
+    }
+    let key = host.connect()?;
+    host.send(&(), key, HELLO, HELLO.len())?;
+    for line in host.lines.iter().take(256) {
+        assert_eq!(rt; line.closed, None);
+    }
+    let Some(last) = host.lines.last() else {
+        panic!(rt; "connections came");
+    };
+    // It is answered an error, and closed.
+    assert!(rt; last.written.as_slice().starts_with(b"l\x03\x01\x01"));
+    assert_eq!(rt; last.closed, Some(CloseCause::LimitsExceeded));
+    Ok(())
+}
