@@ -4,7 +4,7 @@ use Rattle.std.specs.Option.{option_or}
 use Rattle.std.proofs.lemmas.List.{at_drop_more, at_drop_all}
 use Rattle.router_core.specs.declared.action.Action.{Action}
 use Rattle.router_core.specs.declared.cause.CloseCause.{CloseCause}
-use Rattle.busd_core.specs.Sessions.{close_of, closed_by}
+use Rattle.busd_core.specs.Happenings.{close_of, closed_by}
 
 module _ {N : Type 0} (key : ℕ) (xs : List (Action N)) (i : ℕ) where
   next_closes : (x : Action N) (found : Option CloseCause) → i < length xs → x ≡ get_or xs i x → found ≡ close_of key x → closed_by key (drop i xs) ≡ option_or found (closed_by key (drop (i + 1) xs))

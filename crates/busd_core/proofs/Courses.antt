@@ -1,18 +1,22 @@
 -- Events, one after the other.
-use Rattle.std.proofs.Common.{◌≡◌, ℕ, Bool, Option, None, List, [], ◌∷◌, ◌++◌, Result, Ok, Err, refl, sym, ap, ◌∙◌, subst, append_assoc, append-nil, inl, inr}
+use Rattle.std.proofs.Common.{◌≡◌, ℕ, Bool, Option, Some, None, List, [], ◌∷◌, ◌++◌, Result, Ok, Err, refl, sym, ap, ◌∙◌, subst, append_assoc, append-nil, inl, inr}
 use Rattle.std.specs.List.{flat_map, AllByRecursion}
 use Rattle.std.proofs.KnownBytes.{Appends-trans}
 use Rattle.std.proofs.lemmas.Grind.{flat_map-append}
 use Rattle.seq_bus_core.specs.Histories.{History}
 use Rattle.router_core.specs.declared.action.Action.{Action}
+use Rattle.router_core.specs.declared.cause.CloseCause.{CloseCause}
 use Rattle.router_core.specs.declared.event.Event.{Event}
 use Rattle.router_core.specs.declared.event.Event.TheVariants.{Opened}
 use Rattle.router_core.specs.Acts.{State}
 use Rattle.router_core.specs.Deeds.{GatedCall}
+use Rattle.router.proofs.OneEvent.{served_well}
 use Rattle.busd_core.specs.declared.fault.RunFault.{RunFault}
 use Rattle.busd_core.specs.declared.fault.RunFault.TheVariants as fault
-use Rattle.busd_core.specs.Sessions.{written_to, mails_of, closed_by, Happens, AllHappen, piece_of, IsServing, Serves}
+use Rattle.busd_core.specs.Happenings.{written_to, mails_of, closed_by, Happens, AllHappen}
+use Rattle.busd_core.specs.Sessions.{piece_of, IsLife, IsServing, Serves}
 use Rattle.busd_core.specs.Parts.{IsBrought, IsCutShort, AreMailedSo, Delivers, HappensSo, IsCarriedOut}
+use Rattle.busd_core.proofs.OneThread.{all_happened_so}
 
 module _ {N G : Type 0} (told : N → History) (passes : G → GatedCall → G → Type 0) (alone : Bool) (seat key : ℕ) where
   -- ## One event
@@ -21,11 +25,11 @@ module _ {N G : Type 0} (told : N → History) (passes : G → GatedCall → G �
       IsBrought told passes alone key a event actions o p b → closed_by key actions ≡ None → AreMailedSo told passes alone seat key b (mails_of seat actions) later c result →
       HappensSo told passes alone seat key a event (written_to key actions ++ later) c result
   carried_so a b c event actions o p later (Ok u) first unclosed rest =
-      record { actions = actions; between = b; later = later; brings = first.brings; is_open = unclosed; mailed = rest; writes = refl }
+      record { actions = actions; between = b; later = later; serves = served_well told passes alone a b event actions first.brings; is_open = unclosed; mailed = rest; writes = refl }
   carried_so a b c event actions o p later (Err fault.Output) first unclosed rest =
-      (rest.0, record { actions = actions; between = b; come = rest.1.0; left = rest.1.1; later = later ++ rest.0; brings = first.brings; put = rest.1.2; mailed = rest.1.3; writes = append_assoc (written_to key actions) later rest.0 })
+      (rest.0, record { actions = actions; between = b; come = rest.1.0; left = rest.1.1; later = later ++ rest.0; serves = served_well told passes alone a b event actions first.brings; put = rest.1.2; mailed = rest.1.3; writes = append_assoc (written_to key actions) later rest.0 })
   carried_so a b c event actions o p later (Err fault.Memory) first unclosed rest =
-      inr (record { actions = actions; between = b; come = rest.0; left = rest.1; later = later ++ []; brings = first.brings; put = rest.2; mailed = rest.3; writes = append_assoc (written_to key actions) later [] })
+      inr (record { actions = actions; between = b; come = rest.0; left = rest.1; later = later ++ []; serves = served_well told passes alone a b event actions first.brings; put = rest.2; mailed = rest.3; writes = append_assoc (written_to key actions) later [] })
   carried_so a b c event actions o p later (Err fault.Input) first unclosed rest = absurd rest
   carried_so a b c event actions o p later (Err (fault.Closed cause)) first unclosed rest = absurd rest
 
@@ -34,10 +38,15 @@ module _ {N G : Type 0} (told : N → History) (passes : G → GatedCall → G �
   carried_out a b c event actions o p q result first unclosed rest =
       (written_to key actions ++ rest.0, Appends-trans o p q (written_to key actions) rest.0 first.appends rest.1, carried_so a b c event actions o p rest.0 result first unclosed rest.2)
 
+  pub closes : (a b : State G) (event : Event N) (actions : List (Action N)) (cause : CloseCause) (o p : Option (List ℕ)) → IsBrought told passes alone key a event actions o p b →
+      closed_by key actions ≡ Some cause → IsCarriedOut told passes alone seat key a event o p b (Err (fault.Closed cause))
+  closes a b event actions cause o p first is =
+      (written_to key actions, first.appends, record { actions = actions; serves = served_well told passes alone a b event actions first.brings; closes = is; writes = refl })
+
   pub cut_short : (a b : State G) (event : Event N) (o p : Option (List ℕ)) (e : RunFault) → IsCutShort told passes alone key a event o p b e → IsCarriedOut told passes alone seat key a event o p b (Err e)
   cut_short a b event o p fault.Memory h = ([], h.1, inl (h.0, refl))
   cut_short a b event o p fault.Output h =
-      (h.1, h.5, (h.2, record { actions = h.0; between = b; come = []; left = mails_of seat h.0; later = []; brings = h.3; put = refl; mailed = (refl, refl); writes = sym h.4 ∙ sym (append-nil (written_to key h.0)) }))
+      (h.1, h.5, (h.2, record { actions = h.0; between = b; come = []; left = mails_of seat h.0; later = []; serves = served_well told passes alone a b event h.0 h.3; put = refl; mailed = (refl, refl); writes = sym h.4 ∙ sym (append-nil (written_to key h.0)) }))
   cut_short a b event o p fault.Input h = absurd h
   cut_short a b event o p (fault.Closed cause) h = absurd h
 
@@ -55,6 +64,11 @@ module _ {N G : Type 0} (told : N → History) (passes : G → GatedCall → G �
   all_serving [] event h is = (is, tt)
   all_serving (e ∷ events) event h is = (h.0, all_serving events event h.1 is)
 
+  pub serves_so : (before : State G) (events : List (Event N)) (read written : List ℕ) (after : State G) → IsLife key events → AllHappen told passes alone seat key before events written after →
+      read ≡ flat_map piece_of events → Serves told passes alone seat key before events read written after
+  serves_so before events read written after life happen reads =
+      record { life = life; happen = happen; reads = reads; one_thread = λ is readers granted. all_happened_so told passes alone seat key is readers before events written after happen granted }
+
   -- what was read and written since the connection came
   pub record IsUnderWay (before after : State G) (read written : List ℕ) : Type 0 where
     pub later : List (Event N)
@@ -62,18 +76,17 @@ module _ {N G : Type 0} (told : N → History) (passes : G → GatedCall → G �
 
   pub comes_first : (before after : State G) (written : List ℕ) → Happens told passes alone seat key before (Opened key) written after → IsUnderWay before after [] written
   comes_first before after written h =
-      record { later = []; serves = record { life = (refl, tt); happen = (after, written, [], h, (refl, refl), sym (append-nil written)); reads = refl } }
+      record { later = []; serves = serves_so before (Opened key ∷ []) [] written after (refl, tt) (after, written, [], h, (refl, refl), sym (append-nil written)) refl }
 
   pub goes_on : (before between after : State G) (event : Event N) (read written more : List ℕ) → IsUnderWay before between read written → IsServing key event →
       Happens told passes alone seat key between event more after → IsUnderWay before after (read ++ piece_of event) (written ++ more)
   goes_on before between after event read written more h is happens =
       record {
         later = h.later ++ event ∷ [];
-        serves = record {
-          life = (h.serves.life.0, all_serving h.later event h.serves.life.1 is);
-          happen = all_then before between after (Opened key ∷ h.later) event written more h.serves.happen happens;
-          reads = ap (λ (l : List ℕ). l ++ piece_of event) h.serves.reads
-              ∙ ap (λ (l : List ℕ). flat_map piece_of (Opened key ∷ h.later) ++ l) (sym (append-nil (piece_of event)))
-              ∙ sym (flat_map-append piece_of (Opened key ∷ h.later) (event ∷ []));
-        };
+        serves = serves_so before (Opened key ∷ (h.later ++ event ∷ [])) (read ++ piece_of event) (written ++ more) after
+            (h.serves.life.0, all_serving h.later event h.serves.life.1 is)
+            (all_then before between after (Opened key ∷ h.later) event written more h.serves.happen happens)
+            (ap (λ (l : List ℕ). l ++ piece_of event) h.serves.reads
+            ∙ ap (λ (l : List ℕ). flat_map piece_of (Opened key ∷ h.later) ++ l) (sym (append-nil (piece_of event)))
+            ∙ sym (flat_map-append piece_of (Opened key ∷ h.later) (event ∷ [])));
       }

@@ -8,12 +8,14 @@ use Rattle.router_core.specs.declared.event.Event.TheVariants.{Opened, Closed}
 use Rattle.router_core.specs.Acts.{State}
 use Rattle.router_core.specs.Deeds.{GatedCall}
 use Rattle.router_core.specs.Events.{IsFree}
+use Rattle.router.specs.OneEvent.{rest_in}
 use Rattle.router.specs.Upcoming.{HasNoNext}
 use Rattle.busd_core.specs.declared.fault.RunFault.{RunFault}
 use Rattle.busd_core.specs.declared.fault.RunFault.TheVariants as fault
 use Rattle.busd_core.specs.Sessions.{piece_of, IsServing, IsOf, Serves, Ends, Runs}
 use Rattle.busd_core.specs.Parts.{LosesPiece, HappensSo, IsCarriedOut}
-use Rattle.busd_core.proofs.Courses.{IsUnderWay, comes_first, goes_on}
+use Rattle.busd_core.proofs.Streams.{drained}
+use Rattle.busd_core.proofs.Courses.{IsUnderWay, comes_first, goes_on, serves_so}
 
 pub on_ok_given : {A E : Type 0} (result : Result A E) (P : Type 0) → P → OnOk result P
 on_ok_given (Ok x) P p = p
@@ -40,7 +42,18 @@ module _ {N G : Type 0} (told : N → History) (passes : G → GatedCall → G �
       HasNoNext b.standing key → HappensSo told passes alone seat key b (Closed key) last c result → Ends told passes alone seat key a c (read ++ []) (first ++ last) result
   goes a b c later read first last (Ok u) h quiet so =
       let here : Serves told passes alone seat key a (Opened key ∷ later) (read ++ []) first b = subst (λ (l : List ℕ). Serves told passes alone seat key a (Opened key ∷ later) l first b) (sym (append-nil read)) h in
-      record { later = later; between = b; first = first; last = last; serves = here; quiet = quiet; goes = so; writes = refl }
+      record {
+        later = later;
+        between = b;
+        first = first;
+        last = last;
+        serves = here;
+        quiet = quiet;
+        stream = λ is readers well granted reads.
+            drained readers well seat key told (rest_in a) later (read ++ []) first (rest_in b) here.life.1 here.reads quiet (here.one_thread is readers granted reads);
+        goes = so;
+        writes = refl;
+      }
   goes a b c later read first last (Err e) h quiet so = ends_at a b c (Opened key ∷ later) (Closed key) read first last e h refl so
 
   -- ## By what is known of the reader and the writer
@@ -52,6 +65,10 @@ module _ {N G : Type 0} (told : N → History) (passes : G → GatedCall → G �
     pub appended : Appends w v written
     pub under_way : IsUnderWay told passes alone seat key a b read written
 
+  -- all turns are over
+  pub rests : (a b : State G) (r q w v : Option (List ℕ)) → IsFree a.standing key → HasServed a r q w v b → Runs told passes alone seat a b r q w v (Err fault.Memory)
+  rests a b r q w v free h = (key, h.read, h.written, free, h.consumed, h.appended, inl (Opened key ∷ h.under_way.later, h.read, [], h.under_way.serves, sym (append-nil h.read)))
+
   pub begins : (a b : State G) (r w v : Option (List ℕ)) → IsCarriedOut told passes alone seat key a (Opened key) w v b (Ok tt) → HasServed a r r w v b
   begins a b r w v h =
       record { read = []; written = h.0; consumed = Consumes-nil r; appended = h.1; under_way = comes_first told passes alone seat key a b h.0 h.2 }
@@ -59,7 +76,7 @@ module _ {N G : Type 0} (told : N → History) (passes : G → GatedCall → G �
   pub begins_not : (a b : State G) (r w v : Option (List ℕ)) (e : RunFault) → IsFree a.standing key → IsCarriedOut told passes alone seat key a (Opened key) w v b (Err e) →
       Runs told passes alone seat a b r r w v (Err e)
   begins_not a b r w v e free h =
-      let none : Serves told passes alone seat key a [] [] [] a = record { life = tt; happen = (refl, refl); reads = refl } in
+      let none : Serves told passes alone seat key a [] [] [] a = serves_so told passes alone seat key a [] [] [] a tt (refl, refl) refl in
       (key, [], h.0, free, Consumes-nil r, h.1, ends_at a a b [] (Opened key) [] [] h.0 e none refl h.2)
 
   pub serves_on : (a b c : State G) (r q p w v u : Option (List ℕ)) (event : Event N) → HasServed a r q w v b → IsServing key event → Consumes q p (piece_of event) →

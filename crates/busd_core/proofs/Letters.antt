@@ -10,9 +10,10 @@ use Rattle.router_core.specs.declared.action.Action.{Action}
 use Rattle.router_core.specs.declared.event.Event.TheVariants.{Mail}
 use Rattle.router_core.specs.Acts.{State, Brings}
 use Rattle.router_core.specs.Deeds.{GatedCall}
+use Rattle.router.proofs.OneEvent.{served_well}
 use Rattle.busd_core.specs.declared.fault.RunFault.{RunFault}
 use Rattle.busd_core.specs.declared.fault.RunFault.TheVariants as fault
-use Rattle.busd_core.specs.Sessions.{written_to, Delivery, mail_to, Carries, IsMailed, AreMailed}
+use Rattle.busd_core.specs.Happenings.{written_to, Delivery, mail_to, Carries, IsMailed, AreMailed}
 use Rattle.busd_core.specs.Parts.{IsBrought, IsCutShort, Delivers}
 use Rattle.busd_core.proofs.Quiet.{mail_is_quiet}
 
@@ -40,7 +41,7 @@ module _ {N G : Type 0} (told : N → History) (passes : G → GatedCall → G �
     mailed actions written brings is =
         let quiet = mail_is_quiet told passes alone seat key a b conn.slot envelope actions carries.note brings in
         let one : IsMailed told passes alone seat key a (for_conn said conn) written b =
-        record { envelope = envelope; actions = actions; carries = carries; brings = brings; nothing = quiet.0; is_open = quiet.1; writes = is } in
+        record { envelope = envelope; actions = actions; carries = carries; serves = served_well told passes alone a b (Mail conn.slot envelope) actions brings; nothing = quiet.0; is_open = quiet.1; writes = is } in
         (b, written, [], one, (refl, refl), sym (append-nil written))
 
     pub sent : conn.router ≡ seat → (actions : List (Action N)) → IsBrought told passes alone key a (Mail conn.slot envelope) actions o p b → Delivers told passes alone seat key a (mail_to seat said conn) o p b (Ok tt)

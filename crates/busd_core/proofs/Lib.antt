@@ -4,5 +4,7 @@ pub mod Closing
 pub mod Quiet
 pub mod Mailing
 pub mod Letters
+pub mod OneThread
+pub mod Streams
 pub mod Courses
 pub mod Endings

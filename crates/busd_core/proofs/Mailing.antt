@@ -12,7 +12,7 @@ use Rattle.router_core.specs.Acts.{State}
 use Rattle.router_core.specs.Deeds.{GatedCall}
 use Rattle.busd_core.specs.declared.fault.RunFault.{RunFault}
 use Rattle.busd_core.specs.declared.fault.RunFault.TheVariants as fault
-use Rattle.busd_core.specs.Sessions.{Delivery, mail_to, mail_to_all, AreMailed}
+use Rattle.busd_core.specs.Happenings.{Delivery, mail_to, mail_to_all, AreMailed}
 use Rattle.busd_core.specs.Parts.{AreMailedInPart, AreMailedSo, Delivers}
 use Rattle.busd_core.proofs.Each.{one_more, split_at}
 

@@ -12,7 +12,7 @@ use Rattle.router_core.specs.Deeds.{GatedCall, Writes, Sends, IsDoneBy}
 use Rattle.router_core.specs.Events.{write, for_peer, mail_found, noted}
 use Rattle.router_core.specs.Scripts.{World, Comes}
 use Rattle.router_core.specs.Standing.{Peer, Standing, peer_at, is_conn}
-use Rattle.busd_core.specs.Sessions.{mails_of, closed_by}
+use Rattle.busd_core.specs.Happenings.{mails_of, closed_by}
 
 module _ {N : Type 0} (seat key : ℕ) where
   abbrev pub IsQuiet : List (Action N) → Type 0

@@ -8,7 +8,7 @@ use Rattle.router_core.specs.Acts.{State, Brings}
 use Rattle.router_core.specs.Deeds.{GatedCall}
 use Rattle.busd_core.specs.declared.fault.RunFault.{RunFault}
 use Rattle.busd_core.specs.declared.fault.RunFault.TheVariants as fault
-use Rattle.busd_core.specs.Sessions.{written_to, Delivery, AreMailed, Happens, Closes, Breaks}
+use Rattle.busd_core.specs.Happenings.{written_to, Delivery, AreMailed, Happens, Closes, Breaks}
 
 -- Nothing was read; or there was no memory for what was read.
 abbrev pub LosesPiece : Option (List ℕ) → Option (List ℕ) → RunFault → Type 0

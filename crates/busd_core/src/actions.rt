@@ -2,7 +2,7 @@
 
 ghost use Rattle.std.specs.Prelude.{◌≡◌};
 ghost use Rattle.busd_core.specs.Transfers.{WritesFront};
-ghost use Rattle.busd_core.specs.Sessions.{bytes_for, written_to, close_of, closed_by};
+ghost use Rattle.busd_core.specs.Happenings.{bytes_for, written_to, close_of, closed_by};
 
 use crate::transfer::write_whole;
 use router_core::{Action, CloseCause};

@@ -5,7 +5,7 @@ ghost use Rattle.std.specs.List.{flat_map};
 ghost use Rattle.seq_bus_core.specs.Steps.{is_among};
 ghost use Rattle.envelopes.specs.Contents.{said_of};
 ghost use Rattle.router_core.specs.Deeds.{all_of};
-ghost use Rattle.busd_core.specs.Sessions.{mail_to, mail_to_all, mail_of_signal, mail_of, mails_of};
+ghost use Rattle.busd_core.specs.Happenings.{mail_to, mail_to_all, mail_of_signal, mail_of, mails_of};
 ghost use Rattle.busd_core.specs.Parts.{Delivers};
 
 use crate::carrying::{Place, bring};

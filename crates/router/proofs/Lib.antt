@@ -7,3 +7,8 @@ pub mod Greeted
 pub mod Indexing
 pub mod Endings
 pub mod Keeping
+pub mod OneEvent
+pub mod Grants
+pub mod Writings
+pub mod Fronts
+pub mod Feeding

@@ -2,3 +2,4 @@ pub mod Tables
 pub mod Welcomes
 pub mod Upcoming
 pub mod Indexed
+pub mod OneEvent

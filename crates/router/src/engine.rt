@@ -5,6 +5,7 @@ ghost use Rattle.router_core.specs.Acts.{Brings};
 ghost use Rattle.router_core.specs.Events.{CanHappen, IsFree};
 ghost use Rattle.router_core.specs.Standing.{fresh};
 ghost use Rattle.router_core.specs.declared.event.Event.TheVariants.{Opened, Bytes, Next, Mail, Closed, Tick};
+ghost use Rattle.router.specs.OneEvent.{IsServedWell};
 ghost use Rattle.router.specs.Upcoming.{HasNoNext};
 
 use crate::served::Served;
@@ -129,7 +130,9 @@ impl<V: BusView, G: Gate> Engine<V, G> {
         Ok(self.served.take_actions())
     }
 
-    /// Something happened.
+    /// Something happened. What it brings, it brings for some answers that the bus may give; over a bus of one thread, where
+    /// nothing is refused, it is a function of the event.
+    #[tactic(auto, using(crate::proofs::OneEvent::served_well))]
     pub fn event(
         &mut self,
         right: &V::Right,
@@ -137,6 +140,7 @@ impl<V: BusView, G: Gate> Engine<V, G> {
     ) -> Result<Vec<Action<V::Note>>, AllocError>
         requires { CanHappen V.registry_of self.old.view.registry self.old.standing event }
         ensures brings { IfOk result (λ actions. Brings V.told G.passes V.alone self.old event actions.items self.new) }
+        ensures served { IfOk result (λ actions. IsServedWell V.told G.passes V.alone self.old event actions.items self.new) }
         ensures err { OnErr result (self.new ≡ self.old) }
     {
         match event {

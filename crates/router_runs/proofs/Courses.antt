@@ -11,7 +11,8 @@ use Rattle.router_core.specs.OneThread.{bus_bytes, keys_after, written_to}
 use Rattle.router_core.proofs.Asked.{answers_are_lawful}
 use Rattle.router_runs.specs.declared.fault.RunFault.{RunFault}
 use Rattle.router_runs.specs.declared.fault.RunFault.TheVariants.{KeyTaken, NoMemory}
-use Rattle.router_runs.specs.Turns.{AreServedBy, keys_of, rest_in, written_by}
+use Rattle.router.specs.OneEvent.{rest_in}
+use Rattle.router_runs.specs.Turns.{AreServedBy, keys_of, written_by}
 use Rattle.router_runs.specs.Runs.{IsFaultOf, IsRunOf, IsStopped, happening, occasions_of}
 use Rattle.router_runs.specs.Outputs.{Adds, IsCourse, IsRefused, IsTurn, Output, bytes_by, bytes_by_all, met, no_output}
 use Rattle.router_runs.proofs.Appending.{served_more, keys_more, written_more, shown_more}

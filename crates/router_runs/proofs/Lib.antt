@@ -1,9 +1,7 @@
 pub mod Keeping
-pub mod OneEvent
 pub mod Appending
 pub mod Granting
 pub mod Places
-pub mod Writings
 pub mod Writes
 pub mod Courses
 pub mod Cutting

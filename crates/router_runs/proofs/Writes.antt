@@ -10,7 +10,7 @@ use Rattle.router_core.specs.declared.action.Action.TheVariants.{Write, Put, Ann
 use Rattle.router_core.specs.Deeds.{Deed, Writes, Sends, Puts, Closes, Runs, all_of, put_to, announced, IsWriting, AreDeedsOf, AreDoneBy}
 use Rattle.router_core.specs.OneThread.{bytes_if, opening_of, written_to}
 use Rattle.router_runs.specs.Outputs.{bytes_by, bytes_by_all}
-use Rattle.router_runs.proofs.Writings.{written_once}
+use Rattle.router.proofs.Writings.{written_once}
 
 module _ (opening : ℕ) (keys : List ℕ) where
   nothing_put : (to : List Conn) (said : Said) (later : List Deed) → written_to opening keys (put_to to said ++ later) ≡ written_to opening keys later

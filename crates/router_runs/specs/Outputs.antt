@@ -10,7 +10,8 @@ use Rattle.router_core.specs.OneThread.{bytes_if, opening_of, written_to}
 use Rattle.router_runs.specs.declared.fault.RunFault.{RunFault}
 use Rattle.router_runs.specs.declared.fault.RunFault.TheVariants.{KeyTaken, NoMemory}
 use Rattle.router_runs.specs.Runs.{happening, occasions_of}
-use Rattle.router_runs.specs.Turns.{AreServedBy, Turn, asked_in, keys_of, rest_in, written_by}
+use Rattle.router.specs.OneEvent.{rest_in}
+use Rattle.router_runs.specs.Turns.{AreServedBy, Turn, asked_in, keys_of, written_by}
 
 -- the keys of the connections that came, the last first, and the bytes to each, the first first
 pub record Output : Type 0 where

@@ -1,23 +1,9 @@
 -- Events that are served one after the other.
-use Rattle.std.specs.Prelude.{◌≡◌, ℕ, Bool, true, List, [], ◌∷◌, ◌++◌}
-use Rattle.seq_bus_core.specs.Histories.{History}
-use Rattle.router_core.specs.declared.action.Action.{Action}
-use Rattle.router_core.specs.declared.event.Event.{Event}
-use Rattle.router_core.specs.Acts.{Exchange, IsGranted, IsServed, IsServedBy, State}
-use Rattle.router_core.specs.Deeds.{Deed, GatedCall}
-use Rattle.router_core.specs.Events.{Occasion, occasion_of}
-use Rattle.router_core.specs.OneThread.{AreReadBy, Readers, Rest, given, keys_after, written_to}
-
--- what an engine keeps between events, but for its gate
-abbrev pub rest_in : {G : Type 0} → State G → Rest
-rest_in s = record { standing = s.standing; view = s.view }
-
--- The event is served for some answers that the bus may give. Where nobody else makes changes of the bus and nothing is refused, what it
--- brings is what the event brings over the bus of one thread.
-pub record IsServedWell {N G : Type 0} (told : N → History) (passes : G → GatedCall → G → Type 0) (alone : Bool) (before : State G) (event : Event N) (actions : List (Action N)) (after : State G) : Type 0 where
-  pub served : IsServed told passes alone before event actions after
-  pub one_thread : alone ≡ true → IsGranted served.asked → (readers : Readers) → AreReadBy readers served.asked →
-      (served.deeds ≡ (given readers (rest_in before) (occasion_of told event)).0) × (rest_in after ≡ (given readers (rest_in before) (occasion_of told event)).1)
+use Rattle.std.specs.Prelude.{◌≡◌, ℕ, Bool, List, [], ◌∷◌, ◌++◌}
+use Rattle.router_core.specs.Acts.{Exchange, IsServedBy}
+use Rattle.router_core.specs.Deeds.{Deed}
+use Rattle.router_core.specs.Events.{Occasion}
+use Rattle.router_core.specs.OneThread.{Rest, keys_after, written_to}
 
 -- what was asked and answered while one event was served, and what was done
 pub record Turn : Type 0 where

@@ -1,11 +1,10 @@
 //! Runs of a router's engine: events that are served one after the other.
 //!
-//! [`serve`] serves one event, over any view of a bus. [`run`] serves a list of events over a plain bus, and gives the
-//! bytes that go to each connection: where nothing is refused, those of the bus of one thread that `router_core` defines.
-//! That it does not matter how the bytes of connections are cut is said in [`laws`].
+//! [`run`] serves a list of events over a plain bus, and gives the bytes that go to each connection: where nothing is
+//! refused, those of the bus of one thread that `router_core` defines. That it does not matter how the bytes of connections
+//! are cut is said in [`laws`].
 #![tactic(auto)]
 
-mod event;
 mod fault;
 pub mod laws;
 mod outlets;
@@ -13,6 +12,5 @@ mod session;
 #[cfg(test)]
 mod tests;
 
-pub use event::serve;
 pub use fault::RunFault;
 pub use session::run;

@@ -297,7 +297,7 @@ fn put(mails: &mut Vec<Mail>, action: &Action<()>) -> Result<(), AllocError> {
 
 /// Serves the next message of the first connection, and the mail that it brings.
 fn exchange(alloc: Global, engine: &mut Plain, written: &mut Vec<u8>) -> Result<(), AllocError> {
-    let actions = serve(engine, &(), Event::Next { key: 0 })?;
+    let actions = engine.next(&(), 0)?;
     let mut mails = Vec::new(alloc);
     for action in &actions {
         put(&mut mails, action)?;
@@ -308,7 +308,7 @@ fn exchange(alloc: Global, engine: &mut Plain, written: &mut Vec<u8>) -> Result<
             note: None,
             content,
         };
-        for action in &serve(engine, &(), Event::Mail { slot, envelope })? {
+        for action in &engine.mail(slot, envelope)? {
             if let Action::Write { key: 0, bytes } = action {
                 written.extend_from_slice(bytes)?;
             }
@@ -321,12 +321,12 @@ fn exchange(alloc: Global, engine: &mut Plain, written: &mut Vec<u8>) -> Result<
 fn answers(rt: &impl Abort, alloc: Global) -> Result<Vec<u8>, AllocError> {
     let mut engine = Engine::new(alloc, bus(rt, alloc)?, OpenGate);
     let key = engine.free_key();
-    let opened = serve(&mut engine, &(), Event::Opened { key })?;
+    let opened = engine.opened(key)?;
     assert!(rt; opened.is_empty());
     let mut written = Vec::new(alloc);
     for bytes in [HELLO, GET_NAME_OWNER] {
         let piece = Vec::from_slice(alloc, bytes)?;
-        let fed = serve(&mut engine, &(), Event::Bytes { key, piece })?;
+        let fed = engine.bytes(key, piece)?;
         assert!(rt; fed.is_empty());
         exchange(alloc, &mut engine, &mut written)?;
     }

@@ -1,6 +1,6 @@
 -- The first actions do not close the connection.
 use Rattle.std.proofs.Common.{◌≡◌, drop}
-use Rattle.busd_core.specs.Sessions.{closed_by}
+use Rattle.busd_core.specs.Happenings.{closed_by}
 use Rattle.busd_core.proofs.actions.closed_by.Given as goal
 
 abbrev pub invariant-loop-action : goal.invariant-loop-action

@@ -1,7 +1,7 @@
 use Rattle.std.proofs.Common.{arith}
 use Rattle.std.proofs.KnownBytes.{Appends-nil}
 use Rattle.std.proofs.lemmas.Result.{err_from_is_err_and}
-use Rattle.busd_core.specs.Sessions.{bytes_for}
+use Rattle.busd_core.specs.Happenings.{bytes_for}
 use Rattle.busd_core.proofs.Each.{writes_more, writes_front, writes_all}
 use Rattle.busd_core.proofs.actions.write_out.Goals as goal
 

@@ -1,7 +1,7 @@
 -- What the first actions write was written.
 use Rattle.std.proofs.Common.{take}
 use Rattle.std.specs.Io.KnownBytes.{Appends}
-use Rattle.busd_core.specs.Sessions.{written_to}
+use Rattle.busd_core.specs.Happenings.{written_to}
 use Rattle.busd_core.proofs.actions.write_out.Given as goal
 
 abbrev pub invariant-loop-action : goal.invariant-loop-action

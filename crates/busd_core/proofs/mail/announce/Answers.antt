@@ -3,7 +3,7 @@ use Rattle.std.proofs.lemmas.Result.{err_from_is_err_and}
 use Rattle.seq_bus_core.specs.declared.connection.Conn.{Conn}
 use Rattle.envelopes.specs.Contents.{Tells, Signals}
 use Rattle.router_core.specs.Deeds.{all_of}
-use Rattle.busd_core.specs.Sessions.{mail_to_all, mail_of_signal}
+use Rattle.busd_core.specs.Happenings.{mail_to_all, mail_of_signal}
 use Rattle.busd_core.specs.Parts.{Delivers}
 use Rattle.busd_core.proofs.Mailing.{each_more, each_stops}
 use Rattle.busd_core.proofs.mail.announce.Goals as goal

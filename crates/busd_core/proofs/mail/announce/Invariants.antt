@@ -1,6 +1,6 @@
 -- What the first put was brought.
 use Rattle.std.proofs.Common.{Ok, take, flat_map}
-use Rattle.busd_core.specs.Sessions.{mail_of_signal}
+use Rattle.busd_core.specs.Happenings.{mail_of_signal}
 use Rattle.busd_core.specs.Parts.{Delivers}
 use Rattle.busd_core.proofs.mail.announce.Given as goal
 

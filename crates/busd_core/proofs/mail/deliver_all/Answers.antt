@@ -1,6 +1,6 @@
 use Rattle.std.proofs.Common.{arith}
 use Rattle.std.proofs.lemmas.Result.{err_from_is_err_and}
-use Rattle.busd_core.specs.Sessions.{mail_of}
+use Rattle.busd_core.specs.Happenings.{mail_of}
 use Rattle.busd_core.proofs.Mailing.{each_more, each_stops}
 use Rattle.busd_core.proofs.mail.deliver_all.Goals as goal
 

@@ -1,6 +1,6 @@
 -- What the first put was brought.
 use Rattle.std.proofs.Common.{Ok, take}
-use Rattle.busd_core.specs.Sessions.{mails_of}
+use Rattle.busd_core.specs.Happenings.{mails_of}
 use Rattle.busd_core.specs.Parts.{Delivers}
 use Rattle.busd_core.proofs.mail.deliver_all.Given as goal
 

@@ -1,7 +1,7 @@
-use Rattle.std.proofs.Common.{◌≡◌, None, sym, ap, ◌∙◌}
+use Rattle.std.proofs.Common.{◌≡◌, None, Some, sym, ap, ◌∙◌}
 use Rattle.std.proofs.lemmas.Result.{err_from_is_err_and}
-use Rattle.busd_core.specs.Sessions.{closed_by}
-use Rattle.busd_core.proofs.Courses.{carried_out, cut_short}
+use Rattle.busd_core.specs.Happenings.{closed_by}
+use Rattle.busd_core.proofs.Courses.{carried_out, closes, cut_short}
 use Rattle.busd_core.proofs.stream.carry_out.Goals as goal
 
 pub returns-in_err-actions : goal.returns-in_err-actions
@@ -10,6 +10,14 @@ returns-in_err-actions g c =
     let p = err_from_is_err_and c.from_residual.result c.from_residual.ensures.1 in
     rw (p.1, p.2) (cut_short g.V.BusView.told g.G.Gate.passes g.V.BusView.alone c.args.place.seat c.args.place.key c.args.engine.now c.bring.new.engine c.args.event (contents c.args.writer.now)
     (contents c.bring.new.writer) c.in_err-actions.field-0.0 c.in_err-actions.ensures.err)
+
+pub returns-in-Some : goal.returns-in-Some
+returns-in-Some g c =
+    let contents = g.W.Write.contents in
+    let actions = c.in_ok-actions.actions.items in
+    let is : closed_by c.args.place.key actions ≡ Some c.in-Some.cause = ap (closed_by c.args.place.key) (sym c.deref.ensures.value) ∙ sym c.in-Some.ensures in
+    closes g.V.BusView.told g.G.Gate.passes g.V.BusView.alone c.args.place.seat c.args.place.key c.args.engine.now c.bring.new.engine c.args.event actions c.in-Some.cause (contents c.args.writer.now)
+    (contents c.bring.new.writer) c.in_ok-actions.ensures.ok is
 
 pub returns : goal.returns
 returns g c =

@@ -2,7 +2,7 @@ use Rattle.std.proofs.Common.{refl, ◌∙◌}
 use Rattle.std.proofs.KnownBytes.{Consumes-nil}
 use Rattle.std.proofs.lemmas.Result.{err_from_is_err_and}
 use Rattle.router_core.specs.declared.event.Event.TheVariants.{Bytes, Next}
-use Rattle.busd_core.proofs.Endings.{begins, begins_not, serves_on, stops, is_gone, loses}
+use Rattle.busd_core.proofs.Endings.{begins, begins_not, rests, serves_on, stops, is_gone, loses}
 use Rattle.busd_core.proofs.stream.run.Goals as goal
 
 pub returns-in_err-carry_out-clause-runs : goal.returns-in_err-carry_out-clause-runs
@@ -79,3 +79,10 @@ loop-preserved g c =
       serves_on g.V.BusView.told g.G.Gate.passes g.V.BusView.alone c.args.seat key c.args.engine.now c.loop.engine c.carry_out-in-loop.new.engine (remaining c.args.reader.now) (remaining c.loop.reader)
           (remaining c.next_piece.new.reader) (contents c.args.writer.now) (contents c.loop.writer) (contents c.carry_out-in-loop.new.writer) (Bytes key c.in-Some.piece) c.loop.invariant.1 refl read c.in_ok-carry_out-3.ensures,
     )
+
+pub returns-clause-runs : goal.returns-clause-runs
+returns-clause-runs g c =
+    let contents = g.W.Write.contents in
+    let remaining = g.R.Read.remaining in
+    rests g.V.BusView.told g.G.Gate.passes g.V.BusView.alone c.args.seat c.free_key-key.result c.args.engine.now c.loop.engine (remaining c.args.reader.now) (remaining c.loop.reader) (contents c.args.writer.now)
+    (contents c.loop.writer) c.free_key-key.ensures c.loop.invariant.1

@@ -8,7 +8,7 @@ use Rattle.router_core.specs.Deeds.{GatedCall}
 use Rattle.router_core.specs.Events.{occasion_of}
 use Rattle.router_core.proofs.Asked.{answers_are_lawful}
 use Rattle.router_core.proofs.Functions.{one_thread_is_a_function}
-use Rattle.router_runs.specs.Turns.{IsServedWell, rest_in}
+use Rattle.router.specs.OneEvent.{IsServedWell, rest_in}
 
 pub served_well : {N G : Type 0} (told : N → History) (passes : G → GatedCall → G → Type 0) (alone : Bool) (before after : State G) (event : Event N) (actions : List (Action N)) →
     Brings told passes alone before event actions after → IsServedWell told passes alone before event actions after

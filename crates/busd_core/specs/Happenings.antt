@@ -1,0 +1,125 @@
+-- What becomes of the events of a connection, and of the mail that they bring.
+use Rattle.std.specs.Prelude.{◌≡◌, ℕ, Bool, ◌==◌, Option, Some, None, List, [], ◌∷◌, ◌++◌, if◌then◌else◌}
+use Rattle.std.specs.List.{flat_map}
+use Rattle.std.specs.Option.{option_or}
+use Rattle.seq_bus_core.specs.Histories.{History}
+use Rattle.seq_bus_core.specs.declared.connection.Conn.{Conn}
+use Rattle.seq_bus_core.specs.declared.signal.AddressedSignal.{AddressedSignal}
+use Rattle.envelopes.specs.Contents.{Said, Tells, Signals, said_of}
+use Rattle.envelopes.specs.declared.envelope.Envelope.{Envelope}
+use Rattle.router_core.specs.declared.action.Action.{Action}
+use Rattle.router_core.specs.declared.action.Action.TheVariants.{Write, Put, Announce, Close}
+use Rattle.router_core.specs.declared.cause.CloseCause.{CloseCause}
+use Rattle.router_core.specs.declared.event.Event.{Event}
+use Rattle.router_core.specs.declared.event.Event.TheVariants.{Mail}
+use Rattle.router_core.specs.Acts.{State}
+use Rattle.router_core.specs.Deeds.{GatedCall, all_of}
+use Rattle.router.specs.OneEvent.{IsServedWell}
+
+-- ## What actions do to the connection of a key
+
+abbrev pub bytes_for : {N : Type 0} → ℕ → Action N → List ℕ
+bytes_for key (Write to bytes) = if to == key then bytes.items else []
+bytes_for key other = []
+
+-- all that is written to it
+abbrev pub written_to : {N : Type 0} → ℕ → List (Action N) → List ℕ
+written_to key actions = flat_map (bytes_for key) actions
+
+abbrev pub close_of : {N : Type 0} → ℕ → Action N → Option CloseCause
+close_of key (Close closed cause) = if closed == key then Some cause else None
+close_of key other = None
+
+-- why it is closed, if it is
+abbrev pub closed_by : {N : Type 0} → ℕ → List (Action N) → Option CloseCause
+closed_by key [] = None
+closed_by key (action ∷ actions) = option_or (close_of key action) (closed_by key actions)
+
+-- ## Mail
+
+-- what is on its way to the connection of this number, in this slot
+pub record Delivery : Type 0 where
+  pub slot : ℕ
+  pub number : ℕ
+  pub said : Said
+
+-- A connection gets it that is of the router of this seat.
+abbrev pub mail_to : ℕ → Said → Conn → List Delivery
+mail_to seat said conn = if conn.router == seat then record { slot = conn.slot; number = conn.number; said = said } ∷ [] else []
+
+abbrev pub mail_to_all : ℕ → Said → List Conn → List Delivery
+mail_to_all seat said conns = flat_map (mail_to seat said) conns
+
+abbrev pub mail_of_signal : ℕ → AddressedSignal → List Delivery
+mail_of_signal seat s = mail_to_all seat (Tells (Signals s.signal)) (all_of s.to s.monitors)
+
+abbrev pub mail_of : {N : Type 0} → ℕ → Action N → List Delivery
+mail_of seat (Put to carried content) = mail_to_all seat (said_of content) (all_of to.to to.monitors)
+mail_of seat (Announce signals carried) = flat_map (mail_of_signal seat) signals
+mail_of seat other = []
+
+-- all that the actions put, in order
+abbrev pub mails_of : {N : Type 0} → ℕ → List (Action N) → List Delivery
+mails_of seat actions = flat_map (mail_of seat) actions
+
+-- the envelope carries it, without a note
+pub record Carries {N : Type 0} (envelope : Envelope N) (delivery : Delivery) : Type 0 where
+  pub number : envelope.number ≡ delivery.number
+  pub note : envelope.note ≡ None
+  pub said : said_of envelope.content ≡ delivery.said
+
+module _ {N G : Type 0} (told : N → History) (passes : G → GatedCall → G → Type 0) (alone : Bool) (seat key : ℕ) where
+  -- The delivery comes as mail, and what that brings is written. It puts nothing, and closes nothing.
+  pub record IsMailed (before : State G) (delivery : Delivery) (written : List ℕ) (after : State G) : Type 0 where
+    pub envelope : Envelope N
+    pub actions : List (Action N)
+    pub carries : Carries envelope delivery
+    pub serves : IsServedWell told passes alone before (Mail delivery.slot envelope) actions after
+    pub nothing : mails_of seat actions ≡ []
+    pub is_open : closed_by key actions ≡ None
+    pub writes : written ≡ written_to key actions
+
+  -- one after the other
+  abbrev pub AreMailed : State G → List Delivery → List ℕ → State G → Type 0
+  AreMailed before [] written after = (after ≡ before) × (written ≡ [])
+  AreMailed before (delivery ∷ deliveries) written after =
+      (between : State G) × (first later : List ℕ)
+      × IsMailed before delivery first between × AreMailed between deliveries later after × (written ≡ first ++ later)
+
+  -- ## Events
+
+  -- The event happens: what its actions write is written, then what they put comes as mail, and the connection stays open.
+  pub record Happens (before : State G) (event : Event N) (written : List ℕ) (after : State G) : Type 0 where
+    pub actions : List (Action N)
+    pub between : State G
+    pub later : List ℕ
+    pub serves : IsServedWell told passes alone before event actions between
+    pub is_open : closed_by key actions ≡ None
+    pub mailed : AreMailed between (mails_of seat actions) later after
+    pub writes : written ≡ written_to key actions ++ later
+
+  -- one after the other
+  abbrev pub AllHappen : State G → List (Event N) → List ℕ → State G → Type 0
+  AllHappen before [] written after = (after ≡ before) × (written ≡ [])
+  AllHappen before (event ∷ events) written after =
+      (between : State G) × (first later : List ℕ)
+      × Happens before event first between × AllHappen between events later after × (written ≡ first ++ later)
+
+  -- The event closes the connection.
+  pub record Closes (before : State G) (event : Event N) (cause : CloseCause) (written : List ℕ) (after : State G) : Type 0 where
+    pub actions : List (Action N)
+    pub serves : IsServedWell told passes alone before event actions after
+    pub closes : closed_by key actions ≡ Some cause
+    pub writes : written ≡ written_to key actions
+
+  -- The event happens in part: some of the mail does not come, and of what is written the last bytes are missing.
+  pub record Breaks (before : State G) (event : Event N) (written missing : List ℕ) (after : State G) : Type 0 where
+    pub actions : List (Action N)
+    pub between : State G
+    pub come : List Delivery
+    pub left : List Delivery
+    pub later : List ℕ
+    pub serves : IsServedWell told passes alone before event actions between
+    pub put : mails_of seat actions ≡ come ++ left
+    pub mailed : AreMailed between come later after
+    pub writes : written ++ missing ≡ written_to key actions ++ later
