@@ -47,6 +47,17 @@ impl BusView for SeqBus {
         Ok(SeqBus::route(self, from, facts))
     }
 
+    fn route_into(
+        &mut self,
+        from: u64,
+        facts: &Facts<'_>,
+        found: &mut Verdict,
+    ) -> Result<(), Gone> {
+        let _legal = self.history();
+        *found = SeqBus::route(self, from, facts);
+        Ok(())
+    }
+
     fn present(&mut self, number: u64) -> Result<bool, Gone> {
         let _legal = self.history();
         Ok(SeqBus::present(self, number))

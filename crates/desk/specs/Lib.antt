@@ -1,2 +1,3 @@
+pub mod Causes
 pub mod Desks
 pub mod ToldAnswers

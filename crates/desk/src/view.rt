@@ -89,6 +89,18 @@ impl<'a, J: Naming, R: Wait> BusView for Desk<'a, J, R> {
         }
     }
 
+    fn route_into(
+        &mut self,
+        from: u64,
+        facts: &Facts<'_>,
+        found: &mut Verdict,
+    ) -> Result<(), Gone> {
+        match self.seat.route_into(from, facts, found) {
+            Ok(()) => Ok(()),
+            Err(_) => Err(Gone),
+        }
+    }
+
     fn present(&mut self, number: u64) -> Result<bool, Gone> {
         match self.seat.present(number) {
             Ok(present) => Ok(present),

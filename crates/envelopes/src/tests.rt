@@ -123,6 +123,27 @@ fn answer_to_a_query(rt: HostRuntime) {
     let facts = reply.facts(&names);
     assert_eq!(rt; facts.kind, MessageKind::MethodReturn);
     assert!(rt; matches!(facts.arguments.as_slice(), [Argument::String(":1.1")]));
+    assert!(rt; reply.again().is_ok(), "few share it");
+}
+
+#[test]
+fn messages_once_more(rt: HostRuntime) {
+    let lost = BusSignal::NameLost {
+        name: BusName::from(UniqueName::of(1)),
+        owner: 1,
+    };
+    assert!(rt; OwnMessage::Signal(lost).again().is_ok());
+    for content in [
+        ReplyContent::Empty,
+        ReplyContent::Number(1),
+        ReplyContent::UniqueName(1),
+    ] {
+        let reply = OwnMessage::Reply {
+            to: call(1),
+            content,
+        };
+        assert!(rt; reply.again().is_ok(), "nothing is shared");
+    }
 }
 
 #[test]

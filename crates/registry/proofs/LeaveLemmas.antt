@@ -1,16 +1,15 @@
 -- What a Leave does.
-use Rattle.std.proofs.Common.{◌≡◌, ℕ, zero, suc, ◌+◌, ◌<◌, ◌==◌, Bool, true, false, cond, not, ◌&&◌, ◌||◌, Option, Some, None, is_some, List, [], ◌∷◌, ◌++◌, map, take, filter, flat_map, refl, sym, ap, ◌∙◌, subst, arith, if◌then◌else◌}
+use Rattle.std.proofs.Common.{◌≡◌, ℕ, suc, ◌<◌, ◌==◌, Bool, true, false, cond, not, ◌&&◌, ◌||◌, Option, Some, None, is_some, option_map, List, [], ◌∷◌, ◌++◌, map, remove, filter, flat_map, refl, sym, ap, ◌∙◌, subst, arith, if◌then◌else◌}
 use Rattle.std.specs.List.{AllByRecursion as Each, find, list_all}
 use Rattle.std.proofs.lemmas.Bool.{and_parts, or_parts}
 use Rattle.std.proofs.lemmas.List.{map-append}
-use Rattle.std.proofs.lemmas.List.Sums.{sum_by-cons, sum_by-append}
 use Rattle.std.proofs.lemmas.Bool.Decides.{nat_tests}
 use Rattle.names.specs.Texts.{Text}
 use Rattle.names.specs.UniqueName.{unique_text}
 use Rattle.owner_queues.specs.Queues.{Queue, is_in, queue_head, without}
 use Rattle.match_rules.specs.Facts.{Facts}
 use Rattle.match_rules.specs.Fitting.{Heads, fits}
-use Rattle.seq_bus_core.specs.BusState.{BusState, Connection, AddedRule, OwnedName, conn_of, connection_of, head_of, is_client, is_monitor, names_of}
+use Rattle.seq_bus_core.specs.BusState.{BusState, Connection, AddedRule, OwnedName, conn_of, connection_of, head_of, is_client, is_monitor}
 use Rattle.seq_bus_core.specs.Consistency.{IsConsistent, IsOwned, Pairwise}
 use Rattle.seq_bus_core.specs.Recipients.{all_that_want, conn_at, monitors_shown}
 use Rattle.seq_bus_core.specs.Steps.{acquired, addressed, facts_of, is_owner, leave, names_owned, names_without, next_owner, rules_without, signals_of_leave, step, without_connection}
@@ -23,9 +22,10 @@ use Rattle.seq_bus_core.specs.declared.signal.BusSignal.{BusSignal}
 use Rattle.seq_bus_core.specs.declared.signal.BusSignal.TheVariants.{NameOwnerChanged, NameAcquired}
 use Rattle.seq_bus_core.proofs.ConsistencyLaws.{steps_keep_consistency}
 use Rattle.registry_core.specs.declared.member.Member.{Member}
-use Rattle.registry_core.specs.Listening.{stays, conns_that, connection_of_member, has_fitting, wants_by, watches_by}
+use Rattle.registry_core.specs.Listening.{Rising, stays, conns_that, connection_of_member, has_fitting, wants_by, watches_by}
 use Rattle.registry_core.specs.Signals.{announced_to, shown_to}
 use Rattle.registry_core.proofs.Members.{filter_alike}
+use Rattle.registry_core.proofs.Places.{first_place}
 use Rattle.registry.specs.declared.registry.Registry.TheInside.{Inside}
 use Rattle.registry.specs.OwnerSignals.{told_owner, acquired_by, name_left, signals_left}
 use Rattle.registry.specs.Tables.{state_of}
@@ -101,6 +101,29 @@ members_left n mr (m ∷ ms) = by_test (m.conn.number == n) refl (members_left n
         map (connection_of_member (rules_without n mr)) (filter (λ k. not (k.conn.number == n)) (m ∷ ms)) ≡ filter (λ c. not (c.number == n)) (map (connection_of_member mr) (m ∷ ms))
     by_test true is others = rw is others
     by_test false is others = rw is (ap (λ c. c ∷ map (connection_of_member (rules_without n mr)) (filter (λ k. not (k.conn.number == n)) ms)) (ap with_rules (filter_other m.conn.number n mr is)) ∙ ap (λ rest. connection_of_member mr m ∷ rest) others)
+
+-- the member that is found is the only one of its number
+pub member_left : (n i : ℕ) (ms : List Member) → Rising ms → first_place (λ m. m.conn.number == n) ms ≡ Some i → remove ms i ≡ filter (λ m. not (m.conn.number == n)) ms
+member_left n i [] rising found = cc
+member_left n i (m ∷ ms) rising found = by_test (m.conn.number == n) refl found (λ j is. member_left n j ms rising.1 is)
+  where
+    higher : (xs : List Member) → Each (λ b. n < b.conn.number) xs → filter (λ b. not (b.conn.number == n)) xs ≡ xs
+    higher [] h = refl
+    higher (x ∷ xs) h = let other : (x.conn.number == n) ≡ false = let more : n < x.conn.number = h.0 in grind (arith, nat_tests) in rw other (ap (λ rest. x ∷ rest) (higher xs h.1))
+
+    rest : (o : Option ℕ) → first_place (λ b. b.conn.number == n) ms ≡ o → option_map suc o ≡ Some i → ((j : ℕ) → first_place (λ b. b.conn.number == n) ms ≡ Some j → remove ms j ≡ filter (λ b. not (b.conn.number == n)) ms) →
+        remove (m ∷ ms) i ≡ m ∷ filter (λ b. not (b.conn.number == n)) ms
+    rest None is e others = cc
+    rest (Some j) is e others = let at : suc j ≡ i = cc in rw (← at) (ap (λ more. m ∷ more) (others j is))
+
+    by_test : (b : Bool) → (m.conn.number == n) ≡ b → (if b then Some 0 else option_map suc (first_place (λ k. k.conn.number == n) ms)) ≡ Some i →
+        ((j : ℕ) → first_place (λ k. k.conn.number == n) ms ≡ Some j → remove ms j ≡ filter (λ k. not (k.conn.number == n)) ms) → remove (m ∷ ms) i ≡ filter (λ k. not (k.conn.number == n)) (m ∷ ms)
+    by_test true is e others =
+        let at : 0 ≡ i = cc in
+        let same : m.conn.number ≡ n = grind (arith, nat_tests) in
+        let above : Each (λ k. n < k.conn.number) ms = subst (λ k. Each (λ b. k < b.conn.number) ms) same rising.0 in
+        rw (← at, is) (sym (higher ms above))
+    by_test false is e others = rw is (rest (first_place (λ k. k.conn.number == n) ms) refl e others)
 
 pub left_state : (r next : Inside) (n : ℕ) → next ≡ record r { members = next.members; names = next.names; rules = next.rules; monitor_rules = next.monitor_rules } →
     next.names ≡ names_without n r.names → next.members.items ≡ filter (λ m. not (m.conn.number == n)) r.members.items → next.rules.rules ≡ rules_without n r.rules.rules → next.monitor_rules.rules ≡ rules_without n r.monitor_rules.rules →
@@ -311,43 +334,21 @@ leave_of_monitor s seat n h other present = by_found (connection_of s n) refl pr
     by_found (Some c) e present =
         ap (λ b. record { reply = Done; signals = map (addressed (without_connection s n)) (signals_if b); tickets = []; start = None }) (monitor (is_monitor c) (sym other ∙ client_found n s.connections c h.connections_rise e))
 
--- ## A connection whose names are all found
-
-abbrev one_if_in : ℕ → OwnedName → ℕ
-one_if_in c n = if is_in c n.queue then 1 else 0
+-- ## The names of the connection
 
 -- no signal tells of a name that the connection does not own
-pub not_owned : (s : BusState) (c : ℕ) (n : OwnedName) → is_in c n.queue ≡ false → name_left s c n ≡ []
+not_owned : (s : BusState) (c : ℕ) (n : OwnedName) → is_in c n.queue ≡ false → name_left s c n ≡ []
 not_owned s c n absent = by_queue n.queue absent
   where
     by_queue : (q : Queue) → is_in c q ≡ false → name_left s c (record n { queue = q }) ≡ []
     by_queue [] e = refl
     by_queue (o ∷ os) e = let other : (o.connection == c) ≡ false = (or_parts (o.connection == c) (is_in c os) e).0 in rw other refl
 
-none_told : (s : BusState) (c : ℕ) (names : List OwnedName) → names_of c names ≡ 0 → flat_map (name_left s c) names ≡ []
-none_told s c [] none = refl
-none_told s c (n ∷ names) none =
-    let whole : names_of c (n ∷ names) ≡ one_if_in c n + names_of c names = sum_by-cons (one_if_in c) n names in
-    let here : one_if_in c n ≡ 0 = omega (arith, whole, none) in
-    let more : names_of c names ≡ 0 = omega (arith, whole, none) in
-    ap (λ signals. signals ++ flat_map (name_left s c) names) (not_owned s c n (not_in (is_in c n.queue) here)) ∙ none_told s c names more
+pub told_all : (s : BusState) (c : ℕ) (names : List OwnedName) → flat_map (name_left s c) (filter (λ m. is_in c m.queue) names) ≡ flat_map (name_left s c) names
+told_all s c [] = refl
+told_all s c (n ∷ names) = by_test (is_in c n.queue) refl (told_all s c names)
   where
-    not_in : (b : Bool) → ◌≡◌ {A = ℕ} (if b then 1 else 0) 0 → b ≡ false
-    not_in true e = absurd (omega (arith, e))
-    not_in false e = refl
-
--- once all names of the connection are found, all signals are
-pub told_all : (s : BusState) (c i : ℕ) (names : List OwnedName) → names_of c (take i names) ≡ names_of c names → flat_map (name_left s c) (take i names) ≡ flat_map (name_left s c) names
-told_all s c zero names all = sym (none_told s c names (sym all))
-told_all s c (suc i) [] all = refl
-told_all s c (suc i) (n ∷ names) all =
-    let whole : names_of c (n ∷ names) ≡ one_if_in c n + names_of c names = sum_by-cons (one_if_in c) n names in
-    let some : names_of c (n ∷ take i names) ≡ one_if_in c n + names_of c (take i names) = sum_by-cons (one_if_in c) n (take i names) in
-    ap (λ signals. name_left s c n ++ signals) (told_all s c i names (omega (arith, whole, some, all)))
-
-pub names_push : (c : ℕ) (names : List OwnedName) (n : OwnedName) → names_of c (names ++ n ∷ []) ≡ names_of c names + (if is_in c n.queue then 1 else 0)
-names_push c names n =
-    let whole : names_of c (names ++ n ∷ []) ≡ names_of c names + names_of c (n ∷ []) = sum_by-append (one_if_in c) names (n ∷ []) in
-    let last : names_of c (n ∷ []) ≡ one_if_in c n + names_of c [] = sum_by-cons (one_if_in c) n [] in
-    let none : names_of c [] ≡ 0 = refl in
-    omega (arith, whole, last, none)
+    by_test : (b : Bool) → is_in c n.queue ≡ b → flat_map (name_left s c) (filter (λ m. is_in c m.queue) names) ≡ flat_map (name_left s c) names →
+        flat_map (name_left s c) (cond b (n ∷ filter (λ m. is_in c m.queue) names) (filter (λ m. is_in c m.queue) names)) ≡ flat_map (name_left s c) (n ∷ names)
+    by_test true is others = ap (λ signals. name_left s c n ++ signals) others
+    by_test false is others = others ∙ sym (ap (λ signals. signals ++ flat_map (name_left s c) names) (not_owned s c n is))

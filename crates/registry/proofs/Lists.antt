@@ -1,5 +1,5 @@
 -- Lists of the tables, and what they stand for.
-use Rattle.std.proofs.Common.{zero, ◌<◌, map, flat_map, get_or, sym, add-one, append-nil, append_assoc, Some, None, ◌++◌, filter, is_some, if◌then◌else◌, ◌≡◌, ℕ, suc, ◌+◌, Bool, true, false, cond, Some, List, [], ◌∷◌, length, take, take_while, insert, refl, ap, ◌∙◌, arith}
+use Rattle.std.proofs.Common.{zero, ◌<◌, ◌≤◌, map, flat_map, get_or, sym, add-one, append-nil, append_assoc, Some, None, ◌++◌, filter, is_some, if◌then◌else◌, ◌≡◌, ℕ, suc, ◌+◌, Bool, true, false, cond, Some, List, [], ◌∷◌, length, take, take_while, insert, refl, ap, ◌∙◌, arith}
 use Rattle.std.specs.List.{find, prefix_len, AllByRecursion}
 use Rattle.names.specs.Texts.{Text, text_lt}
 use Rattle.seq_bus_core.specs.Histories.{inserted}
@@ -51,3 +51,14 @@ take_next {X} {Y} f xs i d lt = ap (λ k. take k (map f xs)) (add-one i) ∙ nex
 pub flat_push : {X Y : Type 0} (f : X → List Y) (xs : List X) (x : X) → flat_map f (xs ++ x ∷ []) ≡ flat_map f xs ++ f x
 flat_push f [] x = append-nil (f x)
 flat_push f (y ∷ xs) x = ap (λ rest. f y ++ rest) (flat_push f xs x) ∙ sym (append_assoc (f y) (flat_map f xs) (f x))
+
+pub map_get : {X Y : Type 0} (f : X → Y) (xs : List X) (i : ℕ) (d : X) → get_or (map f xs) i (f d) ≡ f (get_or xs i d)
+map_get f [] i d = refl
+map_get f (x ∷ xs) zero d = refl
+map_get f (x ∷ xs) (suc i) d = map_get f xs i d
+
+pub take_whole : {X : Type 0} (xs : List X) (i : ℕ) → length xs ≤ i → take i xs ≡ xs
+take_whole [] zero le = refl
+take_whole [] (suc i) le = refl
+take_whole (x ∷ xs) zero le = absurd (omega (arith, le))
+take_whole (x ∷ xs) (suc i) le = ap (λ rest. x ∷ rest) (take_whole xs i (omega (arith, le)))

@@ -17,7 +17,7 @@ use crate::requests::is_owner;
 use match_rules::Owners;
 use names::{BusName, UniqueName};
 use owner_queues::Queue;
-use registry_core::{NameEntry, number_of};
+use registry_core::{NameEntry, find_place, number_of};
 use seq_bus_core::{NumberedOutcome, Reply, Signals};
 use std::alloc::{AllocError, Global};
 
@@ -89,8 +89,8 @@ impl Registry {
         signals.push(self.announced(&left, Some(connection), name, Some(connection), None))
     }
 
-    /// The signals of the names that a connection which leaves owns. Once all of its places are found no further name is
-    /// looked at.
+    /// The signals of the names that a connection which leaves owns. No other name is looked at than those that it owns or
+    /// waits for.
     fn tell_of_names(&self, connection: u64, signals: &mut Signals) -> Result<(), AllocError>
         requires { signals.old ≡ [] }
         ensures { OnOk result (signals.new ≡ flat_map (name_left self.now connection) self.now.names) }
@@ -99,13 +99,9 @@ impl Registry {
             registry: self,
             leaver: connection,
         };
-        let mut places = self.names.count_of(connection);
-        for entry in self.names.as_slice() {
-            if places == 0 {
-                return Ok(());
-            }
-            places = places_behind(places, &entry.queue, connection);
-            left.tell_of_name(entry, signals)?;
+        for n in 0..self.names.count_of(connection) {
+            let place = self.names.place_of_nth(connection, n);
+            left.tell_of_name(&self.names.as_slice()[place], signals)?;
         }
         Ok(())
     }
@@ -114,11 +110,10 @@ impl Registry {
     pub(crate) fn leave(&mut self, seat: u8, connection: u64)
         ensures { self.new ≡ (step self.old seat (Leave connection)).0 }
     {
-        if !self.present(connection) {
+        let Some(place) = find_place(&self.members, connection) else {
             return;
-        }
-        self.members
-            .retain(|member| member.conn.number != connection);
+        };
+        self.members.remove(place);
         self.names.leave(connection);
         self.rules.remove_all(connection);
         self.monitor_rules.remove_all(connection);
@@ -180,18 +175,6 @@ impl<'a> Left<'a> {
         )?;
         self.registry
             .push_acquired(self, leaver, entry.name, owner, signals)
-    }
-}
-
-/// How many places of a connection are in the queues behind this one.
-fn places_behind(places: usize, queue: &Queue, connection: u64) -> usize
-    requires { 0 < places }
-    ensures { result + (if is_in connection queue.now then 1 else 0) ≡ places }
-{
-    if queue.contains(connection) {
-        places - 1
-    } else {
-        places
     }
 }
 

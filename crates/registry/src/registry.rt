@@ -16,7 +16,7 @@ use crate::services::sorted;
 use match_rules::Owners;
 use names::{BusName, WellKnown};
 use owner_queues::{Profile, QueuedOwner};
-use registry_core::{Member, NameEntry, NameTable, RuleTable, RulesOf, place_of};
+use registry_core::{Member, NameEntry, NameTable, RuleTable, RulesOf, find_place};
 use seq_bus_core::{Change, Conn};
 use std::alloc::{AllocError, Global};
 use std::marker::Model;
@@ -139,7 +139,7 @@ impl Registry {
     pub fn conn(&self, number: u64) -> Option<Conn>
         ensures { result ≡ option_map conn_of (connection_of self.now number) }
     {
-        match place_of(&self.members, number) {
+        match find_place(&self.members, number) {
             Some(place) => Some(self.members[place].conn),
             None => None,
         }
@@ -156,7 +156,7 @@ impl Registry {
     pub fn is_client(&self, number: u64) -> bool
         ensures { result ≡ is_client self.now.connections number }
     {
-        match place_of(&self.members, number) {
+        match find_place(&self.members, number) {
             Some(place) => !self.members[place].is_monitor,
             None => false,
         }

@@ -22,15 +22,23 @@ impl Registry {
             to: Recipients::new(),
             monitors: Recipients::new(),
         };
-        if facts.sender == from {
-            self.judge(facts, &mut verdict);
-        } else {
-            self.judge(&with_sender(facts, from), &mut verdict);
-        }
+        self.route_into(from, facts, &mut verdict);
         verdict
     }
 
-    /// Where a message goes, told where nothing was told yet: a verdict is large, and is not moved.
+    /// The same as `route`, told where nothing was told yet: a verdict is large, and is not moved.
+    pub fn route_into(&self, from: u64, facts: &Facts<'_>, told: &mut Verdict)
+        requires { told.old ≡ verdict Absent [] [] }
+        ensures { told.new ≡ recipients self.now from facts.now }
+    {
+        if facts.sender == from {
+            self.judge(facts, told);
+        } else {
+            self.judge(&with_sender(facts, from), told);
+        }
+    }
+
+    /// Where a message goes, told where nothing was told yet.
     fn judge(&self, facts: &Facts<'_>, told: &mut Verdict)
         requires { told.old ≡ verdict Absent [] [] }
         ensures { told.new ≡ verdict_of self.now facts.now }

@@ -3,17 +3,16 @@ use Rattle.std.proofs.Common.{◌≡◌, ℕ, zero, suc, ◌+◌, ◌<◌, ◌�
 use Rattle.std.specs.List.{AllByRecursion as Each, AllWithin}
 use Rattle.std.specs.List.Sorted.{IsPartitionedBy}
 use Rattle.std.proofs.Math.ListN.{set}
-use Rattle.std.proofs.lemmas.Bool.{eqb-true, eq-eqb, ne_eqb}
+use Rattle.std.proofs.lemmas.Bool.{eqb-true, eq-eqb, ne_eqb, true≢false}
 use Rattle.std.proofs.lemmas.Bool.Decides.{nat_tests}
-use Rattle.std.proofs.lemmas.List.Sums.{sum_by-cons, sum_by_more_le}
+use Rattle.std.proofs.lemmas.List.Sums.{sum_by-cons, sum_by-remove, sum_by_more_le}
 use Rattle.owner_queues.specs.Queues.{Queue, IsQueue, is_in, without}
 use Rattle.owner_queues.specs.declared.owner.QueuedOwner.{QueuedOwner}
 use Rattle.owner_queues.proofs.QueueLemmas.{is_in-without, without-absent}
-use Rattle.seq_bus_core.specs.BusState.{max_queued}
 use Rattle.seq_bus_core.specs.Consistency.{Pairwise}
 use Rattle.seq_bus_core.proofs.Lists.{each_weaker}
-use Rattle.registry_core.specs.NameCounts.{share, held, all_held, Below, AreCounts, IsHolder, IsNoHolder}
-use Rattle.registry_core.specs.declared.name_counts.Holder.{Holder}
+use Rattle.registry_core.specs.RuleCounts.{share, held, all_held, Below, AreCounts, CountsInRoom, IsHolder, IsNoHolder}
+use Rattle.registry_core.specs.declared.rule_counts.Holder.{Holder}
 
 -- ## The search
 
@@ -36,7 +35,7 @@ behind_place P (x ∷ xs) (suc i) h = behind_place P xs i (λ k d low high. h (s
 share_other : (c : ℕ) (h : Holder) → (h.connection ≡ c → ⊥) → share c h ≡ 0
 share_other c h differs = rw (ne_eqb h.connection c differs) refl
 
-share_own : (c : ℕ) (h : Holder) → h.connection ≡ c → share c h ≡ h.names
+share_own : (c : ℕ) (h : Holder) → h.connection ≡ c → share c h ≡ h.rules
 share_own c h same = rw (eq-eqb h.connection c same) refl
 
 pub none_held : (c : ℕ) (xs : List Holder) → Each (λ h. c < h.connection) xs → held c xs ≡ 0
@@ -77,15 +76,15 @@ found xs c i d rise lt before same =
     let n : Holder = get_or xs i d in
     let parts : drop i xs ≡ n ∷ rest = drop_at xs i d lt in
     let above : Each (λ h. c < h.connection) rest = subst (λ k. Each (λ h. k < h.connection) rest) same (subst (Pairwise Below) parts (drop_rises xs i rise)).0 in
-    let own : share c n ≡ n.names = share_own c n same in
+    let own : share c n ≡ n.rules = share_own c n same in
     let others : held c rest ≡ 0 = none_held c rest above in
     let all : held c xs ≡ held c (n ∷ rest) = held_behind c xs i before ∙ ap (held c) parts in
     let whole : held c (n ∷ rest) ≡ share c n + held c rest = sum_by-cons (share c) n rest in
-    let count : n.names ≡ held c xs = omega arith in
+    let count : n.rules ≡ held c xs = omega arith in
     record {
       there = lt;
       number = λ e. ap (λ (h : Holder). h.connection) (same_at xs i e d lt) ∙ same;
-      count = λ e. ap (λ (h : Holder). h.names) (same_at xs i e d lt) ∙ count;
+      count = λ e. ap (λ (h : Holder). h.rules) (same_at xs i e d lt) ∙ count;
     }
 
 pub absent : (xs : List Holder) (c i : ℕ) → i ≤ length xs → Each (λ h. h.connection < c) (take i xs) → Each (λ h. c < h.connection) (drop i xs) → IsNoHolder xs c i
@@ -170,39 +169,56 @@ rise_removed (x ∷ xs) zero h = h.1
 rise_removed (x ∷ xs) (suc i) h = (each_removed (Below x) xs i h.0, rise_removed xs i h.1)
 
 -- each holder has a name at least
-pub few_holders : (xs : List Holder) → Each (λ h. 0 < h.names) xs → length xs ≤ all_held xs
+pub few_holders : (xs : List Holder) → Each (λ h. 0 < h.rules) xs → length xs ≤ all_held xs
 few_holders [] h = omega arith
 few_holders (x ∷ xs) h =
     let rest : length xs ≤ all_held xs = few_holders xs h.1 in
-    let whole : all_held (x ∷ xs) ≡ x.names + all_held xs = sum_by-cons (λ (b : Holder). b.names) x xs in
+    let whole : all_held (x ∷ xs) ≡ x.rules + all_held xs = sum_by-cons (λ (b : Holder). b.rules) x xs in
     omega (arith, h.0)
 
-pub recounted : (xs : List Holder) (i room m : ℕ) (b : Holder) → AreCounts xs room → i < length xs → b ≡ get_or xs i b → 0 < m → AreCounts (set xs i (record { connection = b.connection; names = m })) room
-recounted xs i room m b h lt is some = record {
-  rise = rise_set xs i (record { connection = b.connection; names = m }) b h.rise lt (ap (λ (k : Holder). k.connection) is);
-  some = each_set (λ k. 0 < k.names) xs i (record { connection = b.connection; names = m }) h.some some;
+abbrev in_room : ℕ → List Holder → CountsInRoom
+in_room room holders = record { room = room; holders = holders }
+
+pub recounted : (xs : List Holder) (i room capacity m : ℕ) (b : Holder) → AreCounts (in_room room xs) capacity → i < length xs → b ≡ get_or xs i b → 0 < m → AreCounts (in_room room (set xs i (record { connection = b.connection; rules = m }))) capacity
+recounted xs i room capacity m b h lt is some = record {
+  rise = rise_set xs i (record { connection = b.connection; rules = m }) b h.rise lt (ap (λ (k : Holder). k.connection) is);
+  some = each_set (λ k. 0 < k.rules) xs i (record { connection = b.connection; rules = m }) h.some some;
   has_room = h.has_room;
 }
 
-pub inserted : (xs ys : List Holder) (c i room more : ℕ) → AreCounts xs room → IsNoHolder xs c i → ys ≡ insert xs i (record { connection = c; names = 1 }) → room ≤ more → AreCounts ys more
-inserted xs ys c i room more h at is le =
-    let n : Holder = record { connection = c; names = 1 } in
-    let one : 0 < n.names = omega arith in
-    let enough : max_queued ≤ room = h.has_room in
+pub inserted : (xs ys : List Holder) (c i room capacity more : ℕ) → AreCounts (in_room room xs) capacity → IsNoHolder xs c i → ys ≡ insert xs i (record { connection = c; rules = 1 }) → capacity ≤ more → AreCounts (in_room room ys) more
+inserted xs ys c i room capacity more h at is le =
+    let n : Holder = record { connection = c; rules = 1 } in
+    let one : 0 < n.rules = omega arith in
+    let enough : room ≤ capacity = h.has_room in
     record {
       rise = subst (Pairwise Below) (sym is) (rise_inserted xs i n h.rise at.before at.behind);
-      some = subst (Each (λ k. 0 < k.names)) (sym is) (each_inserted (λ k. 0 < k.names) xs i n h.some one);
+      some = subst (Each (λ k. 0 < k.rules)) (sym is) (each_inserted (λ k. 0 < k.rules) xs i n h.some one);
       has_room = omega (arith, enough, le);
     }
 
-pub removed : (xs ys : List Holder) (i room more : ℕ) → AreCounts xs room → ys ≡ remove xs i → room ≤ more → AreCounts ys more
-removed xs ys i room more h is le =
-    let enough : max_queued ≤ room = h.has_room in
+pub removed : (xs ys : List Holder) (i room capacity more : ℕ) → AreCounts (in_room room xs) capacity → ys ≡ remove xs i → capacity ≤ more → AreCounts (in_room room ys) more
+removed xs ys i room capacity more h is le =
+    let enough : room ≤ capacity = h.has_room in
     record {
       rise = subst (Pairwise Below) (sym is) (rise_removed xs i h.rise);
-      some = subst (Each (λ k. 0 < k.names)) (sym is) (each_removed (λ k. 0 < k.names) xs i h.some);
+      some = subst (Each (λ k. 0 < k.rules)) (sym is) (each_removed (λ k. 0 < k.rules) xs i h.some);
       has_room = omega (arith, enough, le);
     }
+
+-- a holder that goes takes all rules of its connection with it
+pub all_taken : (xs : List Holder) (c i k : ℕ) (d : Holder) → Pairwise Below xs → IsHolder xs c i → (held c (remove xs i) ≡ 0) × (all_held (remove xs i) + held c xs ≡ all_held xs) × ((c == k) ≡ false → held k (remove xs i) ≡ held k xs)
+all_taken xs c i k d rise at =
+    let n : Holder = get_or xs i d in
+    let its : held c (remove xs i) + share c n ≡ held c xs = sum_by-remove (share c) xs i d at.there in
+    let own : share c n ≡ n.rules = share_own c n (at.number d) in
+    let count : n.rules ≡ held c xs = at.count d in
+    let whole : all_held (remove xs i) + n.rules ≡ all_held xs = sum_by-remove (λ (h : Holder). h.rules) xs i d at.there in
+    let others : held k (remove xs i) + share k n ≡ held k xs = sum_by-remove (share k) xs i d at.there in (
+      omega (arith, its, own, count),
+      omega (arith, whole, count),
+      λ other. let none : share k n ≡ 0 = share_other k n (λ e. true≢false (sym (eq-eqb c k (sym (at.number d) ∙ e)) ∙ other)) in omega (arith, others, none),
+    )
 
 -- ## Queues
 

@@ -5,3 +5,5 @@ pub mod CountLemmas
 pub mod NameTableLemmas
 pub mod Marks
 pub mod Members
+pub mod IndexLemmas
+pub mod TableIndex

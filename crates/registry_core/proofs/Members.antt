@@ -1,5 +1,5 @@
 -- Tables of connections, and the connections that they stand for.
-use Rattle.std.proofs.Common.{◌≡◌, ℕ, suc, ◌<◌, ◌==◌, Bool, true, false, cond, ◌&&◌, ◌||◌, not, Option, Some, None, is_some, option_map, List, [], ◌∷◌, map, filter, get_or, refl, sym, ap, ◌∙◌, arith, if◌then◌else◌}
+use Rattle.std.proofs.Common.{◌≡◌, ℕ, zero, suc, ◌<◌, ◌≤◌, ◌==◌, Bool, true, false, cond, ◌&&◌, ◌||◌, not, Option, Some, None, is_some, option_map, List, [], ◌∷◌, map, filter, length, take, drop, get_or, refl, sym, ap, ◌∙◌, arith, if◌then◌else◌}
 use Rattle.std.specs.List.{AllByRecursion as Each, list_any, find}
 use Rattle.std.specs.Option.{option_map_or}
 use Rattle.std.proofs.lemmas.Bool.Decides.{nat_tests}
@@ -9,6 +9,7 @@ use Rattle.match_rules.specs.Fitting.{Heads}
 use Rattle.match_rules.specs.Rules.{Rule}
 use Rattle.seq_bus_core.specs.BusState.{Connection, AddedRule, is_client, is_monitor, conn_of}
 use Rattle.seq_bus_core.specs.Consistency.{Pairwise}
+use Rattle.seq_bus_core.proofs.Lists.{each_weaker}
 use Rattle.seq_bus_core.specs.declared.connection.Conn.{Conn}
 use Rattle.registry_core.specs.declared.member.Member.{Member}
 use Rattle.registry_core.specs.Listening.{stays, wants_by, watches_by, watched, conns_that, connection_of_member, member_wants, member_watches, rules_of_monitor, Rising}
@@ -67,6 +68,31 @@ found_nowhere number (m ∷ ms) e = by_test (λ none. found_nowhere number ms no
         ◌≡◌ {A = Option Member} (find (λ n. n.conn.number == number) (m ∷ ms)) None
     by_test others true is found = absurd (some_is_not_none found)
     by_test others false is found = rw is (others (rest (first_place (λ n. n.conn.number == number) ms) found))
+
+-- the place where a number stands
+pub first_at : (number place : ℕ) (d : Member) (ms : List Member) → Each (λ m. m.conn.number < number) (take place ms) → place < length ms → (get_or ms place d).conn.number ≡ number → first_place (λ m. m.conn.number == number) ms ≡ Some place
+first_at number place d [] before lt same = absurd (omega (arith, lt))
+first_at number zero d (m ∷ ms) before lt same = let is : (m.conn.number == number) ≡ true = grind (arith, nat_tests) in rw is refl
+first_at number (suc place) d (m ∷ ms) before lt same =
+    let other : (m.conn.number == number) ≡ false = let low : m.conn.number < number = before.0 in grind (arith, nat_tests) in
+    rw other (ap (option_map suc) (first_at number place d ms before.1 (omega (arith, lt)) same))
+
+-- a number that does not stand at its place stands nowhere
+pub none_at : (number place : ℕ) (d : Member) (ms : List Member) → Rising ms → Each (λ m. m.conn.number < number) (take place ms) → Each (λ m. number ≤ m.conn.number) (drop place ms) → (place < length ms → (get_or ms place d).conn.number ≡ number → ⊥) →
+    ◌≡◌ {A = Option ℕ} (first_place (λ m. m.conn.number == number) ms) None
+none_at number place d [] rising before behind differs = refl
+none_at number zero d (m ∷ ms) rising before behind differs =
+    let least : number ≤ m.conn.number = behind.0 in
+    let up : number < m.conn.number = omega (arith, least, differs (omega arith)) in
+    let other : (m.conn.number == number) ≡ false = grind (arith, nat_tests) in
+    rw other (ap (option_map suc) (higher ms (each_weaker (λ b. m.conn.number < b.conn.number) (λ b. number < b.conn.number) (λ b more. omega (arith, up, more)) ms rising.0)))
+  where
+    higher : (xs : List Member) → Each (λ b. number < b.conn.number) xs → ◌≡◌ {A = Option ℕ} (first_place (λ b. b.conn.number == number) xs) None
+    higher [] h = refl
+    higher (x ∷ xs) h = let other : (x.conn.number == number) ≡ false = let more : number < x.conn.number = h.0 in grind (arith, nat_tests) in rw other (ap (option_map suc) (higher xs h.1))
+none_at number (suc place) d (m ∷ ms) rising before behind differs =
+    let other : (m.conn.number == number) ≡ false = let low : m.conn.number < number = before.0 in grind (arith, nat_tests) in
+    rw other (ap (option_map suc) (none_at number place d ms rising.1 before.1 behind (λ lt same. differs (omega (arith, lt)) same)))
 
 -- ## Clients
 

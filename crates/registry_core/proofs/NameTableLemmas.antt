@@ -3,22 +3,20 @@ use Rattle.std.proofs.Common.{inl, inr, ◌≡◌, ℕ, zero, suc, ◌+◌, ◌-
 use Rattle.std.specs.List.{AllByRecursion as Each, AllWithin, sum_by}
 use Rattle.std.specs.List.Sorted.{IsPartitionedBy}
 use Rattle.std.proofs.Math.ListN.{set}
-use Rattle.std.proofs.Math.Seq.{take-suc}
 use Rattle.std.proofs.lemmas.Bool.{true≢false, cases_Bool}
 use Rattle.std.proofs.lemmas.List.{length-append, take-append-drop}
 use Rattle.std.proofs.lemmas.List.Edits.{length-insert}
-use Rattle.std.proofs.lemmas.List.Sums.{sum_by-cons, sum_by-append, sum_by-insert}
+use Rattle.std.proofs.lemmas.List.Sums.{sum_by-cons, sum_by-append, length-filter}
 use Rattle.names.specs.Texts.{Text, text_eq, text_lt}
 use Rattle.owner_queues.specs.Queues.{Queue, IsQueue, without, is_free, is_in}
-use Rattle.owner_queues.proofs.QueueLemmas.{length-without, without-absent}
+use Rattle.owner_queues.proofs.QueueLemmas.{length-without, without-absent, is_in-without}
 use Rattle.seq_bus_core.specs.BusState.{OwnedName, queue_of, with_queue, kept_name, queued_in, names_of, max_names, max_queued, max_names_of_one}
 use Rattle.seq_bus_core.specs.Steps.{names_without}
-use Rattle.seq_bus_core.proofs.Lists.{each_weaker}
+use Rattle.seq_bus_core.proofs.Lists.{each_weaker, each_always, each_passing}
 use Rattle.seq_bus_core.proofs.TextLemmas.{text_lt-trans, text_eq-true, text_eq-swapped, text_lt-itself, text_lt-back, text_lt-other}
-use Rattle.registry_core.specs.NameCounts.{held, all_held}
-use Rattle.registry_core.specs.NameTables.{NamesRise, AreOwned, AreInTable, AreCounted, IsAt, WouldStand, are_within}
-use Rattle.registry_core.specs.declared.name_counts.Holder.{Holder}
+use Rattle.registry_core.specs.NameTables.{NamesRise, AreOwned, AreInTable, IsAt, WouldStand, are_within}
 use Rattle.registry_core.proofs.CountLemmas.{one_if_in, left_length}
+use Rattle.registry_core.proofs.IndexLemmas.{each_at as each_passed}
 
 abbrev pub Below : OwnedName → OwnedName → Type 0
 Below a b = text_lt a.name b.name ≡ true
@@ -233,6 +231,11 @@ owned_inserted names zero n h some = (some, h)
 owned_inserted [] (suc i) n h some = (some, tt)
 owned_inserted (m ∷ names) (suc i) n h some = (h.0, owned_inserted names i n h.1 some)
 
+pub owned_kept : (front back : List OwnedName) (n : OwnedName) (queue : Queue) → AreOwned (front ++ n ∷ back) → AreOwned (front ++ kept_name n.name queue ++ back)
+owned_kept [] back n [] h = h.1
+owned_kept [] back n (owner ∷ waiting) h = (refl, h.1)
+owned_kept (m ∷ front) back n queue h = (h.0, owned_kept front back n queue h.1)
+
 pub owned_at : (front back : List OwnedName) (n : OwnedName) → AreOwned (front ++ n ∷ back) → is_free n.queue ≡ false
 owned_at [] back n h = h.0
 owned_at (o ∷ front) back n h = owned_at front back n h.1
@@ -330,27 +333,6 @@ added names place n spare less queued room spare_room h le rise some one few =
       has_room = h.has_room;
       has_spare_room = h.has_spare_room;
     }
-
--- ## A connection that stands in no queue
-
-pub leaves_one : (c : ℕ) (names : List OwnedName) (i : ℕ) (d : OwnedName) → i < length names →
-    names_without c (drop i names) ≡ kept_name (get_or names i d).name (without c (get_or names i d).queue) ++ names_without c (drop (suc i) names)
-leaves_one c [] i d lt = absurd (omega (arith, lt))
-leaves_one c (n ∷ names) zero d lt = refl
-leaves_one c (n ∷ names) (suc i) d lt = leaves_one c names i d (omega (arith, lt))
-
-pub leave_next : (c : ℕ) (names : List OwnedName) (p q : ℕ) (d : OwnedName) → p ≡ suc q → p ≤ length names →
-    take p names ++ names_without c (drop p names) ≡ take q names ++ get_or names q d ∷ names_without c (drop p names)
-leave_next c names p q d is le =
-    ap (λ k. take k names ++ names_without c (drop p names)) is ∙ ap (λ ns. ns ++ names_without c (drop p names)) (take-suc names q d (omega (arith, le, is)))
-    ∙ append_assoc (take q names) (get_or names q d ∷ []) (names_without c (drop p names))
-
-pub leave_done : (c : ℕ) (names : List OwnedName) (p q : ℕ) (d : OwnedName) → p ≡ suc q → p ≤ length names →
-    take q names ++ kept_name (get_or names q d).name (without c (get_or names q d).queue) ++ names_without c (drop p names) ≡ take q names ++ names_without c (drop q names)
-leave_done c names p q d is le =
-    let kept : List OwnedName = kept_name (get_or names q d).name (without c (get_or names q d).queue) in
-    append_assoc (take q names) kept (names_without c (drop p names)) ∙ ap (λ k. take q names ++ (kept ++ names_without c (drop k names))) is
-    ∙ ap (λ ns. take q names ++ ns) (sym (leaves_one c names q d (omega (arith, le, is))))
 
 -- ## The queue of a name
 
@@ -461,7 +443,7 @@ queued_absent names name place queue at = sum_absent length refl names name plac
 pub within_by : (names : List OwnedName) (c a b d : ℕ) → a ≡ length names → b ≡ queued_in names → d ≡ names_of c names → (nat_le a max_names && nat_le b max_queued && nat_le d max_names_of_one) ≡ are_within names c
 within_by names c a b d e f g = rw (e, f, g) refl
 
--- ## The counts
+-- ## The names of a connection
 
 names_between : (c : ℕ) (front back : List OwnedName) (n : OwnedName) → names_of c (front ++ n ∷ back) ≡ names_of c front + (one_if_in c n.queue + names_of c back)
 names_between c front back n =
@@ -470,99 +452,69 @@ names_between c front back n =
     let rest : sum_by f (n ∷ back) ≡ one_if_in c n.queue + sum_by f back = sum_by-cons f n back in
     first ∙ ap (λ k. sum_by f front + k) rest
 
-pub counted_at : (names front back : List OwnedName) (n : OwnedName) (holders : List Holder) → AreCounted names holders → names ≡ front ++ n ∷ back → (c : ℕ) → one_if_in c n.queue ≤ held c holders
-counted_at names front back n holders h is c =
-    let all : held c holders ≡ names_of c front + (one_if_in c n.queue + names_of c back) = h.counts c ∙ ap (names_of c) is ∙ names_between c front back n in
-    omega (arith, all)
-
-pub few_at : (names front back : List OwnedName) (n : OwnedName) (queue : Queue) (holders : List Holder) → AreCounted names holders → names ≡ front ++ n ∷ back →
-    queued_in (front ++ record n { queue = queue } ∷ back) ≤ max_queued → all_held holders + length queue ≤ max_queued + length n.queue
-few_at names front back n queue holders h is few =
-    let all : all_held holders ≡ queued_in front + (length n.queue + queued_in back) = h.all ∙ ap queued_in is ∙ queued_between front back n in
+pub few_at : (names front back : List OwnedName) (n : OwnedName) (queue : Queue) (all : ℕ) → all ≡ queued_in names → names ≡ front ++ n ∷ back → queued_in (front ++ record n { queue = queue } ∷ back) ≤ max_queued → all + length queue ≤ max_queued + length n.queue
+few_at names front back n queue all is parts few =
+    let before : all ≡ queued_in front + (length n.queue + queued_in back) = is ∙ ap queued_in parts ∙ queued_between front back n in
     let after : queued_in (front ++ record n { queue = queue } ∷ back) ≡ queued_in front + (length queue + queued_in back) = queued_between front back (record n { queue = queue }) in
-    omega (arith, all, after, few)
-
-pub recounted_at : (names front back : List OwnedName) (n : OwnedName) (queue : Queue) (holders after : List Holder) → AreCounted names holders → names ≡ front ++ n ∷ back →
-    ((c : ℕ) → held c after + one_if_in c n.queue ≡ held c holders + one_if_in c queue) → all_held after + length n.queue ≡ all_held holders + length queue → AreCounted (front ++ record n { queue = queue } ∷ back) after
-recounted_at names front back n queue holders after h is counts all = record { counts = each; all = whole }
-  where
-    each : (c : ℕ) → held c after ≡ names_of c (front ++ record n { queue = queue } ∷ back)
-    each c =
-        let before : held c holders ≡ names_of c front + (one_if_in c n.queue + names_of c back) = h.counts c ∙ ap (names_of c) is ∙ names_between c front back n in
-        let now : names_of c (front ++ record n { queue = queue } ∷ back) ≡ names_of c front + (one_if_in c queue + names_of c back) = names_between c front back (record n { queue = queue }) in
-        let change : held c after + one_if_in c n.queue ≡ held c holders + one_if_in c queue = counts c in
-        omega (arith, before, now, change)
-
-    whole : all_held after ≡ queued_in (front ++ record n { queue = queue } ∷ back)
-    whole =
-        let before : all_held holders ≡ queued_in front + (length n.queue + queued_in back) = h.all ∙ ap queued_in is ∙ queued_between front back n in
-        let now : queued_in (front ++ record n { queue = queue } ∷ back) ≡ queued_in front + (length queue + queued_in back) = queued_between front back (record n { queue = queue }) in
-        omega (arith, before, now, all)
-
-pub counted_dropped : (names front back : List OwnedName) (n : OwnedName) (holders after : List Holder) → AreCounted names holders → names ≡ front ++ n ∷ back →
-    ((c : ℕ) → held c after + one_if_in c n.queue ≡ held c holders) → all_held after + length n.queue ≡ all_held holders → AreCounted (front ++ back) after
-counted_dropped names front back n holders after h is counts all = record { counts = each; all = whole }
-  where
-    each : (c : ℕ) → held c after ≡ names_of c (front ++ back)
-    each c =
-        let before : held c holders ≡ names_of c front + (one_if_in c n.queue + names_of c back) = h.counts c ∙ ap (names_of c) is ∙ names_between c front back n in
-        let now : names_of c (front ++ back) ≡ names_of c front + names_of c back = sum_by-append (OfQueue (one_if_in c)) front back in
-        let change : held c after + one_if_in c n.queue ≡ held c holders = counts c in
-        omega (arith, before, now, change)
-
-    whole : all_held after ≡ queued_in (front ++ back)
-    whole =
-        let before : all_held holders ≡ queued_in front + (length n.queue + queued_in back) = h.all ∙ ap queued_in is ∙ queued_between front back n in
-        let now : queued_in (front ++ back) ≡ queued_in front + queued_in back = sum_by-append places front back in
-        omega (arith, before, now, all)
-
-pub counted_added : (names : List OwnedName) (place : ℕ) (n : OwnedName) (holders after : List Holder) → AreCounted names holders →
-    ((c : ℕ) → held c after ≡ held c holders + one_if_in c n.queue) → all_held after ≡ all_held holders + length n.queue → AreCounted (insert names place n) after
-counted_added names place n holders after h counts all = record { counts = each; all = whole }
-  where
-    each : (c : ℕ) → held c after ≡ names_of c (insert names place n)
-    each c =
-        let now : names_of c (insert names place n) ≡ names_of c names + one_if_in c n.queue = sum_by-insert (OfQueue (one_if_in c)) names place n in
-        let before : held c holders ≡ names_of c names = h.counts c in
-        let change : held c after ≡ held c holders + one_if_in c n.queue = counts c in
-        omega (arith, now, before, change)
-
-    whole : all_held after ≡ queued_in (insert names place n)
-    whole =
-        let now : queued_in (insert names place n) ≡ queued_in names + length n.queue = sum_by-insert places names place n in
-        let before : all_held holders ≡ queued_in names = h.all in
-        omega (arith, now, before, all)
-
--- ## A connection whose names are all found
+    omega (arith, before, after, few)
 
 one_absent : (c : ℕ) (queue : Queue) → one_if_in c queue ≡ 0 → is_in c queue ≡ false
 one_absent c queue none = elim (cases_Bool (is_in c queue)) [ inl there ↦ absurd (let one : one_if_in c queue ≡ 1 = rw there refl in omega (arith, one, none)) | inr absent ↦ absent ]
 
--- once no name is left before a place, all are done
-pub leave_ended : (c p : ℕ) (names : List OwnedName) → AreOwned names → names_of c (take p names) ≡ 0 → take p names ++ names_without c (drop p names) ≡ names_without c names
-leave_ended c zero names h none = refl
-leave_ended c (suc p) [] h none = refl
-leave_ended c (suc p) (n ∷ names) h none =
-    let whole : names_of c (n ∷ take p names) ≡ one_if_in c n.queue + names_of c (take p names) = sum_by-cons (OfQueue (one_if_in c)) n (take p names) in
+-- a connection without names leaves all as they are
+pub leave_ended : (c : ℕ) (names : List OwnedName) → AreOwned names → names_of c names ≡ 0 → names_without c names ≡ names
+leave_ended c [] h none = refl
+leave_ended c (n ∷ names) h none =
+    let whole : names_of c (n ∷ names) ≡ one_if_in c n.queue + names_of c names = sum_by-cons (OfQueue (one_if_in c)) n names in
     let here : one_if_in c n.queue ≡ 0 = omega (arith, whole, none) in
-    let more : names_of c (take p names) ≡ 0 = omega (arith, whole, none) in
-    ap (λ ns. n ∷ ns) (leave_ended c p names h.1 more)
-    ∙ sym (ap (λ (q : Queue). kept_name n.name q ++ names_without c names) (without-absent c n.queue (one_absent c n.queue here)) ∙ ap (λ ns. ns ++ names_without c names) (kept_whole n.name n.queue h.0))
+    let more : names_of c names ≡ 0 = omega (arith, whole, none) in
+    ap (λ (q : Queue). kept_name n.name q ++ names_without c names) (without-absent c n.queue (one_absent c n.queue here)) ∙ ap (λ ns. ns ++ names_without c names) (kept_whole n.name n.queue h.0)
+    ∙ ap (λ ns. n ∷ ns) (leave_ended c names h.1 more)
 
-pub some_before : (c p : ℕ) (names : List OwnedName) → 0 < names_of c (take p names) → 0 < p
-some_before c zero names some = absurd (omega (arith, some))
-some_before c (suc p) names some = omega arith
+without_append : (c : ℕ) (xs ys : List OwnedName) → names_without c (xs ++ ys) ≡ names_without c xs ++ names_without c ys
+without_append c [] ys = refl
+without_append c (n ∷ xs) ys =
+    let kept : List OwnedName = kept_name n.name (without c n.queue) in
+    ap (λ rest. kept ++ rest) (without_append c xs ys) ∙ sym (append_assoc kept (names_without c xs) (names_without c ys))
 
-pub names_before : (c : ℕ) (names : List OwnedName) (p q : ℕ) (d : OwnedName) → p ≡ suc q → p ≤ length names →
-    names_of c (take p names) ≡ names_of c (take q names) + one_if_in c (get_or names q d).queue
-names_before c names p q d is le =
-    let f : OwnedName → ℕ = OfQueue (one_if_in c) in
-    let n : OwnedName = get_or names q d in
-    let more : take p names ≡ take q names ++ n ∷ [] = ap (λ k. take k names) is ∙ take-suc names q d (omega (arith, le, is)) in
-    let all : names_of c (take q names ++ n ∷ []) ≡ names_of c (take q names) + (one_if_in c n.queue + names_of c []) = names_between c (take q names) [] n in
-    let none : names_of c [] ≡ 0 = refl in
-    let same : names_of c (take p names) ≡ names_of c (take q names ++ n ∷ []) = ap (names_of c) more in
-    omega (arith, all, none, same)
+without_again : (c : ℕ) (name : Text) (queue : Queue) → is_in c queue ≡ false → names_without c (kept_name name queue) ≡ kept_name name queue
+without_again c name [] absent = refl
+without_again c name (o ∷ os) absent = append-nil (kept_name name (without c (o ∷ os))) ∙ ap (kept_name name) (without-absent c (o ∷ os) absent)
+
+-- a connection that leaves one of its queues has the others to leave
+pub leave_next : (c : ℕ) (front back : List OwnedName) (n : OwnedName) → names_without c (front ++ kept_name n.name (without c n.queue) ++ back) ≡ names_without c (front ++ n ∷ back)
+leave_next c front back n =
+    let kept : List OwnedName = kept_name n.name (without c n.queue) in
+    without_append c (front ++ kept) back ∙ ap (λ ns. ns ++ names_without c back) (without_append c front kept ∙ ap (λ ns. names_without c front ++ ns) (without_again c n.name (without c n.queue) (is_in-without c n.queue)))
+    ∙ append_assoc (names_without c front) kept (names_without c back) ∙ sym (without_append c front (n ∷ back))
+
+-- and has one name fewer
+pub leave_counts : (c : ℕ) (front back : List OwnedName) (n : OwnedName) → is_in c n.queue ≡ true → names_of c (front ++ n ∷ back) ≡ names_of c (front ++ kept_name n.name (without c n.queue) ++ back) + 1
+leave_counts c front back n is =
+    let before : names_of c (front ++ n ∷ back) ≡ names_of c front + (one_if_in c n.queue + names_of c back) = names_between c front back n in
+    let after : names_of c (front ++ kept_name n.name (without c n.queue) ++ back) ≡ names_of c front + one_if_in c (without c n.queue) + names_of c back = between_sum (one_if_in c) refl front back n.name (without c n.queue) in
+    let one : one_if_in c n.queue ≡ 1 = rw is refl in
+    let none : one_if_in c (without c n.queue) ≡ 0 = rw (is_in-without c n.queue) refl in
+    omega (arith, before, after, one, none)
+
+-- the names before a place, the one there and those behind it
+pub parts_at : (names : List OwnedName) (i : ℕ) (d : OwnedName) → i < length names → (names ≡ take i names ++ get_or names i d ∷ drop (suc i) names) × (length (take i names) ≡ i)
+parts_at [] i d lt = absurd (omega (arith, lt))
+parts_at (n ∷ names) zero d lt = (refl, refl)
+parts_at (n ∷ names) (suc i) d lt = let rest = parts_at names i d (omega (arith, lt)) in (ap (λ more. n ∷ more) rest.0, ap suc rest.1)
+
+-- a connection waits for each of its names
+pub nth_waits : (c n place : ℕ) (names : List OwnedName) (d : OwnedName) → n < names_of c names → get_or names place d ≡ get_or (filter (λ m. is_in c m.queue) names) n d → is_in c (get_or names place d).queue ≡ true
+nth_waits c n place names d lt same =
+    let its : List OwnedName = filter (λ m. is_in c m.queue) names in
+    let all : Each (λ m. is_in c m.queue ≡ true) its = each_passing (λ m. Unit {0}) (λ m. is_in c m.queue ≡ true) (λ m. is_in c m.queue) (λ m h passes. passes) names (each_always (λ m. Unit {0}) (λ m. tt) names) in
+    let less : n < length its = omega (arith, lt, length-filter (λ (m : OwnedName). is_in c m.queue) names) in
+    ap (λ (m : OwnedName). is_in c m.queue) same ∙ each_passed (λ m. is_in c m.queue ≡ true) its n d all less
+
+pub between_at : (front back : List OwnedName) (n d : OwnedName) (i : ℕ) → length front ≡ i → get_or (front ++ n ∷ back) i d ≡ n
+between_at [] back n d i is = let none : 0 ≡ i = is in rw (← none) refl
+between_at (m ∷ front) back n d zero is = absurd (omega (arith, is))
+between_at (m ∷ front) back n d (suc i) is = between_at front back n d i (omega (arith, is))
 
 pub still_owned : (c : ℕ) (queue : Queue) → IsQueue queue → is_in c queue ≡ true → 1 < length queue → is_free (without c queue) ≡ false
 still_owned c queue h is more =
@@ -583,11 +535,6 @@ last_leaves c queue h is few =
     by_length (o ∷ os) none = absurd (omega (arith, none))
 
 -- ## One name, once a connection stands in its queue no longer
-
-pub kept_absent : (c : ℕ) (front back : List OwnedName) (n : OwnedName) → is_free n.queue ≡ false → is_in c n.queue ≡ false → front ++ n ∷ back ≡ front ++ kept_name n.name (without c n.queue) ++ back
-kept_absent c front back n some absent =
-    sym (append_assoc front (n ∷ []) back) ∙ ap (λ ns. front ++ ns ++ back) (sym (kept_whole n.name n.queue some))
-    ∙ ap (λ (q : Queue). front ++ kept_name n.name q ++ back) (sym (without-absent c n.queue absent))
 
 pub kept_shorter : (c : ℕ) (front back : List OwnedName) (n : OwnedName) → is_free (without c n.queue) ≡ false →
     front ++ record n { queue = without c n.queue } ∷ back ≡ front ++ kept_name n.name (without c n.queue) ++ back

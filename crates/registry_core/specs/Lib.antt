@@ -3,4 +3,5 @@ pub mod RuleTables
 pub mod RulesOf
 pub mod Listening
 pub mod Signals
-pub mod NameCounts
+pub mod RuleCounts
+pub mod NameIndexes

@@ -1,13 +1,13 @@
 -- Tables of the names that have an owner.
-use Rattle.std.specs.Prelude.{◌≡◌, ℕ, ◌+◌, ◌≤◌, nat_le, ◌&&◌, Bool, true, false, Result, Ok, Err, List, [], ◌∷◌, ◌++◌, length, filter}
+use Rattle.std.specs.Prelude.{◌≡◌, ◌==◌, ℕ, ◌+◌, ◌≤◌, nat_lt, nat_le, sum_by, if◌then◌else◌, Box, ◌&&◌, Bool, true, false, Result, Ok, Err, List, [], ◌∷◌, ◌++◌, length, filter}
 use Rattle.std.specs.List.{AllByRecursion}
+use Rattle.std.specs.Global.{Global}
 use Rattle.names.specs.Texts.{Text, text_lt}
-use Rattle.owner_queues.specs.Queues.{Queue, is_free}
+use Rattle.owner_queues.specs.Queues.{Queue, is_free, is_in}
 use Rattle.seq_bus_core.specs.BusState.{OwnedName, queue_of, queued_in, names_of, max_names, max_queued, max_names_of_one}
 use Rattle.seq_bus_core.specs.Consistency.{Pairwise}
-use Rattle.registry_core.specs.declared.name_counts.Holder.{Holder}
 use Rattle.registry_core.specs.declared.name_table.NameEntry.{NameEntry}
-use Rattle.registry_core.specs.NameCounts.{held, all_held}
+use Rattle.registry_core.specs.NameIndexes.{IndexedNames, held, name_at}
 
 abbrev pub owned_name : NameEntry → OwnedName
 owned_name e = record { name = e.name; queue = e.queue }
@@ -29,10 +29,25 @@ pub record AreInTable (names : List OwnedName) (spare queued room spare_room : �
   pub has_room : max_names ≤ room
   pub has_spare_room : max_names ≤ spare_room
 
--- each connection is counted as often as the names have it
-pub record AreCounted (names : List OwnedName) (holders : List Holder) : Type 0 where
-  pub counts : (c : ℕ) → held c holders ≡ names_of c names
-  pub all : all_held holders ≡ queued_in names
+-- ## The index of a table
+
+abbrev pub Entry : Type 0
+Entry = Box NameEntry Global
+
+-- how often a number is that of an entry
+abbrev pub numbered : ℕ → List Entry → ℕ
+numbered id entries = sum_by (λ e. if e.value.id == id then 1 else 0) entries
+
+-- whether a connection stands in the queue of an entry of this number
+abbrev pub waits_here : ℕ → ℕ → Entry → ℕ
+waits_here c id e = if e.value.id == id then (if is_in c e.value.queue then 1 else 0) else 0
+
+-- Each entry has a number of its own, the spare ones too, and the index has the names by these numbers and each place of the queues.
+pub record AreIndexed (entries spare : List Entry) (index : IndexedNames) (queued : ℕ) : Type 0 where
+  pub once : (id : ℕ) → numbered id entries + numbered id spare ≤ (if nat_lt id max_names then 1 else 0)
+  pub named : AllByRecursion (λ e. name_at index.names e.value.id ≡ e.value.name) entries
+  pub places : (c id : ℕ) → held c id index.holdings ≡ sum_by (waits_here c id) entries
+  pub all : length index.holdings ≡ queued
 
 -- those before a name and those behind it
 pub record IsBetween (names : List OwnedName) (name : Text) (front back : List OwnedName) (queue : Queue) (place : ℕ) : Type 0 where

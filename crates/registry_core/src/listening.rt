@@ -6,7 +6,7 @@ ghost use Rattle.match_rules.specs.Fitting.{fits};
 ghost use Rattle.registry_core.specs.Listening.{stays, has_fitting, member_wants, member_watches, number_at, rules_of_monitor, watched, Rising};
 ghost use Rattle.registry_core.specs.RuleTables.{added_rule};
 
-use crate::member::{Member, place_of};
+use crate::member::{Member, find_place};
 use crate::rule_table::RuleEntry;
 use match_rules::{Facts, Owners};
 use seq_bus_core::Recipients;
@@ -66,7 +66,7 @@ fn mark<O: Owners>(
 {
     for entry in rules {
         if entry.rule.fits(facts, owners) {
-            if let Some(place) = place_of(members, entry.connection) {
+            if let Some(place) = find_place(members, entry.connection) {
                 marks[place] = true;
             }
         }

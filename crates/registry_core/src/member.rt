@@ -1,8 +1,9 @@
 //! Connections in a table.
 
-ghost use Rattle.std.specs.Prelude.{◌≡◌, ◌==◌, ◌↔◌, ◌<◌, ◌^◌, ℕ, Some};
-ghost use Rattle.std.specs.List.{position};
+ghost use Rattle.std.specs.Prelude.{◌≡◌, ◌==◌, ◌↔◌, ◌<◌, ◌≤◌, ◌^◌, ℕ, Some, length, take, drop};
+ghost use Rattle.std.specs.List.{AllByRecursion, position};
 ghost use Rattle.names.specs.UniqueName.{unique_text};
+ghost use Rattle.registry_core.specs.Listening.{Rising};
 
 use names::UniqueName;
 use seq_bus_core::Conn;
@@ -17,13 +18,32 @@ pub struct Member {
     pub is_monitor: bool,
 }
 
-/// The place of the connection of a number.
-pub fn place_of(members: &[Member], number: u64) -> Option<usize>
+/// The place of the connection of a number, where connections stand by rising number.
+pub fn find_place(members: &[Member], number: u64) -> Option<usize>
+    requires { Rising members.now }
     ensures { result ≡ position (λ m. m.conn.number == number) members.now }
 {
-    members
-        .iter()
-        .position(|member| member.conn.number == number)
+    let place = place_among(members, number);
+    match members.get(place) {
+        Some(member) => {
+            if member.conn.number == number {
+                Some(place)
+            } else {
+                None
+            }
+        }
+        None => None,
+    }
+}
+
+/// How many connections come before that of a number.
+fn place_among(members: &[Member], number: u64) -> usize
+    requires { Rising members.now }
+    ensures bound { result ≤ length members.now }
+    ensures before { AllByRecursion (λ m. m.conn.number < number) (take result members.now) }
+    ensures behind { AllByRecursion (λ m. number ≤ m.conn.number) (drop result members.now) }
+{
+    members.partition_point(|member| member.conn.number < number)
 }
 
 /// The number of the connection that has this name, if there ever is one.

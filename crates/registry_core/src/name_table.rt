@@ -1,6 +1,6 @@
 //! Well-known names in a table.
 
-ghost use Rattle.std.specs.Prelude.{◌≡◌, ◌<◌, ◌≤◌, ◌+◌, ◌++◌, ◌∷◌, [], ℕ, List, length, map, remove, insert, get_or, false, true, take, drop, vec_capacity, nat_le, ◌&&◌, if◌then◌else◌, IfOk, MatchOption};
+ghost use Rattle.std.specs.Prelude.{◌≡◌, ◌<◌, ◌≤◌, ◌+◌, ◌++◌, ◌∷◌, [], ℕ, List, length, map, filter, remove, insert, get_or, false, true, take, drop, vec_capacity, nat_le, ◌&&◌, if◌then◌else◌, IfOk, MatchOption};
 ghost use Rattle.std.specs.List.{AllByRecursion};
 ghost use Rattle.names.specs.Texts.{text_lt};
 ghost use Rattle.owner_queues.specs.Queues.{queue_head, without, is_free, is_in};
@@ -8,7 +8,7 @@ ghost use Rattle.seq_bus_core.specs.BusState.{OwnedName, queue_of, with_queue, k
 ghost use Rattle.seq_bus_core.specs.Steps.{names_without};
 ghost use Rattle.registry_core.specs.NameTables.{owned_name, NamesRise, SearchGives, are_within};
 
-use crate::name_counts::NameCounts;
+use crate::name_index::NameIndex;
 use names::BusName;
 use owner_queues::Queue;
 use std::alloc::{AllocError, Global};
@@ -28,6 +28,8 @@ pub const MAX_NAMES_OF_ONE: usize = 64;
 pub struct NameEntry {
     pub name: BusName,
     pub queue: Queue,
+    /// The number by which the index of the table knows the name.
+    id: usize,
 }
 
 /// The names that have an owner, by rising bytes, so that a name is found by a binary search. Their room is made with the
@@ -39,20 +41,20 @@ pub struct NameTable {
     spare: Vec<Box<NameEntry>>,
     /// The places in all queues.
     queued: usize,
-    /// How many names each connection owns or waits for.
-    counts: NameCounts,
+    /// Which names each connection owns or waits for.
+    index: NameIndex,
 }
 
 impl Model for NameTable {
     ghost use Rattle.std.specs.Prelude.{List, length, map, vec_capacity};
     ghost use Rattle.seq_bus_core.specs.BusState.{OwnedName};
-    ghost use Rattle.registry_core.specs.NameTables.{owned_name, AreInTable, AreCounted};
+    ghost use Rattle.registry_core.specs.NameTables.{owned_name, AreInTable, AreIndexed};
 
     ghost Value = { List OwnedName };
 
     ghost view = { λ t. map (λ b. owned_name b.value) t.entries.items };
 
-    ghost invariant = { λ t. AreInTable (map (λ b. owned_name b.value) t.entries.items) (length t.spare.items) t.queued (vec_capacity t.entries) (vec_capacity t.spare) × AreCounted (map (λ b. owned_name b.value) t.entries.items) t.counts };
+    ghost invariant = { λ t. AreInTable (map (λ b. owned_name b.value) t.entries.items) (length t.spare.items) t.queued (vec_capacity t.entries) (vec_capacity t.spare) × AreIndexed t.entries.items t.spare.items t.index t.queued };
 }
 
 impl NameTable {
@@ -61,10 +63,11 @@ impl NameTable {
         ensures { IfOk result (λ table. table ≡ []) }
     {
         let mut spare = Vec::with_capacity(alloc, MAX_NAMES)?;
-        for _place in 0..MAX_NAMES {
+        for id in 0..MAX_NAMES {
             let entry = NameEntry {
                 name: BusName::bus(),
                 queue: Queue::new(),
+                id,
             };
             spare.push_reserved(Box::new(alloc, entry)?);
         }
@@ -72,7 +75,7 @@ impl NameTable {
             entries: Vec::with_capacity(alloc, MAX_NAMES)?,
             spare,
             queued: 0,
-            counts: NameCounts::new(alloc)?,
+            index: NameIndex::new(alloc)?,
         })
     }
 
@@ -163,34 +166,30 @@ impl NameTable {
         }
     }
 
-    /// Takes a connection out of all queues. Once all of its places are found no further name is looked at.
+    /// Takes a connection out of all queues. No other name is looked at than those that it owns or waits for.
     pub fn leave(&mut self, connection: u64)
         ensures { self.new ≡ names_without connection self.old }
     {
+        let _ = &self.entries;
         let mut left = self.count_of(connection);
-        let mut place = self.entries.len();
         while left > 0 {
-            place -= 1;
-            left -= count(self.leave_at(place, connection));
+            left -= 1;
+            let place = self.place_of_nth(connection, left);
+            self.leave_at(place, connection);
         }
     }
 
-    /// Takes a connection out of the queue at a place, and says whether it was there. A name goes with its last connection.
-    fn leave_at(&mut self, place: usize, connection: u64) -> bool
-        requires { place < length self.old }
-        ensures was_there { (front back : List OwnedName) (n : OwnedName) → self.old ≡ front ++ n ∷ back → length front ≡ place → result ≡ is_in connection n.queue }
-        ensures names { (front back : List OwnedName) (n : OwnedName) → self.old ≡ front ++ n ∷ back → length front ≡ place → self.new ≡ front ++ kept_name n.name (without connection n.queue) ++ back }
+    /// Takes a connection out of the queue at a place. A name goes with its last connection.
+    fn leave_at(&mut self, place: usize, connection: u64)
+        requires there { place < length self.old }
+        requires waits { (front back : List OwnedName) (n : OwnedName) → self.old ≡ front ++ n ∷ back → length front ≡ place → is_in connection n.queue ≡ true }
+        ensures { (front back : List OwnedName) (n : OwnedName) → self.old ≡ front ++ n ∷ back → length front ≡ place → self.new ≡ front ++ kept_name n.name (without connection n.queue) ++ back }
     {
-        let queue = &self.entries[place].queue;
-        if !queue.contains(connection) {
-            return false;
-        }
-        if queue.as_slice().len() > 1 {
+        if self.entries[place].queue.as_slice().len() > 1 {
             self.shorten(place, connection);
-            return true;
+        } else {
+            self.remove_at(place);
         }
-        self.remove_at(place);
-        true
     }
 
     /// Another queue at a place.
@@ -203,7 +202,7 @@ impl NameTable {
         let entry = &mut self.entries[place];
         self.queued -= entry.queue.as_slice().len();
         self.queued += queue.as_slice().len();
-        self.counts.replace(&entry.queue, queue);
+        self.index.replace(entry.id, &entry.queue, queue);
         entry.queue.copy_from(queue);
     }
 
@@ -211,11 +210,12 @@ impl NameTable {
     fn shorten(&mut self, place: usize, connection: u64)
         requires there { place < length self.old }
         requires owned { (front back : List OwnedName) (n : OwnedName) → self.old ≡ front ++ n ∷ back → length front ≡ place → is_free (without connection n.queue) ≡ false }
+        requires waits { (front back : List OwnedName) (n : OwnedName) → self.old ≡ front ++ n ∷ back → length front ≡ place → is_in connection n.queue ≡ true }
         ensures { (front back : List OwnedName) (n : OwnedName) → self.old ≡ front ++ n ∷ back → length front ≡ place → self.new ≡ front ++ record n { queue = without connection n.queue } ∷ back }
     {
         let entry = &mut self.entries[place];
         self.queued -= entry.queue.as_slice().len();
-        self.counts.leave_queue(&entry.queue, connection);
+        self.index.take(entry.id, connection);
         entry.queue.leave(connection);
         self.queued += entry.queue.as_slice().len();
     }
@@ -227,7 +227,7 @@ impl NameTable {
     {
         let entry = self.entries.remove(place);
         self.queued -= entry.queue.as_slice().len();
-        self.counts.take_all(entry.queue.as_slice());
+        self.index.take_all(entry.id, entry.queue.as_slice());
         self.spare.push_reserved(entry);
     }
 
@@ -242,7 +242,8 @@ impl NameTable {
     {
         if let Some(spare) = self.spare.pop() {
             self.queued += queue.as_slice().len();
-            self.counts.add_all(queue.as_slice());
+            self.index.rename(spare.id, name);
+            self.index.add_all(spare.id, queue.as_slice());
             insert_reserved(&mut self.entries, place, filled(spare, name, queue));
         }
     }
@@ -251,7 +252,16 @@ impl NameTable {
     pub fn count_of(&self, connection: u64) -> usize
         ensures { result ≡ names_of connection self.now }
     {
-        self.counts.count_of(connection)
+        self.index.count_of(connection)
+    }
+
+    /// The place of one of the names that a connection owns or waits for, counted from 0 by rising bytes.
+    pub fn place_of_nth(&self, connection: u64, n: usize) -> usize
+        requires { n < names_of connection self.now }
+        ensures there { result < length self.now }
+        ensures value { (d : OwnedName) → get_or self.now result d ≡ get_or (filter (λ m. is_in connection m.queue) self.now) n d }
+    {
+        place_among(self.entries.as_slice(), self.index.nth_name(connection, n))
     }
 }
 
@@ -270,7 +280,8 @@ fn are_within(names: usize, queued: usize, of_one: usize) -> bool
 
 /// An entry with this name and queue in place of what it had.
 fn filled(mut entry: Box<NameEntry>, name: &BusName, queue: &Queue) -> Box<NameEntry>
-    ensures { owned_name result.value ≡ record { name = name.now; queue = queue.now } }
+    ensures value { owned_name result.value ≡ record { name = name.now; queue = queue.now } }
+    ensures id { result.value.id ≡ entry.value.id }
 {
     entry.name = *name;
     entry.queue.copy_from(queue);

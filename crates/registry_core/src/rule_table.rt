@@ -7,6 +7,7 @@ ghost use Rattle.seq_bus_core.specs.Steps.{is_rule_of, without_first, rules_with
 ghost use Rattle.registry_core.specs.RuleTables.{added_rule};
 ghost use Rattle.registry_core.specs.RulesOf.{rules_by, rules_left};
 
+use crate::rule_counts::RuleCounts;
 use match_rules::Rule;
 use std::alloc::{AllocError, Global};
 use std::marker::Model;
@@ -24,17 +25,19 @@ pub struct RuleEntry {
 pub struct RuleTable {
     room: usize,
     entries: Vec<RuleEntry>,
+    /// How many rules each connection has.
+    counts: RuleCounts,
 }
 
 impl Model for RuleTable {
-    ghost use Rattle.std.specs.Prelude.{◌≤◌, map, vec_capacity};
-    ghost use Rattle.registry_core.specs.RuleTables.{RulesInRoom, added_rule};
+    ghost use Rattle.std.specs.Prelude.{map, vec_capacity};
+    ghost use Rattle.registry_core.specs.RuleTables.{RulesInRoom, added_rule, IsRuleTable};
 
     ghost Value = { RulesInRoom };
 
     ghost view = { λ t. record { room = t.room; rules = map added_rule t.entries.items } };
 
-    ghost invariant = { λ t. t.room ≤ vec_capacity t.entries };
+    ghost invariant = { λ t. IsRuleTable t.entries.items t.counts t.room (vec_capacity t.entries) };
 }
 
 impl RuleTable {
@@ -45,6 +48,7 @@ impl RuleTable {
         Ok(RuleTable {
             room,
             entries: Vec::with_capacity(alloc, room)?,
+            counts: RuleCounts::new(alloc, room)?,
         })
     }
 
@@ -75,10 +79,7 @@ impl RuleTable {
     pub fn count_of(&self, connection: u64) -> usize
         ensures { result ≡ rules_of connection self.now.rules }
     {
-        self.entries
-            .iter()
-            .filter(|entry| entry.connection == connection)
-            .count()
+        self.counts.count_of(connection)
     }
 
     /// Whether a connection has a rule equal to this one.
@@ -94,6 +95,7 @@ impl RuleTable {
         ensures { self.new ≡ record self.old { rules = self.old.rules ++ record { connection = connection; rule = rule } ∷ [] } }
     {
         self.entries.push_reserved(RuleEntry { connection, rule });
+        self.counts.add(connection);
     }
 
     /// Takes out the first rule of a connection that is equal to this one, if there is one.
@@ -102,14 +104,18 @@ impl RuleTable {
     {
         if let Some(place) = place_of(&self.entries, connection, rule) {
             self.entries.remove(place);
+            self.counts.take(connection);
         }
     }
 
-    /// Takes out all rules of a connection.
+    /// Takes out all rules of a connection. Where it has none, no rule is looked at.
     pub fn remove_all(&mut self, connection: u64)
         ensures { self.new ≡ record self.old { rules = rules_without connection self.old.rules } }
     {
-        self.entries.retain(|entry| entry.connection != connection);
+        if self.counts.count_of(connection) > 0 {
+            self.entries.retain(|entry| entry.connection != connection);
+            self.counts.remove(connection);
+        }
     }
 }
 

@@ -4,8 +4,9 @@ ghost use Rattle.std.specs.Prelude.{◌≡◌, ◌⊎◌, ◌+◌, [], Some, is_
 ghost use Rattle.std.specs.Fn.{FnOnceReturnsAt};
 ghost use Rattle.seq_bus_core.specs.BusState.{connection_of};
 ghost use Rattle.seq_bus_core.specs.Histories.{IsLegal, Begins};
-ghost use Rattle.seq_bus_core.specs.Recipients.{recipients};
+ghost use Rattle.seq_bus_core.specs.Recipients.{recipients, verdict};
 ghost use Rattle.seq_bus_core.specs.Tickets.{bus_after};
+ghost use Rattle.seq_bus_core.specs.declared.verdict.VerdictKind.TheVariants.{Absent};
 ghost use Rattle.registry.specs.Served.{IsServedChange};
 ghost use Rattle.registry_snapshots.specs.Copies.{SnapView};
 ghost use Rattle.registry_snapshots.specs.Seats.{fresh, longer, IsChanged, IsRead};
@@ -154,6 +155,27 @@ impl<J: Naming> Seat<J> {
         let verdict = reading.get().route(from, facts);
         self.end_reading(reading, front);
         Ok(verdict)
+    }
+
+    /// The same as `route`, told where nothing was told yet: a verdict is large, and is not moved. Nothing is told where the
+    /// registry has ended.
+    pub fn route_into(
+        &mut self,
+        from: u64,
+        facts: &Facts<'_>,
+        told: &mut Verdict,
+    ) -> Result<(), Gone>
+        requires { told.old ≡ verdict Absent [] [] }
+        ensures verdict { OnOk result (told.new ≡ recipients (bus_after J.opening self.new.seen).state from facts.now) }
+        ensures read { OnOk result (IsRead self.old.seen self.old.number self.old.made self.new.seen) }
+        ensures kept { (self.new.number ≡ self.old.number) × (self.new.made ≡ self.old.made) × (self.new.held ≡ self.old.held) }
+        ensures gone { OnErr result (self.new.seen ≡ self.old.seen) }
+        ensures untold { OnErr result (told.new ≡ told.old) }
+    {
+        let (reading, front) = self.begin_reading()?;
+        reading.get().route_into(from, facts, told);
+        self.end_reading(reading, front);
+        Ok(())
     }
 
     /// Whether there is a connection of this number.

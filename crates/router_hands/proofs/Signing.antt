@@ -1,5 +1,5 @@
 -- A message is put with its sender's name, or it is not.
-use Rattle.std.proofs.Common.{◌≡◌, Bool, true, false, Option, Some, Result, Ok, Err, List, [], ◌∷◌, length, refl, sym, ap, subst, if◌then◌else◌, IsErrOf, IsTrue, ◌↔◌}
+use Rattle.std.proofs.Common.{◌≡◌, Bool, true, false, Option, Some, Result, Ok, Err, List, [], ◌∷◌, length, refl, sym, ap, subst, ◌∙◌, if◌then◌else◌, IsErrOf, IsTrue, ◌↔◌}
 use Rattle.seq_bus_core.specs.Histories.{History}
 use Rattle.seq_bus_core.specs.declared.connection.Conn.{Conn}
 use Rattle.message_core.specs.Messages.{Message}
@@ -27,6 +27,10 @@ long_is (Err relay.TooLong) false h = let e : false ≡ true = h.0 refl in cc
 pub all_of_none : (monitors : List Conn) → all_of [] monitors ≡ monitors
 all_of_none [] = refl
 all_of_none (conn ∷ conns) = ap (λ rest. conn ∷ rest) (all_of_none conns)
+
+-- the one recipient, where no monitor is shown it
+pub all_of_one : (to monitors : List Conn) (conn : Conn) → (to ≡ conn ∷ []) × (monitors ≡ []) → conn ∷ [] ≡ all_of to monitors
+all_of_one to monitors conn is = sym (ap (λ (conns : List Conn). all_of conns monitors) is.0 ∙ ap (λ (shown : List Conn). all_of (conn ∷ []) shown) is.1)
 
 module _ {N G : Type 0} (told : N → History) (passes : G → GatedCall → G → Type 0) (alone : Bool) (m : Message) (sender : Conn) (goes_on : Fated) (fate : Option CloseCause) (end : World N G) where
   fits : (to : List Conn) (w : World N G) → is_too_long (signed m sender) ≡ false → Comes told passes alone (copied m sender to goes_on) w fate end → Comes told passes alone (relayed m sender to goes_on) w fate end

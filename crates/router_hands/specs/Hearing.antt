@@ -15,9 +15,10 @@ abbrev pub heard_change : Result Outcome Cause → Heard Outcome
 heard_change (Ok outcome) = Says outcome
 heard_change (Err why) = Refuses (refusal_of why)
 
-abbrev pub heard_verdict : Result Verdict Gone → Heard Verdict
-heard_verdict (Ok verdict) = Says verdict
-heard_verdict (Err gone) = Refuses Lost
+-- a verdict that is told where there was none
+abbrev pub heard_verdict : {A : Type 0} → Result A Gone → Verdict → Heard Verdict
+heard_verdict (Ok done) verdict = Says verdict
+heard_verdict (Err gone) verdict = Refuses Lost
 
 abbrev pub heard_present : Result Bool Gone → Heard Bool
 heard_present (Ok present) = Says present

@@ -1,9 +1,11 @@
 //! What serves connections: the view of the bus, the gate, and the actions so far.
 
-ghost use Rattle.std.specs.Prelude.{◌≡◌, ◌<◌, ◌≤◌, ◌+◌, ◌++◌, ◌∷◌, [], Option, IfOk, OnOk};
+ghost use Rattle.std.specs.Prelude.{◌≡◌, ◌<◌, ◌≤◌, ◌+◌, ◌++◌, ◌∷◌, [], Option, IfOk, OnOk, OnErr};
 ghost use Rattle.message_core.specs.Messages.{Message, IsWritten};
 ghost use Rattle.seq_bus.specs.Served.{IsServedChange};
 ghost use Rattle.seq_bus_core.specs.Answers.{Answer};
+ghost use Rattle.seq_bus_core.specs.Recipients.{verdict};
+ghost use Rattle.seq_bus_core.specs.declared.verdict.VerdictKind.TheVariants.{Absent};
 ghost use Rattle.envelopes.specs.Contents.{said_of};
 ghost use Rattle.router_core.specs.Answers.{Heard};
 ghost use Rattle.router_core.specs.Deeds.{Writes, Sends, Puts, Closes, all_of};
@@ -188,12 +190,16 @@ impl<V: BusView, G: Gate> Hands<V, G> {
     }
 
     /// Asks who gets a message of the connection of this number, and which monitors are shown it. 0 is the bus.
-    pub fn route(&mut self, from: u64, facts: &Facts<'_>) -> Result<Verdict, Gone>
-        ensures routes { Routes V.alone from facts.now self.old.world (heard_verdict result) self.new.world }
+    ///
+    /// It is told where nothing was told yet: a verdict is large, and is not moved. Where the bus does not say, nothing is told.
+    pub fn route(&mut self, from: u64, facts: &Facts<'_>, told: &mut Verdict) -> Result<(), Gone>
+        requires { told.old ≡ verdict Absent [] [] }
+        ensures routes { Routes V.alone from facts.now self.old.world (heard_verdict result told.new) self.new.world }
+        ensures untold { OnErr result (told.new ≡ told.old) }
         ensures room { self.new.room ≡ self.old.room }
     {
-        match self.view.route(from, facts) {
-            Ok(verdict) => Ok(verdict),
+        match self.view.route_into(from, facts, told) {
+            Ok(()) => Ok(()),
             Err(gone) => Err(gone),
         }
     }

@@ -14,6 +14,7 @@ ghost use Rattle.router_hands.specs.Refusing.{IsRefusal, AreRefusals, hello_of};
 use crate::hands::Hands;
 use crate::mail::bytes_of;
 use crate::peer::Peer;
+use crate::telling::untold;
 use bus_view::{BusView, Cause};
 use driver::{ReplyTo, expects_reply};
 use envelopes::{CallToAnswer, Content, OwnMessage};
@@ -96,10 +97,11 @@ impl<V: BusView, G: Gate> Hands<V, G> {
         ensures comes { Comes V.told G.passes V.alone (Routing 0 (facts_of (own_message 1 (own_of own))) (λ heard. refuse key (own_of own) peer.old heard)) self.old.world peer.new self.new.world }
         ensures room { self.old.room ≤ self.new.room + 2 }
     {
-        let monitors = self.monitors_of(&own);
+        let mut verdict = untold();
+        self.ask_monitors(&own, &mut verdict);
         peer.count();
         self.send(key, bytes);
-        self.put_to(Recipients::new(), monitors, Content::Own(own));
+        self.put_to(Recipients::new(), verdict.monitors, Content::Own(own));
     }
 
     /// Answers a Hello an error, if it wants an answer. The connection stays without a name: it may say Hello again.

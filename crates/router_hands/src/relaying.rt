@@ -1,6 +1,6 @@
 //! Messages that connections send one another. (D-Bus Specification: "Message Bus Message Routing")
 
-ghost use Rattle.std.specs.Prelude.{◌≡◌, ◌<◌, ◌≤◌, ◌+◌, Option, length, IfOk};
+ghost use Rattle.std.specs.Prelude.{◌≡◌, ◌<◌, ◌≤◌, ◌+◌, [], ◌∷◌, Option, length, IfOk, IfSome};
 ghost use Rattle.envelopes.specs.Contents.{Relays, said_of};
 ghost use Rattle.message_core.specs.Said.{said};
 ghost use Rattle.message_relay.specs.MessageBytes.{message_bytes, is_too_long};
@@ -16,9 +16,23 @@ use envelopes::{Content, SharedBytes};
 use message_core::Message;
 use message_relay::{RelayFault, relayed_length, with_sender};
 use names::UniqueName;
-use router_core::Gate;
+use router_core::{Addressees, Gate};
 use seq_bus_core::{Conn, Recipients};
 use std::sync::Arc;
+
+/// The one connection that a message is put to, if it is put to one and no monitor is shown it.
+fn only_one(to: &Recipients, monitors: &Recipients) -> Option<Conn>
+    ensures { IfSome result (λ conn. (to.now ≡ conn ∷ []) × (monitors.now ≡ [])) }
+{
+    let (conn, rest) = to.as_slice().split_first()?;
+    if !rest.is_empty() {
+        return None;
+    }
+    if !monitors.as_slice().is_empty() {
+        return None;
+    }
+    Some(*conn)
+}
 
 impl<V: BusView, G: Gate> Hands<V, G> {
     /// The message as it is passed on, with its sender's name.
@@ -34,6 +48,26 @@ impl<V: BusView, G: Gate> Hands<V, G> {
         match Arc::new(self.alloc, bytes) {
             Ok(bytes) => Ok(Content::Relayed(SharedBytes::new(bytes))),
             Err(_) => Err(RelayFault::NoMemory),
+        }
+    }
+
+    /// Puts a message to one connection, with its sender's name.
+    fn relay_to_one(
+        &mut self,
+        message: &Message,
+        sender: Conn,
+        conn: Conn,
+    ) -> Result<(), RelayFault>
+        requires { 0 < self.old.room }
+        ensures comes { (goes_on : Fated) (fate : Option Cause) (end : World V.Note G) → Comes V.told G.passes V.alone (once_put result (said message.now) sender goes_on) self.new.world fate end → Comes V.told G.passes V.alone (relayed (said message.now) sender (conn ∷ []) goes_on) self.old.world fate end }
+        ensures room { self.old.room ≤ self.new.room + 1 }
+    {
+        match self.sign(message, sender) {
+            Ok(content) => {
+                self.put(Addressees::one(conn), content);
+                Ok(())
+            }
+            Err(fault) => Err(fault),
         }
     }
 
@@ -75,6 +109,9 @@ impl<V: BusView, G: Gate> Hands<V, G> {
         ensures comes { (goes_on : Fated) (fate : Option Cause) (end : World V.Note G) → Comes V.told G.passes V.alone (once_put result (said message.now) sender goes_on) self.new.world fate end → Comes V.told G.passes V.alone (relayed (said message.now) sender (all_of to monitors) goes_on) self.old.world fate end }
         ensures room { self.old.room ≤ self.new.room + 1 }
     {
+        if let Some(conn) = only_one(&to, &monitors) {
+            return self.relay_to_one(message, sender, conn);
+        }
         if to.as_slice().is_empty() && monitors.as_slice().is_empty() {
             return match relayed_length(message, &UniqueName::of(sender.number)) {
                 Ok(_) => Ok(()),

@@ -1,7 +1,9 @@
 //! Messages of the bus to one connection.
 
 ghost use Rattle.std.specs.Prelude.{◌≡◌, ◌<◌, ◌≤◌, ◌+◌, [], ◌∷◌};
+ghost use Rattle.seq_bus_core.specs.Recipients.{verdict};
 ghost use Rattle.seq_bus_core.specs.declared.verdict.Verdict.{Verdict as Told};
+ghost use Rattle.seq_bus_core.specs.declared.verdict.VerdictKind.TheVariants.{Absent};
 ghost use Rattle.message_core.specs.Said.{said};
 ghost use Rattle.message_relay.specs.FactsOf.{facts_of};
 ghost use Rattle.envelopes.specs.Contents.{carried_of, own_of, own_message, said_of};
@@ -18,7 +20,7 @@ use envelopes::{CallToAnswer, Content, OwnMessage, ReplyContent};
 use match_rules::MessageKind;
 use message_core::Message;
 use router_core::{Addressees, Gate};
-use seq_bus_core::{Conn, ErrorKind, Recipients};
+use seq_bus_core::{Conn, ErrorKind, Recipients, Verdict, VerdictKind};
 
 /// The call, as it is answered.
 fn call_of(message: &Message, caller: Conn) -> CallToAnswer
@@ -29,6 +31,17 @@ fn call_of(message: &Message, caller: Conn) -> CallToAnswer
         caller: Some(caller.number),
         call: message.serial(),
     })
+}
+
+/// A verdict that says nothing yet.
+pub(crate) fn untold() -> Verdict
+    ensures { result ≡ verdict Absent [] [] }
+{
+    Verdict {
+        kind: VerdictKind::Absent,
+        to: Recipients::new(),
+        monitors: Recipients::new(),
+    }
 }
 
 /// Whether the message calls a method.
@@ -54,15 +67,16 @@ impl<V: BusView, G: Gate> Hands<V, G> {
         }
     }
 
-    /// The monitors that are shown a message of the bus. Where the bus does not say, it is shown to none.
-    pub(crate) fn monitors_of(&mut self, own: &OwnMessage) -> Recipients
-        ensures routes { (heard : Heard Told) × Routes V.alone 0 (facts_of (own_message 1 (own_of own.now))) self.old.world heard self.new.world × (result ≡ monitors_in heard) }
+    /// Asks which monitors are shown a message of the bus. Where the bus does not say, it is shown to none.
+    pub(crate) fn ask_monitors(&mut self, own: &OwnMessage, told: &mut Verdict)
+        requires { told.old ≡ verdict Absent [] [] }
+        ensures routes { (heard : Heard Told) × Routes V.alone 0 (facts_of (own_message 1 (own_of own.now))) self.old.world heard self.new.world × (told.new.monitors ≡ monitors_in heard) }
         ensures room { self.new.room ≡ self.old.room }
     {
         let names = own.names();
-        match self.route(0, &own.facts(&names)) {
-            Ok(verdict) => verdict.monitors,
-            Err(_) => Recipients::new(),
+        match self.route(0, &own.facts(&names), told) {
+            Ok(()) => {}
+            Err(_) => {}
         }
     }
 
@@ -72,8 +86,9 @@ impl<V: BusView, G: Gate> Hands<V, G> {
         ensures comes { Comes V.told G.passes V.alone (telling conn (own_of own)) self.old.world tt self.new.world }
         ensures room { self.old.room ≤ self.new.room + 1 }
     {
-        let monitors = self.monitors_of(&own);
-        self.put_to_one(conn, monitors, Content::Own(own));
+        let mut verdict = untold();
+        self.ask_monitors(&own, &mut verdict);
+        self.put_to_one(conn, verdict.monitors, Content::Own(own));
     }
 
     /// Replies to a call. One that wants no reply gets none.

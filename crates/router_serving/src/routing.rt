@@ -16,7 +16,7 @@ use message_core::Message;
 use message_relay::{RelayFault, facts};
 use router_core::{CloseCause, Gate};
 use router_hands::Hands;
-use seq_bus_core::{Conn, ErrorKind, Verdict, VerdictKind};
+use seq_bus_core::{Conn, ErrorKind, Recipients, Verdict, VerdictKind};
 use std::alloc::Global;
 
 /// Answers a call with an error. The connection stays open.
@@ -154,14 +154,15 @@ fn routed<V: BusView, G: Gate>(
     right: &V::Right,
     message: &Message,
     sender: Conn,
-    heard: Result<Verdict, Gone>,
+    heard: Result<(), Gone>,
+    verdict: Verdict,
 ) -> Option<CloseCause>
     requires { 2 < hands.old.room }
-    ensures comes { Comes V.told G.passes V.alone (routing (said message.now) sender (heard_verdict heard)) hands.old.world result hands.new.world }
+    ensures comes { Comes V.told G.passes V.alone (routing (said message.now) sender (heard_verdict heard verdict)) hands.old.world result hands.new.world }
     ensures room { hands.old.room ≤ hands.new.room + 3 }
 {
     match heard {
-        Ok(verdict) => relay(alloc, hands, right, message, sender, verdict),
+        Ok(()) => relay(alloc, hands, right, message, sender, verdict),
         Err(_) => err_and_stay(hands, message, sender, ErrorKind::Failed),
     }
 }
@@ -179,8 +180,13 @@ fn route_message<V: BusView, G: Gate>(
     ensures comes { Comes V.told G.passes V.alone (serving (said message.now) sender) hands.old.world result hands.new.world }
     ensures room { hands.old.room ≤ hands.new.room + 3 }
 {
-    let heard = hands.route(sender.number, &facts(message));
-    routed(alloc, hands, right, message, sender, heard)
+    let mut verdict = Verdict {
+        kind: VerdictKind::Absent,
+        to: Recipients::new(),
+        monitors: Recipients::new(),
+    };
+    let heard = hands.route(sender.number, &facts(message), &mut verdict);
+    routed(alloc, hands, right, message, sender, heard, verdict)
 }
 
 /// Serves a message of a connection that has its name ("Message Bus Message Routing" of the D-Bus Specification). A message of a

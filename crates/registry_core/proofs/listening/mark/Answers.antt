@@ -28,12 +28,12 @@ loop-entry-preserved g c =
     ap (λ (es : List RuleEntry). has_fitting heads (map added_rule es) facts (number_at ms k)) grown ∙ fitting_more heads facts (number_at ms k) done e in
     elim c.if-fits.branch [
       | then-fits+in-Some w ↦
-          let found : first_place test ms ≡ Some w.in-Some.place = sym (position_is test ms) ∙ sym w.place_of.ensures ∙ w.in-Some.is in
+          let found : first_place test ms ≡ Some w.in-Some.place = sym (position_is test ms) ∙ sym w.find_place.ensures ∙ w.in-Some.is in
           let there = place_has e.connection ms w.in-Some.place c.requires.rising found in
           let set_is = ap (λ (marks : List Bool). get_or marks k false) w.marks-is ∙ set_mark c.loop-entry.marks w.in-Some.place k (omega (arith, there.0, c.requires.few)) ∙ ap (λ b. b || (k == w.in-Some.place)) (c.loop-entry.invariant k lt) in
           marked _ before (k == w.in-Some.place) same fit set_is (there.1 k lt) (sym w.if-fits.ensures) ∙ sym then_is
       | then-fits+in_default w ↦
-          let found : ◌≡◌ {A = Option ℕ} (first_place test ms) None = sym (position_is test ms) ∙ sym w.place_of.ensures ∙ w.in_default.is in
+          let found : ◌≡◌ {A = Option ℕ} (first_place test ms) None = sym (position_is test ms) ∙ sym w.find_place.ensures ∙ w.in_default.is in
           unmarked _ before same fit (ap (λ (marks : List Bool). get_or marks k false) w.marks-is ∙ c.loop-entry.invariant k lt) (none_both same fit (no_place_has e.connection ms found k lt)) ∙ sym then_is
       | else-fits w ↦ unmarked _ before same fit (ap (λ (marks : List Bool). get_or marks k false) w.marks-is ∙ c.loop-entry.invariant k lt) (both_none same fit (sym w.if-fits.ensures)) ∙ sym then_is
     ]

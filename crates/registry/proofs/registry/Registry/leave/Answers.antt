@@ -1,37 +1,58 @@
-use Rattle.std.proofs.Common.{◌≡◌, ◌==◌, not, true, is_some, filter, rules, refl, sym, ap, ◌∙◌}
-use Rattle.std.proofs.lemmas.Fn.{filter_same}
-use Rattle.seq_bus_core.specs.BusState.{BusState, connection_of}
+use Rattle.std.proofs.Common.{◌≡◌, ◌≤◌, ◌==◌, true, false, Bool, Option, Some, None, ℕ, is_some, option_map, refl, sym, ap, ◌∙◌, subst, arith, vec_capacity}
+use Rattle.std.specs.List.{position}
+use Rattle.seq_bus_core.specs.BusState.{BusState, connection_of, max_connections}
 use Rattle.seq_bus_core.specs.Steps.{step}
 use Rattle.seq_bus_core.specs.declared.change.Change.TheVariants.{Leave}
+use Rattle.registry_core.specs.Listening.{Rising, connection_of_member}
 use Rattle.registry_core.specs.RuleTables.{RulesInRoom}
 use Rattle.registry_core.specs.declared.member.Member.{Member}
+use Rattle.registry_core.proofs.Members.{found_at, found_nowhere}
+use Rattle.registry_core.proofs.Places.{first_place, find-map, position_is}
 use Rattle.registry.specs.declared.registry.Registry.TheInside.{Inside}
 use Rattle.registry.specs.Tables.{state_of}
-use Rattle.registry.proofs.Kept.{kept}
-use Rattle.registry.proofs.LeaveLemmas.{leave_gone, leave_state, left_state}
+use Rattle.registry.proofs.Kept.{kept, members_rise}
+use Rattle.registry.proofs.LeaveLemmas.{leave_gone, leave_state, left_state, member_left}
 use Rattle.registry.proofs.registry.Registry.leave.Goals as goal
 use Rattle.registry.proofs.registry.Registry.leave.Goals.{After-remove_all-2}
 
-pub returns-then-not-present : goal.returns-then-not-present
-returns-then-not-present c = sym (leave_gone c.args.self.now c.args.seat c.args.connection (sym c.if-not-present.ensures)).0
+pub find_place-requires : goal.find_place-requires
+find_place-requires c = subst Rising (sym c.deref.ensures.value) (members_rise c.self.inside c.self.invariant)
+
+pub returns-in_default : goal.returns-in_default
+returns-in_default c =
+    let r = c.self.inside in
+    let n = c.args.connection in
+    let test : Member → Bool = λ m. m.conn.number == n in
+    let nowhere : ◌≡◌ {A = Option ℕ} (first_place test r.members.items) None = sym (position_is test r.members.items) ∙ ap (position test) (sym c.deref.ensures.value) ∙ sym c.find_place.ensures ∙ c.in_default.is in
+    let absent : is_some (connection_of (state_of r) n) ≡ false =
+    ap is_some (find-map (λ e. e.number == n) (connection_of_member r.monitor_rules.rules) r.members.items ∙ ap (option_map (connection_of_member r.monitor_rules.rules)) (found_nowhere n r.members.items nowhere)) in
+    sym (leave_gone c.args.self.now c.args.seat n (subst (λ (s : BusState). is_some (connection_of s n) ≡ false) c.self.view_is absent)).0
 
 next : After-remove_all-2 → Inside
-next c = record c.self.inside { members = c.retain.new.self; names = c.leave.new.self; rules = c.remove_all.new.self; monitor_rules = c.remove_all-2.new.self }
+next c = record c.self.inside { members = c.remove.new.self; names = c.leave.new.self; rules = c.remove_all.new.self; monitor_rules = c.remove_all-2.new.self }
 
-others : (c : After-remove_all-2) → c.retain.new.self.items ≡ filter (λ (m : Member). not (m.conn.number == c.args.connection)) c.self.inside.members.items
-others c = filter_same _ _ _ (λ d b f k. search rules) _ _ c.retain.ensures.filtered
+-- the member that leaves
+found : (c : After-remove_all-2) → first_place (λ (m : Member). m.conn.number == c.args.connection) c.self.inside.members.items ≡ Some c.in-Some.place
+found c =
+    let test : Member → Bool = λ m. m.conn.number == c.args.connection in
+    sym (position_is test c.self.inside.members.items) ∙ ap (position test) (sym c.deref.ensures.value) ∙ sym c.find_place.ensures ∙ c.in-Some.is
 
 after : (c : After-remove_all-2) → (step (state_of c.self.inside) c.args.seat (Leave c.args.connection)).0 ≡ state_of (next c)
 unfolding next
 after c =
-    let present : is_some (connection_of (state_of c.self.inside) c.args.connection) ≡ true = ap (λ (s : BusState). is_some (connection_of s c.args.connection)) c.self.view_is ∙ sym c.if-not-present.ensures in
-    leave_state (state_of c.self.inside) c.args.seat c.args.connection present
-    ∙ left_state c.self.inside (next c) c.args.connection refl c.leave.ensures (others c) (ap (λ (t : RulesInRoom). t.rules) c.remove_all.ensures) (ap (λ (t : RulesInRoom). t.rules) c.remove_all-2.ensures)
+    let r = c.self.inside in
+    let present : is_some (connection_of (state_of r) c.args.connection) ≡ true =
+    ap is_some (find-map (λ e. e.number == c.args.connection) (connection_of_member r.monitor_rules.rules) r.members.items
+    ∙ ap (option_map (connection_of_member r.monitor_rules.rules)) (found_at c.args.connection r.members.items c.remove.result c.in-Some.place (found c))) in
+    leave_state (state_of r) c.args.seat c.args.connection present
+    ∙ left_state r (next c) c.args.connection refl c.leave.ensures (c.remove.ensures.items ∙ member_left c.args.connection c.in-Some.place r.members.items (members_rise r c.self.invariant) (found c))
+    (ap (λ (t : RulesInRoom). t.rules) c.remove_all.ensures) (ap (λ (t : RulesInRoom). t.rules) c.remove_all-2.ensures)
 
 pub invariant_of-self : goal.invariant_of-self
 unfolding next
 invariant_of-self c =
-    kept c.self.inside (next c) c.self.invariant c.args.seat (Leave c.args.connection) (after c) refl (rw c.retain.ensures.capacity c.self.invariant.members_room)
+    let enough : max_connections ≤ vec_capacity c.self.inside.members = c.self.invariant.members_room in
+    kept c.self.inside (next c) c.self.invariant c.args.seat (Leave c.args.connection) (after c) refl (omega (arith, enough, c.remove.ensures.capacity))
     (ap (λ (t : RulesInRoom). t.room) c.remove_all.ensures ∙ c.self.invariant.rules_room)
 
 pub returns : goal.returns

@@ -1,23 +1,33 @@
-use Rattle.std.proofs.Common.{◌≡◌, ◌≤◌, ◌+◌, ◌==◌, ℕ, count_by, List, map, insert, length, refl, sym, ap, ◌∙◌, subst, arith, vec_capacity, Box, Global}
+use Rattle.std.proofs.Common.{◌≡◌, ◌<◌, ◌≤◌, ◌+◌, ◌==◌, ℕ, count_by, List, map, insert, length, refl, sym, ap, ◌∙◌, subst, arith, vec_capacity, Box, Global}
 use Rattle.std.proofs.lemmas.List.{length-map, length_push}
 use Rattle.owner_queues.specs.Queues.{Queue}
-use Rattle.seq_bus_core.specs.BusState.{OwnedName, queued_in, max_queued}
-use Rattle.registry_core.specs.NameTables.{owned_name, NamesRise, AreCounted}
+use Rattle.seq_bus_core.specs.BusState.{OwnedName, queued_in, max_names, max_queued}
+use Rattle.registry_core.specs.NameTables.{owned_name, NamesRise, AreIndexed}
 use Rattle.registry_core.specs.declared.name_table.NameEntry.{NameEntry}
-use Rattle.registry_core.proofs.NameTableLemmas.{resized, added, map_inserted, counted_added}
+use Rattle.registry_core.proofs.NameTableLemmas.{resized, added, map_inserted}
 use Rattle.registry_core.proofs.CountLemmas.{one_if_in, once}
-use Rattle.registry_core.specs.NameCounts.{held, all_held}
+use Rattle.registry_core.proofs.TableIndex.{free_number, not_held, indexed_added}
+use Rattle.registry_core.specs.NameIndexes.{held, name_at}
 use Rattle.registry_core.proofs.name_table.NameTable.add.Goals as goal
 
 abbrev name_in : Box NameEntry Global → OwnedName
 name_in b = owned_name b.value
 
+pub rename-requires-clause-there : goal.rename-requires-clause-there
+rename-requires-clause-there c =
+    let r = c.self.inside in
+    subst (λ (e : NameEntry). e.id < max_names) (sym c.deref.ensures) (free_number r.entries.items r.spare.items c.pop.new.self.items c.in-Some.spare r.index r.queued c.self.invariant.1 c.in-Some.ensures.items)
+
+pub rename-requires-clause-unused : goal.rename-requires-clause-unused
+rename-requires-clause-unused c k =
+    let r = c.self.inside in
+    subst (λ (e : NameEntry). held k e.id r.index.holdings ≡ 0) (sym c.deref.ensures) (not_held r.entries.items r.spare.items c.pop.new.self.items c.in-Some.spare r.index r.queued c.self.invariant.1 c.in-Some.ensures.items k)
+
 pub add_all-requires : goal.add_all-requires
 add_all-requires c =
     let r = c.self.inside in
-    let counted : all_held r.counts ≡ queued_in c.args.self.now = c.self.invariant.1.all ∙ ap queued_in c.self.view_is in
-    let places : length c.as_slice-in-Some.result.now ≡ length c.args.queue.now = ap length c.as_slice-in-Some.ensures.value in
-    omega (arith, counted, places, c.requires.few_places)
+    let counted : length r.index.holdings ≡ queued_in c.args.self.now = c.self.invariant.1.all ∙ c.self.invariant.0.counted ∙ ap queued_in c.self.view_is in
+    omega (arith, counted, ap length c.rename.ensures.holdings, ap length c.as_slice-in-Some.ensures.value, c.requires.few_places)
 
 pub invariant_of-self : goal.invariant_of-self
 invariant_of-self c =
@@ -33,17 +43,28 @@ invariant_of-self c =
     let less : length r.spare.items ≡ length c.pop.new.self.items + 1 = ap length c.in-Some.ensures.items ∙ length_push c.pop.new.self.items c.in-Some.spare in
     let le_items : place ≤ length items = omega (arith, le, length-map items name_in) in
     let names_are : map name_in c.insert_reserved.new.entries.items ≡ insert names place n =
-    ap (map name_in) c.insert_reserved.ensures.items ∙ map_inserted name_in items place c.filled.result le_items ∙ ap (insert names place) c.filled.ensures in
+    ap (map name_in) c.insert_reserved.ensures.items ∙ map_inserted name_in items place c.filled.result le_items ∙ ap (insert names place) c.filled.ensures.value in
     let table = added names place n _ (length c.pop.new.self.items) _ _ _ c.self.invariant.0 le rise c.requires.owned less few in
-    let before = r.counts in
-    let after = c.add_all.new.self in
-    let counts : (k : ℕ) → held k after ≡ held k before + one_if_in k c.args.queue.now =
-    λ k. c.add_all.ensures.counts k ∙ ap (λ (q : Queue). held k before + count_by (λ o. o.connection == k) q) c.as_slice-in-Some.ensures.value ∙ ap (λ m. held k before + m) (once k c.args.queue.now c.as_slice.ensures.once) in
-    let all : all_held after ≡ all_held before + length c.args.queue.now = c.add_all.ensures.all ∙ ap (λ (q : Queue). all_held before + length q) c.as_slice-in-Some.ensures.value in (
+    let y = c.add_all.new.self in
+    let x = c.rename.new.self in
+    let s : Box NameEntry Global = c.in-Some.spare in
+    let e : Box NameEntry Global = c.filled.result in
+    let queue_is : e.value.queue ≡ c.args.queue.now = ap (λ (m : OwnedName). m.queue) c.filled.ensures.value in
+    let name : name_at y.names s.value.id ≡ e.value.name =
+    ap (λ ns. name_at ns s.value.id) c.add_all.ensures.names ∙ subst (λ (k : NameEntry). name_at x.names k.id ≡ c.args.name.now) c.deref.ensures c.rename.ensures.own ∙ sym (ap (λ (m : OwnedName). m.name) c.filled.ensures.value) in
+    let its : (k : ℕ) → held k s.value.id y.holdings ≡ held k s.value.id r.index.holdings + one_if_in k e.value.queue =
+    λ k. subst (λ (b : NameEntry). held k b.id y.holdings ≡ held k b.id x.holdings + count_by (λ o. o.connection == k) c.as_slice-in-Some.result.now) c.deref-in-Some.ensures (c.add_all.ensures.its k)
+    ∙ ap (λ hs. held k s.value.id hs + count_by (λ o. o.connection == k) c.as_slice-in-Some.result.now) c.rename.ensures.holdings
+    ∙ ap (λ m. held k s.value.id r.index.holdings + m) (ap (λ (q : Queue). count_by (λ o. o.connection == k) q) c.as_slice-in-Some.ensures.value ∙ once k c.args.queue.now c.as_slice.ensures.once ∙ ap (one_if_in k) (sym queue_is)) in
+    let all : length y.holdings ≡ r.queued + length c.as_slice.result.now =
+    omega (arith, c.add_all.ensures.all, ap length c.rename.ensures.holdings, c.self.invariant.1.all, ap length c.as_slice.ensures.value, ap length c.as_slice-in-Some.ensures.value) in (
       resized (insert names place n) (map name_in c.insert_reserved.new.entries.items) (length c.pop.new.self.items) (length c.pop.new.self.items) (r.queued + length c.args.queue.now) (r.queued + length c.as_slice.result.now)
           (vec_capacity r.entries) (vec_capacity c.insert_reserved.new.entries) (vec_capacity r.spare) (vec_capacity c.pop.new.self) table names_are refl (ap (λ (q : Queue). r.queued + length q) c.as_slice.ensures.value)
           c.insert_reserved.ensures.room (omega (arith, c.in-Some.ensures.capacity)),
-      subst (λ ns. AreCounted ns after) (sym names_are) (counted_added names place n before after c.self.invariant.1 counts all),
+      subst (λ (es : List (Box NameEntry Global)). AreIndexed es c.pop.new.self.items y (r.queued + length c.as_slice.result.now)) (sym c.insert_reserved.ensures.items)
+          (indexed_added items r.spare.items c.pop.new.self.items place s e r.index y r.queued (r.queued + length c.as_slice.result.now) c.self.invariant.1 c.in-Some.ensures.items c.filled.ensures.id name
+          (λ i other. ap (λ ns. name_at ns i) c.add_all.ensures.names ∙ c.rename.ensures.others i (ap (λ (k : NameEntry). k.id == i) c.deref.ensures ∙ other)) its
+          (λ k i other. c.add_all.ensures.others k i (ap (λ (b : NameEntry). b.id == i) c.deref-in-Some.ensures ∙ other) ∙ ap (held k i) c.rename.ensures.holdings) all),
     )
 
 pub returns-in-Some : goal.returns-in-Some
@@ -52,5 +73,5 @@ returns-in-Some c =
     let place = c.args.place in
     let n : OwnedName = record { name = c.args.name.now; queue = c.args.queue.now } in
     let short : length items ≡ length c.args.self.now = sym (length-map items name_in) ∙ ap length c.self.view_is in
-    ap (map name_in) c.insert_reserved.ensures.items ∙ map_inserted name_in items place c.filled.result (omega (arith, short, c.requires.there)) ∙ ap (insert (map name_in items) place) c.filled.ensures
+    ap (map name_in) c.insert_reserved.ensures.items ∙ map_inserted name_in items place c.filled.result (omega (arith, short, c.requires.there)) ∙ ap (insert (map name_in items) place) c.filled.ensures.value
     ∙ ap (λ (ns : List OwnedName). insert ns place n) c.self.view_is

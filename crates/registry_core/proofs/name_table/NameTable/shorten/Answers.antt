@@ -1,12 +1,13 @@
-use Rattle.std.proofs.Common.{◌≡◌, ◌<◌, ◌≤◌, ◌+◌, ℕ, suc, List, ◌∷◌, ◌++◌, map, take, drop, get_or, length, sym, ap, ◌∙◌, subst, arith, Box, Global}
+use Rattle.std.proofs.Common.{◌≡◌, ◌<◌, ◌≤◌, ◌+◌, ◌-◌, ◌==◌, if◌then◌else◌, ℕ, true, suc, List, ◌∷◌, ◌++◌, map, take, drop, get_or, length, refl, sym, ap, ◌∙◌, subst, arith, Box, Global}
 use Rattle.std.proofs.lemmas.List.{length-map}
-use Rattle.owner_queues.specs.Queues.{Queue, IsQueue, without}
+use Rattle.owner_queues.specs.Queues.{Queue, IsQueue, is_in, without}
 use Rattle.seq_bus_core.specs.BusState.{OwnedName}
 use Rattle.registry_core.specs.NameTables.{owned_name}
 use Rattle.registry_core.specs.declared.name_table.NameEntry.{NameEntry}
-use Rattle.registry_core.proofs.NameTableLemmas.{split_at, map_at, map_set, place_counts, requeued, fewer_places, counted_at, recounted_at}
-use Rattle.registry_core.proofs.CountLemmas.{one_if_in}
-use Rattle.registry_core.specs.NameCounts.{held, all_held}
+use Rattle.registry_core.proofs.NameTableLemmas.{split_at, map_at, map_set, place_counts, requeued, fewer_places}
+use Rattle.registry_core.proofs.CountLemmas.{one_if_in, left_counts, left_length}
+use Rattle.registry_core.proofs.TableIndex.{waits_at, indexed_set}
+use Rattle.registry_core.specs.NameIndexes.{held}
 use Rattle.registry_core.proofs.name_table.NameTable.shorten.Goals as goal
 
 abbrev name_in : Box NameEntry Global → OwnedName
@@ -26,8 +27,8 @@ overflow_sub-self c =
     let queue_is : c.as_slice.result.now ≡ n.queue = c.as_slice.ensures.value ∙ ap (λ (e : NameEntry). e.queue) c.deref.ensures ∙ ap (λ (m : OwnedName). m.queue) at in
     subst (λ (q : Queue). length q ≤ r.queued) (sym queue_is) (place_counts (map name_in items) front back n _ _ _ _ c.self.invariant.0 split.0)
 
-pub leave_queue-requires-clause-counted : goal.leave_queue-requires-clause-counted
-leave_queue-requires-clause-counted c =
+pub take-requires : goal.take-requires
+take-requires c =
     let r = c.self.inside in
     let items = r.entries.items in
     let b : Box NameEntry Global = c.index_mut-entry.result.now in
@@ -37,12 +38,11 @@ leave_queue-requires-clause-counted c =
     let back : List OwnedName = drop (suc c.args.place) (map name_in items) in
     let n : OwnedName = name_in (get_or items c.args.place b) in
     let at : name_in b ≡ n = ap name_in c.index_mut-entry.ensures.value in
-    let old_is : c.deref-2.result.now.queue ≡ n.queue = ap (λ (e : NameEntry). e.queue) c.deref-2.ensures ∙ ap (λ (m : OwnedName). m.queue) at in
-    subst (λ (q : Queue). (k : ℕ) → one_if_in k q ≤ held k r.counts) (sym old_is) (counted_at (map name_in items) front back n r.counts c.self.invariant.1 split.0)
-
-pub leave_queue-requires-clause-once : goal.leave_queue-requires-clause-once
-leave_queue-requires-clause-once c =
-    subst IsQueue (ap (λ (e : NameEntry). e.queue) (c.deref.ensures ∙ sym c.deref-2.ensures)) c.as_slice.ensures.once
+    let waits : is_in c.args.connection b.value.queue ≡ true = subst (λ (m : OwnedName). is_in c.args.connection m.queue ≡ true) (sym at) (c.requires.waits front back n (sym c.self.view_is ∙ split.0) split.1) in
+    let id_is : c.deref-2.result.now.id ≡ b.value.id = ap (λ (e : NameEntry). e.id) c.deref-2.ensures in
+    let one : one_if_in c.args.connection b.value.queue ≡ 1 = rw waits refl in
+    let some : one_if_in c.args.connection b.value.queue ≤ held c.args.connection b.value.id r.index.holdings = waits_at items r.spare.items c.args.place c.args.connection b r.index r.queued c.self.invariant.1 there c.index_mut-entry.ensures.value in
+    subst (λ k. 0 < held c.args.connection k r.index.holdings) (sym id_is) (omega (arith, one, some))
 
 pub invariant_of-self : goal.invariant_of-self
 invariant_of-self c =
@@ -55,21 +55,31 @@ invariant_of-self c =
     let back : List OwnedName = drop (suc c.args.place) (map name_in items) in
     let n : OwnedName = name_in (get_or items c.args.place b) in
     let at : name_in b ≡ n = ap name_in c.index_mut-entry.ensures.value in
-    let queue_is : c.as_slice.result.now ≡ n.queue = c.as_slice.ensures.value ∙ ap (λ (e : NameEntry). e.queue) c.deref.ensures ∙ ap (λ (m : OwnedName). m.queue) at in
-    let left_is : name_in (record b { value = record { name = c.deref_mut.result.now.name; queue = c.leave.new.self } }) ≡ record n { queue = without c.args.connection n.queue } =
+    let waits : is_in c.args.connection b.value.queue ≡ true = subst (λ (m : OwnedName). is_in c.args.connection m.queue ≡ true) (sym at) (c.requires.waits front back n (sym c.self.view_is ∙ split.0) split.1) in
+    let e : Box NameEntry Global = record b { value = record { name = c.deref_mut.result.now.name; queue = c.leave.new.self; id = c.deref_mut.result.now.id } } in
+    let id_is : c.deref-2.result.now.id ≡ b.value.id = ap (λ (k : NameEntry). k.id) c.deref-2.ensures in
+    let queue_is : c.as_slice.result.now ≡ n.queue = c.as_slice.ensures.value ∙ ap (λ (k : NameEntry). k.queue) c.deref.ensures ∙ ap (λ (m : OwnedName). m.queue) at in
+    let shorter : c.leave.new.self ≡ without c.args.connection b.value.queue = c.leave.ensures ∙ ap (λ (k : NameEntry). without c.args.connection k.queue) c.deref_mut.ensures.value in
+    let left_is : name_in e ≡ record n { queue = without c.args.connection n.queue } =
     ap (λ (q : Queue). record { name = c.deref_mut.result.now.name; queue = q }) c.leave.ensures
-    ∙ ap (λ (e : NameEntry). record (owned_name e) { queue = without c.args.connection e.queue }) c.deref_mut.ensures.value ∙ ap (λ (m : OwnedName). record m { queue = without c.args.connection m.queue }) at in
-    let fewer_is : c.as_slice-2.result.now ≡ without c.args.connection n.queue = c.as_slice-2.ensures.value ∙ ap (λ (e : NameEntry). e.queue) c.deref-3.ensures ∙ ap (λ (m : OwnedName). m.queue) left_is in
-    let old_is : c.deref-2.result.now.queue ≡ n.queue = ap (λ (e : NameEntry). e.queue) c.deref-2.ensures ∙ ap (λ (m : OwnedName). m.queue) at in
-    let before = r.counts in
-    let after = c.leave_queue.new.self in
-    let counts : (k : ℕ) → held k after + one_if_in k n.queue ≡ held k before + one_if_in k (without c.args.connection n.queue) =
-    subst (λ (q : Queue). (k : ℕ) → held k after + one_if_in k q ≡ held k before + one_if_in k (without c.args.connection q)) old_is c.leave_queue.ensures.counts in
-    let all : all_held after + length n.queue ≡ all_held before + length (without c.args.connection n.queue) =
-    subst (λ (q : Queue). all_held after + length q ≡ all_held before + length (without c.args.connection q)) old_is c.leave_queue.ensures.all in (
+    ∙ ap (λ (k : NameEntry). record (owned_name k) { queue = without c.args.connection k.queue }) c.deref_mut.ensures.value ∙ ap (λ (m : OwnedName). record m { queue = without c.args.connection m.queue }) at in
+    let fewer_is : c.as_slice-2.result.now ≡ without c.args.connection n.queue = c.as_slice-2.ensures.value ∙ ap (λ (k : NameEntry). k.queue) c.deref-3.ensures ∙ ap (λ (m : OwnedName). m.queue) left_is in
+    let y = c.take.new.self in
+    let its : (k : ℕ) → held k b.value.id y.holdings + one_if_in k b.value.queue ≡ held k b.value.id r.index.holdings + one_if_in k c.leave.new.self =
+    λ k. let taken : held k b.value.id y.holdings + (if c.args.connection == k then 1 else 0) ≡ held k b.value.id r.index.holdings = subst (λ id. held k id y.holdings + (if c.args.connection == k then 1 else 0) ≡ held k id r.index.holdings) id_is (c.take.ensures.its k) in
+    let parts : one_if_in k b.value.queue ≡ (if c.args.connection == k then 1 else 0) + one_if_in k (without c.args.connection b.value.queue) = left_counts k c.args.connection b.value.queue waits in
+    let after : one_if_in k c.leave.new.self ≡ one_if_in k (without c.args.connection b.value.queue) = ap (one_if_in k) shorter in
+    omega (arith, taken, parts, after) in
+    let once : IsQueue n.queue = subst IsQueue (sym c.as_slice.ensures.value ∙ queue_is) c.as_slice.ensures.once in
+    let waits_n : is_in c.args.connection n.queue ≡ true = subst (λ (m : OwnedName). is_in c.args.connection m.queue ≡ true) at waits in
+    let less : length n.queue ≡ length (without c.args.connection n.queue) + 1 = left_length c.args.connection n.queue once waits_n in
+    let few : length n.queue ≤ r.queued = place_counts (map name_in items) front back n _ _ _ _ c.self.invariant.0 split.0 in
+    let all : length y.holdings ≡ r.queued - length c.as_slice.result.now + length c.as_slice-2.result.now = omega (arith, c.take.ensures.all, c.self.invariant.1.all, ap length queue_is, ap length fewer_is, less, few) in (
       rw (map_set name_in items c.args.place _ front back n split.0 split.1, left_is, queue_is, fewer_is)
           (requeued (map name_in items) front back n (without c.args.connection n.queue) _ _ _ _ c.self.invariant.0 split.0 (c.requires.owned front back n (sym c.self.view_is ∙ split.0) split.1) (fewer_places (map name_in items) front back n c.args.connection _ _ _ _ c.self.invariant.0 split.0)),
-      rw (map_set name_in items c.args.place _ front back n split.0 split.1, left_is) (recounted_at (map name_in items) front back n (without c.args.connection n.queue) before after c.self.invariant.1 split.0 counts all),
+      indexed_set items r.spare.items c.args.place b e r.index y r.queued (r.queued - length c.as_slice.result.now + length c.as_slice-2.result.now) c.self.invariant.1 there c.index_mut-entry.ensures.value
+          (ap (λ (k : NameEntry). k.id) c.deref_mut.ensures.value) (ap (λ (k : NameEntry). k.name) c.deref_mut.ensures.value) c.take.ensures.names its
+          (λ k i other. c.take.ensures.others k i (ap (λ id. id == i) id_is ∙ other)) all,
     )
 
 pub returns : goal.returns
@@ -78,7 +88,7 @@ returns c front back n is place_is =
     let b : Box NameEntry Global = c.index_mut-entry.result.now in
     let names_are : map name_in items ≡ front ++ n ∷ back = c.self.view_is ∙ is in
     let at : name_in b ≡ n = ap name_in c.index_mut-entry.ensures.value ∙ map_at name_in items c.args.place b front back n names_are place_is in
-    let left_is : name_in (record b { value = record { name = c.deref_mut.result.now.name; queue = c.leave.new.self } }) ≡ record n { queue = without c.args.connection n.queue } =
+    let left_is : name_in (record b { value = record { name = c.deref_mut.result.now.name; queue = c.leave.new.self; id = c.deref_mut.result.now.id } }) ≡ record n { queue = without c.args.connection n.queue } =
     ap (λ (q : Queue). record { name = c.deref_mut.result.now.name; queue = q }) c.leave.ensures
     ∙ ap (λ (e : NameEntry). record (owned_name e) { queue = without c.args.connection e.queue }) c.deref_mut.ensures.value ∙ ap (λ (m : OwnedName). record m { queue = without c.args.connection m.queue }) at in
-    map_set name_in items c.args.place (record b { value = record { name = c.deref_mut.result.now.name; queue = c.leave.new.self } }) front back n names_are place_is ∙ ap (λ m. front ++ m ∷ back) left_is
+    map_set name_in items c.args.place (record b { value = record { name = c.deref_mut.result.now.name; queue = c.leave.new.self; id = c.deref_mut.result.now.id } }) front back n names_are place_is ∙ ap (λ m. front ++ m ∷ back) left_is

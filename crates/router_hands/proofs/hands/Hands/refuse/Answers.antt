@@ -19,8 +19,8 @@ returns-clause-comes g c =
     let w = c.args.self.now.world in
     let s = c.send.new.self.world in
     let n = c.put_to.new.self.world in
-    let monitors = c.monitors_of-monitors.result in
-    let heard = c.monitors_of-monitors.ensures.routes in
+    let monitors = c.ask_monitors.new.told.monitors in
+    let heard = c.ask_monitors.ensures.routes in
     let put = subst (λ (to : List Conn). Comes g.V.BusView.told g.G.Gate.passes g.V.BusView.alone (putting (all_of to monitors) (Tells own) nothing) s tt n) c.new.ensures c.put_to.ensures.comes in
     subst (λ (q : Peer). Comes g.V.BusView.told g.G.Gate.passes g.V.BusView.alone (Routing 0 (facts_of (own_message 1 own)) (λ (h : Heard Verdict). refuse c.args.key own p h)) w q n) (sym c.count.ensures)
-    (refused g.V.BusView.told g.G.Gate.passes g.V.BusView.alone c.args.key own p w c.monitors_of-monitors.new.self.world s n heard.0 monitors heard.1 heard.2 (c.send.ensures.does (own_message (next_serial p.serial) own) c.requires.written) put)
+    (refused g.V.BusView.told g.G.Gate.passes g.V.BusView.alone c.args.key own p w c.ask_monitors.new.self.world s n heard.0 monitors heard.1 heard.2 (c.send.ensures.does (own_message (next_serial p.serial) own) c.requires.written) put)

@@ -8,7 +8,7 @@ use Rattle.router_hands.proofs.hands.Hands.tell.Goals as goal
 
 pub returns-clause-comes : goal.returns-clause-comes
 returns-clause-comes g c =
-    let asked = c.monitors_of-monitors in
+    let asked = c.ask_monitors in
     let put = subst
     (λ (shown : List Conn). Comes g.V.BusView.told g.G.Gate.passes g.V.BusView.alone (putting (all_of (c.args.conn ∷ []) shown) (Tells (own_of c.args.own)) nothing) asked.new.self.world tt c.put_to_one.new.self.world)
     asked.ensures.routes.2 c.put_to_one.ensures.comes in
