@@ -91,7 +91,7 @@ fn play<J: Naming, R: Print + Clock + Wait>(
     let mut works = Exchange {
         name: "",
         right: report.rt,
-        host: Host::new(alloc, desk),
+        host: Host::new(alloc, desk)?,
         sent: Vec::new(alloc),
     };
     works.prepare(alloc, scene)?;

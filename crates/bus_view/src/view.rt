@@ -4,8 +4,7 @@ ghost use Rattle.std.specs.Prelude.{◌≡◌, true, false, [], Some, is_some, o
 ghost use Rattle.seq_bus_core.specs.Answers.{answer};
 ghost use Rattle.seq_bus_core.specs.BusState.{connection_of};
 ghost use Rattle.seq_bus_core.specs.Histories.{History};
-ghost use Rattle.seq_bus_core.specs.Recipients.{recipients, verdict};
-ghost use Rattle.seq_bus_core.specs.declared.verdict.VerdictKind.TheVariants.{Absent};
+ghost use Rattle.seq_bus_core.specs.Recipients.{recipients};
 ghost use Rattle.seq_bus.specs.Bodies.{Answers};
 ghost use Rattle.seq_bus.specs.Served.{IsServedChange};
 ghost use Rattle.seq_bus.specs.declared.answer.AskFault.TheVariants.{Gone as AskGone};
@@ -78,10 +77,9 @@ pub trait BusView {
         ensures gone { OnErr result (knows self.new ≡ knows self.old) }
         ensures there { alone ≡ true → OnErr result ⊥ };
 
-    /// The same as `route`, told in a verdict that says nothing yet: a verdict is large, and is not moved. Where the bus does not
+    /// The same as `route`, told where there is room for it: a verdict is large, and is not moved. Where the bus does not
     /// say, it stays as it is.
     fn route_into(&mut self, from: u64, facts: &Facts<'_>, found: &mut Verdict) -> Result<(), Gone>
-        requires nothing { found.old ≡ verdict Absent [] [] }
         ensures verdict { OnOk result (found.new ≡ recipients (bus_seen (knows self.new)).state from facts.now) }
         ensures read { OnOk result (IsRead alone (knows self.old) (knows self.new)) }
         ensures gone { OnErr result (knows self.new ≡ knows self.old) }

@@ -66,7 +66,9 @@ fn serve_at<J: Naming, R: Input + Print + AllocGlobal + Wait>(
 ) -> Result<(), RunFault> {
     let desk = Desk::new(rt.alloc(), seat, shared);
     let number = desk.seat();
-    let mut engine = Engine::new(rt.alloc(), desk, OpenGate);
+    let Ok(mut engine) = Engine::new(rt.alloc(), desk, OpenGate) else {
+        return Err(RunFault::Memory);
+    };
     run(
         rt.alloc(),
         &mut engine,

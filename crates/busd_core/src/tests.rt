@@ -20,7 +20,9 @@ fn run<R: Read, W: Write>(alloc: Global, reader: &mut R, writer: &mut W) -> Resu
         return Err(RunFault::Memory);
     };
     let seat = bus.seat();
-    let mut engine = Engine::new(alloc, bus, OpenGate);
+    let Ok(mut engine) = Engine::new(alloc, bus, OpenGate) else {
+        return Err(RunFault::Memory);
+    };
     run_by(alloc, &mut engine, &(), seat, reader, writer)
 }
 

@@ -25,12 +25,12 @@ pub struct Host<V: BusView> {
 }
 
 impl<V: BusView + Drop> Host<V> {
-    pub fn new(alloc: Global, view: V) -> Self {
-        Host {
+    pub fn new(alloc: Global, view: V) -> Result<Self, AllocError> {
+        Ok(Host {
             alloc,
-            engine: Engine::new(alloc, view, OpenGate),
+            engine: Engine::new(alloc, view, OpenGate)?,
             lines: Vec::new(alloc),
-        }
+        })
     }
 
     /// A connection comes. Its key is told.

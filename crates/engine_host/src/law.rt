@@ -46,7 +46,7 @@ fn play<V: BusView + Drop>(
     right: &V::Right,
     length: usize,
 ) -> Result<Host<V>, Fail> {
-    let mut host = Host::new(alloc, view);
+    let mut host = Host::new(alloc, view)?;
     let first = host.connect()?;
     let second = host.connect()?;
     host.send(right, first, HELLO, length)?;
@@ -180,7 +180,7 @@ fn registry_answers_as_a_plain_bus(rt: HostRuntime) {
 #[test]
 fn one_more_than_there_is_room_for(rt: HostRuntime) -> Result<(), Fail> {
     let alloc = rt.alloc();
-    let mut host = Host::new(alloc, bus(&rt, alloc));
+    let mut host = Host::new(alloc, bus(&rt, alloc))?;
     for _connection in 0..256 {
         let key = host.connect()?;
         host.send(&(), key, HELLO, HELLO.len())?;

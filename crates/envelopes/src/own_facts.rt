@@ -125,13 +125,14 @@ impl ReplyContent {
 }
 
 /// Puts what a reply carries.
+#[inline(never)]
 fn put_carried<'a>(
     content: &'a ReplyContent,
     name: &'a Option<UniqueName>,
     arguments: &mut ArrayVec<Argument<'a>, 64>,
 )
     requires name { name.now ≡ option_map unique_text (number_in (carried_of content.now)) }
-    requires none { arguments.old.items ≡ [] }
+    requires none { map argument_of arguments.old.items ≡ [] }
     ensures { map argument_of arguments.new.items ≡ map as_argument (value_arguments (carried_values (carried_of content.now))) }
 {
     match content {
@@ -143,6 +144,7 @@ fn put_carried<'a>(
 }
 
 /// Puts the texts of a signal.
+#[inline(never)]
 fn put_texts<'a>(
     signal: &'a BusSignal,
     names: &'a OwnNames,
@@ -174,13 +176,12 @@ fn member_of(signal: &BusSignal) -> &'static str
 }
 
 /// What is seen of a signal.
+#[inline(always)]
 fn signal_facts<'a>(signal: &'a BusSignal, names: &'a OwnNames) -> Facts<'a>
     requires { names.now ≡ names_of (Signals signal.now) }
     ensures { result ≡ facts_of (own_message 1 (Signals signal.now)) }
 {
-    let mut arguments = ArrayVec::new();
-    put_texts(signal, names, &mut arguments);
-    Facts {
+    let mut facts = Facts {
         kind: MessageKind::Signal,
         auto_start: true,
         sender: 0,
@@ -188,17 +189,16 @@ fn signal_facts<'a>(signal: &'a BusSignal, names: &'a OwnNames) -> Facts<'a>
         interface: Some("org.freedesktop.DBus"),
         member: Some(member_of(signal)),
         destination: lent(&names.destination),
-        arguments,
-    }
+        arguments: ArrayVec::new(),
+    };
+    put_texts(signal, names, &mut facts.arguments);
+    facts
 }
 
-/// What is seen of a reply or an error.
-fn response<'a>(
-    kind: MessageKind,
-    names: &'a OwnNames,
-    arguments: ArrayVec<Argument<'a>, 64>,
-) -> Facts<'a>
-    ensures { result ≡ response_facts kind names.now.destination (map argument_of arguments.entry.items) }
+/// What is seen of a reply or an error, but for its arguments.
+#[inline(always)]
+fn response(kind: MessageKind, names: &OwnNames) -> Facts<'_>
+    ensures { result ≡ response_facts kind names.now.destination [] }
 {
     Facts {
         kind,
@@ -208,27 +208,29 @@ fn response<'a>(
         interface: None,
         member: None,
         destination: lent(&names.destination),
-        arguments,
+        arguments: ArrayVec::new(),
     }
 }
 
 /// What is seen of a reply.
+#[inline(always)]
 fn reply_facts<'a>(content: &'a ReplyContent, names: &'a OwnNames) -> Facts<'a>
     requires { names.now.first ≡ option_map unique_text (number_in (carried_of content.now)) }
     ensures { (to : ReplyTo) → names.now.destination ≡ option_map unique_text to.caller → result ≡ facts_of (own_message 1 (Replies to (carried_of content.now))) }
 {
-    let mut arguments = ArrayVec::new();
-    put_carried(content, &names.first, &mut arguments);
-    response(MessageKind::MethodReturn, names, arguments)
+    let mut facts = response(MessageKind::MethodReturn, names);
+    put_carried(content, &names.first, &mut facts.arguments);
+    facts
 }
 
 /// What is seen of an error.
+#[inline(always)]
 fn error_facts<'a>(error: ErrorKind, names: &'a OwnNames) -> Facts<'a>
     ensures { (to : ReplyTo) → names.now.destination ≡ option_map unique_text to.caller → result ≡ facts_of (own_message 1 (Errs to error)) }
 {
-    let mut arguments = ArrayVec::new();
-    arguments.push(Argument::String(error.text()));
-    response(MessageKind::Error, names, arguments)
+    let mut facts = response(MessageKind::Error, names);
+    facts.arguments.push(Argument::String(error.text()));
+    facts
 }
 
 impl OwnMessage {
@@ -253,6 +255,8 @@ impl OwnMessage {
 
     /// What match rules and routing look at in the message ("Match Rules" of the D-Bus Specification), lent out of it and
     /// its names. It is not written for that, and takes no memory.
+    // Inlined, so that these 1,700 bytes are made where the caller looks at them, and not copied there.
+    #[inline(always)]
     pub fn facts<'a>(&'a self, names: &'a OwnNames) -> Facts<'a>
         requires { names.now ≡ names_of (own_of self.now) }
         ensures { result ≡ facts_of (own_message 1 (own_of self.entry.now)) }

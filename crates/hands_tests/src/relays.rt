@@ -1,11 +1,12 @@
 //! Messages that connections send one another, over a plain bus.
 
-use crate::steps::{FIRST, ready};
+use crate::steps::{FIRST, greet, ready};
 use envelopes::Content;
 use message::Framer;
 use message_core::Message;
+use message_relay::facts;
 use router_core::Action;
-use seq_bus_core::{Conn, Recipients};
+use seq_bus_core::{Conn, Reply, VerdictKind};
 use std::alloc::Global;
 use std::process::Abort;
 
@@ -40,28 +41,22 @@ fn message_of(rt: &impl Abort, alloc: Global, bytes: &[u8]) -> Message {
     }
 }
 
-/// One connection.
-fn only(conn: Conn) -> Recipients {
-    let mut recipients = Recipients::new();
-    recipients.push(conn);
-    recipients
-}
-
 #[test]
 fn a_reply_is_relayed(rt: HostRuntime) {
     let mut hands = ready(&rt, rt.alloc());
     let reply = message_of(&rt, rt.alloc(), REPLY);
-    if hands
-        .relay_to(&reply, FIRST, only(SECOND), Recipients::new())
-        .is_err()
-    {
+    hands
+        .relay(&reply, FIRST)
+        .expect(&rt, "to nobody it takes no memory");
+    assert_eq!(rt; greet(&rt, &mut hands).reply, Reply::Welcome(FIRST));
+    assert_eq!(rt; greet(&rt, &mut hands).reply, Reply::Welcome(SECOND));
+    assert!(rt; hands.route(1, &facts(&reply)).is_ok());
+    assert_eq!(rt; hands.told_kind(), VerdictKind::Plain);
+    if hands.relay(&reply, FIRST).is_err() {
         hands
-            .relay_to(&reply, FIRST, only(SECOND), Recipients::new())
+            .relay(&reply, FIRST)
             .expect(&rt, "one allocation fails");
     }
-    hands
-        .relay_to(&reply, FIRST, Recipients::new(), Recipients::new())
-        .expect(&rt, "it takes no memory");
     let actions = hands.take_actions();
     assert_eq!(rt; actions.len(), 1);
     let Some(
@@ -83,29 +78,15 @@ fn a_reply_is_relayed(rt: HostRuntime) {
 }
 
 #[test]
-fn a_monitor_is_shown_a_message(rt: HostRuntime) {
+fn a_message_is_shown_to_no_monitor(rt: HostRuntime) {
     let mut hands = ready(&rt, rt.alloc());
     let reply = message_of(&rt, rt.alloc(), REPLY);
+    assert_eq!(rt; greet(&rt, &mut hands).reply, Reply::Welcome(FIRST));
+    assert_eq!(rt; greet(&rt, &mut hands).reply, Reply::Welcome(SECOND));
+    assert!(rt; hands.route(1, &facts(&reply)).is_ok());
+    hands.show(&reply, FIRST).expect(&rt, "it takes no memory");
     hands
-        .show(&reply, FIRST, Recipients::new())
+        .relay_to_monitors(&reply, FIRST)
         .expect(&rt, "it takes no memory");
-    if hands.show(&reply, FIRST, only(SECOND)).is_err() {
-        hands
-            .show(&reply, FIRST, only(SECOND))
-            .expect(&rt, "one allocation fails");
-    }
-    let actions = hands.take_actions();
-    assert_eq!(rt; actions.len(), 1);
-    let Some(
-        Action::Put {
-            to,
-            note: _,
-            content: _,
-        },
-    ) = actions.get(0)
-    else {
-        panic!(rt; "it is put");
-    };
-    assert!(rt; to.to().is_empty());
-    assert_eq!(rt; to.monitors(), [SECOND].as_slice());
+    assert!(rt; hands.take_actions().is_empty());
 }

@@ -34,7 +34,10 @@ fn bus(rt: &impl Abort, alloc: Global) -> SeqBus {
 pub(crate) fn ready(rt: &impl Abort, alloc: Global) -> Hands<SeqBus, OpenGate>
     ensures { result.room ≡ 4 }
 {
-    let mut hands = Hands::new(alloc, bus(rt, alloc), OpenGate);
+    let mut hands = match Hands::new(alloc, bus(rt, alloc), OpenGate) {
+        Ok(hands) => hands,
+        Err(_) => Hands::new(alloc, bus(rt, alloc), OpenGate).expect(rt, "one allocation fails"),
+    };
     if hands.reserve(4).is_err() {
         hands.reserve(4).expect(rt, "one allocation fails");
     }

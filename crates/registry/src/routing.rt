@@ -17,25 +17,31 @@ impl Registry {
     pub fn route(&self, from: u64, facts: &Facts<'_>) -> Verdict
         ensures { result ≡ recipients self.now from facts.now }
     {
-        let mut verdict = Verdict {
-            kind: VerdictKind::Absent,
-            to: Recipients::new(),
-            monitors: Recipients::new(),
-        };
+        let mut verdict = Verdict::new();
         self.route_into(from, facts, &mut verdict);
         verdict
     }
 
-    /// The same as `route`, told where nothing was told yet: a verdict is large, and is not moved.
+    /// The same as `route`, told where there is room for it: a verdict is large, and is not moved.
     pub fn route_into(&self, from: u64, facts: &Facts<'_>, told: &mut Verdict)
-        requires { told.old ≡ verdict Absent [] [] }
         ensures { told.new ≡ recipients self.now from facts.now }
     {
+        told.clear();
         if facts.sender == from {
             self.judge(facts, told);
         } else {
-            self.judge(&with_sender(facts, from), told);
+            self.judge_as(from, facts, told);
         }
+    }
+
+    /// Where a message goes as from this sender, told where nothing was told yet. The facts are copied, with room for all their
+    /// arguments: that is kept out of the way of those that name their sender.
+    #[inline(never)]
+    fn judge_as(&self, sender: u64, facts: &Facts<'_>, told: &mut Verdict)
+        requires { told.old ≡ verdict Absent [] [] }
+        ensures { told.new ≡ verdict_of self.now (record facts.now { sender = sender }) }
+    {
+        self.judge(&with_sender(facts, sender), told);
     }
 
     /// Where a message goes, told where nothing was told yet.

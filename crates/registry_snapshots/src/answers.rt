@@ -1,10 +1,9 @@
 //! What a copy of the registry answers, and what it lends.
 
-ghost use Rattle.std.specs.Prelude.{◌≡◌, [], List, is_some, map, option_map};
+ghost use Rattle.std.specs.Prelude.{◌≡◌, List, is_some, map, option_map};
 ghost use Rattle.seq_bus_core.specs.BusState.{AddedRule, connection_of, conn_of, head_of, queue_of};
 ghost use Rattle.seq_bus_core.specs.Consistency.{IsConsistent, IsWithinLimits};
-ghost use Rattle.seq_bus_core.specs.Recipients.{recipients, verdict};
-ghost use Rattle.seq_bus_core.specs.declared.verdict.VerdictKind.TheVariants.{Absent};
+ghost use Rattle.seq_bus_core.specs.Recipients.{recipients};
 ghost use Rattle.registry_core.specs.Listening.{connection_of_member};
 ghost use Rattle.registry_core.specs.NameTables.{owned_name};
 ghost use Rattle.registry_core.specs.RulesOf.{rules_by, rules_left};
@@ -24,9 +23,8 @@ impl Snap {
         self.registry().route(from, facts)
     }
 
-    /// The same as `route`, told where nothing was told yet: a verdict is large, and is not moved.
+    /// The same as `route`, told where there is room for it: a verdict is large, and is not moved.
     pub fn route_into(&self, from: u64, facts: &Facts<'_>, told: &mut Verdict)
-        requires { told.old ≡ verdict Absent [] [] }
         ensures { told.new ≡ recipients self.now.bus from facts.now }
     {
         self.registry().route_into(from, facts, told);

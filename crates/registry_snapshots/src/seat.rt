@@ -4,9 +4,8 @@ ghost use Rattle.std.specs.Prelude.{◌≡◌, ◌⊎◌, ◌+◌, [], Some, is_
 ghost use Rattle.std.specs.Fn.{FnOnceReturnsAt};
 ghost use Rattle.seq_bus_core.specs.BusState.{connection_of};
 ghost use Rattle.seq_bus_core.specs.Histories.{IsLegal, Begins};
-ghost use Rattle.seq_bus_core.specs.Recipients.{recipients, verdict};
+ghost use Rattle.seq_bus_core.specs.Recipients.{recipients};
 ghost use Rattle.seq_bus_core.specs.Tickets.{bus_after};
-ghost use Rattle.seq_bus_core.specs.declared.verdict.VerdictKind.TheVariants.{Absent};
 ghost use Rattle.registry.specs.Served.{IsServedChange};
 ghost use Rattle.registry_snapshots.specs.Copies.{SnapView};
 ghost use Rattle.registry_snapshots.specs.Seats.{fresh, longer, IsChanged, IsRead};
@@ -157,7 +156,7 @@ impl<J: Naming> Seat<J> {
         Ok(verdict)
     }
 
-    /// The same as `route`, told where nothing was told yet: a verdict is large, and is not moved. Nothing is told where the
+    /// The same as `route`, told where there is room for it: a verdict is large, and is not moved. Nothing is told where the
     /// registry has ended.
     pub fn route_into(
         &mut self,
@@ -165,7 +164,6 @@ impl<J: Naming> Seat<J> {
         facts: &Facts<'_>,
         told: &mut Verdict,
     ) -> Result<(), Gone>
-        requires { told.old ≡ verdict Absent [] [] }
         ensures verdict { OnOk result (told.new ≡ recipients (bus_after J.opening self.new.seen).state from facts.now) }
         ensures read { OnOk result (IsRead self.old.seen self.old.number self.old.made self.new.seen) }
         ensures kept { (self.new.number ≡ self.old.number) × (self.new.made ≡ self.old.made) × (self.new.held ≡ self.old.held) }

@@ -33,16 +33,18 @@ impl<V: BusView, G: Gate> Model for Engine<V, G> {
     ghost invariant = { λ e. e.served.work.world.actions ≡ [] };
 }
 
-impl<V: BusView, G: Gate> Engine<V, G> {
-    /// An engine without connections.
-    pub fn new(alloc: Global, view: V, gate: G) -> Engine<V, G>
-        ensures { result ≡ record { standing = fresh; view = V.knows view; gate = gate } }
+impl<V: BusView + Drop, G: Gate + Drop> Engine<V, G> {
+    /// An engine without connections. It takes some memory.
+    pub fn new(alloc: Global, view: V, gate: G) -> Result<Engine<V, G>, AllocError>
+        ensures { IfOk result (λ engine. engine ≡ record { standing = fresh; view = V.knows view; gate = gate }) }
     {
-        Engine {
-            served: Served::new(alloc, view, gate),
-        }
+        Ok(Engine {
+            served: Served::new(alloc, view, gate)?,
+        })
     }
+}
 
+impl<V: BusView, G: Gate> Engine<V, G> {
     /// A key for the next connection: none has it.
     pub fn free_key(&self) -> usize
         ensures { IsFree self.now.standing result }

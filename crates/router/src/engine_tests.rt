@@ -14,7 +14,7 @@ type Plain = Engine<SeqBus, OpenGate>;
 
 #[test]
 fn a_connection_comes_and_goes(rt: HostRuntime) -> Result<(), Fail> {
-    let mut engine = Engine::new(rt.alloc(), bus(&rt, rt.alloc()), OpenGate);
+    let mut engine = Engine::new(rt.alloc(), bus(&rt, rt.alloc()), OpenGate)?;
     let key = engine.free_key();
     assert!(rt; engine.is_free(key));
     assert!(rt; engine.opened(key)?.is_empty());
@@ -70,7 +70,7 @@ fn greeted(
 
 #[test]
 fn hello_in_pieces(rt: HostRuntime) -> Result<(), Fail> {
-    let mut engine = Engine::new(rt.alloc(), bus(&rt, rt.alloc()), OpenGate);
+    let mut engine = Engine::new(rt.alloc(), bus(&rt, rt.alloc()), OpenGate)?;
     let key = engine.free_key();
     assert!(rt; engine.event(&(), Event::Opened { key })?.is_empty());
     let actions = greeted(&rt, &mut engine, rt.alloc(), key)?;
@@ -99,7 +99,7 @@ fn hello_in_pieces(rt: HostRuntime) -> Result<(), Fail> {
 
 #[test]
 fn mail_of_an_event(rt: HostRuntime) -> Result<(), Fail> {
-    let mut engine = Engine::new(rt.alloc(), bus(&rt, rt.alloc()), OpenGate);
+    let mut engine = Engine::new(rt.alloc(), bus(&rt, rt.alloc()), OpenGate)?;
     let key = engine.free_key();
     assert!(rt; engine.event(&(), Event::Opened { key })?.is_empty());
     let _greeted = greeted(&rt, &mut engine, rt.alloc(), key)?;

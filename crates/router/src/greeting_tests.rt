@@ -8,7 +8,7 @@ ghost use Rattle.router_hands.specs.Refusing.{AreRefusals};
 ghost use Rattle.router_hands.specs.Writing.{IsSpelled};
 
 use super::*;
-use crate::tests::{FIRST, bus};
+use crate::tests::{FIRST, serving};
 use envelopes::Content;
 use message::Framer;
 use message_core::Message;
@@ -60,7 +60,7 @@ fn one_opened(rt: &impl Abort, alloc: Global) -> Served<SeqBus, OpenGate>
     ensures room { result.work.room ≡ 3 }
     ensures key { 0 < length result.standing.peers }
 {
-    let mut served = Served::new(alloc, bus(rt, alloc), OpenGate);
+    let mut served = serving(rt, alloc);
     if served.open(0).is_err() {
         served.open(0).expect(rt, "one allocation fails");
     }

@@ -1,6 +1,6 @@
 //! The connections with what serves them, while an event is served.
 
-ghost use Rattle.std.specs.Prelude.{◌≡◌, ◌↔◌, IsTrue, [], OnOk, OnErr};
+ghost use Rattle.std.specs.Prelude.{◌≡◌, ◌↔◌, IsTrue, [], IfOk, OnOk, OnErr};
 ghost use Rattle.router_core.specs.Events.{fed, for_peer, IsFree};
 ghost use Rattle.router_core.specs.Scripts.{Gives, Comes};
 ghost use Rattle.router_core.specs.Standing.{fresh, opened, peer_at};
@@ -45,22 +45,24 @@ fn forget(vacated: &mut Vec<usize>, key: usize) {
     }
 }
 
-impl<V: BusView, G: Gate> Served<V, G> {
+impl<V: BusView + Drop, G: Gate + Drop> Served<V, G> {
     /// No connections.
-    pub fn new(alloc: Global, view: V, gate: G) -> Served<V, G>
-        ensures standing { result.standing ≡ fresh }
-        ensures world { result.work.world ≡ record { view = V.knows view; gate = gate; actions = [] } }
+    pub fn new(alloc: Global, view: V, gate: G) -> Result<Served<V, G>, AllocError>
+        ensures standing { IfOk result (λ served. served.standing ≡ fresh) }
+        ensures world { IfOk result (λ served. served.work.world ≡ record { view = V.knows view; gate = gate; actions = [] }) }
     {
-        Served {
+        Ok(Served {
             alloc,
-            hands: Hands::new(alloc, view, gate),
+            hands: Hands::new(alloc, view, gate)?,
             peers: Vec::new(alloc),
             places: [0; SLOT_COUNT],
             vacated: Vec::new(alloc),
             leaves: Vec::new(alloc),
-        }
+        })
     }
+}
 
+impl<V: BusView, G: Gate> Served<V, G> {
     /// Makes room for so many actions.
     pub fn reserve(&mut self, count: usize) -> Result<(), AllocError>
         ensures standing { self.new.standing ≡ self.old.standing }

@@ -1,5 +1,8 @@
 //! Events over a plain bus.
 
+ghost use Rattle.std.specs.Prelude.{◌≡◌};
+ghost use Rattle.router_core.specs.Standing.{fresh};
+
 use super::*;
 use crate::greeting_tests::HELLO;
 use envelopes::{Content, Envelope, OwnMessage};
@@ -28,6 +31,16 @@ pub(crate) fn bus(rt: &impl Abort, alloc: Global) -> SeqBus {
     }
 }
 
+/// No connections over a plain bus, made once more where one allocation failed.
+pub(crate) fn serving(rt: &impl Abort, alloc: Global) -> Served<SeqBus, OpenGate>
+    ensures { result.standing ≡ fresh }
+{
+    match Served::new(alloc, bus(rt, alloc), OpenGate) {
+        Ok(served) => served,
+        Err(_) => Served::new(alloc, bus(rt, alloc), OpenGate).expect(rt, "one allocation fails"),
+    }
+}
+
 /// What the first connection of a bus is shown.
 pub(crate) fn acquired() -> OwnMessage {
     OwnMessage::Signal(BusSignal::NameAcquired {
@@ -38,7 +51,7 @@ pub(crate) fn acquired() -> OwnMessage {
 
 #[test]
 fn keys_of_connections(rt: HostRuntime) {
-    let mut served = Served::new(rt.alloc(), bus(&rt, rt.alloc()), OpenGate);
+    let mut served = serving(&rt, rt.alloc());
     assert_eq!(rt; served.free_key(), 0);
     if served.open(0).is_err() {
         served.open(0).expect(&rt, "one allocation fails");
@@ -135,7 +148,7 @@ fn send(rt: &impl Abort, served: &mut Served<SeqBus, OpenGate>, number: u64) {
 
 #[test]
 fn a_named_connection_leaves(rt: HostRuntime) {
-    let mut served = Served::new(rt.alloc(), bus(&rt, rt.alloc()), OpenGate);
+    let mut served = serving(&rt, rt.alloc());
     assert_eq!(rt; named(&rt, &mut served), FIRST);
     let second = named(&rt, &mut served);
     listen(&rt, &mut served, second.number);
@@ -152,7 +165,7 @@ fn a_named_connection_leaves(rt: HostRuntime) {
 
 #[test]
 fn mail_comes_late(rt: HostRuntime) {
-    let mut served = Served::new(rt.alloc(), bus(&rt, rt.alloc()), OpenGate);
+    let mut served = serving(&rt, rt.alloc());
     assert_eq!(rt; named(&rt, &mut served), FIRST);
     send(&rt, &mut served, 1);
     let actions = served.take_actions();
@@ -170,7 +183,7 @@ fn mail_comes_late(rt: HostRuntime) {
 
 #[test]
 fn a_connection_that_left_is_closed(rt: HostRuntime) {
-    let mut served = Served::new(rt.alloc(), bus(&rt, rt.alloc()), OpenGate);
+    let mut served = serving(&rt, rt.alloc());
     assert_eq!(rt; named(&rt, &mut served), FIRST);
     let leave = Change::Leave { connection: 1 };
     if served.hands.change(&(), leave).is_err() {

@@ -1,5 +1,5 @@
 -- A message is put with its sender's name, or it is not.
-use Rattle.std.proofs.Common.{◌≡◌, Bool, true, false, Option, Some, Result, Ok, Err, List, [], ◌∷◌, length, refl, sym, ap, subst, ◌∙◌, if◌then◌else◌, IsErrOf, IsTrue, ◌↔◌}
+use Rattle.std.proofs.Common.{◌≡◌, Bool, true, false, Option, Some, Result, Ok, Err, List, [], ◌∷◌, refl, sym, ap, subst, ◌∙◌, if◌then◌else◌, IsErrOf, IsTrue, ◌↔◌}
 use Rattle.seq_bus_core.specs.Histories.{History}
 use Rattle.seq_bus_core.specs.declared.connection.Conn.{Conn}
 use Rattle.message_core.specs.Messages.{Message}
@@ -44,13 +44,13 @@ module _ {N G : Type 0} (told : N → History) (passes : G → GatedCall → G �
       Comes told passes alone goes_on n fate end → Comes told passes alone (relayed m sender to goes_on) w fate end
   relays to said w n short is p q = fits to w short (put to w n (subst (λ (s : Said). Comes told passes alone (putting to s nothing) w tt n) is p) q)
 
-  dropped : (to monitors : List Conn) (w : World N G) → (length to ≡ 0 → length monitors ≡ 0 → ⊥) → Comes told passes alone (and_stays (err_if_call m sender error.NoMemory)) w fate end →
+  dropped : (to monitors : List Conn) (w : World N G) → ((to ≡ []) × (monitors ≡ []) → ⊥) → Comes told passes alone (and_stays (err_if_call m sender error.NoMemory)) w fate end →
       Comes told passes alone (copied m sender (all_of to monitors) goes_on) w fate end
   dropped (conn ∷ conns) monitors w some p = (false, p)
   dropped [] (conn ∷ conns) w some p = (false, p)
-  dropped [] [] w some p = absurd (some refl refl)
+  dropped [] [] w some p = absurd (some (refl, refl))
 
-  pub refuses : (fault : RelayFault) (to monitors : List Conn) (w : World N G) → is_too_long (signed m sender) ≡ is_for_length fault → (length to ≡ 0 → length monitors ≡ 0 → ⊥) →
+  pub refuses : (fault : RelayFault) (to monitors : List Conn) (w : World N G) → is_too_long (signed m sender) ≡ is_for_length fault → ((to ≡ []) × (monitors ≡ []) → ⊥) →
       Comes told passes alone (not_put fault m sender) w fate end → Comes told passes alone (relayed m sender (all_of to monitors) goes_on) w fate end
   refuses relay.NoMemory to monitors w long some p = fits (all_of to monitors) w long (dropped to monitors w some p)
   refuses relay.TooLong to monitors w long some p = subst (λ (b : Bool). Comes told passes alone (if b then Gives (Some cause.TooLong) else copied m sender (all_of to monitors) goes_on) w fate end) (sym long) p

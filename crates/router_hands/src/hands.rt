@@ -1,11 +1,9 @@
 //! What serves connections: the view of the bus, the gate, and the actions so far.
 
-ghost use Rattle.std.specs.Prelude.{◌≡◌, ◌<◌, ◌≤◌, ◌+◌, ◌++◌, ◌∷◌, [], Option, IfOk, OnOk, OnErr};
+ghost use Rattle.std.specs.Prelude.{◌≡◌, ◌↔◌, ◌<◌, ◌≤◌, ◌+◌, ◌++◌, ◌∷◌, [], Option, IfOk, IfSome, IsTrue, OnOk, OnErr};
 ghost use Rattle.message_core.specs.Messages.{Message, IsWritten};
 ghost use Rattle.seq_bus.specs.Served.{IsServedChange};
 ghost use Rattle.seq_bus_core.specs.Answers.{Answer};
-ghost use Rattle.seq_bus_core.specs.Recipients.{verdict};
-ghost use Rattle.seq_bus_core.specs.declared.verdict.VerdictKind.TheVariants.{Absent};
 ghost use Rattle.envelopes.specs.Contents.{said_of};
 ghost use Rattle.router_core.specs.Answers.{Heard};
 ghost use Rattle.router_core.specs.Deeds.{Writes, Sends, Puts, Closes, all_of};
@@ -20,11 +18,11 @@ use envelopes::Content;
 use match_rules::Facts;
 use router_core::{Action, Addressees, CloseCause, Crowd, Gate};
 use seq_bus::{AskFault, Asked};
-use seq_bus_core::{Change, Outcome, Query, Recipients, Signals, Verdict};
+use seq_bus_core::{Change, Conn, Outcome, Query, Signals, Verdict, VerdictKind};
 use std::alloc::{AllocError, Global};
 use std::marker::Model;
 
-/// The view, the gate and the actions so far, with room for some more.
+/// The view, the gate and the actions so far, with room for some more, and where a message goes, as the bus told last.
 #[derive(Drop)]
 pub struct Hands<V: BusView, G: Gate> {
     pub(crate) alloc: Global,
@@ -33,6 +31,8 @@ pub struct Hands<V: BusView, G: Gate> {
     actions: Vec<Action<V::Note>>,
     /// Room for those that messages are put to.
     crowds: Vec<Box<Crowd>>,
+    /// It is large, so it stays in one place.
+    pub(crate) told: Box<Verdict>,
     room: usize,
 }
 
@@ -42,26 +42,32 @@ impl<V: BusView, G: Gate> Model for Hands<V, G> {
 
     ghost Value = { Work V.Note G };
 
-    ghost view = { λ h. record { world = record { view = V.knows h.view; gate = h.gate; actions = h.actions.items }; room = h.room } };
+    ghost view = { λ h. record { world = record { view = V.knows h.view; gate = h.gate; actions = h.actions.items }; told = h.told.value; room = h.room } };
 
     ghost invariant = { λ h. (h.room + vec_len h.actions ≤ vec_capacity h.actions) × (h.room ≤ vec_len h.crowds) };
 }
 
-impl<V: BusView, G: Gate> Hands<V, G> {
+impl<V: BusView + Drop, G: Gate + Drop> Hands<V, G> {
     /// Hands that did nothing yet.
-    pub fn new(alloc: Global, view: V, gate: G) -> Hands<V, G>
-        ensures world { result.world ≡ record { view = V.knows view; gate = gate; actions = [] } }
+    pub fn new(alloc: Global, view: V, gate: G) -> Result<Hands<V, G>, AllocError>
+        ensures { IfOk result (λ hands. hands.world ≡ record { view = V.knows view; gate = gate; actions = [] }) }
     {
-        Hands {
+        let Ok(told) = Box::new(alloc, Verdict::new()) else {
+            return Err(AllocError);
+        };
+        Ok(Hands {
             alloc,
             view,
             gate,
             actions: Vec::new(alloc),
             crowds: Vec::new(alloc),
+            told,
             room: 0,
-        }
+        })
     }
+}
 
+impl<V: BusView, G: Gate> Hands<V, G> {
     /// Makes room for so many actions.
     pub fn reserve(&mut self, count: usize) -> Result<(), AllocError>
         ensures world { self.new.world ≡ self.old.world }
@@ -90,6 +96,7 @@ impl<V: BusView, G: Gate> Hands<V, G> {
     fn act(&mut self, action: Action<V::Note>)
         requires { 0 < self.old.room }
         ensures world { self.new.world ≡ having_done self.old.world (action ∷ []) }
+        ensures told { self.new.told ≡ self.old.told }
         ensures room { self.new.room + 1 ≡ self.old.room }
     {
         push_reserved(&mut self.actions, action);
@@ -109,6 +116,7 @@ impl<V: BusView, G: Gate> Hands<V, G> {
     pub fn send(&mut self, key: usize, message: Vec<u8>)
         requires { 0 < self.old.room }
         ensures does { (m : Message) → IsWritten message.items m → Does V.told V.alone (Sends key m) self.old.world self.new.world }
+        ensures told { self.new.told ≡ self.old.told }
         ensures room { self.new.room + 1 ≡ self.old.room }
     {
         self.act(Action::Write {
@@ -136,31 +144,34 @@ impl<V: BusView, G: Gate> Hands<V, G> {
         self.act(Action::Put { to, note, content });
     }
 
-    /// Puts a message to several.
-    fn put_to_all(&mut self, to: Recipients, monitors: Recipients, content: Content)
+    /// Puts a message to those that the bus told last, where they are several.
+    fn put_to_crowd(&mut self, content: Content)
         requires { 0 < self.old.room }
-        ensures does { Does V.told V.alone (Puts (all_of to monitors) (said_of content)) self.old.world self.new.world }
+        ensures does { Does V.told V.alone (Puts (all_of self.old.told.to self.old.told.monitors) (said_of content)) self.old.world self.new.world }
         ensures room { self.old.room ≤ self.new.room + 1 }
     {
         let note = self.view.note();
         self.room -= 1;
         if let Some(crowd) = self.crowds.pop() {
-            let to = filled(crowd, to, monitors);
+            let to = filled(crowd, &self.told);
             push_reserved(&mut self.actions, Action::Put { to, note, content });
         }
     }
 
-    /// Puts a message to recipients and to monitors, each once; to nobody it is not put.
-    #[tactic(auto, using(crate::proofs::Putting::put_to_somebody, crate::proofs::Putting::put_to_nobody))]
-    pub fn put_to(&mut self, to: Recipients, monitors: Recipients, content: Content)
+    /// Puts a message to the recipients and to the monitors that the bus told last, each once; to nobody it is not put.
+    pub fn put_told(&mut self, content: Content)
         requires { 0 < self.old.room }
-        ensures comes { Comes V.told G.passes V.alone (putting (all_of to monitors) (said_of content) nothing) self.old.world tt self.new.world }
+        ensures comes { Comes V.told G.passes V.alone (putting (all_of self.old.told.to self.old.told.monitors) (said_of content) nothing) self.old.world tt self.new.world }
         ensures room { self.old.room ≤ self.new.room + 1 }
     {
-        if to.as_slice().is_empty() && monitors.as_slice().is_empty() {
+        if let Some(conn) = self.only_one() {
+            self.put(Addressees::one(conn), content);
             return;
         }
-        self.put_to_all(to, monitors, content);
+        if self.is_for_nobody() {
+            return;
+        }
+        self.put_to_crowd(content);
     }
 
     /// Puts the signals of a change, in order.
@@ -190,18 +201,64 @@ impl<V: BusView, G: Gate> Hands<V, G> {
     }
 
     /// Asks who gets a message of the connection of this number, and which monitors are shown it. 0 is the bus.
-    ///
-    /// It is told where nothing was told yet: a verdict is large, and is not moved. Where the bus does not say, nothing is told.
-    pub fn route(&mut self, from: u64, facts: &Facts<'_>, told: &mut Verdict) -> Result<(), Gone>
-        requires { told.old ≡ verdict Absent [] [] }
-        ensures routes { Routes V.alone from facts.now self.old.world (heard_verdict result told.new) self.new.world }
-        ensures untold { OnErr result (told.new ≡ told.old) }
+    pub fn route(&mut self, from: u64, facts: &Facts<'_>) -> Result<(), Gone>
+        ensures routes { Routes V.alone from facts.now self.old.world (heard_verdict result self.new.told) self.new.world }
         ensures room { self.new.room ≡ self.old.room }
     {
-        match self.view.route_into(from, facts, told) {
+        match self.view.route_into(from, facts, &mut self.told) {
             Ok(()) => Ok(()),
             Err(gone) => Err(gone),
         }
+    }
+
+    /// What becomes of a message, as the bus told last.
+    pub fn told_kind(&self) -> VerdictKind
+        ensures { result ≡ self.now.told.kind }
+    {
+        self.told.kind
+    }
+
+    /// The one connection that a message goes to, if it goes to one and no monitor is shown it.
+    fn only_one(&self) -> Option<Conn>
+        ensures { IfSome result (λ conn. (self.now.told.to ≡ conn ∷ []) × (self.now.told.monitors ≡ [])) }
+    {
+        let (conn, rest) = self.told.to.as_slice().split_first()?;
+        if !rest.is_empty() {
+            return None;
+        }
+        if !self.told.monitors.as_slice().is_empty() {
+            return None;
+        }
+        Some(*conn)
+    }
+
+    /// Whether a message goes to nobody, and no monitor is shown it.
+    pub(crate) fn is_for_nobody(&self) -> bool
+        ensures { IsTrue result ↔ ((self.now.told.to ≡ []) × (self.now.told.monitors ≡ [])) }
+    {
+        self.told.to.as_slice().is_empty() && self.told.monitors.as_slice().is_empty()
+    }
+
+    /// It goes to the monitors alone.
+    pub(crate) fn tell_monitors_alone(&mut self)
+        ensures { self.new ≡ record self.old { told = record self.old.told { to = [] } } }
+    {
+        self.told.to.clear();
+    }
+
+    /// It goes to one connection, and to the monitors.
+    pub(crate) fn tell_one(&mut self, conn: Conn)
+        ensures { self.new ≡ record self.old { told = record self.old.told { to = conn ∷ [] } } }
+    {
+        self.told.to.clear();
+        self.told.to.push(conn);
+    }
+
+    /// It goes to no monitors.
+    pub(crate) fn tell_no_monitors(&mut self)
+        ensures { self.new ≡ record self.old { told = record self.old.told { monitors = [] } } }
+    {
+        self.told.monitors.clear();
     }
 
     /// Asks whether there is a connection of this number.

@@ -14,13 +14,12 @@ ghost use Rattle.router_hands.specs.Refusing.{IsRefusal, AreRefusals, hello_of};
 use crate::hands::Hands;
 use crate::mail::bytes_of;
 use crate::peer::Peer;
-use crate::telling::untold;
 use bus_view::{BusView, Cause};
 use driver::{ReplyTo, expects_reply};
 use envelopes::{CallToAnswer, Content, OwnMessage};
 use message_core::Message;
 use router_core::{CloseCause, Gate};
-use seq_bus_core::{ErrorKind, Recipients};
+use seq_bus_core::ErrorKind;
 use std::alloc::{AllocError, Global};
 use std::marker::Model;
 
@@ -97,11 +96,11 @@ impl<V: BusView, G: Gate> Hands<V, G> {
         ensures comes { Comes V.told G.passes V.alone (Routing 0 (facts_of (own_message 1 (own_of own))) (λ heard. refuse key (own_of own) peer.old heard)) self.old.world peer.new self.new.world }
         ensures room { self.old.room ≤ self.new.room + 2 }
     {
-        let mut verdict = untold();
-        self.ask_monitors(&own, &mut verdict);
+        self.ask_monitors(&own);
+        self.tell_monitors_alone();
         peer.count();
         self.send(key, bytes);
-        self.put_to(Recipients::new(), verdict.monitors, Content::Own(own));
+        self.put_told(Content::Own(own));
     }
 
     /// Answers a Hello an error, if it wants an answer. The connection stays without a name: it may say Hello again.

@@ -1,6 +1,6 @@
 //! Messages that connections send one another. (D-Bus Specification: "Message Bus Message Routing")
 
-ghost use Rattle.std.specs.Prelude.{◌≡◌, ◌<◌, ◌≤◌, ◌+◌, [], ◌∷◌, Option, length, IfOk, IfSome};
+ghost use Rattle.std.specs.Prelude.{◌≡◌, ◌<◌, ◌≤◌, ◌+◌, Option, IfOk};
 ghost use Rattle.envelopes.specs.Contents.{Relays, said_of};
 ghost use Rattle.message_core.specs.Said.{said};
 ghost use Rattle.message_relay.specs.MessageBytes.{message_bytes, is_too_long};
@@ -16,23 +16,9 @@ use envelopes::{Content, SharedBytes};
 use message_core::Message;
 use message_relay::{RelayFault, relayed_length, with_sender};
 use names::UniqueName;
-use router_core::{Addressees, Gate};
-use seq_bus_core::{Conn, Recipients};
+use router_core::Gate;
+use seq_bus_core::Conn;
 use std::sync::Arc;
-
-/// The one connection that a message is put to, if it is put to one and no monitor is shown it.
-fn only_one(to: &Recipients, monitors: &Recipients) -> Option<Conn>
-    ensures { IfSome result (λ conn. (to.now ≡ conn ∷ []) × (monitors.now ≡ [])) }
-{
-    let (conn, rest) = to.as_slice().split_first()?;
-    if !rest.is_empty() {
-        return None;
-    }
-    if !monitors.as_slice().is_empty() {
-        return None;
-    }
-    Some(*conn)
-}
 
 impl<V: BusView, G: Gate> Hands<V, G> {
     /// The message as it is passed on, with its sender's name.
@@ -51,113 +37,59 @@ impl<V: BusView, G: Gate> Hands<V, G> {
         }
     }
 
-    /// Puts a message to one connection, with its sender's name.
-    fn relay_to_one(
-        &mut self,
-        message: &Message,
-        sender: Conn,
-        conn: Conn,
-    ) -> Result<(), RelayFault>
-        requires { 0 < self.old.room }
-        ensures comes { (goes_on : Fated) (fate : Option Cause) (end : World V.Note G) → Comes V.told G.passes V.alone (once_put result (said message.now) sender goes_on) self.new.world fate end → Comes V.told G.passes V.alone (relayed (said message.now) sender (conn ∷ []) goes_on) self.old.world fate end }
-        ensures room { self.old.room ≤ self.new.room + 1 }
-    {
-        match self.sign(message, sender) {
-            Ok(content) => {
-                self.put(Addressees::one(conn), content);
-                Ok(())
-            }
-            Err(fault) => Err(fault),
-        }
-    }
-
-    /// Puts a message to some, with its sender's name.
-    fn relay_to_some(
-        &mut self,
-        message: &Message,
-        sender: Conn,
-        to: Recipients,
-        monitors: Recipients,
-    ) -> Result<(), RelayFault>
-        requires room { 0 < self.old.room }
-        requires some { length to ≡ 0 → length monitors ≡ 0 → ⊥ }
-        ensures comes { (goes_on : Fated) (fate : Option Cause) (end : World V.Note G) → Comes V.told G.passes V.alone (once_put result (said message.now) sender goes_on) self.new.world fate end → Comes V.told G.passes V.alone (relayed (said message.now) sender (all_of to monitors) goes_on) self.old.world fate end }
-        ensures room { self.old.room ≤ self.new.room + 1 }
-    {
-        match self.sign(message, sender) {
-            Ok(content) => {
-                self.put_to(to, monitors, content);
-                Ok(())
-            }
-            Err(fault) => Err(fault),
-        }
-    }
-
-    /// Puts a message to recipients and to monitors, each once, with its sender's name. To nobody it is not put, only measured.
+    /// Puts a message to the recipients and to the monitors that the bus told last, each once, with its sender's name. To
+    /// nobody it is not put, only measured.
     ///
     /// # Errors
     ///
     /// It would be too long with that name, or there is no memory for it: then it is dropped whole.
-    pub fn relay_to(
-        &mut self,
-        message: &Message,
-        sender: Conn,
-        to: Recipients,
-        monitors: Recipients,
-    ) -> Result<(), RelayFault>
+    pub fn relay(&mut self, message: &Message, sender: Conn) -> Result<(), RelayFault>
         requires { 0 < self.old.room }
-        ensures comes { (goes_on : Fated) (fate : Option Cause) (end : World V.Note G) → Comes V.told G.passes V.alone (once_put result (said message.now) sender goes_on) self.new.world fate end → Comes V.told G.passes V.alone (relayed (said message.now) sender (all_of to monitors) goes_on) self.old.world fate end }
+        ensures comes { (goes_on : Fated) (fate : Option Cause) (end : World V.Note G) → Comes V.told G.passes V.alone (once_put result (said message.now) sender goes_on) self.new.world fate end → Comes V.told G.passes V.alone (relayed (said message.now) sender (all_of self.old.told.to self.old.told.monitors) goes_on) self.old.world fate end }
         ensures room { self.old.room ≤ self.new.room + 1 }
     {
-        if let Some(conn) = only_one(&to, &monitors) {
-            return self.relay_to_one(message, sender, conn);
-        }
-        if to.as_slice().is_empty() && monitors.as_slice().is_empty() {
+        if self.is_for_nobody() {
             return match relayed_length(message, &UniqueName::of(sender.number)) {
                 Ok(_) => Ok(()),
                 Err(fault) => Err(fault),
             };
         }
-        self.relay_to_some(message, sender, to, monitors)
+        match self.sign(message, sender) {
+            Ok(content) => {
+                self.put_told(content);
+                Ok(())
+            }
+            Err(fault) => Err(fault),
+        }
     }
 
-    /// Puts a message to the monitors that are shown it, with its sender's name. To nobody it is not put, only measured.
+    /// Puts a message to the monitors that the bus told last, with its sender's name. To nobody it is not put, only measured.
     ///
     /// # Errors
     ///
-    /// As those of `relay_to`.
-    #[tactic(auto, using(crate::proofs::Signing::all_of_none))]
-    pub fn relay_to_monitors(
-        &mut self,
-        message: &Message,
-        sender: Conn,
-        monitors: Recipients,
-    ) -> Result<(), RelayFault>
+    /// As those of `relay`.
+    pub fn relay_to_monitors(&mut self, message: &Message, sender: Conn) -> Result<(), RelayFault>
         requires { 0 < self.old.room }
-        ensures comes { (goes_on : Fated) (fate : Option Cause) (end : World V.Note G) → Comes V.told G.passes V.alone (once_put result (said message.now) sender goes_on) self.new.world fate end → Comes V.told G.passes V.alone (relayed (said message.now) sender monitors goes_on) self.old.world fate end }
+        ensures comes { (goes_on : Fated) (fate : Option Cause) (end : World V.Note G) → Comes V.told G.passes V.alone (once_put result (said message.now) sender goes_on) self.new.world fate end → Comes V.told G.passes V.alone (relayed (said message.now) sender self.old.told.monitors goes_on) self.old.world fate end }
         ensures room { self.old.room ≤ self.new.room + 1 }
     {
-        self.relay_to(message, sender, Recipients::new(), monitors)
+        self.tell_monitors_alone();
+        self.relay(message, sender)
     }
 
-    /// Puts a message to the bus to the monitors that are shown it. Where there is none, it is not even measured.
+    /// Puts a message to the bus to the monitors that the bus told last. Where there is none, it is not even measured.
     ///
     /// # Errors
     ///
-    /// As those of `relay_to`.
-    pub fn show(
-        &mut self,
-        message: &Message,
-        sender: Conn,
-        monitors: Recipients,
-    ) -> Result<(), RelayFault>
+    /// As those of `relay`.
+    pub fn show(&mut self, message: &Message, sender: Conn) -> Result<(), RelayFault>
         requires { 0 < self.old.room }
-        ensures comes { (goes_on : Fated) (fate : Option Cause) (end : World V.Note G) → Comes V.told G.passes V.alone (once_put result (said message.now) sender goes_on) self.new.world fate end → Comes V.told G.passes V.alone (shown (said message.now) sender monitors goes_on) self.old.world fate end }
+        ensures comes { (goes_on : Fated) (fate : Option Cause) (end : World V.Note G) → Comes V.told G.passes V.alone (once_put result (said message.now) sender goes_on) self.new.world fate end → Comes V.told G.passes V.alone (shown (said message.now) sender self.old.told.monitors goes_on) self.old.world fate end }
         ensures room { self.old.room ≤ self.new.room + 1 }
     {
-        if monitors.as_slice().is_empty() {
+        if self.told.monitors.as_slice().is_empty() {
             return Ok(());
         }
-        self.relay_to_monitors(message, sender, monitors)
+        self.relay_to_monitors(message, sender)
     }
 }

@@ -3,7 +3,7 @@
 ghost use Rattle.std.specs.Prelude.{◌≡◌, ◌<◌, ◌≤◌, ◌+◌, ◌++◌, ◌∷◌, [], vec_len, vec_capacity};
 
 use router_core::{Addressees, Crowd};
-use seq_bus_core::Recipients;
+use seq_bus_core::Verdict;
 
 /// One element more, for which there is room.
 pub fn push_reserved<T: Drop>(elements: &mut Vec<T>, element: T)
@@ -15,11 +15,12 @@ pub fn push_reserved<T: Drop>(elements: &mut Vec<T>, element: T)
     let _ = elements.push(element);
 }
 
-/// These recipients and monitors, where there was room for a crowd.
-pub fn filled(room: Box<Crowd>, to: Recipients, monitors: Recipients) -> Addressees
-    ensures { result ≡ record { to = to; monitors = monitors } }
+/// The recipients and monitors of a verdict, where there was room for a crowd.
+pub fn filled(room: Box<Crowd>, told: &Verdict) -> Addressees
+    ensures { result ≡ record { to = told.now.to; monitors = told.now.monitors } }
 {
     let mut crowd = room;
-    *crowd = Crowd { to, monitors };
+    crowd.to.copy_from(&told.to);
+    crowd.monitors.copy_from(&told.monitors);
     Addressees::shown(crowd)
 }

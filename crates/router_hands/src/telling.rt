@@ -1,16 +1,13 @@
 //! Messages of the bus to one connection.
 
-ghost use Rattle.std.specs.Prelude.{◌≡◌, ◌<◌, ◌≤◌, ◌+◌, [], ◌∷◌};
-ghost use Rattle.seq_bus_core.specs.Recipients.{verdict};
+ghost use Rattle.std.specs.Prelude.{◌≡◌, ◌<◌, ◌≤◌, ◌+◌};
 ghost use Rattle.seq_bus_core.specs.declared.verdict.Verdict.{Verdict as Told};
-ghost use Rattle.seq_bus_core.specs.declared.verdict.VerdictKind.TheVariants.{Absent};
 ghost use Rattle.message_core.specs.Said.{said};
 ghost use Rattle.message_relay.specs.FactsOf.{facts_of};
-ghost use Rattle.envelopes.specs.Contents.{carried_of, own_of, own_message, said_of};
+ghost use Rattle.envelopes.specs.Contents.{carried_of, own_of, own_message};
 ghost use Rattle.router_core.specs.Answers.{Heard};
-ghost use Rattle.router_core.specs.Deeds.{all_of};
-ghost use Rattle.router_core.specs.Scripts.{putting, Routes, Comes};
-ghost use Rattle.router_core.specs.Serving.{answer_with as answering, call_of as call_in, err_if_call as erring_if_call, err_with as erring, is_method_call as is_method_call_in, monitors_in, nothing, reply_with as replying, tell as telling};
+ghost use Rattle.router_core.specs.Scripts.{Routes, Comes};
+ghost use Rattle.router_core.specs.Serving.{answer_with as answering, call_of as call_in, err_if_call as erring_if_call, err_with as erring, is_method_call as is_method_call_in, monitors_in, reply_with as replying, tell as telling};
 ghost use Rattle.router_hands.specs.Carrying.{answer_of};
 
 use crate::hands::Hands;
@@ -19,8 +16,8 @@ use driver::{ReplyTo, expects_reply};
 use envelopes::{CallToAnswer, Content, OwnMessage, ReplyContent};
 use match_rules::MessageKind;
 use message_core::Message;
-use router_core::{Addressees, Gate};
-use seq_bus_core::{Conn, ErrorKind, Recipients, Verdict, VerdictKind};
+use router_core::Gate;
+use seq_bus_core::{Conn, ErrorKind};
 
 /// The call, as it is answered.
 fn call_of(message: &Message, caller: Conn) -> CallToAnswer
@@ -33,17 +30,6 @@ fn call_of(message: &Message, caller: Conn) -> CallToAnswer
     })
 }
 
-/// A verdict that says nothing yet.
-pub(crate) fn untold() -> Verdict
-    ensures { result ≡ verdict Absent [] [] }
-{
-    Verdict {
-        kind: VerdictKind::Absent,
-        to: Recipients::new(),
-        monitors: Recipients::new(),
-    }
-}
-
 /// Whether the message calls a method.
 pub fn is_method_call(message: &Message) -> bool
     ensures { result ≡ is_method_call_in (said message.now) }
@@ -52,31 +38,15 @@ pub fn is_method_call(message: &Message) -> bool
 }
 
 impl<V: BusView, G: Gate> Hands<V, G> {
-    /// Puts a message to one connection, and to the monitors that are shown it.
-    fn put_to_one(&mut self, conn: Conn, monitors: Recipients, content: Content)
-        requires { 0 < self.old.room }
-        ensures comes { Comes V.told G.passes V.alone (putting (all_of (conn ∷ []) monitors) (said_of content) nothing) self.old.world tt self.new.world }
-        ensures room { self.old.room ≤ self.new.room + 1 }
-    {
-        if monitors.as_slice().is_empty() {
-            self.put(Addressees::one(conn), content);
-        } else {
-            let mut to = Recipients::new();
-            to.push(conn);
-            self.put_to(to, monitors, content);
-        }
-    }
-
     /// Asks which monitors are shown a message of the bus. Where the bus does not say, it is shown to none.
-    pub(crate) fn ask_monitors(&mut self, own: &OwnMessage, told: &mut Verdict)
-        requires { told.old ≡ verdict Absent [] [] }
-        ensures routes { (heard : Heard Told) × Routes V.alone 0 (facts_of (own_message 1 (own_of own.now))) self.old.world heard self.new.world × (told.new.monitors ≡ monitors_in heard) }
+    pub(crate) fn ask_monitors(&mut self, own: &OwnMessage)
+        ensures routes { (heard : Heard Told) × Routes V.alone 0 (facts_of (own_message 1 (own_of own.now))) self.old.world heard self.new.world × (self.new.told.monitors ≡ monitors_in heard) }
         ensures room { self.new.room ≡ self.old.room }
     {
         let names = own.names();
-        match self.route(0, &own.facts(&names), told) {
+        match self.route(0, &own.facts(&names)) {
             Ok(()) => {}
-            Err(_) => {}
+            Err(_) => self.tell_no_monitors(),
         }
     }
 
@@ -86,9 +56,9 @@ impl<V: BusView, G: Gate> Hands<V, G> {
         ensures comes { Comes V.told G.passes V.alone (telling conn (own_of own)) self.old.world tt self.new.world }
         ensures room { self.old.room ≤ self.new.room + 1 }
     {
-        let mut verdict = untold();
-        self.ask_monitors(&own, &mut verdict);
-        self.put_to_one(conn, verdict.monitors, Content::Own(own));
+        self.ask_monitors(&own);
+        self.tell_one(conn);
+        self.put_told(Content::Own(own));
     }
 
     /// Replies to a call. One that wants no reply gets none.

@@ -12,7 +12,7 @@ use crate::outlets::Outlets;
 use router::Engine;
 use router_core::{Event, Gate};
 use seq_bus::SeqBus;
-use std::alloc::Global;
+use std::alloc::{AllocError, Global};
 
 /// An engine over a plain bus, and what went to its connections.
 #[derive(Drop)]
@@ -21,16 +21,16 @@ struct Session<G: Gate> {
     outlets: Outlets,
 }
 
-impl<G: Gate> Session<G> {
+impl<G: Gate + Drop> Session<G> {
     /// An engine without connections.
-    fn new(alloc: Global, bus: SeqBus, gate: G) -> Session<G>
-        ensures engine { result.engine ≡ record { standing = fresh; view = knowledge_of bus; gate = gate } }
-        ensures outlets { result.outlets ≡ no_output }
+    fn new(alloc: Global, bus: SeqBus, gate: G) -> Result<Session<G>, AllocError>
+        ensures engine { IfOk result (λ session. session.engine ≡ record { standing = fresh; view = knowledge_of bus; gate = gate }) }
+        ensures outlets { IfOk result (λ session. session.outlets ≡ no_output) }
     {
-        Session {
-            engine: Engine::new(alloc, bus, gate),
+        Ok(Session {
+            engine: Engine::new(alloc, bus, gate)?,
             outlets: Outlets::new(alloc),
-        }
+        })
     }
 
     /// Whether an event can happen: a connection comes only where its key is free.
@@ -74,7 +74,7 @@ pub fn run<G: Gate + Drop>(
     ensures run { IfOk result (λ all. IsRunOf G.passes gate (fresh_over bus) (occasions_of events.items) (map (λ bytes. bytes.items) all.items)) }
     ensures fault { IfErr result (λ fault. IsFaultOf (fresh_over bus) events.items fault) }
 {
-    let mut session = Session::new(alloc, bus, gate);
+    let mut session = Session::new(alloc, bus, gate)?;
     for (index, event) in events.into_iter().enumerate() {
         session.serve(index, event)?;
     }

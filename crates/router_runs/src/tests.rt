@@ -319,7 +319,7 @@ fn exchange(alloc: Global, engine: &mut Plain, written: &mut Vec<u8>) -> Result<
 
 /// What a call after Hello is answered, with what comes before, where all mail comes back.
 fn answers(rt: &impl Abort, alloc: Global) -> Result<Vec<u8>, AllocError> {
-    let mut engine = Engine::new(alloc, bus(rt, alloc)?, OpenGate);
+    let mut engine = Engine::new(alloc, bus(rt, alloc)?, OpenGate)?;
     let key = engine.free_key();
     let opened = engine.opened(key)?;
     assert!(rt; opened.is_empty());

@@ -16,7 +16,7 @@ use message_core::Message;
 use message_relay::{RelayFault, facts};
 use router_core::{CloseCause, Gate};
 use router_hands::Hands;
-use seq_bus_core::{Conn, ErrorKind, Recipients, Verdict, VerdictKind};
+use seq_bus_core::{Conn, ErrorKind, VerdictKind};
 use std::alloc::Global;
 
 /// Answers a call with an error. The connection stays open.
@@ -56,14 +56,13 @@ fn relay_plainly<V: BusView, G: Gate>(
     hands: &mut Hands<V, G>,
     message: &Message,
     sender: Conn,
-    verdict: Verdict,
 ) -> Option<CloseCause>
     requires room { 1 < hands.old.room }
-    requires plain { verdict.kind ≡ VerdictKind.Plain }
-    ensures comes { Comes V.told G.passes V.alone (relaying (said message.now) sender verdict verdict.kind) hands.old.world result hands.new.world }
+    requires plain { hands.old.told.kind ≡ VerdictKind.Plain }
+    ensures comes { Comes V.told G.passes V.alone (relaying (said message.now) sender hands.old.told hands.old.told.kind) hands.old.world result hands.new.world }
     ensures room { hands.old.room ≤ hands.new.room + 2 }
 {
-    match hands.relay_to(message, sender, verdict.to, verdict.monitors) {
+    match hands.relay(message, sender) {
         Ok(()) => None,
         Err(fault) => not_put(hands, message, sender, fault),
     }
@@ -74,14 +73,13 @@ fn relay_to_nobody<V: BusView, G: Gate>(
     hands: &mut Hands<V, G>,
     message: &Message,
     sender: Conn,
-    verdict: Verdict,
 ) -> Option<CloseCause>
     requires room { 1 < hands.old.room }
-    requires nobody { verdict.kind ≡ VerdictKind.Nobody }
-    ensures comes { Comes V.told G.passes V.alone (relaying (said message.now) sender verdict verdict.kind) hands.old.world result hands.new.world }
+    requires nobody { hands.old.told.kind ≡ VerdictKind.Nobody }
+    ensures comes { Comes V.told G.passes V.alone (relaying (said message.now) sender hands.old.told hands.old.told.kind) hands.old.world result hands.new.world }
     ensures room { hands.old.room ≤ hands.new.room + 2 }
 {
-    match hands.relay_to_monitors(message, sender, verdict.monitors) {
+    match hands.relay_to_monitors(message, sender) {
         Ok(()) => err_and_stay(hands, message, sender, ErrorKind::ServiceUnknown),
         Err(fault) => not_put(hands, message, sender, fault),
     }
@@ -94,14 +92,13 @@ fn relay_to_bus<V: BusView, G: Gate>(
     right: &V::Right,
     message: &Message,
     sender: Conn,
-    verdict: Verdict,
 ) -> Option<CloseCause>
     requires room { 2 < hands.old.room }
-    requires bus { verdict.kind ≡ VerdictKind.Bus }
-    ensures comes { Comes V.told G.passes V.alone (relaying (said message.now) sender verdict verdict.kind) hands.old.world result hands.new.world }
+    requires bus { hands.old.told.kind ≡ VerdictKind.Bus }
+    ensures comes { Comes V.told G.passes V.alone (relaying (said message.now) sender hands.old.told hands.old.told.kind) hands.old.world result hands.new.world }
     ensures room { hands.old.room ≤ hands.new.room + 3 }
 {
-    match hands.show(message, sender, verdict.monitors) {
+    match hands.show(message, sender) {
         Ok(()) => serve_bus(alloc, hands, right, message, sender),
         Err(fault) => not_put(hands, message, sender, fault),
     }
@@ -112,14 +109,13 @@ fn relay_to_service<V: BusView, G: Gate>(
     hands: &mut Hands<V, G>,
     message: &Message,
     sender: Conn,
-    verdict: Verdict,
 ) -> Option<CloseCause>
     requires room { 1 < hands.old.room }
-    requires start { verdict.kind ≡ VerdictKind.Start }
-    ensures comes { Comes V.told G.passes V.alone (relaying (said message.now) sender verdict verdict.kind) hands.old.world result hands.new.world }
+    requires start { hands.old.told.kind ≡ VerdictKind.Start }
+    ensures comes { Comes V.told G.passes V.alone (relaying (said message.now) sender hands.old.told hands.old.told.kind) hands.old.world result hands.new.world }
     ensures room { hands.old.room ≤ hands.new.room + 2 }
 {
-    match hands.relay_to_monitors(message, sender, verdict.monitors) {
+    match hands.relay_to_monitors(message, sender) {
         Ok(()) => hold(hands, message, sender),
         Err(fault) => not_put(hands, message, sender, fault),
     }
@@ -132,18 +128,17 @@ fn relay<V: BusView, G: Gate>(
     right: &V::Right,
     message: &Message,
     sender: Conn,
-    verdict: Verdict,
 ) -> Option<CloseCause>
     requires { 2 < hands.old.room }
-    ensures comes { Comes V.told G.passes V.alone (relaying (said message.now) sender verdict verdict.kind) hands.old.world result hands.new.world }
+    ensures comes { Comes V.told G.passes V.alone (relaying (said message.now) sender hands.old.told hands.old.told.kind) hands.old.world result hands.new.world }
     ensures room { hands.old.room ≤ hands.new.room + 3 }
 {
-    match verdict.kind {
+    match hands.told_kind() {
         VerdictKind::Absent => Some(CloseCause::Left),
-        VerdictKind::Bus => relay_to_bus(alloc, hands, right, message, sender, verdict),
-        VerdictKind::Plain => relay_plainly(hands, message, sender, verdict),
-        VerdictKind::Nobody => relay_to_nobody(hands, message, sender, verdict),
-        VerdictKind::Start => relay_to_service(hands, message, sender, verdict),
+        VerdictKind::Bus => relay_to_bus(alloc, hands, right, message, sender),
+        VerdictKind::Plain => relay_plainly(hands, message, sender),
+        VerdictKind::Nobody => relay_to_nobody(hands, message, sender),
+        VerdictKind::Start => relay_to_service(hands, message, sender),
     }
 }
 
@@ -155,14 +150,13 @@ fn routed<V: BusView, G: Gate>(
     message: &Message,
     sender: Conn,
     heard: Result<(), Gone>,
-    verdict: Verdict,
 ) -> Option<CloseCause>
     requires { 2 < hands.old.room }
-    ensures comes { Comes V.told G.passes V.alone (routing (said message.now) sender (heard_verdict heard verdict)) hands.old.world result hands.new.world }
+    ensures comes { Comes V.told G.passes V.alone (routing (said message.now) sender (heard_verdict heard hands.old.told)) hands.old.world result hands.new.world }
     ensures room { hands.old.room ≤ hands.new.room + 3 }
 {
     match heard {
-        Ok(()) => relay(alloc, hands, right, message, sender, verdict),
+        Ok(()) => relay(alloc, hands, right, message, sender),
         Err(_) => err_and_stay(hands, message, sender, ErrorKind::Failed),
     }
 }
@@ -180,13 +174,11 @@ fn route_message<V: BusView, G: Gate>(
     ensures comes { Comes V.told G.passes V.alone (serving (said message.now) sender) hands.old.world result hands.new.world }
     ensures room { hands.old.room ≤ hands.new.room + 3 }
 {
-    let mut verdict = Verdict {
-        kind: VerdictKind::Absent,
-        to: Recipients::new(),
-        monitors: Recipients::new(),
-    };
-    let heard = hands.route(sender.number, &facts(message), &mut verdict);
-    routed(alloc, hands, right, message, sender, heard, verdict)
+    let mut facts = facts(message);
+    // As the bus takes them: with the sender's number they are not copied.
+    facts.sender = sender.number;
+    let heard = hands.route(sender.number, &facts);
+    routed(alloc, hands, right, message, sender, heard)
 }
 
 /// Serves a message of a connection that has its name ("Message Bus Message Routing" of the D-Bus Specification). A message of a

@@ -1,5 +1,9 @@
 //! Where a message goes.
 
+ghost use Rattle.std.specs.Prelude.{◌≡◌, []};
+ghost use Rattle.seq_bus_core.specs.Recipients.{verdict};
+ghost use Rattle.seq_bus_core.specs.declared.verdict.VerdictKind.TheVariants.{Absent};
+
 use crate::Recipients;
 
 /// What becomes of a message.
@@ -25,4 +29,26 @@ pub struct Verdict {
     pub to: Recipients,
     /// The monitors that are shown it, by rising number.
     pub monitors: Recipients,
+}
+
+impl Verdict {
+    /// A verdict that says nothing yet: nobody gets the message.
+    pub fn new() -> Self
+        ensures { result ≡ verdict Absent [] [] }
+    {
+        Verdict {
+            kind: VerdictKind::Absent,
+            to: Recipients::new(),
+            monitors: Recipients::new(),
+        }
+    }
+
+    /// It says nothing any more. A verdict is large: it is told once more where it stands, and not moved.
+    pub fn clear(&mut self)
+        ensures { self.new ≡ verdict Absent [] [] }
+    {
+        self.kind = VerdictKind::Absent;
+        self.to.clear();
+        self.monitors.clear();
+    }
 }

@@ -13,7 +13,7 @@ use crate::pending::Pending;
 use arrayvec::ArrayVec;
 use match_rules::{Facts, MessageKind, Owners};
 use names::WellKnown;
-use seq_bus_core::{Recipients, Verdict, VerdictKind};
+use seq_bus_core::{Verdict, VerdictKind};
 
 /// The name of the bus itself.
 const BUS: &str = "org.freedesktop.DBus";
@@ -36,11 +36,7 @@ impl State {
         requires { IsSound self.now }
         ensures { result ≡ verdict_of self.now.state facts.now }
     {
-        let mut verdict = Verdict {
-            kind: VerdictKind::Absent,
-            to: Recipients::new(),
-            monitors: Recipients::new(),
-        };
+        let mut verdict = Verdict::new();
         if !self.may_send(facts) {
             return verdict;
         }

@@ -16,8 +16,8 @@ use Rattle.router_runs.proofs.session.run.Goals as goal
 pub loop-index-init : goal.loop-index-init
 loop-index-init g c =
     let start : State g.row.G.Denot = record { standing = fresh; view = knowledge_of c.args.bus; gate = c.args.gate } in
-    subst (λ (sent : Output). IsCourse g.G.Gate.passes start [] c.new-session.result.engine sent) (sym c.new-session.ensures.outlets)
-    (subst (λ (now : State g.row.G.Denot). IsCourse g.G.Gate.passes start [] now no_output) (sym c.new-session.ensures.engine) (course_begins g.G.Gate.passes start))
+    subst (λ (sent : Output). IsCourse g.G.Gate.passes start [] c.in_ok-session.session.engine sent) (sym c.in_ok-session.ensures.outlets)
+    (subst (λ (now : State g.row.G.Denot). IsCourse g.G.Gate.passes start [] now no_output) (sym c.in_ok-session.ensures.engine) (course_begins g.G.Gate.passes start))
 
 pub serve-requires : goal.serve-requires
 serve-requires g c =
@@ -41,7 +41,7 @@ returns-in_err-serve-clause-fault g c =
     let turn = YieldsList-turn road c.loop-index.yielded _ c.loop-index.yielded_by c.next.result c.next.new.self (c.in-Some.index, c.in-Some.event) c.in-Some.is c.next.ensures.steps in
     let counted = counted_turn events c.loop-index.yielded c.in-Some.index c.in-Some.event so_far turn.0 turn.1 in
     let course = subst (λ (done : List (Event (Unit {0}))). IsCourse g.G.Gate.passes start done c.loop-index.session.engine c.loop-index.session.outlets) counted.0 c.loop-index.invariant in
-    let p = err_from_is_err_and c.from_residual.result c.from_residual.ensures.1 in
+    let p = err_from_is_err_and c.from_residual-in_err-serve.result c.from_residual-in_err-serve.ensures.1 in
     rw (p.1, p.2) (course_faults g.G.Gate.passes start c.loop-index.session.engine events c.in-Some.index c.in-Some.event c.loop-index.session.outlets c.in_err-serve.field-0.0 course counted.1 c.in_err-serve.ensures.fault)
 
 pub returns-clause-run : goal.returns-clause-run
