@@ -12,16 +12,18 @@ run:
 	@od -A d -t x1z -v crates/busd/out/replies
 
 # The gate: every proof from nothing, the edits that must fail, the tests, the programs as two compilers build them, and
-# each allocation of two of them refused in turn.
+# each allocation of three of them refused in turn.
 test:
 	@./gate.sh
 
-# Each allocation of two programs refused in turn: busd on the sample stream, and scarce_memory, which reads and writes
-# bodies and messages. Needs cc and glibc. The gate does the same with the programs that it built.
+# Each allocation of three programs refused in turn: busd on the sample stream; scarce_memory, which reads and writes
+# bodies and messages; scarce_buses, which opens a registry and changes it. Needs cc and glibc. The gate does the same with the
+# programs that it built.
 memory:
-	@mkdir -p crates/busd/out crates/scarce_memory/out
+	@mkdir -p crates/busd/out crates/scarce_memory/out crates/scarce_buses/out
 	@cd crates/busd && rt run -- run < ../../$(SAMPLE) > out/replies 2> out/run.log || { cat out/run.log; exit 1; }
 	@cd crates/scarce_memory && rt run > out/told 2> out/run.log || { cat out/run.log; exit 1; }
+	@cd crates/scarce_buses && rt run > out/told 2> out/run.log || { cat out/run.log; exit 1; }
 	@memory/check.sh
 
 # What the calls take, beside the same in plain Rust. No part of the gate.

@@ -1,6 +1,6 @@
 #!/usr/bin/env bash
-# The gate: `rt ci`, and then each allocation of two of the programs that it built refused in turn.
-# Its last line is the count of `rt ci` with these two programs in it.
+# The gate: `rt ci`, and then each allocation of three of the programs that it built refused in turn.
+# Its last line is the count of `rt ci` with these three programs in it.
 set -uo pipefail
 cd "$(dirname "$0")"
 
@@ -19,7 +19,7 @@ if [ "$failed" = 0 ]; then
     if ! command -v cc > /dev/null; then
         echo "there is no C compiler here: no allocation was refused"
     elif memory/check.sh; then
-        passed=$((passed + 2))
+        passed=$((passed + 3))
     else
         failed=1
     fi

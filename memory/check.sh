@@ -1,5 +1,6 @@
 #!/usr/bin/env bash
-# Refuses each allocation of busd and of scarce_memory in turn, and stops where one answers otherwise than it should.
+# Refuses each allocation of busd, of scarce_memory and of scarce_buses in turn, and stops where one answers otherwise than it
+# should.
 set -euo pipefail
 cd "$(dirname "$0")/.."
 crates=$PWD/crates
@@ -50,12 +51,18 @@ for number in $(seq "$count"); do
 done
 echo "busd: $count allocations refused in turn, each answered as it should be"
 
-number=0
-with 0 "$crates/scarce_memory/out/scarce_memory"
-said 0 "$crates/scarce_memory/stdout" "" || wrong
-count=$(cat "$room/count")
-for number in $(seq "$count"); do
-    with "$number" "$crates/scarce_memory/out/scarce_memory"
-    said 0 "$crates/scarce_memory/stdout" "" || wrong
-done
-echo "scarce_memory: $count allocations refused in turn, each answered as it should be"
+# same PROGRAM: whichever allocation of it is refused, it writes what its file stdout has.
+same() {
+    number=0
+    with 0 "$crates/$1/out/$1"
+    said 0 "$crates/$1/stdout" "" || wrong
+    count=$(cat "$room/count")
+    for number in $(seq "$count"); do
+        with "$number" "$crates/$1/out/$1"
+        said 0 "$crates/$1/stdout" "" || wrong
+    done
+    echo "$1: $count allocations refused in turn, each answered as it should be"
+}
+
+same scarce_memory
+same scarce_buses
