@@ -2,7 +2,7 @@
 
 SAMPLE = examples/hello-get-name-owner.stream
 
-.PHONY: run test bench memory
+.PHONY: run test bench memory edits
 
 # The main job: the sample stream through `busd run`, the replies shown as bytes and text. The first time it proves
 # and builds the program.
@@ -26,10 +26,15 @@ memory:
 	@cd crates/scarce_buses && rt run > out/told 2> out/run.log || { cat out/run.log; exit 1; }
 	@memory/check.sh
 
-# What the calls take, beside the same in plain Rust. No part of the gate.
+# What the calls take, beside the same in plain Rust, and how many allocations those of an engine make. No part of the gate.
 bench:
 	@$(MAKE) -s -C crates/bench/rust bench
 	@$(MAKE) -s -C crates/bench_bus/rust bench
 	@mkdir -p crates/bench_engine/out
 	@cd crates/bench_engine && rt run > out/bench.log 2>&1 || { cat out/bench.log; exit 1; }
 	@cd crates/bench_engine && rt run -- --time
+	@memory/count.sh
+
+# The edits beyond one for each public function: the prover must refuse each. No part of the gate.
+edits:
+	@./more-edits.sh

@@ -9,6 +9,9 @@ use std::process::ExitCode;
 use std::rt::{Env, Files};
 use std::{env, fs, io};
 
+/// How many rounds make a checksum where the command line does not say.
+const ROUNDS: u64 = 64;
+
 /// What a command line asks for.
 #[derive(Drop)]
 pub enum Opening<'a, R> {
@@ -32,7 +35,13 @@ fn command_line<'a>(
         .value_name("FILE")
         .action(ArgAction::Set)
         .help("The times of the same in plain Rust");
-    Command::new(alloc, name).about(about).arg(time)?.arg(plain)
+    let rounds = Arg::new(alloc, "rounds")
+        .long("rounds")
+        .value_name("COUNT")
+        .action(ArgAction::Set)
+        .help("How many rounds make a checksum, 64 if it is not said");
+    let command = Command::new(alloc, name).about(about).arg(time)?;
+    command.arg(plain)?.arg(rounds)
 }
 
 fn words<R: Env + AllocGlobal>(rt: &R) -> io::Result<Vec<String>> {
@@ -58,9 +67,14 @@ fn report<'a, R: Files + AllocGlobal>(
         }
         None => PlainTimes::new(rt.alloc()),
     };
+    let rounds = match matches.get_str("rounds") {
+        Some(count) => count.parse::<u64>().context("a count of rounds")?,
+        None => ROUNDS,
+    };
     Ok(Report {
         rt,
         timed: matches.get_flag("time"),
+        rounds,
         plain,
     })
 }

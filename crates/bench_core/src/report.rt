@@ -5,9 +5,6 @@ use crate::work::{Work, checksum};
 use std::io;
 use std::time::{Clock, Instant};
 
-/// How many rounds make a checksum.
-const CHECKED_ROUNDS: u64 = 64;
-
 /// A run has at least so many nanoseconds: the clock's own time does not count, and most runs are not interrupted.
 const LONG_ENOUGH: u64 = 1_000_000;
 
@@ -20,6 +17,8 @@ pub struct Report<'a, R> {
     pub rt: &'a R,
     /// Whether times are told, in place of checksums.
     pub timed: bool,
+    /// How many rounds make a checksum.
+    pub rounds: u64,
     pub plain: PlainTimes,
 }
 
@@ -29,7 +28,7 @@ impl<R: Print + Clock> Report<'_, R> {
         if self.timed {
             return self.tell_time(work);
         }
-        let sum = checksum(work, CHECKED_ROUNDS);
+        let sum = checksum(work, self.rounds);
         println!(self.rt; "{}\t{sum:016x}", work.name())
     }
 

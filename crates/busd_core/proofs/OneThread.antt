@@ -60,7 +60,7 @@ module _ (key : ℕ) where
   write_is to bytes (Runs name start) d = absurd d
 
   action_bytes : {N : Type 0} (action : Action N) (deeds : List Deed) → AreDeedsOf action deeds → bytes_done key deeds ≡ bytes_for key action
-  action_bytes (Write to bytes) deeds d = ap (λ (ds : List Deed). bytes_done key ds) d.2 ∙ write_is to bytes.items d.0 d.1
+  action_bytes (Write to bytes) deeds d = ap (λ (ds : List Deed). bytes_done key ds) d.2 ∙ write_is to bytes d.0 d.1
   action_bytes (Put to carried content) deeds d = ap (λ (ds : List Deed). bytes_done key ds) (d.2 ∙ ap (λ (one : Deed). one ∷ []) d.1)
   action_bytes (Announce signals carried) deeds d = ap (λ (ds : List Deed). bytes_done key ds) d ∙ nothing_announced signals
   action_bytes (Close to cause) deeds d = ap (λ (ds : List Deed). bytes_done key ds) (d.2 ∙ ap (λ (one : Deed). one ∷ []) d.1)
@@ -108,7 +108,7 @@ module _ (seat : ℕ) where
   no_mail to bytes (Runs name start) d = absurd d
 
   action_mail : {N : Type 0} (action : Action N) (deeds : List Deed) → AreDeedsOf action deeds → mail_done seat deeds ≡ mail_of seat action
-  action_mail (Write to bytes) deeds d = ap (λ (ds : List Deed). mail_done seat ds) d.2 ∙ no_mail to bytes.items d.0 d.1
+  action_mail (Write to bytes) deeds d = ap (λ (ds : List Deed). mail_done seat ds) d.2 ∙ no_mail to bytes d.0 d.1
   action_mail (Put to carried content) deeds d =
       ap (λ (ds : List Deed). mail_done seat ds) (d.2 ∙ ap (λ (one : Deed). one ∷ []) d.1)
       ∙ append-nil (mail_to_all seat (said_of content) (all_of to.to to.monitors))

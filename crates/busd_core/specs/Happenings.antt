@@ -19,7 +19,7 @@ use Rattle.router.specs.OneEvent.{IsServedWell}
 -- ## What actions do to the connection of a key
 
 abbrev pub bytes_for : {N : Type 0} → ℕ → Action N → List ℕ
-bytes_for key (Write to bytes) = if to == key then bytes.items else []
+bytes_for key (Write to bytes) = if to == key then bytes else []
 bytes_for key other = []
 
 -- all that is written to it

@@ -14,6 +14,3 @@ mod transfer;
 
 pub use fault::RunFault;
 pub use stream::run;
-
-#[cfg(test)]
-mod tests;

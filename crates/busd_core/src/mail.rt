@@ -43,7 +43,8 @@ fn deliver_to<V: BusView, G: Gate, W: Write>(
         slot: conn.slot,
         envelope,
     };
-    bring(engine, right, place.key, mail, writer)?;
+    let actions = bring(engine, right, place.key, mail, writer)?;
+    engine.give_back(actions);
     Ok(())
 }
 

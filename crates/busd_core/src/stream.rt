@@ -60,7 +60,9 @@ fn carry_out<V: BusView, G: Gate, W: Write>(
     if let Some(cause) = closed_by(place.key, &actions) {
         return Err(RunFault::Closed(cause));
     }
-    deliver_all(engine, right, place, &actions, writer)
+    let delivered = deliver_all(engine, right, place, &actions, writer);
+    engine.give_back(actions);
+    delivered
 }
 
 /// Serves the message stream of one connection by the engine of the router of a seat. The connection needs no

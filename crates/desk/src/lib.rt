@@ -7,8 +7,6 @@
 
 mod note;
 mod refusal;
-#[cfg(test)]
-mod tests;
 mod told;
 mod view;
 

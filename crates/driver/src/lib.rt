@@ -20,6 +20,3 @@ pub use call::{Call, expects_reply, is_call_to_bus, is_hello, read_call};
 pub use fault::DriverFault;
 pub use reply::{ReplyBody, ReplyTo, write_error, write_reply};
 pub use signal::write_signal;
-
-#[cfg(test)]
-mod tests;

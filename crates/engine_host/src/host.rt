@@ -43,7 +43,7 @@ impl<V: BusView + Drop> Host<V> {
                 closed: None,
             })?;
         }
-        self.carry_out(&actions)?;
+        self.carry_out(actions)?;
         Ok(key)
     }
 
@@ -58,7 +58,7 @@ impl<V: BusView + Drop> Host<V> {
         for piece in bytes.chunks(length.max(1)) {
             let piece = Vec::from_slice(self.alloc, piece)?;
             let actions = self.engine.bytes(key, piece)?;
-            self.carry_out(&actions)?;
+            self.carry_out(actions)?;
             self.serve(right, key, bytes.len())?;
         }
         Ok(())
@@ -71,7 +71,7 @@ impl<V: BusView + Drop> Host<V> {
                 return Ok(());
             }
             let actions = self.engine.next(right, key)?;
-            self.carry_out(&actions)?;
+            self.carry_out(actions)?;
         }
         Ok(())
     }
@@ -79,13 +79,13 @@ impl<V: BusView + Drop> Host<V> {
     /// A connection is gone.
     pub fn disconnect(&mut self, right: &V::Right, key: usize) -> Result<(), AllocError> {
         let actions = self.engine.closed(right, key)?;
-        self.carry_out(&actions)
+        self.carry_out(actions)
     }
 
     /// Time has passed.
     pub fn tick(&mut self, right: &V::Right) -> Result<(), AllocError> {
         let actions = self.engine.tick(right)?;
-        self.carry_out(&actions)
+        self.carry_out(actions)
     }
 
     /// How many bytes were written since it was asked last, or since the beginning. They are let go.
@@ -98,10 +98,11 @@ impl<V: BusView + Drop> Host<V> {
         count
     }
 
-    fn carry_out(&mut self, actions: &[Action<V::Note>]) -> Result<(), AllocError> {
-        for action in actions {
+    fn carry_out(&mut self, actions: Vec<Action<V::Note>>) -> Result<(), AllocError> {
+        for action in &actions {
             self.act(action)?;
         }
+        self.engine.give_back(actions);
         Ok(())
     }
 
@@ -168,16 +169,17 @@ impl<V: BusView + Drop> Host<V> {
             content: content.again()?,
         };
         let actions = self.engine.mail(conn.slot, envelope)?;
-        self.carry_out_writes(&actions)
+        self.carry_out_writes(actions)
     }
 
     /// Mail brings nothing but what is written.
-    fn carry_out_writes(&mut self, actions: &[Action<V::Note>]) -> Result<(), AllocError> {
-        for action in actions {
+    fn carry_out_writes(&mut self, actions: Vec<Action<V::Note>>) -> Result<(), AllocError> {
+        for action in &actions {
             if let Action::Write { key, bytes } = action {
                 self.write(*key, bytes.as_slice())?;
             }
         }
+        self.engine.give_back(actions);
         Ok(())
     }
 }

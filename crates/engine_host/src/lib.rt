@@ -4,8 +4,6 @@
 
 mod calls;
 mod host;
-#[cfg(test)]
-mod law;
 
 pub use calls::{Purpose, bytes_of, call_to_bus, name_and_flags, text};
 pub use host::{Host, Line};

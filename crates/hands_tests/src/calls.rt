@@ -6,7 +6,7 @@ use marshal_core::Order;
 use match_rules::{MessageKind, Rule};
 use message_core::{Header, Message, NO_REPLY_EXPECTED};
 use names::{BusName, Interface, Member, ObjectPath};
-use router_core::{Action, CloseCause, OpenGate};
+use router_core::{Action, CloseCause, OpenGate, WrittenBytes};
 use router_hands::{Hands, bytes_of, is_method_call};
 use router_serving::serve_bus;
 use seq_bus::SeqBus;
@@ -49,7 +49,7 @@ fn message_of(alloc: Global, flags: u8, call: Call<'_>) -> Result<Message, Fail>
 }
 
 /// What an action tells the caller, as the first message to it.
-fn told(rt: &impl Abort, alloc: Global, action: Option<&Action<()>>) -> Result<Vec<u8>, Fail> {
+fn told(rt: &impl Abort, alloc: Global, action: Option<&Action<()>>) -> Result<WrittenBytes, Fail> {
     let Some(
         Action::Put {
             to,
@@ -76,7 +76,7 @@ fn replies_and_errors_reach_the_caller(rt: HostRuntime) -> Result<(), Fail> {
     let reply = told(&rt, rt.alloc(), actions.get(0))?;
     assert_eq!(rt; reply.as_slice(), NUMBER);
     let failed = told(&rt, rt.alloc(), actions.get(1))?;
-    assert_eq!(rt; failed.get(1), Some(&3));
+    assert_eq!(rt; failed.as_slice().get(1), Some(&3));
     assert!(rt;
         failed
             .as_slice()

@@ -8,7 +8,7 @@ use driver::Call;
 use envelopes::{Content, OwnMessage};
 use names::{BusName, UniqueName};
 use owner_queues::Profile;
-use router_core::{Action, Addressees, CloseCause, OpenGate};
+use router_core::{Action, Addressees, CloseCause, OpenGate, WrittenBytes};
 use router_hands::{Hands, Peer, Stage, bytes_of, serial_after};
 use seq_bus::{SeqBus, can_open};
 use seq_bus_core::{BusSignal, Change, Conn, Outcome, Reply};
@@ -58,9 +58,9 @@ pub(crate) fn greet(rt: &impl Abort, hands: &mut Hands<SeqBus, OpenGate>) -> Out
 }
 
 /// The bytes of a content, once more where one allocation failed.
-fn spelled(rt: &impl Abort, alloc: Global, content: &Content, serial: u32) -> Vec<u8>
+fn spelled(rt: &impl Abort, alloc: Global, content: &Content, serial: u32) -> WrittenBytes
     requires { 0 < serial }
-    ensures { IsSpelled (said_of content.now) serial result.items }
+    ensures { IsSpelled (said_of content.now) serial result }
 {
     match bytes_of(alloc, content, serial) {
         Ok(bytes) => bytes,
@@ -112,7 +112,7 @@ fn mail_and_a_connection_that_left(rt: HostRuntime) {
     let content = Content::Own(acquired());
     let serial = serial_after(peer.serial());
     let bytes = spelled(&rt, rt.alloc(), &content, serial);
-    assert_eq!(rt; bytes.len(), 169);
+    assert_eq!(rt; bytes.as_slice().len(), 169);
     hands.deliver(3, &mut peer, &content, bytes);
     assert_eq!(rt; peer.serial(), 1);
     hands.look_after(3, &mut peer);

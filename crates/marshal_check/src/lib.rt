@@ -21,6 +21,3 @@ pub use checked_arguments::CheckedArguments;
 pub use checking::check;
 pub use complete_types::CompleteTypes;
 pub use signature_text::Types;
-
-#[cfg(test)]
-mod tests;

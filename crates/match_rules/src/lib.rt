@@ -27,6 +27,3 @@ pub use key::Key;
 pub use kind::MessageKind;
 pub use room::MAX_RULE_LENGTH;
 pub use rule::Rule;
-
-#[cfg(test)]
-mod tests;

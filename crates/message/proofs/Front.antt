@@ -1,14 +1,16 @@
 -- Taking a message off the front.
-use Rattle.std.proofs.Common.{◌≡◌, ◌≢◌, ℕ, ◌+◌, ◌-◌, ◌≤◌, List, ◌∷◌, ◌++◌, length, take, drop, Option, Some, None, Result, Ok, Err, refl, sym, ap, subst, ◌∙◌, arith, inr}
-use Rattle.std.proofs.lemmas.List.{take-append-drop, length-take-le, length-drop, drop-drop, take_all, take_at, length-append}
+use Rattle.std.proofs.Common.{◌≡◌, ◌≢◌, ℕ, ◌+◌, ◌-◌, ◌≤◌, List, [], ◌∷◌, ◌++◌, length, take, drop, Option, Some, None, Result, Ok, Err, IfOk, IfErr, OnOk, refl, sym, ap, subst, ◌∙◌, arith, inr}
+use Rattle.std.proofs.lemmas.List.{take-append-drop, length-take-le, drop-drop, take_at, length-append}
+use mathlib.Core.List.{append-nil}
 use Rattle.message_core.specs.declared.fault.FrameFault.{FrameFault}
 use Rattle.message_core.specs.declared.fault.FrameFault.TheVariants as fault
 use Rattle.message_core.specs.Announcements.{announced}
 use Rattle.message_core.specs.Messages.{Message, IsMessage}
 use Rattle.message_core.specs.Refusals.{IsRefused, IsNoMessage}
+use Rattle.message_core.specs.Said.{said}
 use Rattle.message_core.specs.Streams.{BeginsNoMessage}
 use Rattle.message_core.proofs.NoMessages.{announced_message}
-use Rattle.message.specs.Framing.{Unread, IsJudged, IsKept, FaultIs}
+use Rattle.message.specs.Framing.{Unread, IsFound, IsTaken, IsJudged, IsKept, FaultIs}
 
 abbrev ok : ℕ → Result ℕ FrameFault
 ok n = Ok n
@@ -39,17 +41,24 @@ pub record Taken (limit : ℕ) (items whole : List ℕ) (from len : ℕ) : Type 
   pub split : drop from items ≡ whole ++ drop (from + len) items
   pub size : length whole ≡ len
 
-pub taken : (limit : ℕ) (items whole unread : List ℕ) (from len : ℕ) → from ≤ length items → unread ≡ take (length items - from) (drop from items) → whole ≡ take len unread → announced limit unread ≡ Ok len → 16 ≤ len → len ≤ length unread
-    → Taken limit items whole from len
-taken limit items whole unread from len within u w a enough long =
-    let all : unread ≡ drop from items = u ∙ take_all (length items - from) (drop from items) (omega (arith, length-drop from items)) in
-    let size : length whole ≡ len = ap length w ∙ length-take-le len unread long in
+pub taken : (limit : ℕ) (items whole : List ℕ) (from len : ℕ) → whole ≡ take (from + len - from) (drop from items) → IsFound limit len (drop from items) → Taken limit items whole from len
+taken limit items whole from len ranged found =
+    let unread : List ℕ = drop from items in
+    let count : from + len - from ≡ len = omega arith in
+    let w : whole ≡ take len unread = ranged ∙ ap (λ (n : ℕ). take n unread) count in
+    let size : length whole ≡ len = ap length w ∙ length-take-le len unread found.1 in
     let split : unread ≡ whole ++ drop len unread = sym (take-append-drop len unread) ∙ ap (λ (x : List ℕ). x ++ drop len unread) (sym w) in
     record {
-      announced_whole = sym (announced_append limit whole (drop len unread) (omega (arith, size))) ∙ ap (announced limit) (sym split) ∙ a ∙ ap (λ (n : ℕ). ok n) (sym size);
-      split = sym all ∙ split ∙ ap (λ (x : List ℕ). whole ++ drop len x) all ∙ ap (λ (x : List ℕ). whole ++ x) (drop-drop len from items);
+      announced_whole = sym (announced_append limit whole (drop len unread) (omega (arith, size, found.0))) ∙ ap (announced limit) (sym split) ∙ found.2 ∙ ap (λ (n : ℕ). ok n) (sym size);
+      split = split ∙ ap (λ (x : List ℕ). whole ++ x) (drop-drop len from items);
       size = size;
     }
+
+-- the unread bytes are all that is there, and just a message
+pub all_there : (limit : ℕ) (items : List ℕ) (from size : ℕ) → from ≡ 0 → size ≡ length items → IsFound limit size (drop from items) → (drop from items ≡ items) × (announced limit items ≡ Ok (length items)) × (16 ≤ length items)
+all_there limit items from size none long found =
+    let all : drop from items ≡ items = ap (λ (n : ℕ). drop n items) none in
+    (all, ap (announced limit) (sym all) ∙ found.2 ∙ ap (λ (n : ℕ). ok n) long, omega (arith, long, found.0))
 
 -- ---- where no message begins
 
@@ -94,3 +103,28 @@ judged limit bytes whole behind f split told long refused =
         subst (λ (x : List ℕ). IsRefused x f) (sym (ap (take (length whole)) split ∙ take_at whole behind (length whole) refl)) refused,
       ),
     )
+
+-- ---- a message that is all that is there
+
+module _ (limit : ℕ) (items : List ℕ) (old : Unread) (is : old.bytes ≡ items) (told : announced limit items ≡ Ok (length items)) (long : 16 ≤ length items) where
+  pub all_taken : (r : Result (List ℕ) FrameFault) (left : List ℕ) (from : ℕ) (told : Option FrameFault) → from ≡ 0 → told ≡ None → old.fault ≡ None → length items ≤ limit → IfOk r (λ m. m ≡ items) → IfOk r (λ m. IsMessage m (said m)) → OnOk r (left ≡ []) →
+      IfOk r (λ m. IsTaken limit m old (record { bytes = drop from left; fault = told }))
+  all_taken (Ok m) left from told first none fine within bytes message emptied = record {
+    fine = fine;
+    is_message = message;
+    within = omega (arith, within, ap length bytes);
+    taken = is ∙ sym bytes ∙ sym (append-nil m) ∙ ap (λ (x : List ℕ). m ++ x) (sym emptied ∙ ap (λ (n : ℕ). drop n left) (sym first));
+    still_fine = none;
+  }
+  all_taken (Err f) left from told first none fine within bytes message emptied = tt
+
+  behind : old.bytes ≡ items ++ []
+  behind = is ∙ sym (append-nil items)
+
+  pub all_judged : (r : Result (List ℕ) FrameFault) → IfErr r (λ f. f ≢ fault.NoMemory → IsRefused items f) → IfErr r (λ f. f ≢ fault.NoMemory → IsJudged limit f old.bytes)
+  all_judged (Ok m) refused = tt
+  all_judged (Err f) refused = λ other. judged limit old.bytes items [] f behind told long (refused other)
+
+  pub all_none : (r : Result (List ℕ) FrameFault) → IfErr r (λ f. f ≢ fault.NoMemory → IsNoMessage items) → IfErr r (λ f. f ≢ fault.NoMemory → BeginsNoMessage limit old.bytes)
+  all_none (Ok m) none = tt
+  all_none (Err f) none = λ other. none_begins limit old.bytes items [] behind told long (none other)

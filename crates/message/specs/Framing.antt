@@ -17,6 +17,10 @@ pub record Unread : Type 0 where
 abbrev pub IsWaiting : ℕ → List ℕ → Type 0
 IsWaiting limit bytes = (length bytes < fixed_length) ⊎ ((n : ℕ) × (announced limit bytes ≡ Ok n) × (length bytes < n))
 
+-- All of what the first bytes announce is there: so many bytes.
+abbrev pub IsFound : ℕ → ℕ → List ℕ → Type 0
+IsFound limit size bytes = (fixed_length ≤ size) × (size ≤ length bytes) × (announced limit bytes ≡ Ok size)
+
 -- A message within the limit was taken off the front.
 pub record IsTaken (limit : ℕ) (message : List ℕ) (old new : Unread) : Type 0 where
   pub fine : old.fault ≡ None

@@ -5,8 +5,8 @@ ghost use Rattle.message_core.specs.declared.fault.FrameFault.TheVariants.{NoMem
 ghost use Rattle.message_core.specs.Announcements.{announced};
 ghost use Rattle.message_core.specs.Messages.{Message as Record, IsMessage};
 ghost use Rattle.message_core.specs.Said.{said};
-ghost use Rattle.message_core.specs.Streams.{IsStream};
-ghost use Rattle.message.specs.Framing.{Unread, IsWaiting, IsTaken, IsNoFront, FaultIs};
+ghost use Rattle.message_core.specs.Streams.{IsStream, BeginsNoMessage};
+ghost use Rattle.message.specs.Framing.{Unread, IsWaiting, IsFound, IsTaken, IsJudged, IsNoFront, FaultIs};
 
 use message_core::{FIXED_LENGTH, FrameFault, MESSAGE_LIMIT, Message, announced_length};
 use std::alloc::{AllocError, Global};
@@ -34,7 +34,7 @@ impl Model for Framer {
 
 /// The length of the message that the bytes begin with, if it is there as a whole.
 fn whole_length(bytes: &[u8]) -> Result<Option<usize>, FrameFault>
-    ensures some { IfOk result (λ found. IfSome found (λ n. (16 ≤ n) × (n ≤ length bytes.now) × (announced MESSAGE_LIMIT bytes.now ≡ Ok n))) }
+    ensures some { IfOk result (λ found. IfSome found (λ n. IsFound MESSAGE_LIMIT n bytes.now)) }
     ensures none { IfOk result (λ found. IfNone found (IsWaiting MESSAGE_LIMIT bytes.now)) }
     ensures fault { IfErr result (λ f. (FIXED_LENGTH ≤ length bytes.now) × (announced MESSAGE_LIMIT bytes.now ≡ Err f)) }
     ensures memory { IfErr result (λ f. f ≢ NoMemory) }
@@ -91,6 +91,20 @@ impl Framer {
         Ok(())
     }
 
+    /// Takes a piece as [`feed`](Framer::feed) does. Where all that came before was given out, it keeps the piece itself and copies nothing.
+    pub fn feed_owned(&mut self, piece: Vec<u8>) -> Result<(), AllocError>
+        ensures good { IfNone self.old.fault (OnOk result (self.new ≡ record self.old { bytes = self.old.bytes ++ piece.items })) }
+        ensures spent { IfSome self.old.fault (λ _. self.new ≡ self.old) }
+        ensures err { OnErr result (self.new ≡ self.old) }
+    {
+        if self.fault.is_some() || self.from < self.buffer.len() {
+            return self.feed(&piece);
+        }
+        self.buffer = piece;
+        self.from = 0;
+        Ok(())
+    }
+
     /// Whether bytes are missing: then [`next`](Framer::next) answers `None`, and else a message or a fault.
     pub fn is_waiting(&self) -> bool
         ensures waiting { result ≡ true → (self.now.fault ≡ None) × IsWaiting MESSAGE_LIMIT self.now.bytes }
@@ -110,8 +124,7 @@ impl Framer {
         if let Some(fault) = self.fault {
             return Err(fault);
         }
-        let unread = &self.buffer[self.from..];
-        let length = match whole_length(unread) {
+        let length = match whole_length(&self.buffer[self.from..]) {
             Ok(Some(length)) => length,
             Ok(None) => return Ok(None),
             Err(fault) => {
@@ -119,12 +132,8 @@ impl Framer {
                 return Err(fault);
             }
         };
-        let whole = Vec::from_slice(self.alloc, &unread[..length])?;
-        match Message::read(self.alloc, whole) {
-            Ok(message) => {
-                self.from += length;
-                Ok(Some(message))
-            }
+        match self.take_front(length) {
+            Ok(message) => Ok(Some(message)),
             Err(fault) => match fault {
                 FrameFault::NoMemory => Err(fault),
                 _ => {
@@ -133,6 +142,24 @@ impl Framer {
                 }
             },
         }
+    }
+
+    /// Takes a message of `size` bytes off the front. Where it is all that is there, it gets the buffer, and nothing is copied.
+    fn take_front(&mut self, size: usize) -> Result<Message, FrameFault>
+        requires fine { self.old.fault ≡ None }
+        requires found { IsFound MESSAGE_LIMIT size self.old.bytes }
+        ensures taken { IfOk result (λ message. IsTaken MESSAGE_LIMIT message self.old self.new) }
+        ensures refused { OnErr result (self.new ≡ self.old) }
+        ensures fault { IfErr result (λ f. f ≢ NoMemory → IsJudged MESSAGE_LIMIT f self.old.bytes) }
+        ensures no_message { IfErr result (λ f. f ≢ NoMemory → BeginsNoMessage MESSAGE_LIMIT self.old.bytes) }
+    {
+        if self.from == 0 && size == self.buffer.len() {
+            return Message::take(self.alloc, &mut self.buffer);
+        }
+        let whole = Vec::from_slice(self.alloc, &self.buffer[self.from..self.from + size])?;
+        let message = Message::read(self.alloc, whole)?;
+        self.from += size;
+        Ok(message)
     }
 }
 

@@ -4,15 +4,7 @@
 //! waits, after "Message Protocol" of the D-Bus Specification.
 #![tactic(auto)]
 
-#[cfg(test)]
-mod fault_tests;
 mod framer;
-#[cfg(test)]
-mod own_message_tests;
-#[cfg(test)]
-mod stream_tests;
-#[cfg(test)]
-mod tests;
 
 pub use framer::{Framer, one_stream};
 pub use message_core::{

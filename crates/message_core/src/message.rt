@@ -1,6 +1,6 @@
 //! Whole messages.
 
-ghost use Rattle.std.specs.Prelude.{◌≡◌, ◌≢◌, ◌≤◌, ℕ, List, Ok, IfOk, IfErr, length, true};
+ghost use Rattle.std.specs.Prelude.{◌≡◌, ◌≢◌, ◌≤◌, ℕ, List, [], Ok, IfOk, IfErr, OnOk, OnErr, length, true};
 ghost use Rattle.marshal_core.specs.Signatures.{codes};
 ghost use Rattle.marshal_core.specs.declared.fault.MarshalFault.TheVariants.{NoMemory};
 ghost use Rattle.marshal_core.specs.Spelling.{Spells};
@@ -58,7 +58,24 @@ impl Message {
         ensures fault { IfErr result (λ f. f ≢ WithoutMemory → IsRefused bytes.items f) }
         ensures none { IfErr result (λ f. f ≢ WithoutMemory → IsNoMessage bytes.items) }
     {
-        let fields = places_of(alloc, &bytes)?;
+        let mut bytes = bytes;
+        Message::take(alloc, &mut bytes)
+    }
+
+    /// Takes one whole message out of a buffer that holds nothing else and is left empty, without copying its bytes.
+    /// It is checked as [`read`](Message::read) does; what is refused stays in the buffer.
+    pub fn take(alloc: Global, buffer: &mut Vec<u8>) -> Result<Message, FrameFault>
+        requires fixed { FIXED_LENGTH ≤ length buffer.old.items }
+        requires whole { announced MAXIMUM_LENGTH buffer.old.items ≡ Ok (length buffer.old.items) }
+        ensures bytes { IfOk result (λ m. m ≡ buffer.old.items) }
+        ensures emptied { OnOk result (buffer.new.items ≡ []) }
+        ensures message { IfOk result (λ m. IsMessage m (said m)) }
+        ensures fault { IfErr result (λ f. f ≢ WithoutMemory → IsRefused buffer.old.items f) }
+        ensures none { IfErr result (λ f. f ≢ WithoutMemory → IsNoMessage buffer.old.items) }
+        ensures refused { OnErr result (buffer.new ≡ buffer.old) }
+    {
+        let fields = places_of(alloc, buffer)?;
+        let bytes = std::mem::replace(buffer, Vec::new(alloc));
         Ok(Message { bytes, fields })
     }
 

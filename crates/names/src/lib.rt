@@ -24,6 +24,3 @@ pub use member_name::Member;
 pub use object_path::ObjectPath;
 pub use unique_name::UniqueName;
 pub use well_known_name::WellKnown;
-
-#[cfg(test)]
-mod tests;

@@ -11,7 +11,13 @@ use owner_queues::{Profile, Reply as QueueReply, RequestFlags};
 use registry::Registry;
 use seq_bus_core::{BusSignal, Change, Conn, NumberedOutcome, Reply, VerdictKind};
 use std::alloc::Global;
+use std::fmt::Debug;
 use std::process::Abort;
+
+/// Asserts that what is found is what is wanted.
+fn same<T: PartialEq + Debug>(rt: &impl Abort, found: &T, wanted: &T) {
+    assert_eq!(rt; *found, *wanted);
+}
 
 fn open(rt: &impl Abort, alloc: Global, routers: u8) -> Registry
     requires { (1 ≤ routers) × (routers ≤ 8) }
@@ -60,17 +66,17 @@ fn first_connection_and_its_name(rt: HostRuntime) {
         slot: 128,
         router: 2,
     };
-    assert_eq!(rt; outcome.reply, Reply::Welcome(conn));
+    same(&rt, &outcome.reply, &Reply::Welcome(conn));
     let [announced, acquired] = outcome.signals.as_slice() else {
         panic!(rt; "a Hello has two signals");
     };
     assert!(rt; matches!(&announced.signal, BusSignal::NameOwnerChanged { .. }));
     assert!(rt; announced.to.as_slice().is_empty());
     assert!(rt; matches!(&acquired.signal, BusSignal::NameAcquired { .. }));
-    assert_eq!(rt; acquired.to.as_slice(), [conn].as_slice());
+    same(&rt, &acquired.to.as_slice(), &[conn].as_slice());
     assert!(rt; registry.present(1) && !registry.present(2));
     assert!(rt; registry.conn(1) == Some(conn));
-    assert_eq!(rt; registry.routers(), 2);
+    same(&rt, &registry.routers(), &2);
     let name = BusName::from(UniqueName::of(1));
     assert!(rt; registry.owner(&name) == Some(1));
 }
@@ -85,9 +91,10 @@ fn slots_of_a_router(rt: HostRuntime) {
                 slot,
                 router: 1,
             };
-            assert_eq!(rt;
-                make(&rt, rt.alloc(), &mut registry, 1, &hello()).reply,
-                Reply::Welcome(conn)
+            same(
+                &rt,
+                &make(&rt, rt.alloc(), &mut registry, 1, &hello()).reply,
+                &Reply::Welcome(conn),
             );
         }
         assert_eq!(rt;
@@ -140,18 +147,20 @@ fn rules_that_are_added_and_removed(rt: HostRuntime) {
     let alloc = rt.alloc();
     let mut registry = open(&rt, alloc, 1);
     let gone = make(&rt, alloc, &mut registry, 1, &add_match(1, rule(&rt, "")));
-    assert_eq!(rt; gone.reply, Reply::Gone);
+    same(&rt, &gone.reply, &Reply::Gone);
     make(&rt, alloc, &mut registry, 1, &hello());
     make(&rt, alloc, &mut registry, 1, &hello());
     let tick = rule(&rt, "member='Tick',sender=':1.2'");
     let names = rule(&rt, "member='NameOwnerChanged'");
-    assert_eq!(rt;
-        make(&rt, alloc, &mut registry, 1, &add_match(1, tick)).reply,
-        Reply::Done
+    same(
+        &rt,
+        &make(&rt, alloc, &mut registry, 1, &add_match(1, tick)).reply,
+        &Reply::Done,
     );
-    assert_eq!(rt;
-        make(&rt, alloc, &mut registry, 1, &add_match(1, names)).reply,
-        Reply::Done
+    same(
+        &rt,
+        &make(&rt, alloc, &mut registry, 1, &add_match(1, names)).reply,
+        &Reply::Done,
     );
 
     let listener = Conn {
@@ -161,7 +170,7 @@ fn rules_that_are_added_and_removed(rt: HostRuntime) {
     };
     let verdict = registry.route(2, &signal("Tick"));
     assert!(rt; matches!(verdict.kind, VerdictKind::Plain));
-    assert_eq!(rt; verdict.to.as_slice(), [listener].as_slice());
+    same(&rt, &verdict.to.as_slice(), &[listener].as_slice());
     let verdict = registry.route(1, &signal("Tick"));
     assert!(rt; verdict.to.as_slice().is_empty());
     let verdict = registry.route(3, &signal("Tick"));
@@ -171,15 +180,17 @@ fn rules_that_are_added_and_removed(rt: HostRuntime) {
     let [announced, _] = outcome.signals.as_slice() else {
         panic!(rt; "a Hello has two signals");
     };
-    assert_eq!(rt; announced.to.as_slice(), [listener].as_slice());
+    same(&rt, &announced.to.as_slice(), &[listener].as_slice());
 
-    assert_eq!(rt;
-        make(&rt, alloc, &mut registry, 1, &remove_match(1, tick)).reply,
-        Reply::Done
+    same(
+        &rt,
+        &make(&rt, alloc, &mut registry, 1, &remove_match(1, tick)).reply,
+        &Reply::Done,
     );
-    assert_eq!(rt;
-        make(&rt, alloc, &mut registry, 1, &remove_match(1, tick)).reply,
-        Reply::RuleNotFound
+    same(
+        &rt,
+        &make(&rt, alloc, &mut registry, 1, &remove_match(1, tick)).reply,
+        &Reply::RuleNotFound,
     );
     let verdict = registry.route(2, &signal("Tick"));
     assert!(rt; verdict.to.as_slice().is_empty());
@@ -215,7 +226,7 @@ fn a_connection_that_leaves(rt: HostRuntime) {
     make(&rt, alloc, &mut registry, 1, &add_match(1, all));
     make(&rt, alloc, &mut registry, 1, &add_match(2, all));
     let left = make(&rt, alloc, &mut registry, 1, &leave(1));
-    assert_eq!(rt; left.reply, Reply::Done);
+    same(&rt, &left.reply, &Reply::Done);
     let [announced] = left.signals.as_slice() else {
         panic!(rt; "a Leave without names has one signal");
     };
@@ -224,23 +235,25 @@ fn a_connection_that_leaves(rt: HostRuntime) {
         slot: 1,
         router: 1,
     };
-    assert_eq!(rt; announced.to.as_slice(), [listener].as_slice());
+    same(&rt, &announced.to.as_slice(), &[listener].as_slice());
     assert!(rt; !registry.present(1));
-    assert_eq!(rt;
-        make(&rt, alloc, &mut registry, 1, &leave(1)).reply,
-        Reply::Gone
+    same(
+        &rt,
+        &make(&rt, alloc, &mut registry, 1, &leave(1)).reply,
+        &Reply::Gone,
     );
     let conn = Conn {
         number: 3,
         slot: 0,
         router: 1,
     };
-    assert_eq!(rt;
-        make(&rt, alloc, &mut registry, 1, &hello()).reply,
-        Reply::Welcome(conn)
+    same(
+        &rt,
+        &make(&rt, alloc, &mut registry, 1, &hello()).reply,
+        &Reply::Welcome(conn),
     );
     let verdict = registry.route(3, &signal("Tick"));
-    assert_eq!(rt; verdict.to.as_slice(), [listener].as_slice());
+    same(&rt, &verdict.to.as_slice(), &[listener].as_slice());
 }
 
 fn leave(connection: u64) -> Change
@@ -296,26 +309,31 @@ fn a_name_that_is_replaced(rt: HostRuntime) {
     let mut registry = open_with(&rt, alloc, 3);
     let name = well_known(&rt, "com.example.A");
     let first = make(&rt, alloc, &mut registry, 1, &request(1, name, 1));
-    assert_eq!(rt; first.reply, Reply::OfQueue(QueueReply::PrimaryOwner));
-    assert_eq!(rt; first.signals.as_slice().len(), 2);
+    same(&rt, &first.reply, &Reply::OfQueue(QueueReply::PrimaryOwner));
+    same(&rt, &first.signals.as_slice().len(), &2);
     let second = make(&rt, alloc, &mut registry, 1, &request(2, name, 0));
-    assert_eq!(rt; second.reply, Reply::OfQueue(QueueReply::InQueue));
+    same(&rt, &second.reply, &Reply::OfQueue(QueueReply::InQueue));
     assert!(rt; second.signals.as_slice().is_empty());
     let third = make(&rt, alloc, &mut registry, 1, &request(3, name, 2));
-    assert_eq!(rt; third.reply, Reply::OfQueue(QueueReply::PrimaryOwner));
+    same(&rt, &third.reply, &Reply::OfQueue(QueueReply::PrimaryOwner));
     let [lost, changed, acquired] = third.signals.as_slice() else {
         panic!(rt; "a name that goes to another owner has three signals");
     };
-    assert_eq!(rt; lost.signal, BusSignal::NameLost { name, owner: 1 });
-    assert_eq!(rt;
-        changed.signal,
-        BusSignal::NameOwnerChanged {
+    same(&rt, &lost.signal, &BusSignal::NameLost { name, owner: 1 });
+    same(
+        &rt,
+        &changed.signal,
+        &BusSignal::NameOwnerChanged {
             name,
             old_owner: Some(1),
-            new_owner: Some(3)
-        }
+            new_owner: Some(3),
+        },
     );
-    assert_eq!(rt; acquired.signal, BusSignal::NameAcquired { name, owner: 3 });
+    same(
+        &rt,
+        &acquired.signal,
+        &BusSignal::NameAcquired { name, owner: 3 },
+    );
     assert!(rt; has_queue(&registry, "com.example.A", &[3, 1, 2]));
     assert!(rt; registry.owner(&name) == Some(3));
 }
@@ -336,12 +354,13 @@ fn a_name_that_is_released(rt: HostRuntime) {
         (release(3, name), QueueReply::NonExistent),
     ];
     for (change, reply) in &changes {
-        assert_eq!(rt;
-            make(&rt, alloc, &mut registry, 1, change).reply,
-            Reply::OfQueue(*reply)
+        same(
+            &rt,
+            &make(&rt, alloc, &mut registry, 1, change).reply,
+            &Reply::OfQueue(*reply),
         );
     }
     assert!(rt; registry.names().is_empty());
     let bus = make(&rt, alloc, &mut registry, 1, &request(1, BusName::bus(), 0));
-    assert_eq!(rt; bus.reply, Reply::InvalidName);
+    same(&rt, &bus.reply, &Reply::InvalidName);
 }

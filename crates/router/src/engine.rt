@@ -74,8 +74,16 @@ impl<V: BusView, G: Gate> Engine<V, G> {
         ensures brings { IfOk result (λ actions. Brings V.told G.passes V.alone self.old (Bytes key piece) actions.items self.new) }
         ensures err { OnErr result (self.new ≡ self.old) }
     {
-        self.served.feed(key, &piece)?;
+        self.served.feed(key, piece)?;
         Ok(self.served.take_actions())
+    }
+
+    /// Takes back the actions that an event brought, once they are done. Those of the next events stand where they stood; without this
+    /// the engine makes room for them anew.
+    pub fn give_back(&mut self, actions: Vec<Action<V::Note>>)
+        ensures { self.new ≡ self.old }
+    {
+        self.served.give_back(actions);
     }
 
     /// Whether a connection has sent a whole message that was not served, or what is no message:

@@ -16,7 +16,7 @@ use bus_view::{BusView, Cause};
 use driver::Call;
 use envelopes::ReplyContent;
 use message_core::Message;
-use router_core::Gate;
+use router_core::{Gate, WrittenBytes};
 use router_hands::{HelloErrors, Peer, Stage};
 use seq_bus_core::{Change, Conn, ErrorKind, Outcome, Reply};
 
@@ -124,10 +124,10 @@ impl<V: BusView, G: Gate> Served<V, G> {
     }
 
     /// The Hello would exceed a limit of the bus: the connection is closed.
-    fn turn_away_at(&mut self, key: usize, hello: &Message, mut peer: Peer, bytes: Vec<u8>)
+    fn turn_away_at(&mut self, key: usize, hello: &Message, mut peer: Peer, bytes: WrittenBytes)
         requires room { 2 < self.old.work.room }
         requires key { key < length self.old.standing.peers }
-        requires written { IsRefusal (said hello.now) ErrorKind.LimitsExceeded (next_serial peer.serial) bytes.items }
+        requires written { IsRefusal (said hello.now) ErrorKind.LimitsExceeded (next_serial peer.serial) bytes }
         ensures { Comes V.told G.passes V.alone (for_peer self.old.standing key (Some peer) (turn_away key (said hello.now))) self.old.work.world self.new.standing self.new.work.world }
     {
         self.hands.turn_away(key, hello, &mut peer, bytes);

@@ -12,7 +12,7 @@ use crate::tests::{FIRST, serving};
 use envelopes::Content;
 use message::Framer;
 use message_core::Message;
-use router_core::{Action, OpenGate};
+use router_core::{Action, OpenGate, WrittenBytes};
 use router_hands::{HelloErrors, Peer, bytes_of, serial_after};
 use seq_bus::SeqBus;
 use std::alloc::Global;
@@ -42,9 +42,14 @@ fn message_of(rt: &impl Abort, alloc: Global, bytes: &[u8]) -> Message {
 }
 
 /// The bytes of a content, once more where one allocation failed.
-pub(crate) fn spelled(rt: &impl Abort, alloc: Global, content: &Content, serial: u32) -> Vec<u8>
+pub(crate) fn spelled(
+    rt: &impl Abort,
+    alloc: Global,
+    content: &Content,
+    serial: u32,
+) -> WrittenBytes
     requires { 0 < serial }
-    ensures { IsSpelled (said_of content.now) serial result.items }
+    ensures { IsSpelled (said_of content.now) serial result }
 {
     match bytes_of(alloc, content, serial) {
         Ok(bytes) => bytes,

@@ -81,6 +81,14 @@ impl<V: BusView, G: Gate> Served<V, G> {
         self.hands.take_actions()
     }
 
+    /// Takes back the actions that it handed out, once they are done.
+    pub fn give_back(&mut self, actions: Vec<Action<V::Note>>)
+        ensures standing { self.new.standing ≡ self.old.standing }
+        ensures world { self.new.work.world ≡ self.old.work.world }
+    {
+        self.hands.give_back(actions);
+    }
+
     /// A key that no connection has: the last that was given up, or the next.
     #[tactic(auto, using(crate::proofs::Slots::none_beyond))]
     pub fn free_key(&self) -> usize
@@ -124,8 +132,8 @@ impl<V: BusView, G: Gate> Served<V, G> {
 
     /// Bytes of a connection came. Without memory nothing changes.
     #[tactic(auto, using(crate::proofs::Slots::set_beyond, crate::proofs::Slots::set_same, crate::proofs::Slots::none_beyond))]
-    pub fn feed(&mut self, key: usize, piece: &[u8]) -> Result<(), AllocError>
-        ensures comes { OnOk result (Comes V.told G.passes V.alone (for_peer self.old.standing key (peer_at self.old.standing key) (λ p. Gives (fed piece.now p p.stage))) self.old.work.world self.new.standing self.new.work.world) }
+    pub fn feed(&mut self, key: usize, piece: Vec<u8>) -> Result<(), AllocError>
+        ensures comes { OnOk result (Comes V.told G.passes V.alone (for_peer self.old.standing key (peer_at self.old.standing key) (λ p. Gives (fed piece.items p p.stage))) self.old.work.world self.new.standing self.new.work.world) }
         ensures err { OnErr result (self.new.standing ≡ self.old.standing) }
         ensures world { OnErr result (self.new.work.world ≡ self.old.work.world) }
     {

@@ -49,6 +49,23 @@ pub(crate) fn acquired() -> OwnMessage {
     })
 }
 
+/// Bytes in a piece of their own, made once more where one allocation failed.
+fn piece_of(rt: &impl Abort, alloc: Global, bytes: &[u8]) -> Vec<u8> {
+    match Vec::from_slice(alloc, bytes) {
+        Ok(piece) => piece,
+        Err(_) => Vec::from_slice(alloc, bytes).expect(rt, "one allocation fails"),
+    }
+}
+
+/// Bytes of a connection come, once more where one allocation failed.
+fn feed(rt: &impl Abort, served: &mut Served<SeqBus, OpenGate>, key: usize, bytes: &[u8]) {
+    let piece = piece_of(rt, served.alloc, bytes);
+    if served.feed(key, piece).is_err() {
+        let piece = piece_of(rt, served.alloc, bytes);
+        served.feed(key, piece).expect(rt, "one allocation fails");
+    }
+}
+
 #[test]
 fn keys_of_connections(rt: HostRuntime) {
     let mut served = serving(&rt, rt.alloc());
@@ -57,9 +74,7 @@ fn keys_of_connections(rt: HostRuntime) {
         served.open(0).expect(&rt, "one allocation fails");
     }
     assert_eq!(rt; served.free_key(), 1);
-    if served.feed(0, b"l\x01").is_err() {
-        served.feed(0, b"l\x01").expect(&rt, "one allocation fails");
-    }
+    feed(&rt, &mut served, 0, b"l\x01");
     if served.reserve(1).is_err() {
         served.reserve(1).expect(&rt, "one allocation fails");
     }
@@ -77,9 +92,7 @@ fn opened(rt: &impl Abort, served: &mut Served<SeqBus, OpenGate>) -> usize {
 
 /// A connection says Hello, once more where one allocation failed.
 fn say_hello(rt: &impl Abort, served: &mut Served<SeqBus, OpenGate>, key: usize) {
-    if served.feed(key, HELLO).is_err() {
-        served.feed(key, HELLO).expect(rt, "one allocation fails");
-    }
+    feed(rt, served, key, HELLO);
     if served.next(&(), key).is_err() {
         served.next(&(), key).expect(rt, "one allocation fails");
     }

@@ -56,7 +56,7 @@ IsWriting key bytes deed = ⊥
 
 -- the one deed that the action does
 abbrev pub IsDoneBy : {N : Type 0} → Action N → Deed → Type 0
-IsDoneBy (Write key bytes) deed = IsWriting key bytes.items deed
+IsDoneBy (Write key bytes) deed = IsWriting key bytes deed
 IsDoneBy (Put to carried content) deed = deed ≡ Puts (all_of to.to to.monitors) (said_of content)
 IsDoneBy (Announce signals carried) deed = ⊥
 IsDoneBy (Close key cause) deed = deed ≡ Closes key cause

@@ -1,4 +1,5 @@
 pub mod Addressed
+pub mod Written
 pub mod Deeds
 pub mod Answers
 pub mod Fronts

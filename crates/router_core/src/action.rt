@@ -2,6 +2,7 @@
 
 use crate::cause::CloseCause;
 use crate::recipients::Addressees;
+use crate::written::WrittenBytes;
 use envelopes::Content;
 use names::BusName;
 use seq_bus_core::Signals;
@@ -12,7 +13,7 @@ pub enum Action<N: Drop> {
     /// Bytes are written to a connection.
     Write {
         key: usize,
-        bytes: Vec<u8>,
+        bytes: WrittenBytes,
     },
     /// A message is put to connections, each in an envelope of its own.
     Put {

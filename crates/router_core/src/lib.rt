@@ -17,9 +17,11 @@ pub mod laws;
 mod recipients;
 #[cfg(test)]
 mod tests;
+mod written;
 
 pub use action::Action;
 pub use cause::CloseCause;
 pub use event::Event;
 pub use gate::{Gate, OpenGate};
 pub use recipients::{Addressees, Crowd};
+pub use written::WrittenBytes;

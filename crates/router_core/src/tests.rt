@@ -2,10 +2,12 @@
 
 use super::*;
 use driver::Call;
+use envelopes::SharedBytes;
 use message_core::FrameFault;
 use seq_bus_core::Conn;
 use std::alloc::Global;
 use std::process::Abort;
+use std::sync::Arc;
 
 fn shown(rt: &impl Abort, alloc: Global, cause: CloseCause) -> String {
     format!(in alloc; "{cause}").expect(rt, "there is memory")
@@ -45,6 +47,18 @@ fn one_addressee_and_several(rt: HostRuntime) {
     let several = Addressees::shown(crowd);
     assert_eq!(rt; several.to(), [conn(1), conn(2)].as_slice());
     assert_eq!(rt; several.monitors(), [conn(3)].as_slice());
+}
+
+#[test]
+fn own_bytes_and_shared_ones(rt: HostRuntime) {
+    let bytes = Vec::from_slice(rt.alloc(), b"own").expect(&rt, "there is memory");
+    assert_eq!(rt; WrittenBytes::own(bytes).as_slice(), b"own".as_slice());
+    let bytes = Vec::from_slice(rt.alloc(), b"shared").expect(&rt, "there is memory");
+    let Ok(bytes) = Arc::new(rt.alloc(), bytes) else {
+        panic!(rt; "there is memory");
+    };
+    let shared = WrittenBytes::shared(SharedBytes::new(bytes));
+    assert_eq!(rt; shared.as_slice(), b"shared".as_slice());
 }
 
 fn show<G: Gate>(gate: &mut G, call: &Call) {

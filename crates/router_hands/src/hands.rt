@@ -16,7 +16,7 @@ use bus_view::{BusView, Cause, Gone};
 use driver::Call;
 use envelopes::Content;
 use match_rules::Facts;
-use router_core::{Action, Addressees, CloseCause, Crowd, Gate};
+use router_core::{Action, Addressees, CloseCause, Crowd, Gate, WrittenBytes};
 use seq_bus::{AskFault, Asked};
 use seq_bus_core::{Change, Conn, Outcome, Query, Signals, Verdict, VerdictKind};
 use std::alloc::{AllocError, Global};
@@ -29,6 +29,8 @@ pub struct Hands<V: BusView, G: Gate> {
     view: V,
     gate: G,
     actions: Vec<Action<V::Note>>,
+    /// Where the next actions go once these are handed out.
+    spare: Vec<Action<V::Note>>,
     /// Room for those that messages are put to.
     crowds: Vec<Box<Crowd>>,
     /// It is large, so it stays in one place.
@@ -37,14 +39,14 @@ pub struct Hands<V: BusView, G: Gate> {
 }
 
 impl<V: BusView, G: Gate> Model for Hands<V, G> {
-    ghost use Rattle.std.specs.Prelude.{◌+◌, ◌≤◌, vec_len, vec_capacity};
+    ghost use Rattle.std.specs.Prelude.{◌≡◌, ◌+◌, ◌≤◌, [], vec_len, vec_capacity};
     ghost use Rattle.router_hands.specs.Work.{Work};
 
     ghost Value = { Work V.Note G };
 
     ghost view = { λ h. record { world = record { view = V.knows h.view; gate = h.gate; actions = h.actions.items }; told = h.told.value; room = h.room } };
 
-    ghost invariant = { λ h. (h.room + vec_len h.actions ≤ vec_capacity h.actions) × (h.room ≤ vec_len h.crowds) };
+    ghost invariant = { λ h. (h.room + vec_len h.actions ≤ vec_capacity h.actions) × (h.room ≤ vec_len h.crowds) × (h.spare.items ≡ []) };
 }
 
 impl<V: BusView + Drop, G: Gate + Drop> Hands<V, G> {
@@ -60,6 +62,7 @@ impl<V: BusView + Drop, G: Gate + Drop> Hands<V, G> {
             view,
             gate,
             actions: Vec::new(alloc),
+            spare: Vec::new(alloc),
             crowds: Vec::new(alloc),
             told,
             room: 0,
@@ -89,7 +92,22 @@ impl<V: BusView, G: Gate> Hands<V, G> {
         ensures world { self.new.world ≡ record self.old.world { actions = [] } }
     {
         self.room = 0;
-        std::mem::replace(&mut self.actions, Vec::new(self.alloc))
+        let next = std::mem::replace(&mut self.spare, Vec::new(self.alloc));
+        std::mem::replace(&mut self.actions, next)
+    }
+
+    /// Takes back the actions that it handed out, once they are done: later ones go where they stood. Those of the mail that they
+    /// bring have a place beside theirs.
+    pub fn give_back(&mut self, actions: Vec<Action<V::Note>>)
+        ensures world { self.new.world ≡ self.old.world }
+    {
+        let mut actions = actions;
+        actions.clear();
+        if self.actions.capacity() == 0 {
+            self.actions = actions;
+        } else {
+            self.spare = actions;
+        }
     }
 
     /// One action more.
@@ -104,18 +122,18 @@ impl<V: BusView, G: Gate> Hands<V, G> {
     }
 
     /// Writes a message of another connection to the connection of this key.
-    pub fn write(&mut self, key: usize, bytes: Vec<u8>)
+    pub fn write(&mut self, key: usize, bytes: WrittenBytes)
         requires { 0 < self.old.room }
-        ensures does { Does V.told V.alone (Writes key bytes.items) self.old.world self.new.world }
+        ensures does { Does V.told V.alone (Writes key bytes) self.old.world self.new.world }
         ensures room { self.new.room + 1 ≡ self.old.room }
     {
         self.act(Action::Write { key, bytes });
     }
 
     /// Writes a message of the bus to the connection of this key.
-    pub fn send(&mut self, key: usize, message: Vec<u8>)
+    pub fn send(&mut self, key: usize, message: WrittenBytes)
         requires { 0 < self.old.room }
-        ensures does { (m : Message) → IsWritten message.items m → Does V.told V.alone (Sends key m) self.old.world self.new.world }
+        ensures does { (m : Message) → IsWritten message m → Does V.told V.alone (Sends key m) self.old.world self.new.world }
         ensures told { self.new.told ≡ self.old.told }
         ensures room { self.new.room + 1 ≡ self.old.room }
     {

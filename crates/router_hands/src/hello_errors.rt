@@ -18,7 +18,7 @@ use bus_view::{BusView, Cause};
 use driver::{ReplyTo, expects_reply};
 use envelopes::{CallToAnswer, Content, OwnMessage};
 use message_core::Message;
-use router_core::{CloseCause, Gate};
+use router_core::{CloseCause, Gate, WrittenBytes};
 use seq_bus_core::ErrorKind;
 use std::alloc::{AllocError, Global};
 use std::marker::Model;
@@ -41,9 +41,9 @@ fn refusal_bytes(
     hello: &Message,
     error: ErrorKind,
     serial: u32,
-) -> Result<Vec<u8>, AllocError>
+) -> Result<WrittenBytes, AllocError>
     requires { 0 < serial }
-    ensures { IfOk result (λ bytes. IsRefusal (said hello.now) error serial bytes.items) }
+    ensures { IfOk result (λ bytes. IsRefusal (said hello.now) error serial bytes) }
 {
     bytes_of(alloc, &Content::Own(refusal(hello, error)), serial)
 }
@@ -51,9 +51,9 @@ fn refusal_bytes(
 /// The errors that a Hello may be answered, in their bytes. They are made before the bus is asked, so that its answer needs no memory.
 #[derive(Drop)]
 pub struct HelloErrors {
-    no_memory: Vec<u8>,
-    failed: Vec<u8>,
-    limits: Vec<u8>,
+    no_memory: WrittenBytes,
+    failed: WrittenBytes,
+    limits: WrittenBytes,
 }
 
 impl Model for HelloErrors {
@@ -61,7 +61,7 @@ impl Model for HelloErrors {
 
     ghost Value = { Spelled };
 
-    ghost view = { λ r. record { no_memory = r.no_memory.items; failed = r.failed.items; limits = r.limits.items } };
+    ghost view = { λ r. record { no_memory = r.no_memory; failed = r.failed; limits = r.limits } };
 }
 
 impl HelloErrors {
@@ -81,8 +81,8 @@ impl HelloErrors {
     }
 
     /// The bytes of the error that a limit of the bus would be exceeded.
-    pub fn into_limits(self) -> Vec<u8>
-        ensures { result.items ≡ self.limits }
+    pub fn into_limits(self) -> WrittenBytes
+        ensures { result ≡ self.limits }
     {
         self.limits
     }
@@ -90,9 +90,9 @@ impl HelloErrors {
 
 impl<V: BusView, G: Gate> Hands<V, G> {
     /// Writes an error to a connection that has no name, and puts it to the monitors.
-    fn refuse(&mut self, key: usize, peer: &mut Peer, own: OwnMessage, bytes: Vec<u8>)
+    fn refuse(&mut self, key: usize, peer: &mut Peer, own: OwnMessage, bytes: WrittenBytes)
         requires room { 1 < self.old.room }
-        requires written { IsWritten bytes.items (own_message (next_serial peer.old.serial) (own_of own)) }
+        requires written { IsWritten bytes (own_message (next_serial peer.old.serial) (own_of own)) }
         ensures comes { Comes V.told G.passes V.alone (Routing 0 (facts_of (own_message 1 (own_of own))) (λ heard. refuse key (own_of own) peer.old heard)) self.old.world peer.new self.new.world }
         ensures room { self.old.room ≤ self.new.room + 2 }
     {
@@ -110,10 +110,10 @@ impl<V: BusView, G: Gate> Hands<V, G> {
         hello: &Message,
         peer: &mut Peer,
         error: ErrorKind,
-        bytes: Vec<u8>,
+        bytes: WrittenBytes,
     )
         requires room { 1 < self.old.room }
-        requires written { IsRefusal (said hello.now) error (next_serial peer.old.serial) bytes.items }
+        requires written { IsRefusal (said hello.now) error (next_serial peer.old.serial) bytes }
         ensures comes { Comes V.told G.passes V.alone (refuse_with key (said hello.now) error peer.old) self.old.world peer.new self.new.world }
         ensures room { self.old.room ≤ self.new.room + 2 }
     {
@@ -123,9 +123,9 @@ impl<V: BusView, G: Gate> Hands<V, G> {
     }
 
     /// Answers a Hello that would exceed a limit of the bus, and closes its connection.
-    pub fn turn_away(&mut self, key: usize, hello: &Message, peer: &mut Peer, bytes: Vec<u8>)
+    pub fn turn_away(&mut self, key: usize, hello: &Message, peer: &mut Peer, bytes: WrittenBytes)
         requires room { 2 < self.old.room }
-        requires written { IsRefusal (said hello.now) ErrorKind.LimitsExceeded (next_serial peer.old.serial) bytes.items }
+        requires written { IsRefusal (said hello.now) ErrorKind.LimitsExceeded (next_serial peer.old.serial) bytes }
         ensures { Comes V.told G.passes V.alone (turn_away key (said hello.now) peer.old) self.old.world peer.new self.new.world }
     {
         self.refuse_with(key, hello, peer, ErrorKind::LimitsExceeded, bytes);

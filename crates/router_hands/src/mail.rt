@@ -12,7 +12,7 @@ use crate::hands::Hands;
 use crate::peer::Peer;
 use bus_view::BusView;
 use envelopes::{Content, Envelope};
-use router_core::Gate;
+use router_core::{Gate, WrittenBytes};
 use std::alloc::{AllocError, Global};
 
 /// The serial of the bus's next message to a connection, by that of the last.
@@ -24,19 +24,16 @@ pub fn serial_after(serial: u32) -> u32
 }
 
 /// The bytes of a content, whose message has this serial where it is one of the bus's own.
-pub fn bytes_of(alloc: Global, content: &Content, serial: u32) -> Result<Vec<u8>, AllocError>
+pub fn bytes_of(alloc: Global, content: &Content, serial: u32) -> Result<WrittenBytes, AllocError>
     requires { 0 < serial }
-    ensures { IfOk result (λ bytes. IsSpelled (said_of content.now) serial bytes.items) }
+    ensures { IfOk result (λ bytes. IsSpelled (said_of content.now) serial bytes) }
 {
-    let mut bytes = Vec::new(alloc);
     match content {
-        Content::Relayed(relayed) => {
-            bytes.extend_from_slice(relayed.as_slice())?;
-            Ok(bytes)
-        }
+        Content::Relayed(relayed) => Ok(WrittenBytes::shared(relayed.again()?)),
         Content::Own(message) => {
+            let mut bytes = Vec::new(alloc);
             message.write(serial, &mut bytes)?;
-            Ok(bytes)
+            Ok(WrittenBytes::own(bytes))
         }
     }
 }
@@ -44,9 +41,9 @@ pub fn bytes_of(alloc: Global, content: &Content, serial: u32) -> Result<Vec<u8>
 impl<V: BusView, G: Gate> Hands<V, G> {
     /// Writes to a connection what an envelope brings.
     #[tactic(auto, using(crate::proofs::Delivering::relays))]
-    pub fn deliver(&mut self, key: usize, peer: &mut Peer, content: &Content, bytes: Vec<u8>)
+    pub fn deliver(&mut self, key: usize, peer: &mut Peer, content: &Content, bytes: WrittenBytes)
         requires room { 0 < self.old.room }
-        requires spelled { IsSpelled (said_of content.now) (next_serial peer.old.serial) bytes.items }
+        requires spelled { IsSpelled (said_of content.now) (next_serial peer.old.serial) bytes }
         ensures comes { Comes V.told G.passes V.alone (writing key (said_of content.now) peer.old) self.old.world peer.new self.new.world }
         ensures room { self.old.room ≤ self.new.room + 1 }
     {

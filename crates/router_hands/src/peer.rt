@@ -89,13 +89,13 @@ impl Peer {
     }
 
     /// Takes a piece of its bytes. Once it was closed they are let go. Without memory nothing changes.
-    pub fn feed(&mut self, piece: &[u8]) -> Result<(), AllocError>
-        ensures ok { OnOk result (self.new ≡ fed piece.now self.old self.old.stage) }
+    pub fn feed(&mut self, piece: Vec<u8>) -> Result<(), AllocError>
+        ensures ok { OnOk result (self.new ≡ fed piece.items self.old self.old.stage) }
         ensures err { OnErr result (self.new ≡ self.old) }
     {
         match self.stage {
             Stage::Shut(_) => Ok(()),
-            Stage::Unnamed { privileged: _ } | Stage::Named(_) => self.unread.feed(piece),
+            Stage::Unnamed { privileged: _ } | Stage::Named(_) => self.unread.feed_owned(piece),
         }
     }
 

@@ -15,8 +15,8 @@ use std::alloc::{AllocError, Global};
 
 impl<V: BusView, G: Gate> Hands<V, G> {
     /// Takes a piece of the bytes of a connection, if it is there.
-    pub fn feed_slot(&self, slot: &mut Option<Peer>, piece: &[u8]) -> Result<(), AllocError>
-        ensures ok { OnOk result (Comes V.told G.passes V.alone (for_slot slot.old (λ p. Gives (fed piece.now p p.stage))) self.now.world slot.new self.now.world) }
+    pub fn feed_slot(&self, slot: &mut Option<Peer>, piece: Vec<u8>) -> Result<(), AllocError>
+        ensures ok { OnOk result (Comes V.told G.passes V.alone (for_slot slot.old (λ p. Gives (fed piece.items p p.stage))) self.now.world slot.new self.now.world) }
         ensures err { OnErr result (slot.new ≡ slot.old) }
     {
         match slot {

@@ -48,7 +48,7 @@ module _ (opening : ℕ) (keys : List ℕ) where
   write_is key bytes (Runs name start) d = absurd d
 
   action_is : {N : Type 0} (action : Action N) (deeds : List Deed) → AreDeedsOf action deeds → written_to opening keys deeds ≡ bytes_by opening keys action
-  action_is (Write key bytes) deeds d = ap (λ (ds : List Deed). written_to opening keys ds) d.2 ∙ write_is key bytes.items d.0 d.1
+  action_is (Write key bytes) deeds d = ap (λ (ds : List Deed). written_to opening keys ds) d.2 ∙ write_is key bytes d.0 d.1
   action_is (Put to carried content) deeds d = ap (λ (ds : List Deed). written_to opening keys ds) (d.2 ∙ ap (λ (one : Deed). one ∷ []) d.1)
   action_is (Announce signals carried) deeds d = ap (λ (ds : List Deed). written_to opening keys ds) d ∙ nothing_announced signals
   action_is (Close key cause) deeds d = ap (λ (ds : List Deed). written_to opening keys ds) (d.2 ∙ ap (λ (one : Deed). one ∷ []) d.1)

@@ -29,7 +29,7 @@ pub record Adds (before : Output) (bytes : ℕ → List ℕ) (after : Output) : 
 
 -- what actions write to the connection of this opening
 abbrev pub bytes_by : {N : Type 0} → ℕ → List ℕ → Action N → List ℕ
-bytes_by opening keys (Write key bytes) = bytes_if opening (opening_of key keys) bytes.items
+bytes_by opening keys (Write key bytes) = bytes_if opening (opening_of key keys) bytes
 bytes_by opening keys other = []
 
 abbrev pub bytes_by_all : {N : Type 0} → ℕ → List ℕ → List (Action N) → List ℕ

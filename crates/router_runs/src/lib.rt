@@ -9,8 +9,6 @@ mod fault;
 pub mod laws;
 mod outlets;
 mod session;
-#[cfg(test)]
-mod tests;
 
 pub use fault::RunFault;
 pub use session::run;

@@ -96,7 +96,7 @@ impl Outlets {
         ensures { OnOk result (Adds self.old (λ opening. bytes_by opening self.old.keys action.now) self.new) }
     {
         match action {
-            Action::Write { key, bytes } => self.write(*key, bytes),
+            Action::Write { key, bytes } => self.write(*key, bytes.as_slice()),
             _ => Ok(()),
         }
     }

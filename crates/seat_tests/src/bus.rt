@@ -8,8 +8,14 @@ use names::BusName;
 use owner_queues::{QueuedOwner, RequestFlags};
 use registry_snapshots::{Naming, Seat, Shared};
 use seq_bus_core::{Change, Conn, Outcome, Reply};
+use std::fmt::Debug;
 use std::process::Abort;
 use std::sync::Wait;
+
+/// Asserts that what is found is what is wanted.
+pub fn same<T: PartialEq + Debug>(rt: &impl Abort, found: &T, wanted: &T) {
+    assert_eq!(rt; *found, *wanted);
+}
 
 /// Makes a change, and says what it is told.
 pub fn make<J: Naming, R: Wait + Abort>(

@@ -4,6 +4,7 @@ ghost use Rattle.std.specs.Prelude.{◌≡◌, []};
 ghost use Rattle.owner_queues.specs.declared.request.Profile.TheVariants.{One};
 ghost use Rattle.seq_bus_core.specs.Tickets.{opening_bus};
 
+use crate::bus::same;
 use arrayvec::ArrayVec;
 use match_rules::{Facts, MessageKind};
 use names::{BusName, UniqueName};
@@ -120,8 +121,8 @@ fn two_routers<J: Naming + Send + Sync, R: Threads + Wait + Abort + Sync>(
         );
         assert_eq!(rt; main.present(number).ok(), Some(true), "{number}");
     }
-    assert_eq!(rt; one.numbers.len() + two.numbers.len(), 200);
-    assert_eq!(rt; (one.refused, two.refused), (0, 0));
+    same(rt, &(one.numbers.len() + two.numbers.len()), &200);
+    same(rt, &(one.refused, two.refused), &(0, 0));
     shared.end(rt);
     assert!(rt; main.present(1).is_err());
 }
@@ -137,7 +138,7 @@ fn hello<J: Naming, R: Wait + Abort>(rt: &R, seat: &mut Seat<J>, shared: &Shared
     let made = match seat.change(rt, shared, Change::Hello { privileged: true }) {
         Ok(made) => Ok(made),
         Err(refused) => {
-            assert_eq!(rt; refused.cause, Cause::NoMemory);
+            same(rt, &refused.cause, &Cause::NoMemory);
             seat.change(rt, shared, refused.change)
         }
     };
@@ -162,26 +163,38 @@ impl<'a, R: Wait + Abort> Serve for Teller<'a, R> {
         let Teller { rt } = self;
         let mut second = seats.pop().expect(rt, "there are three seats");
         let mut first = seats.pop().expect(rt, "there are three seats");
-        assert_eq!(rt; (first.number(), second.number(), seats.len()), (1, 2, 1));
+        same(
+            rt,
+            &(first.number(), second.number(), seats.len()),
+            &(1, 2, 1),
+        );
         assert!(rt; first.note().is_none());
-        assert_eq!(rt; second.present(1).ok(), Some(false));
+        same(rt, &second.present(1).ok(), &Some(false));
         let conn = Conn {
             number: 1,
             slot: 0,
             router: 1,
         };
-        assert_eq!(rt; hello(rt, &mut first, &shared), conn);
+        same(rt, &hello(rt, &mut first, &shared), &conn);
         second.take_note(&first.note().expect(rt, "it made a change"));
         let name = BusName::from(UniqueName::of(1));
-        assert_eq!(rt; second.open(|snap| snap.owner(&name)).ok(), Some(Some(1)));
-        assert_eq!(rt; second.open(|snap| snap.conn(1)).ok(), Some(Some(conn)));
-        assert_eq!(rt; second.present(2).ok(), Some(false));
+        same(
+            rt,
+            &second.open(|snap| snap.owner(&name)).ok(),
+            &Some(Some(1)),
+        );
+        same(
+            rt,
+            &second.open(|snap| snap.conn(1)).ok(),
+            &Some(Some(conn)),
+        );
+        same(rt, &second.present(2).ok(), &Some(false));
         let conn = Conn {
             number: 2,
             slot: 128,
             router: 2,
         };
-        assert_eq!(rt; hello(rt, &mut second, &shared), conn);
+        same(rt, &hello(rt, &mut second, &shared), &conn);
         shared.end(rt);
         assert!(rt; first.present(1).is_err() && second.open(|snap| snap.conn(1)).is_err());
     }
@@ -193,7 +206,7 @@ fn note_carries_hello(rt: HostRuntime) {
     let served = match start(&rt, alloc, &[], 2, Profile::Two, Teller { rt: &rt }) {
         Ok(()) => Ok(()),
         Err(fault) => {
-            assert_eq!(rt; fault.code(), 57);
+            same(&rt, &fault.code(), &57);
             start(&rt, alloc, &[], 2, Profile::Two, Teller { rt: &rt })
         }
     };

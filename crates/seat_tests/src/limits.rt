@@ -1,6 +1,6 @@
 //! As many names as a bus has.
 
-use crate::bus::{bus_name, connect, make, request};
+use crate::bus::{bus_name, connect, make, request, same};
 use names::BusName;
 use owner_queues::{Profile, Reply as QueueReply};
 use registry_core::NameEntry;
@@ -49,11 +49,11 @@ impl<'a, R: Wait + Abort> Serve for Filling<'a, R> {
             let made = make(rt, &shared, &mut seat, request(connection, name, 0));
             assert_eq!(rt; made.reply, Reply::LimitsExceeded, "{connection}");
         }
-        assert_eq!(rt; seat.open(|snap| snap.names().len()).ok(), Some(1024));
+        same(rt, &seat.open(|snap| snap.names().len()).ok(), &Some(1024));
         connect(rt, &shared, &mut seat);
         let name = bus_name(rt, "com.example.A");
         let made = make(rt, &shared, &mut seat, request(17, name, 0));
-        assert_eq!(rt; made.reply, Reply::LimitsExceeded);
+        same(rt, &made.reply, &Reply::LimitsExceeded);
         shared.end(rt);
     }
 }
@@ -91,7 +91,7 @@ impl<'a, R: Wait + Abort> Serve for Listing<'a, R> {
             make(rt, &shared, &mut seat, request(1 + place % 2, name, 0));
         }
         let rising = seat.open(|snap| are_rising(snap.names()));
-        assert_eq!(rt; rising.ok(), Some(true));
+        same(rt, &rising.ok(), &Some(true));
         shared.end(rt);
     }
 }

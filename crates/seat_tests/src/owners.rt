@@ -1,6 +1,6 @@
 //! Names that connections of two routers own, wait for and give up.
 
-use crate::bus::{bus_name, connect, facts, has_queue, make, release, request, tell};
+use crate::bus::{bus_name, connect, facts, has_queue, make, release, request, same, tell};
 use match_rules::{MessageKind, Rule};
 use names::{BusName, UniqueName};
 use owner_queues::{Profile, Reply as QueueReply};
@@ -33,19 +33,23 @@ impl<'a, R: Wait + Abort> Serve for Replacing<'a, R> {
         let taker = connect(rt, &shared, &mut first);
         let name = bus_name(rt, "com.example.A");
         let made = make(rt, &shared, &mut first, request(1, name, 1));
-        assert_eq!(rt; made.reply, Reply::OfQueue(QueueReply::PrimaryOwner));
+        same(rt, &made.reply, &Reply::OfQueue(QueueReply::PrimaryOwner));
         let made = make(rt, &shared, &mut second, request(2, name, 0));
-        assert_eq!(rt; made.reply, Reply::OfQueue(QueueReply::InQueue));
+        same(rt, &made.reply, &Reply::OfQueue(QueueReply::InQueue));
         let made = make(rt, &shared, &mut first, request(3, name, 2));
-        assert_eq!(rt; made.reply, Reply::OfQueue(QueueReply::PrimaryOwner));
+        same(rt, &made.reply, &Reply::OfQueue(QueueReply::PrimaryOwner));
         let [lost, changed, acquired] = made.signals.as_slice() else {
             panic!(rt; "a name that goes to another owner has three signals");
         };
-        assert_eq!(rt; lost.signal, BusSignal::NameLost { name, owner: 1 });
-        assert_eq!(rt; lost.to.as_slice(), [owner].as_slice());
-        assert_eq!(rt; changed.signal, passed(name, Some(3)));
-        assert_eq!(rt; acquired.signal, BusSignal::NameAcquired { name, owner: 3 });
-        assert_eq!(rt; acquired.to.as_slice(), [taker].as_slice());
+        same(rt, &lost.signal, &BusSignal::NameLost { name, owner: 1 });
+        same(rt, &lost.to.as_slice(), &[owner].as_slice());
+        same(rt, &changed.signal, &passed(name, Some(3)));
+        same(
+            rt,
+            &acquired.signal,
+            &BusSignal::NameAcquired { name, owner: 3 },
+        );
+        same(rt, &acquired.to.as_slice(), &[taker].as_slice());
         tell(rt, &first, &mut second);
         assert!(rt; has_queue(&mut second, &name, &[3, 1, 2]));
         shared.end(rt);
@@ -93,19 +97,19 @@ impl<'a, R: Wait + Abort> Serve for Releasing<'a, R> {
         make(rt, &shared, &mut first, request(1, name, 5));
         make(rt, &shared, &mut second, request(2, name, 0));
         let made = make(rt, &shared, &mut first, request(3, name, 2));
-        assert_eq!(rt; made.reply, Reply::OfQueue(QueueReply::PrimaryOwner));
+        same(rt, &made.reply, &Reply::OfQueue(QueueReply::PrimaryOwner));
         tell(rt, &first, &mut second);
         assert!(rt; has_queue(&mut second, &name, &[3, 2]));
         let made = make(rt, &shared, &mut second, request(2, name, 4));
-        assert_eq!(rt; made.reply, Reply::OfQueue(QueueReply::Exists));
+        same(rt, &made.reply, &Reply::OfQueue(QueueReply::Exists));
         tell(rt, &second, &mut first);
         assert!(rt; has_queue(&mut first, &name, &[3]));
         let made = make(rt, &shared, &mut second, release(2, name));
-        assert_eq!(rt; made.reply, Reply::OfQueue(QueueReply::NotOwner));
+        same(rt, &made.reply, &Reply::OfQueue(QueueReply::NotOwner));
         let made = make(rt, &shared, &mut first, release(3, name));
-        assert_eq!(rt; made.reply, Reply::OfQueue(QueueReply::Released));
+        same(rt, &made.reply, &Reply::OfQueue(QueueReply::Released));
         let made = make(rt, &shared, &mut first, release(3, name));
-        assert_eq!(rt; made.reply, Reply::OfQueue(QueueReply::NonExistent));
+        same(rt, &made.reply, &Reply::OfQueue(QueueReply::NonExistent));
         shared.end(rt);
     }
 }
@@ -142,7 +146,7 @@ impl<'a, R: Wait + Abort> Serve for Routing<'a, R> {
         tell(rt, &first, &mut second);
         let call = facts(MessageKind::MethodCall, Some("com.example.A"));
         let verdict = second.route(2, &call).ok().expect(rt, "the bus stands");
-        assert_eq!(rt; verdict.to.as_slice(), [owner].as_slice());
+        same(rt, &verdict.to.as_slice(), &[owner].as_slice());
 
         let rule = Rule::parse("sender='com.example.A'")
             .ok()
@@ -151,10 +155,14 @@ impl<'a, R: Wait + Abort> Serve for Routing<'a, R> {
             connection: 2,
             rule,
         };
-        assert_eq!(rt; make(rt, &shared, &mut second, added).reply, Reply::Done);
+        same(
+            rt,
+            &make(rt, &shared, &mut second, added).reply,
+            &Reply::Done,
+        );
         let signal = facts(MessageKind::Signal, None);
         let verdict = second.route(1, &signal).ok().expect(rt, "the bus stands");
-        assert_eq!(rt; verdict.to.as_slice(), [listener].as_slice());
+        same(rt, &verdict.to.as_slice(), &[listener].as_slice());
         make(rt, &shared, &mut first, release(1, name));
         make(rt, &shared, &mut second, request(2, name, 0));
         tell(rt, &second, &mut first);
@@ -202,7 +210,7 @@ impl<'a, R: Wait + Abort> Serve for Leaving<'a, R> {
         make(rt, &shared, &mut first, request(3, upper, 0));
         make(rt, &shared, &mut second, request(2, lower, 0));
         let left = make(rt, &shared, &mut first, Change::Leave { connection: 1 });
-        assert_eq!(rt; left.reply, Reply::Done);
+        same(rt, &left.reply, &Reply::Done);
         let expected = [
             passed(upper, Some(3)),
             BusSignal::NameAcquired {
@@ -222,9 +230,9 @@ impl<'a, R: Wait + Abort> Serve for Leaving<'a, R> {
             passed(BusName::from(UniqueName::of(1)), None),
         ];
         let signals = left.signals.as_slice();
-        assert_eq!(rt; signals.len(), expected.len());
+        same(rt, &signals.len(), &expected.len());
         for (addressed, signal) in signals.iter().zip(expected.iter()) {
-            assert_eq!(rt; addressed.signal, *signal);
+            same(rt, &addressed.signal, &*signal);
         }
         tell(rt, &first, &mut second);
         assert!(rt; has_queue(&mut second, &upper, &[3]));

@@ -9,12 +9,8 @@
 mod answer;
 mod bodies;
 mod bus;
-#[cfg(test)]
-mod name_tests;
 mod opening;
 mod refusal;
-#[cfg(test)]
-mod tests;
 
 pub use answer::{AskFault, Asked};
 pub use bodies::{append_names, append_owner, append_whether};

@@ -24,6 +24,6 @@ returns g c =
     let contents = g.W.Write.contents in
     let actions = c.in_ok-actions.actions.items in
     let stays : closed_by c.args.place.key actions ≡ None = ap (closed_by c.args.place.key) (sym c.deref.ensures.value) ∙ sym c.in_default.ensures in
-    let rest = rw c.deref-2.ensures.value at c.deliver_all.ensures in
-    carried_out g.V.BusView.told g.G.Gate.passes g.V.BusView.alone c.args.place.seat c.args.place.key c.args.engine.now c.bring.new.engine c.deliver_all.new.engine c.args.event actions (contents c.args.writer.now)
-    (contents c.bring.new.writer) (contents c.deliver_all.new.writer) c.deliver_all.result c.in_ok-actions.ensures.ok stays rest
+    let rest = rw c.deref-2.ensures.value at c.deliver_all-delivered.ensures in
+    rw c.give_back.ensures (carried_out g.V.BusView.told g.G.Gate.passes g.V.BusView.alone c.args.place.seat c.args.place.key c.args.engine.now c.bring.new.engine c.deliver_all-delivered.new.engine c.args.event actions (contents c.args.writer.now)
+    (contents c.bring.new.writer) (contents c.deliver_all-delivered.new.writer) c.deliver_all-delivered.result c.in_ok-actions.ensures.ok stays rest)

@@ -1,20 +1,9 @@
-use Rattle.std.proofs.Common.{◌≡◌, ℕ, ◌+◌, ◌-◌, List, ◌++◌, length, take, drop, Option, IfSome, Ok, Err, ◌≤◌, refl, sym, ap, subst, ◌∙◌, arith, inl, inr}
+use Rattle.std.proofs.Common.{◌≡◌, ◌-◌, ◌≤◌, length, take, drop, Some, None, Err, refl, sym, ap, subst, ◌∙◌, arith, inl, inr}
 use Rattle.std.proofs.lemmas.List.{take_all, length-drop}
 use Rattle.message_core.specs.Announcements.{announced}
-use Rattle.message_core.proofs.Announced.{announced_facts, announced_wider}
-use Rattle.message.specs.Framing.{IsJudged}
-use Rattle.message.proofs.Front.{taken, none_of, kept, judged, none_announced, none_begins}
+use Rattle.message.specs.Framing.{Unread, IsJudged}
+use Rattle.message.proofs.Front.{none_of, kept, none_announced}
 use Rattle.message.proofs.framer.Framer.next.Goals as goal
-
-pub read-requires-clause-whole : goal.read-requires-clause-whole
-read-requires-clause-whole c =
-    let items = c.self.inside.buffer.items in
-    let from = c.self.inside.from in
-    let seen = take (length c.deref.result.now - from) (drop from c.deref.result.now) in
-    let found = subst (λ (o : Option ℕ). IfSome o (λ (n : ℕ). (16 ≤ n) × (n ≤ length seen) × (announced 1048576 seen ≡ Ok n))) c.in-Ok-Some.field-0-is c.in-Ok-Some.ensures.some in
-    let t = taken 1048576 items c.in_ok-whole.whole.items (take (length items - from) (drop from items)) from c.in-Ok-Some.length c.self.invariant refl
-    (rw (← c.deref.ensures.value) c.in_ok-whole.ensures.items) (rw (← c.deref.ensures.value) found.2) found.0 (rw (← c.deref.ensures.value) found.1) in
-    announced_wider 1048576 134217728 c.in_ok-whole.whole.items (length c.in_ok-whole.whole.items) (omega arith) t.announced_whole
 
 pub returns-in-Err-clause-fault : goal.returns-in-Err-clause-fault
 returns-in-Err-clause-fault c =
@@ -35,45 +24,14 @@ returns-in-Err-clause-no_message c =
 
 pub returns-in_default-fault-clause-fault : goal.returns-in_default-fault-clause-fault
 returns-in_default-fault-clause-fault c =
-    let items = c.self.inside.buffer.items in
-    let from = c.self.inside.from in
-    let seen = take (length c.deref.result.now - from) (drop from c.deref.result.now) in
-    let found = subst (λ (o : Option ℕ). IfSome o (λ (n : ℕ). (16 ≤ n) × (n ≤ length seen) × (announced 1048576 seen ≡ Ok n))) c.in-Ok-Some.field-0-is c.in-Ok-Some.ensures.some in
-    let whole = c.in_ok-whole.whole.items in
-    let t = taken 1048576 items whole (take (length items - from) (drop from items)) from c.in-Ok-Some.length c.self.invariant refl
-    (rw (← c.deref.ensures.value) c.in_ok-whole.ensures.items) (rw (← c.deref.ensures.value) found.2) found.0 (rw (← c.deref.ensures.value) found.1) in
-    rw (← c.self.view_is)
-    (kept 1048576 c.in-Err-read.fault _ _ c.in_default-fault.not-NoMemory
-    (inr (none_of c.self.inside.fault c.in_default.not-Some, judged 1048576 (drop from items) whole (drop (from + c.in-Ok-Some.length) items) c.in-Err-read.fault t.split t.announced_whole (omega (arith, t.size, found.0)) (c.in-Err-read.ensures.fault c.in_default-fault.not-NoMemory), refl)))
+    let f = c.in-Err-take_front.fault in
+    let other = c.in_default-fault.not-NoMemory in
+    let fine : c.args.self.now.fault ≡ None = ap (λ (u : Unread). u.fault) (sym c.self.view_is) ∙ none_of c.self.inside.fault c.in_default.not-Some in
+    let same = c.self-2.view_is ∙ c.in-Err-take_front.ensures.refused in
+    kept 1048576 f _ _ other (inr (fine, c.in-Err-take_front.ensures.fault other, ap (λ (u : Unread). let v : Unread = record { bytes = u.bytes; fault = Some f } in v) same))
 
 pub returns-in_default-fault-clause-no_message : goal.returns-in_default-fault-clause-no_message
-returns-in_default-fault-clause-no_message c =
-    let items = c.self.inside.buffer.items in
-    let from = c.self.inside.from in
-    let seen = take (length c.deref.result.now - from) (drop from c.deref.result.now) in
-    let found = subst (λ (o : Option ℕ). IfSome o (λ (n : ℕ). (16 ≤ n) × (n ≤ length seen) × (announced 1048576 seen ≡ Ok n))) c.in-Ok-Some.field-0-is c.in-Ok-Some.ensures.some in
-    let whole = c.in_ok-whole.whole.items in
-    let t = taken 1048576 items whole (take (length items - from) (drop from items)) from c.in-Ok-Some.length c.self.invariant refl
-    (rw (← c.deref.ensures.value) c.in_ok-whole.ensures.items) (rw (← c.deref.ensures.value) found.2) found.0 (rw (← c.deref.ensures.value) found.1) in
-    λ other. rw (← c.self.view_is)
-    (λ fine. none_begins 1048576 (drop from items) whole (drop (from + c.in-Ok-Some.length) items) t.split t.announced_whole (omega (arith, t.size, found.0)) (c.in-Err-read.ensures.none c.in_default-fault.not-NoMemory))
+returns-in_default-fault-clause-no_message c other fine = c.in-Err-take_front.ensures.no_message c.in_default-fault.not-NoMemory
 
 pub returns-in-Ok-clause-some : goal.returns-in-Ok-clause-some
-returns-in-Ok-clause-some c =
-    let items = c.self.inside.buffer.items in
-    let from = c.self.inside.from in
-    let seen = take (length c.deref.result.now - from) (drop from c.deref.result.now) in
-    let found = subst (λ (o : Option ℕ). IfSome o (λ (n : ℕ). (16 ≤ n) × (n ≤ length seen) × (announced 1048576 seen ≡ Ok n))) c.in-Ok-Some.field-0-is c.in-Ok-Some.ensures.some in
-    let whole = c.in_ok-whole.whole.items in
-    let t = taken 1048576 items whole (take (length items - from) (drop from items)) from c.in-Ok-Some.length c.self.invariant refl
-    (rw (← c.deref.ensures.value) c.in_ok-whole.ensures.items) (rw (← c.deref.ensures.value) found.2) found.0 (rw (← c.deref.ensures.value) found.1) in
-    let none = none_of c.self.inside.fault c.in_default.not-Some in
-    let a = announced_facts 1048576 whole (length whole) t.announced_whole in
-    let message = c.in-Ok.ensures.bytes in
-    rw (← c.self.view_is) (record {
-      fine = none;
-      is_message = c.in-Ok.ensures.message;
-      within = rw message a.within;
-      taken = t.split ∙ ap (λ (x : List ℕ). x ++ drop (from + c.in-Ok-Some.length) items) (sym message);
-      still_fine = none;
-    })
+returns-in-Ok-clause-some c = c.in-Ok.ensures.taken

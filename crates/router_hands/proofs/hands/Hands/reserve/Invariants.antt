@@ -6,6 +6,7 @@ invariant-loop-self g l = record {
   view : l.self-inside.view ≡ l.initial.self-inside.view;
   gate : l.self-inside.gate ≡ l.initial.self-inside.gate;
   actions : l.self-inside.actions ≡ l.initial.self-inside.actions;
+  spare : l.self-inside.spare ≡ l.initial.self-inside.spare;
   room : l.self-inside.room ≡ 0;
 }
 
