@@ -47,11 +47,11 @@ fn takes_string(field: HeaderField, text: &str) -> bool
     ensures { IsTrue result ↔ IsStringOf field text.now }
 {
     match field {
-        HeaderField::Interface => Interface::parse(text).is_ok(),
-        HeaderField::Member => Member::parse(text).is_ok(),
-        HeaderField::ErrorName => ErrorName::parse(text).is_ok(),
-        HeaderField::Destination => BusName::parse(text).is_ok(),
-        HeaderField::Sender => BusName::parse(text).is_ok(),
+        HeaderField::Interface => Interface::check(text).is_ok(),
+        HeaderField::Member => Member::check(text).is_ok(),
+        HeaderField::ErrorName => ErrorName::check(text).is_ok(),
+        HeaderField::Destination => BusName::check(text).is_ok(),
+        HeaderField::Sender => BusName::check(text).is_ok(),
         _ => false,
     }
 }

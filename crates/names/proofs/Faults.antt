@@ -2,7 +2,7 @@
 use Rattle.std.proofs.Common.{◌≡◌, ℕ, ◌+◌, ◌<◌, ◌≤◌, Bool, true, false, cond, eqb, List, [], ◌∷◌, ◌++◌, length, get_or, drop, Option, Some, None, refl, sym, ap, subst, ◌∙◌, append-nil, arith, inl, inr}
 use Rattle.std.proofs.Common.{◌^◌, ◌%◌, lit<}
 use Rattle.std.proofs.lemmas.Fmt.{decimal_by_steps, length-decimal-le, decimal_injective}
-use Rattle.std.specs.Prelude.{decimal, ◌||◌, ◌&&◌, ◌⊎◌, not, nat_lt}
+use Rattle.std.specs.Prelude.{decimal, ◌||◌, ◌&&◌, ◌⊎◌, not, nat_lt, Result, Ok, Err, IsOk, MatchResult}
 use Rattle.std.specs.List.{flat_map, AllByRecursion}
 use Rattle.std.proofs.lemmas.Bool.{eqb-true}
 use Rattle.std.proofs.Common.{eq-eqb}
@@ -16,6 +16,7 @@ use Rattle.names.specs.Interface.{IsInterface, interface_fault, interface_style}
 use Rattle.names.specs.WellKnown.{IsWellKnownName, well_known_fault, well_known_style, IsNamespace, namespace_fault}
 use Rattle.names.specs.Member.{IsMember, member_fault, member_style}
 use Rattle.names.specs.UniqueName.{IsUniqueName, unique_name_fault, unique_style, after_colon, unique_text}
+use Rattle.names.specs.BusName.{IsBusName}
 use Rattle.names.specs.ObjectPath.{IsObjectPath, object_path_fault, path_style, after_slash}
 use Rattle.names.specs.Elements.{dot, slash, colon, underscore, hyphen_byte, is_letter, Style, is_digit, is_element_byte, IsElement, led_by, joined, AreElements, elements_fault, sized_fault, max_name_length}
 
@@ -237,6 +238,11 @@ none_object_path (b ∷ bytes) e = let g = guard_else (eqb b slash) (BadByte 0) 
 pub none_some : {A : Type 0} (o : Option NameFault) (d : NameFault) → o ≡ None → o ≡ Some d → A
 none_some o d e f = absurd cc
 
+-- what is found where nothing is missing alone is found where there is no fault
+pub ok_where : {A P : Type 0} (due : Option NameFault) → (due ≡ None → P) → (P → due ≡ None) → (r : Result A NameFault) → MatchResult r (λ _. due ≡ None) (λ fault. due ≡ Some fault) → (IsOk r → P) × (P → IsOk r)
+ok_where due is none (Ok x) h = (λ ok. is h, λ p. refl)
+ok_where due is none (Err fault) h = (λ ok. absurd cc, λ p. none_some due fault (none p) h)
+
 pub is_unique_name : (text : Text) → length text ≤ max_name_length → 0 < length text → get_or text 0 0 ≡ colon → elements_fault unique_style true false 1 (drop 1 text) ≡ None → IsUniqueName text
 is_unique_name [] fits some first e = absurd (omega arith)
 is_unique_name (b ∷ bytes) fits some first e = (fits, (bytes, ap (λ (c : ℕ). c ∷ bytes) first, none_several dot true true 1 bytes e))
@@ -295,3 +301,7 @@ unique_text_name n e =
 
 pub unique_text_injective : (m n : ℕ) → m < 2 ^ 64 → n < 2 ^ 64 → unique_text m ≡ unique_text n → m ≡ n
 unique_text_injective m n e f h = decimal_injective m n e f (cc)
+
+pub short_bus_name : (text : Text) → IsBusName text → length text ≤ max_name_length
+short_bus_name text (inl is) = is.0
+short_bus_name text (inr is) = is.0

@@ -42,23 +42,31 @@ impl BusName {
         }
     }
 
+    /// Whether a text is a bus name: a unique name where it begins with a colon, else a well-known name or the name of the bus.
+    /// Nothing is copied.
+    pub fn check(text: &str) -> Result<(), NameFault>
+        ensures variant { IsOk result ↔ IsBusName text.now }
+        ensures fault { MatchResult result (λ _. bus_name_fault text.now ≡ None) (λ fault. bus_name_fault text.now ≡ Some fault) }
+    {
+        let bytes = text.as_bytes();
+        if !bytes.is_empty() && bytes[0] == b':' {
+            UniqueName::check(text)
+        } else {
+            WellKnown::check(text)
+        }
+    }
+
     /// Reads a bus name: a unique name where the text begins with a colon, else a well-known name or the name of the bus.
     pub fn parse(text: &str) -> Result<Self, NameFault>
         ensures value { IfOk result (λ name. name ≡ text.now) }
         ensures variant { IsOk result ↔ IsBusName text.now }
         ensures fault { MatchResult result (λ _. bus_name_fault text.now ≡ None) (λ fault. bus_name_fault text.now ≡ Some fault) }
     {
-        let bytes = text.as_bytes();
-        if !bytes.is_empty() && bytes[0] == b':' {
-            match UniqueName::parse(text) {
-                Ok(name) => Ok(BusName::from(name)),
-                Err(fault) => Err(fault),
-            }
-        } else {
-            match WellKnown::parse(text) {
-                Ok(name) => Ok(BusName::from(name)),
-                Err(fault) => Err(fault),
-            }
+        match BusName::check(text) {
+            Ok(()) => Ok(BusName {
+                text: ShortText::new(text),
+            }),
+            Err(fault) => Err(fault),
         }
     }
 

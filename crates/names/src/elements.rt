@@ -1,10 +1,9 @@
 //! One pass over the elements of a name.
 
-ghost use Rattle.std.specs.Prelude.{◌≡◌, ◌≤◌, length, drop, true, Some, None, IfOk, MatchResult};
+ghost use Rattle.std.specs.Prelude.{◌≡◌, ◌≤◌, length, drop, true, Some, None, OnOk, MatchResult};
 ghost use Rattle.names.specs.Elements.{Style as ElementStyle, is_separator, is_element_byte, elements_fault, sized_fault};
 
 use crate::fault::NameFault;
-use crate::short_text::ShortText;
 
 /// What stands between two elements of a kind of name, if it can have several, and what an element is made of.
 #[derive(Clone, Copy)]
@@ -68,20 +67,22 @@ impl Style {
             Some(NameFault::TooFewElements)
         }
     }
-    /// Reads a name of at most 255 bytes that is made of elements. Where `one_is_enough` is not set there are to be two.
-    pub fn parse(self, one_is_enough: bool, text: &str) -> Result<ShortText, NameFault>
-        ensures value { IfOk result (λ name. name ≡ text.now) }
+
+    /// Whether a text is a name of at most 255 bytes that is made of elements. Where `one_is_enough` is not set there are to
+    /// be two.
+    pub fn check(self, one_is_enough: bool, text: &str) -> Result<(), NameFault>
+        ensures fits { OnOk result (length text.now ≤ 255) }
         ensures fault { let style : ElementStyle = record { separator = self.separator; hyphen = self.hyphen; digit_first = self.digit_first } in MatchResult result (λ _. sized_fault (elements_fault style true one_is_enough 0) text.now ≡ None) (λ fault. sized_fault (elements_fault style true one_is_enough 0) text.now ≡ Some fault) }
     {
         if text.is_empty() {
             return Err(NameFault::Empty);
         }
-        let Some(name) = ShortText::new(text) else {
+        if text.len() > 255 {
             return Err(NameFault::TooLong);
-        };
+        }
         match self.fault(one_is_enough, 0, text.as_bytes()) {
             Some(fault) => Err(fault),
-            None => Ok(name),
+            None => Ok(()),
         }
     }
 }

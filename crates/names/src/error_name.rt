@@ -35,14 +35,24 @@ impl Model for ErrorName {
 }
 
 impl ErrorName {
+    /// Whether a text is an error name, which is spelled as an interface name. Nothing is copied.
+    pub fn check(text: &str) -> Result<(), NameFault>
+        ensures variant { IsOk result ↔ IsErrorName text.now }
+        ensures fault { MatchResult result (λ _. error_name_fault text.now ≡ None) (λ fault. error_name_fault text.now ≡ Some fault) }
+    {
+        STYLE.check(false, text)
+    }
+
     /// Reads an error name, which is spelled as an interface name.
     pub fn parse(text: &str) -> Result<Self, NameFault>
         ensures value { IfOk result (λ name. name ≡ text.now) }
         ensures variant { IsOk result ↔ IsErrorName text.now }
         ensures fault { MatchResult result (λ _. error_name_fault text.now ≡ None) (λ fault. error_name_fault text.now ≡ Some fault) }
     {
-        match STYLE.parse(false, text) {
-            Ok(text) => Ok(ErrorName { text }),
+        match ErrorName::check(text) {
+            Ok(()) => Ok(ErrorName {
+                text: ShortText::new(text),
+            }),
             Err(fault) => Err(fault),
         }
     }

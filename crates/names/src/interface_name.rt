@@ -35,14 +35,24 @@ impl Model for Interface {
 }
 
 impl Interface {
+    /// Whether a text is an interface name: two or more elements joined by dots. Nothing is copied.
+    pub fn check(text: &str) -> Result<(), NameFault>
+        ensures variant { IsOk result ↔ IsInterface text.now }
+        ensures fault { MatchResult result (λ _. interface_fault text.now ≡ None) (λ fault. interface_fault text.now ≡ Some fault) }
+    {
+        STYLE.check(false, text)
+    }
+
     /// Reads an interface name: two or more elements joined by dots.
     pub fn parse(text: &str) -> Result<Self, NameFault>
         ensures value { IfOk result (λ name. name ≡ text.now) }
         ensures variant { IsOk result ↔ IsInterface text.now }
         ensures fault { MatchResult result (λ _. interface_fault text.now ≡ None) (λ fault. interface_fault text.now ≡ Some fault) }
     {
-        match STYLE.parse(false, text) {
-            Ok(text) => Ok(Interface { text }),
+        match Interface::check(text) {
+            Ok(()) => Ok(Interface {
+                text: ShortText::new(text),
+            }),
             Err(fault) => Err(fault),
         }
     }

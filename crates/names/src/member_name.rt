@@ -35,14 +35,24 @@ impl Model for Member {
 }
 
 impl Member {
+    /// Whether a text is a member name: one element, with no dot. Nothing is copied.
+    pub fn check(text: &str) -> Result<(), NameFault>
+        ensures variant { IsOk result ↔ IsMember text.now }
+        ensures fault { MatchResult result (λ _. member_fault text.now ≡ None) (λ fault. member_fault text.now ≡ Some fault) }
+    {
+        STYLE.check(true, text)
+    }
+
     /// Reads a member name: one element, with no dot.
     pub fn parse(text: &str) -> Result<Self, NameFault>
         ensures value { IfOk result (λ name. name ≡ text.now) }
         ensures variant { IsOk result ↔ IsMember text.now }
         ensures fault { MatchResult result (λ _. member_fault text.now ≡ None) (λ fault. member_fault text.now ≡ Some fault) }
     {
-        match STYLE.parse(true, text) {
-            Ok(text) => Ok(Member { text }),
+        match Member::check(text) {
+            Ok(()) => Ok(Member {
+                text: ShortText::new(text),
+            }),
             Err(fault) => Err(fault),
         }
     }

@@ -1,6 +1,6 @@
 //! A text in fixed room.
 
-ghost use Rattle.std.specs.Prelude.{◌≡◌, ◌↔◌, ◌≤◌, ◌+◌, ◌++◌, length as text_length, take, drop, Some, IsSome, IfSome, nat_eq, refl};
+ghost use Rattle.std.specs.Prelude.{◌≡◌, ◌↔◌, ◌≤◌, ◌+◌, ◌++◌, length as text_length, take, drop, Some, nat_eq, refl};
 ghost use Rattle.std.specs.Ordering.{nat_cmp};
 ghost use Rattle.std.specs.Cmp.{on_equiv, on_total, on_po, on_per, partial_equiv_from_equiv};
 ghost use Rattle.std.specs.Cmp.Lexicographic.{pointwise, slice_cmp, nat_list_eq_equiv, nat_list_cmp_total, texts_po, texts_ties};
@@ -40,15 +40,12 @@ impl Model for ShortText {
 }
 
 impl ShortText {
-    /// A copy of the text, where it fits.
-    pub fn new(text: &str) -> Option<Self>
-        ensures variant { IsSome result ↔ (text_length text.now ≤ 255) }
-        ensures value { IfSome result (λ copy. copy ≡ text.now) }
+    /// A copy of the text.
+    pub fn new(text: &str) -> Self
+        requires { text_length text.now ≤ 255 }
+        ensures { result ≡ text.now }
     {
-        if text.len() > 255 {
-            return None;
-        }
-        Some(ShortText::joined(text, ""))
+        ShortText::joined(text, "")
     }
 
     /// A copy of two texts, one after the other.

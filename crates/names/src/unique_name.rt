@@ -35,25 +35,38 @@ impl Model for UniqueName {
 }
 
 impl UniqueName {
-    /// Reads a unique name: a colon, and then two or more elements joined by dots.
-    pub fn parse(text: &str) -> Result<Self, NameFault>
-        ensures value { IfOk result (λ name. name ≡ text.now) }
+    /// Whether a text is a unique name: a colon, and then two or more elements joined by dots. Nothing is copied.
+    pub fn check(text: &str) -> Result<(), NameFault>
         ensures variant { IsOk result ↔ IsUniqueName text.now }
         ensures fault { MatchResult result (λ _. unique_name_fault text.now ≡ None) (λ fault. unique_name_fault text.now ≡ Some fault) }
     {
         if text.is_empty() {
             return Err(NameFault::Empty);
         }
-        let Some(name) = ShortText::new(text) else {
+        if text.len() > 255 {
             return Err(NameFault::TooLong);
-        };
+        }
         let bytes = text.as_bytes();
         if bytes[0] != b':' {
             return Err(NameFault::BadByte(0));
         }
         match STYLE.fault(false, 1, bytes) {
             Some(fault) => Err(fault),
-            None => Ok(UniqueName { text: name }),
+            None => Ok(()),
+        }
+    }
+
+    /// Reads a unique name: a colon, and then two or more elements joined by dots.
+    pub fn parse(text: &str) -> Result<Self, NameFault>
+        ensures value { IfOk result (λ name. name ≡ text.now) }
+        ensures variant { IsOk result ↔ IsUniqueName text.now }
+        ensures fault { MatchResult result (λ _. unique_name_fault text.now ≡ None) (λ fault. unique_name_fault text.now ≡ Some fault) }
+    {
+        match UniqueName::check(text) {
+            Ok(()) => Ok(UniqueName {
+                text: ShortText::new(text),
+            }),
+            Err(fault) => Err(fault),
         }
     }
 
@@ -67,17 +80,24 @@ impl UniqueName {
         }
     }
 
-    /// The number of the connection to which the bus gives this name, if there is one.
-    pub fn connection(&self) -> Option<u64>
-        ensures { (number : ℕ) → number < 2 ^ 64 → (result ≡ Some number) ↔ (self.now ≡ unique_text number) }
+    /// The number of the connection to which the bus gives the name of this text, if there is one.
+    pub fn number_in(text: &str) -> Option<u64>
+        ensures { (number : ℕ) → number < 2 ^ 64 → (result ≡ Some number) ↔ (text.now ≡ unique_text number) }
     {
-        let digits = self.as_str().strip_prefix(":1.")?;
+        let digits = text.strip_prefix(":1.")?;
         let number = digits.parse().ok()?;
-        if UniqueName::of(number) == *self {
+        if itoa::Buffer::new().format(number) == digits {
             Some(number)
         } else {
             None
         }
+    }
+
+    /// The number of the connection to which the bus gives this name, if there is one.
+    pub fn connection(&self) -> Option<u64>
+        ensures { (number : ℕ) → number < 2 ^ 64 → (result ≡ Some number) ↔ (self.now ≡ unique_text number) }
+    {
+        UniqueName::number_in(self.as_str())
     }
 
     pub fn as_str(&self) -> &str

@@ -35,14 +35,24 @@ impl Model for WellKnown {
 }
 
 impl WellKnown {
+    /// Whether a text is a well-known name: two or more elements joined by dots, which may have hyphens. Nothing is copied.
+    pub fn check(text: &str) -> Result<(), NameFault>
+        ensures variant { IsOk result ↔ IsWellKnownName text.now }
+        ensures fault { MatchResult result (λ _. well_known_fault text.now ≡ None) (λ fault. well_known_fault text.now ≡ Some fault) }
+    {
+        STYLE.check(false, text)
+    }
+
     /// Reads a well-known name: two or more elements joined by dots, which may have hyphens.
     pub fn parse(text: &str) -> Result<Self, NameFault>
         ensures value { IfOk result (λ name. name ≡ text.now) }
         ensures variant { IsOk result ↔ IsWellKnownName text.now }
         ensures fault { MatchResult result (λ _. well_known_fault text.now ≡ None) (λ fault. well_known_fault text.now ≡ Some fault) }
     {
-        match STYLE.parse(false, text) {
-            Ok(text) => Ok(WellKnown { text }),
+        match WellKnown::check(text) {
+            Ok(()) => Ok(WellKnown {
+                text: ShortText::new(text),
+            }),
             Err(fault) => Err(fault),
         }
     }
@@ -52,7 +62,7 @@ impl WellKnown {
     pub fn is_namespace(text: &str) -> bool
         ensures { IsTrue result ↔ IsNamespace text.now }
     {
-        STYLE.parse(true, text).is_ok()
+        STYLE.check(true, text).is_ok()
     }
 
     pub fn as_str(&self) -> &str

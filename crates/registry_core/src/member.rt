@@ -50,8 +50,5 @@ fn place_among(members: &[Member], number: u64) -> usize
 pub fn number_of(name: &str) -> Option<u64>
     ensures { (number : ℕ) → number < 2 ^ 64 → (result ≡ Some number) ↔ (name.now ≡ unique_text number) }
 {
-    match UniqueName::parse(name) {
-        Ok(name) => name.connection(),
-        Err(_) => None,
-    }
+    UniqueName::number_in(name)
 }

@@ -1,25 +1,13 @@
-use Rattle.std.proofs.Common.{◌≡◌, drop, get_or, true, false, refl, ap, sym, ◌∙◌, arith, None}
-use Rattle.std.proofs.lemmas.Grind.{common_steps}
-use Rattle.std.proofs.lemmas.Bool.Decides.{nat_tests}
-use Rattle.names.specs.Texts.{Text}
-use Rattle.names.specs.Elements.{elements_fault}
-use Rattle.names.specs.UniqueName.{IsUniqueName, unique_style}
-use Rattle.names.proofs.Faults.{none_some, is_unique_name, elements_of_unique_name}
+use Rattle.std.proofs.Common.{ap}
+use Rattle.std.specs.Prelude.{is_ok}
+use Rattle.names.specs.UniqueName.{IsUniqueName}
 use Rattle.names.proofs.unique_name.UniqueName.parse.Goals as goal
+
+pub new-requires : goal.new-requires
+new-requires c = let is : IsUniqueName c.args.text.now = c.check.ensures.variant.0 (ap is_ok c.in-Ok.is) in is.0
 
 pub invariant_of-result : goal.invariant_of-result
 invariant_of-result c =
-    let none : elements_fault unique_style true false 1 (drop 1 c.args.text.now) ≡ None = ap (λ (y : Text). elements_fault unique_style true false 1 (drop 1 y)) (sym c.as_bytes-bytes.ensures.value) ∙ sym c.in-None.ensures in
-    let first : get_or c.args.text.now 0 0 ≡ 58 = ap (λ (y : Text). get_or y 0 0) (sym c.as_bytes-bytes.ensures.value) ∙ c.if-bytes-ne58.false in
-    let is : IsUniqueName c.args.text.now = is_unique_name c.args.text.now (c.in-Some.ensures.variant.0 refl) (grind (arith, common_steps, nat_tests)) first none in
-    let name_is : IsUniqueName c.in-Some.name = rw c.in-Some.ensures.value is in
+    let is : IsUniqueName c.args.text.now = c.check.ensures.variant.0 (ap is_ok c.in-Ok.is) in
+    let name_is : IsUniqueName c.new.result = rw c.new.ensures is in
     name_is
-
-pub returns-in-None-clause-variant : goal.returns-in-None-clause-variant
-returns-in-None-clause-variant c =
-    let none : elements_fault unique_style true false 1 (drop 1 c.args.text.now) ≡ None = ap (λ (y : Text). elements_fault unique_style true false 1 (drop 1 y)) (sym c.as_bytes-bytes.ensures.value) ∙ sym c.in-None.ensures in
-    let first : get_or c.args.text.now 0 0 ≡ 58 = ap (λ (y : Text). get_or y 0 0) (sym c.as_bytes-bytes.ensures.value) ∙ c.if-bytes-ne58.false in
-    (λ ok. is_unique_name c.args.text.now (c.in-Some.ensures.variant.0 refl) (grind (arith, common_steps, nat_tests)) first none, λ is. refl)
-
-pub returns-in-Some-fault-clause-variant : goal.returns-in-Some-fault-clause-variant
-returns-in-Some-fault-clause-variant c = (λ ok. absurd cc, λ is. none_some (elements_fault unique_style true false 1 (drop 1 c.args.text.now)) c.in-Some-fault.fault (elements_of_unique_name c.args.text.now is) (ap (λ (y : Text). elements_fault unique_style true false 1 (drop 1 y)) (sym c.as_bytes-bytes.ensures.value) ∙ sym c.in-Some-fault.ensures))
