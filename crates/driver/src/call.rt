@@ -140,6 +140,24 @@ fn monitor_rules_in(alloc: Global, arguments: &[Value]) -> Result<MonitorRules, 
     rules_of(alloc, texts)
 }
 
+// A rule is large, and what a function holds is cleared at its entry: calls with a rule have functions of their own.
+
+#[inline(never)]
+fn add_match(arguments: &[Value]) -> Result<Call, DriverFault>
+    ensures { IsReadBy Method.AddMatch (values_of arguments.now) result }
+{
+    let rule = rule_in(arguments)?;
+    Ok(Call::AddMatch { rule })
+}
+
+#[inline(never)]
+fn remove_match(arguments: &[Value]) -> Result<Call, DriverFault>
+    ensures { IsReadBy Method.RemoveMatch (values_of arguments.now) result }
+{
+    let rule = rule_in(arguments)?;
+    Ok(Call::RemoveMatch { rule })
+}
+
 /// A call of the method with these arguments.
 fn read_by(alloc: Global, method: Method, arguments: &[Value]) -> Result<Call, DriverFault>
     ensures { IsReadBy method (values_of arguments.now) result ⊎ (result ≡ Err NoMemory) }
@@ -169,14 +187,8 @@ fn read_by(alloc: Global, method: Method, arguments: &[Value]) -> Result<Call, D
             let name = name_in(arguments)?;
             Ok(Call::ListQueuedOwners { name })
         }
-        Method::AddMatch => {
-            let rule = rule_in(arguments)?;
-            Ok(Call::AddMatch { rule })
-        }
-        Method::RemoveMatch => {
-            let rule = rule_in(arguments)?;
-            Ok(Call::RemoveMatch { rule })
-        }
+        Method::AddMatch => add_match(arguments),
+        Method::RemoveMatch => remove_match(arguments),
         Method::StartServiceByName => {
             let (name, _) = name_and_number_in(arguments)?;
             Ok(Call::StartServiceByName { name })
@@ -196,6 +208,7 @@ fn read_by(alloc: Global, method: Method, arguments: &[Value]) -> Result<Call, D
 /// arguments are not: a bus name (`InvalidArgs`), a match rule (`MatchRuleInvalid`). BecomeMonitor looks at its flags
 /// first, which must be 0 (`InvalidArgs`), and at the number of its rules (`LimitsExceeded` above 64). `NoMemory`
 /// where there is not enough memory to read the arguments.
+#[inline(never)]
 pub fn read_call(alloc: Global, message: &Message) -> Result<Call, DriverFault>
     ensures { IsCallOrWants (said message.now) result }
 {

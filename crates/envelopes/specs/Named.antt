@@ -1,9 +1,6 @@
 -- The connections that a message of the bus names, and their names spelled. (D-Bus Specification: "Message Bus Messages")
-use Rattle.std.specs.Prelude.{ℕ, true, Option, Some, None, option_map, List}
-use Rattle.names.specs.Texts.{Text}
+use Rattle.std.specs.Prelude.{ℕ, Option, Some, None, option_map}
 use Rattle.names.specs.UniqueName.{unique_text}
-use Rattle.match_rules.specs.Facts.{Argument, Facts, bus_number}
-use Rattle.match_rules.specs.declared.kind.MessageKind.{MessageKind}
 use Rattle.seq_bus_core.specs.declared.signal.BusSignal.{BusSignal}
 use Rattle.seq_bus_core.specs.declared.signal.BusSignal.TheVariants.{NameOwnerChanged, NameLost, NameAcquired}
 use Rattle.driver.specs.OwnMessages.{signal_destination}
@@ -48,17 +45,4 @@ names_of own = record {
   destination = option_map unique_text (destination_of own);
   first = option_map unique_text (first_of own);
   second = option_map unique_text (second_of own);
-}
-
--- what is seen of a reply or an error, which have no path, interface and member
-abbrev pub response_facts : MessageKind → Option Text → List Argument → Facts
-response_facts kind destination arguments = record {
-  kind = kind;
-  auto_start = true;
-  sender = bus_number;
-  path = None;
-  interface = None;
-  member = None;
-  destination = destination;
-  arguments = arguments;
 }

@@ -8,11 +8,10 @@ ghost use Rattle.match_rules.specs.FactsView.{argument_of};
 ghost use Rattle.message_relay.specs.FactsOf.{as_argument, facts_of};
 ghost use Rattle.seq_bus.specs.Bodies.{answer_value};
 ghost use Rattle.driver.specs.OwnMessages.{signal_member, signal_texts};
-ghost use Rattle.driver.specs.declared.reply.ReplyTo.{ReplyTo};
 ghost use Rattle.envelopes.specs.Answers.{kind_of};
 ghost use Rattle.envelopes.specs.declared.answer.BodyKind.TheVariants.{Text};
-ghost use Rattle.envelopes.specs.Contents.{Signals, Replies, Errs, carried_of, carried_values, own_of, own_message};
-ghost use Rattle.envelopes.specs.Named.{names_of, number_in, response_facts};
+ghost use Rattle.envelopes.specs.Contents.{Signals, carried_of, carried_values, own_of, own_message};
+ghost use Rattle.envelopes.specs.Named.{names_of, number_in};
 
 use crate::answer::{AnswerBody, BodyKind};
 use crate::own_message::{OwnMessage, ReplyContent};
@@ -21,7 +20,7 @@ use marshal_check::{Argument as Read, Arguments, Types};
 use marshal_core::Order;
 use match_rules::{Argument, Facts, MessageKind};
 use names::UniqueName;
-use seq_bus_core::{BusSignal, ErrorKind};
+use seq_bus_core::BusSignal;
 
 /// The unique names in a message of the bus, which has them by the numbers of their connections. Its
 /// [facts](OwnMessage::facts) are lent out of both.
@@ -125,7 +124,6 @@ impl ReplyContent {
 }
 
 /// Puts what a reply carries.
-#[inline(never)]
 fn put_carried<'a>(
     content: &'a ReplyContent,
     name: &'a Option<UniqueName>,
@@ -144,7 +142,6 @@ fn put_carried<'a>(
 }
 
 /// Puts the texts of a signal.
-#[inline(never)]
 fn put_texts<'a>(
     signal: &'a BusSignal,
     names: &'a OwnNames,
@@ -175,64 +172,6 @@ fn member_of(signal: &BusSignal) -> &'static str
     }
 }
 
-/// What is seen of a signal.
-#[inline(always)]
-fn signal_facts<'a>(signal: &'a BusSignal, names: &'a OwnNames) -> Facts<'a>
-    requires { names.now ≡ names_of (Signals signal.now) }
-    ensures { result ≡ facts_of (own_message 1 (Signals signal.now)) }
-{
-    let mut facts = Facts {
-        kind: MessageKind::Signal,
-        auto_start: true,
-        sender: 0,
-        path: Some("/org/freedesktop/DBus"),
-        interface: Some("org.freedesktop.DBus"),
-        member: Some(member_of(signal)),
-        destination: lent(&names.destination),
-        arguments: ArrayVec::new(),
-    };
-    put_texts(signal, names, &mut facts.arguments);
-    facts
-}
-
-/// What is seen of a reply or an error, but for its arguments.
-#[inline(always)]
-fn response(kind: MessageKind, names: &OwnNames) -> Facts<'_>
-    ensures { result ≡ response_facts kind names.now.destination [] }
-{
-    Facts {
-        kind,
-        auto_start: true,
-        sender: 0,
-        path: None,
-        interface: None,
-        member: None,
-        destination: lent(&names.destination),
-        arguments: ArrayVec::new(),
-    }
-}
-
-/// What is seen of a reply.
-#[inline(always)]
-fn reply_facts<'a>(content: &'a ReplyContent, names: &'a OwnNames) -> Facts<'a>
-    requires { names.now.first ≡ option_map unique_text (number_in (carried_of content.now)) }
-    ensures { (to : ReplyTo) → names.now.destination ≡ option_map unique_text to.caller → result ≡ facts_of (own_message 1 (Replies to (carried_of content.now))) }
-{
-    let mut facts = response(MessageKind::MethodReturn, names);
-    put_carried(content, &names.first, &mut facts.arguments);
-    facts
-}
-
-/// What is seen of an error.
-#[inline(always)]
-fn error_facts<'a>(error: ErrorKind, names: &'a OwnNames) -> Facts<'a>
-    ensures { (to : ReplyTo) → names.now.destination ≡ option_map unique_text to.caller → result ≡ facts_of (own_message 1 (Errs to error)) }
-{
-    let mut facts = response(MessageKind::Error, names);
-    facts.arguments.push(Argument::String(error.text()));
-    facts
-}
-
 impl OwnMessage {
     /// The unique names in the message. It takes no memory.
     pub fn names(&self) -> OwnNames
@@ -253,18 +192,77 @@ impl OwnMessage {
         }
     }
 
+    fn kind(&self) -> MessageKind
+        ensures { result ≡ (facts_of (own_message 1 (own_of self.now))).kind }
+    {
+        match self {
+            OwnMessage::Signal(_) => MessageKind::Signal,
+            OwnMessage::Reply { .. } => MessageKind::MethodReturn,
+            OwnMessage::Error { .. } => MessageKind::Error,
+        }
+    }
+
+    fn path(&self) -> Option<&'static str>
+        ensures { option_map (λ t. t.now) result ≡ (facts_of (own_message 1 (own_of self.now))).path }
+    {
+        match self {
+            OwnMessage::Signal(_) => Some("/org/freedesktop/DBus"),
+            OwnMessage::Reply { .. } | OwnMessage::Error { .. } => None,
+        }
+    }
+
+    fn interface(&self) -> Option<&'static str>
+        ensures { option_map (λ t. t.now) result ≡ (facts_of (own_message 1 (own_of self.now))).interface }
+    {
+        match self {
+            OwnMessage::Signal(_) => Some("org.freedesktop.DBus"),
+            OwnMessage::Reply { .. } | OwnMessage::Error { .. } => None,
+        }
+    }
+
+    fn member(&self) -> Option<&'static str>
+        ensures { option_map (λ t. t.now) result ≡ (facts_of (own_message 1 (own_of self.now))).member }
+    {
+        match self {
+            OwnMessage::Signal(signal) => Some(member_of(signal)),
+            OwnMessage::Reply { .. } | OwnMessage::Error { .. } => None,
+        }
+    }
+
+    /// Puts the arguments of the message.
+    #[inline(never)]
+    fn put_arguments<'a>(&'a self, names: &'a OwnNames, arguments: &mut ArrayVec<Argument<'a>, 64>)
+        requires names { names.now ≡ names_of (own_of self.now) }
+        requires none { arguments.old.items ≡ [] }
+        ensures { map argument_of arguments.new.items ≡ (facts_of (own_message 1 (own_of self.now))).arguments }
+    {
+        match self {
+            OwnMessage::Signal(signal) => put_texts(signal, names, arguments),
+            OwnMessage::Reply { to: _, content } => put_carried(content, &names.first, arguments),
+            OwnMessage::Error { to: _, error } => arguments.push(Argument::String(error.text())),
+        }
+    }
+
     /// What match rules and routing look at in the message ("Match Rules" of the D-Bus Specification), lent out of it and
     /// its names. It is not written for that, and takes no memory.
-    // Inlined, so that these 1,700 bytes are made where the caller looks at them, and not copied there.
+    // Inlined, so that these 1,700 bytes are made where the caller looks at them; and made once for all kinds of messages, since room
+    // is cleared for each place where they are made.
     #[inline(always)]
     pub fn facts<'a>(&'a self, names: &'a OwnNames) -> Facts<'a>
         requires { names.now ≡ names_of (own_of self.now) }
         ensures { result ≡ facts_of (own_message 1 (own_of self.entry.now)) }
     {
-        match self {
-            OwnMessage::Signal(signal) => signal_facts(signal, names),
-            OwnMessage::Reply { to: _, content } => reply_facts(content, names),
-            OwnMessage::Error { to: _, error } => error_facts(*error, names),
-        }
+        let mut facts = Facts {
+            kind: self.kind(),
+            auto_start: true,
+            sender: 0,
+            path: self.path(),
+            interface: self.interface(),
+            member: self.member(),
+            destination: lent(&names.destination),
+            arguments: ArrayVec::new(),
+        };
+        self.put_arguments(names, &mut facts.arguments);
+        facts
     }
 }

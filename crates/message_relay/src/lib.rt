@@ -15,5 +15,5 @@ mod relaying;
 mod tests;
 
 pub use fault::RelayFault;
-pub use message_facts::facts;
+pub use message_facts::{facts, put_arguments};
 pub use relaying::{relayed_length, with_sender, write};

@@ -23,9 +23,9 @@ fn as_fact(argument: Read<'_>) -> Argument<'_>
     }
 }
 
-/// Puts the first 64 arguments of a message.
+/// Puts the first 64 arguments of a message, as match rules look at them.
 #[inline(never)]
-fn put_first<'a>(message: &'a Message, first: &mut ArrayVec<Argument<'a>, 64>)
+pub fn put_arguments<'a>(message: &'a Message, first: &mut ArrayVec<Argument<'a>, 64>)
     requires { first.old.items ≡ [] }
     ensures { map argument_of first.new.items ≡ first_arguments (said message.now) }
 {
@@ -42,9 +42,8 @@ fn put_first<'a>(message: &'a Message, first: &mut ArrayVec<Argument<'a>, 64>)
 }
 
 /// What match rules and routing look at in a message, lent out of it ("Match Rules" of the D-Bus
-/// Specification). The sender is 0, the bus's number: who sent a message is not told by it.
-// Inlined, so that these 1,700 bytes are made where the caller looks at them, and not copied there.
-#[inline(always)]
+/// Specification). The sender is 0, the bus's number: who sent a message is not told by it. They are 1,700 bytes: who is in a hurry
+/// makes them where they stay, with [`put_arguments`].
 pub fn facts(message: &Message) -> Facts<'_>
     ensures { result ≡ facts_of (said message.now) }
 {
@@ -58,6 +57,6 @@ pub fn facts(message: &Message) -> Facts<'_>
         destination: message.destination(),
         arguments: ArrayVec::new(),
     };
-    put_first(message, &mut facts.arguments);
+    put_arguments(message, &mut facts.arguments);
     facts
 }

@@ -3,7 +3,6 @@ use Rattle.std.proofs.Common.{◌≡◌, ℕ, Bool, List, [], Option, Some, None
 use Rattle.seq_bus_core.specs.Answers.{Answer, answer}
 use Rattle.seq_bus_core.specs.BusState.{BusState}
 use Rattle.seq_bus_core.specs.Histories.{History}
-use Rattle.seq_bus_core.specs.declared.change.Change.{Change}
 use Rattle.seq_bus_core.specs.declared.connection.Conn.{Conn}
 use Rattle.seq_bus_core.specs.declared.error_kind.ErrorKind.{ErrorKind}
 use Rattle.seq_bus_core.specs.declared.error_kind.ErrorKind.TheVariants as error
@@ -26,8 +25,8 @@ use Rattle.envelopes.specs.declared.answer.BodyKind.{BodyKind}
 use Rattle.router_core.specs.declared.cause.CloseCause.{CloseCause}
 use Rattle.router_core.specs.Answers.{Heard, Says, Refuses, error_for, unanswered_for}
 use Rattle.router_core.specs.Deeds.{GatedCall}
-use Rattle.router_core.specs.Scripts.{Asking, World, Changes, Asks, Passes, Announces, Comes}
-use Rattle.router_core.specs.Serving.{Work, Request, Makes, and_stays, stays_open, answer_told, answer_with, answered, err_with, made, made_by, release_all, request_of, serve_call, serve_reading, serve_request, tell_change}
+use Rattle.router_core.specs.Scripts.{Asking, World, Asks, Passes, Announces, Comes}
+use Rattle.router_core.specs.Serving.{Work, and_stays, stays_open, answer_told, answer_with, answered, err_with, made_by, release_all, request_of, serve_call, serve_reading, serve_request, tell_change}
 use Rattle.router_hands.specs.Hearing.{IsTold}
 use Rattle.router_hands.proofs.Sequels.{comes_then}
 
@@ -60,42 +59,31 @@ module _ {N G : Type 0} (told : N → History) (passes : G → GatedCall → G �
           let carries : Carries (record { kind = kind; bytes = bytes }) so.0 = record { kind = kinds (bus_seen n.view).state so.0 (sym says.hears.1); spelled = so.2 } in
           (Says (Some so.0), n, says, stays (answered m caller (Says (Some so.0))) n v (comes so.0 carries))
 
-      pub asked_none : r ≡ Ok NameHasNoOwner → Comes told passes alone (err_with m caller error.NameHasNoOwner) n tt v →
-          Comes told passes alone (Asking query (λ heard. and_stays (answered m caller heard))) w None v
-      asked_none is comes =
+      pub asked_none : (fate : Option CloseCause) → r ≡ Ok NameHasNoOwner → Comes told passes alone (and_stays (err_with m caller error.NameHasNoOwner)) n fate v →
+          Comes told passes alone (Asking query (λ heard. and_stays (answered m caller heard))) w fate v
+      asked_none fate is comes =
           let so : IsTold (Ok NameHasNoOwner) asks.0 bytes = subst (λ (x : Result Asked AskFault). IsTold x asks.0 bytes) is asks.2 in
           let says : Asks alone query w (Says None) n = subst (λ (h : Heard (Option Answer)). Asks alone query w h n) so.0 asks.1 in
-          (Says None, n, says, stays (answered m caller (Says None)) n v comes)
+          (Says None, n, says, comes)
 
-      pub asked_fault : (why : AskFault) (told_so : ErrorKind) → r ≡ Err why → told_so ≡ error_for (unanswered_for why) → Comes told passes alone (err_with m caller told_so) n tt v →
-          Comes told passes alone (Asking query (λ heard. and_stays (answered m caller heard))) w None v
-      asked_fault why told_so is errs comes =
+      pub asked_fault : (fate : Option CloseCause) (why : AskFault) (told_so : ErrorKind) → r ≡ Err why → told_so ≡ error_for (unanswered_for why) → Comes told passes alone (and_stays (err_with m caller told_so)) n fate v →
+          Comes told passes alone (Asking query (λ heard. and_stays (answered m caller heard))) w fate v
+      asked_fault fate why told_so is errs comes =
           let so : IsTold (Err why) asks.0 bytes = subst (λ (x : Result Asked AskFault). IsTold x asks.0 bytes) is asks.2 in
           let says : Asks alone query w (Refuses (unanswered_for why)) n = subst (λ (h : Heard (Option Answer)). Asks alone query w h n) so.0 asks.1 in
-          let first : Comes told passes alone (answered m caller (Refuses (unanswered_for why))) n tt v = subst (λ (e : ErrorKind). Comes told passes alone (err_with m caller e) n tt v) errs comes in
-          (Refuses (unanswered_for why), n, says, stays (answered m caller (Refuses (unanswered_for why))) n v first)
+          let first : Comes told passes alone (and_stays (answered m caller (Refuses (unanswered_for why)))) n fate v = subst (λ (e : ErrorKind). Comes told passes alone (and_stays (err_with m caller e)) n fate v) errs comes in
+          (Refuses (unanswered_for why), n, says, first)
 
-    pub requests_change : (q : Result Request ErrorKind) (change : Change) (heard : Heard Outcome) (w n v : World N G) (fate : Option CloseCause) → q ≡ Ok (Makes change) →
-        Changes alone change w heard n → Comes told passes alone (made m caller heard) n fate v → Comes told passes alone (serve_request m caller q) w fate v
-    requests_change q change heard w n v fate is changes comes =
-        subst (λ (x : Result Request ErrorKind). Comes told passes alone (serve_request m caller x) w fate v) (sym is) (heard, n, changes, comes)
+    pub reads_call : (reading : Reading Call) (call : Call) (w n v : World N G) (fate : Option CloseCause) → reading ≡ Ok call → Passes passes call w n →
+        Comes told passes alone (serve_request m caller (request_of caller.number call)) n fate v → Comes told passes alone (serve_reading m caller reading) w fate v
+    reads_call reading call w n v fate is shown comes =
+        subst (λ (x : Reading Call). Comes told passes alone (serve_reading m caller x) w fate v) (sym is) (n, shown, comes)
 
-    pub requests_nothing : (q : Result Request ErrorKind) (error : ErrorKind) (w v : World N G) → q ≡ Err error →
-        Comes told passes alone (err_with m caller error) w tt v → Comes told passes alone (serve_request m caller q) w None v
-    requests_nothing q error w v is comes =
-        subst (λ (x : Result Request ErrorKind). Comes told passes alone (serve_request m caller x) w None v) (sym is) (stays (err_with m caller error) w v comes)
-
-    pub reads_call : (reading : Reading Call) (call : Call) (q : Result Request ErrorKind) (w n v : World N G) (fate : Option CloseCause) → reading ≡ Ok call → Passes passes call w n →
-        q ≡ request_of caller.number call → Comes told passes alone (serve_request m caller q) n fate v → Comes told passes alone (serve_reading m caller reading) w fate v
-    reads_call reading call q w n v fate is shown asks comes =
-        let first = subst (λ (x : Result Request ErrorKind). Comes told passes alone (serve_request m caller x) n fate v) asks comes in
-        subst (λ (x : Reading Call). Comes told passes alone (serve_reading m caller x) w fate v) (sym is) (n, shown, first)
-
-    pub reads_fault : (reading : Reading Call) (why : DriverFault) (error : ErrorKind) (w v : World N G) → reading ≡ Err why → error ≡ error_of why →
-        Comes told passes alone (err_with m caller error) w tt v → Comes told passes alone (serve_reading m caller reading) w None v
-    reads_fault reading why error w v is errs comes =
-        let first = subst (λ (e : ErrorKind). Comes told passes alone (err_with m caller e) w tt v) errs comes in
-        subst (λ (x : Reading Call). Comes told passes alone (serve_reading m caller x) w None v) (sym is) (stays (err_with m caller (error_of why)) w v first)
+    pub reads_fault : (reading : Reading Call) (why : DriverFault) (error : ErrorKind) (w v : World N G) (fate : Option CloseCause) → reading ≡ Err why → error ≡ error_of why →
+        Comes told passes alone (and_stays (err_with m caller error)) w fate v → Comes told passes alone (serve_reading m caller reading) w fate v
+    reads_fault reading why error w v fate is errs comes =
+        let first = subst (λ (e : ErrorKind). Comes told passes alone (and_stays (err_with m caller e)) w fate v) errs comes in
+        subst (λ (x : Reading Call). Comes told passes alone (serve_reading m caller x) w fate v) (sym is) first
 
     -- a call as it was read, if there was memory
     pub read_so : (reading : Reading Call) (w v : World N G) (fate : Option CloseCause) → IsCallOrWants m reading →

@@ -1,11 +1,14 @@
 -- Where a message goes is asked first.
-use Rattle.std.proofs.Common.{◌≡◌, ℕ, Bool, false, Option, sym, subst, if◌then◌else◌}
+use Rattle.std.proofs.Common.{◌≡◌, ℕ, Bool, false, Option, Some, None, List, option_map, refl, sym, subst, if◌then◌else◌}
+use Rattle.std.specs.Borrow.{Bor}
+use Rattle.names.specs.Texts.{Text}
 use Rattle.match_rules.specs.Facts.{Facts}
 use Rattle.match_rules.specs.Kinds.{kind_of}
 use Rattle.seq_bus_core.specs.Histories.{History}
 use Rattle.seq_bus_core.specs.declared.connection.Conn.{Conn}
 use Rattle.seq_bus_core.specs.declared.verdict.Verdict.{Verdict}
 use Rattle.message_core.specs.Messages.{Message}
+use Rattle.message_core.specs.Whole.{Lends}
 use Rattle.message_relay.specs.FactsOf.{facts_of}
 use Rattle.router_core.specs.declared.cause.CloseCause.{CloseCause}
 use Rattle.bus_view.specs.Views.{Knowledge}
@@ -19,6 +22,11 @@ hears_own : (alone : Bool) (from sender : ℕ) (facts : Facts) (before after : K
 hears_own alone from sender facts before after (Says verdict) hears = hears
 hears_own alone from sender facts before after (Refuses refusal) hears = hears
 
+-- a text that is lent
+pub lent : (o : Option (Bor (List ℕ))) (text : Option Text) → Lends o text → option_map (λ t. t.now) o ≡ text
+lent None text is = sym is
+lent (Some x) text is = sym is
+
 module _ {N G : Type 0} (told : N → History) (passes : G → GatedCall → G → Type 0) (alone : Bool) (m : Message) (sender : Conn) (fate : Option CloseCause) (w v : World N G) where
   pub serves : {facts : Facts} (heard : Heard Verdict) (r : World N G) → is_unknown (kind_of m.kind) ≡ false → facts ≡ facts_of m → Routes alone sender.number (record facts { sender = sender.number }) w heard r →
       Comes told passes alone (routed m sender heard) r fate v → Comes told passes alone (serve m sender) w fate v
@@ -26,3 +34,21 @@ module _ {N G : Type 0} (told : N → History) (passes : G → GatedCall → G �
       let own : Routes alone sender.number facts w heard r = record { hears = hears_own alone sender.number sender.number facts w.view r.view heard routes.hears; rest = routes.rest } in
       subst (λ (b : Bool). Comes told passes alone (if b then stays_open else Routing sender.number (facts_of m) (λ h. routed m sender h)) w fate v) (sym known)
       (heard, r, subst (λ (f : Facts). Routes alone sender.number f w heard r) are own, done)
+
+  -- what was looked at, field by field
+  pub serves_seen : {seen : Facts} (heard : Heard Verdict) (r : World N G) → is_unknown (kind_of m.kind) ≡ false →
+      seen.kind ≡ (facts_of m).kind → seen.auto_start ≡ (facts_of m).auto_start → seen.sender ≡ sender.number → seen.path ≡ (facts_of m).path → seen.interface ≡ (facts_of m).interface →
+      seen.member ≡ (facts_of m).member → seen.destination ≡ (facts_of m).destination → seen.arguments ≡ (facts_of m).arguments → Routes alone sender.number seen w heard r →
+      Comes told passes alone (routed m sender heard) r fate v → Comes told passes alone (serve m sender) w fate v
+  serves_seen {seen} heard r known kind auto_start from path interface member destination arguments routes done =
+      let are : seen ≡ record (facts_of m) { sender = sender.number } = λ i. record {
+        kind = kind i;
+        auto_start = auto_start i;
+        sender = from i;
+        path = path i;
+        interface = interface i;
+        member = member i;
+        destination = destination i;
+        arguments = arguments i;
+      } in
+      serves {facts = facts_of m} heard r known refl (subst (λ (f : Facts). Routes alone sender.number f w heard r) are routes) done

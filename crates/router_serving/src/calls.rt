@@ -1,60 +1,30 @@
 //! Calls to the bus.
 
-ghost use Rattle.std.specs.Prelude.{◌≡◌, ◌<◌, ◌≤◌, ◌+◌, [], Some, None, IfOk};
+ghost use Rattle.std.specs.Prelude.{◌≡◌, ◌<◌, ◌≤◌, ◌+◌, [], Ok, Some, IfOk};
 ghost use Rattle.message_core.specs.Said.{said};
 ghost use Rattle.seq_bus_core.specs.Answers.{Answer};
 ghost use Rattle.seq_bus.specs.Served.{IsServedChange};
+ghost use Rattle.driver.specs.declared.call.Call.TheVariants.{RequestName, ReleaseName, AddMatch, RemoveMatch};
 ghost use Rattle.envelopes.specs.Answers.{Carries};
 ghost use Rattle.router_core.specs.Answers.{Says, error_for as error_for_refusal, refusal_of, unanswered_for};
-ghost use Rattle.router_core.specs.Scripts.{Asking, Comes};
-ghost use Rattle.router_core.specs.Serving.{and_stays, answered, answer_told as answer_told_in, made as made_in, request_of as request_in, serve_bus as serving_bus, serve_call as serving_call, serve_reading as serving_reading, serve_request as serving_request, tell_change as telling_change};
+ghost use Rattle.router_core.specs.Scripts.{Comes};
+ghost use Rattle.router_core.specs.Serving.{Asks, Makes, and_stays, answered, answer_told as answer_told_in, err_with as erring, made as made_in, request_of as request_in, serve_bus as serving_bus, serve_call as serving_call, serve_reading as serving_reading, serve_request as serving_request, tell_change as telling_change};
 ghost use Rattle.router_hands.specs.Carrying.{answer_of};
 ghost use Rattle.router_hands.specs.Hearing.{heard_change};
-ghost use Rattle.router_serving.specs.Requesting.{requested, IsServedRequest};
 
 use bus_view::{BusView, Cause};
 use driver::{Call, DriverFault, read_call};
 use envelopes::{AnswerBody, BodyKind, ReplyContent, SharedBytes};
+use match_rules::Rule;
 use message_core::Message;
+use names::BusName;
+use owner_queues::RequestFlags;
 use router_core::{CloseCause, Gate};
 use router_hands::{Hands, is_method_call};
 use seq_bus::{AskFault, Asked};
 use seq_bus_core::{Change, Conn, ErrorKind, Outcome, Query, Reply};
 use std::alloc::Global;
 use std::sync::Arc;
-
-/// What a call asks of the bus.
-#[derive(Drop)]
-pub(crate) enum Request {
-    Asks(Query),
-    Makes(Change),
-}
-
-/// What the call of the connection of this number asks, or the error that it is answered.
-fn request_of(number: u64, call: Call) -> Result<Request, ErrorKind>
-    ensures request { requested result ≡ request_in number call }
-    ensures served { IfOk result IsServedRequest }
-{
-    let connection = number;
-    match call {
-        Call::Hello => Err(ErrorKind::Failed),
-        Call::RequestName { name, flags } => Ok(Request::Makes(Change::Request {
-            connection,
-            name,
-            flags,
-        })),
-        Call::ReleaseName { name } => Ok(Request::Makes(Change::Release { connection, name })),
-        Call::GetNameOwner { name } => Ok(Request::Asks(Query::GetNameOwner(name))),
-        Call::NameHasOwner { name } => Ok(Request::Asks(Query::NameHasOwner(name))),
-        Call::ListNames => Ok(Request::Asks(Query::ListNames)),
-        Call::ListActivatableNames => Ok(Request::Asks(Query::ListActivatableNames)),
-        Call::ListQueuedOwners { name } => Ok(Request::Asks(Query::ListQueuedOwners(name))),
-        Call::AddMatch { rule } => Ok(Request::Makes(Change::AddMatch { connection, rule })),
-        Call::RemoveMatch { rule } => Ok(Request::Makes(Change::RemoveMatch { connection, rule })),
-        Call::StartServiceByName { name: _ } => Err(ErrorKind::UnknownMethod),
-        Call::BecomeMonitor { rules: _ } => Err(ErrorKind::UnknownMethod),
-    }
-}
 
 /// What the call is answered that asked for a change, where the bus replied so.
 fn answer_told(reply: Reply) -> Result<ReplyContent, ErrorKind>
@@ -97,6 +67,21 @@ fn error_unanswered(fault: AskFault) -> ErrorKind
         AskFault::NoMemory => ErrorKind::NoMemory,
         AskFault::Gone => ErrorKind::Failed,
     }
+}
+
+/// Answers a call an error. The caller stays.
+fn refuse<V: BusView, G: Gate>(
+    hands: &mut Hands<V, G>,
+    call: &Message,
+    caller: Conn,
+    error: ErrorKind,
+) -> Option<CloseCause>
+    requires { 0 < hands.old.room }
+    ensures comes { Comes V.told G.passes V.alone (and_stays (erring (said call.now) caller error)) hands.old.world result hands.new.world }
+    ensures room { hands.old.room ≤ hands.new.room + 1 }
+{
+    hands.err_with(call, caller, error);
+    None
 }
 
 /// Tells of a change: its signals come first, then what the caller is answered.
@@ -150,10 +135,7 @@ fn made<V: BusView, G: Gate>(
 {
     match told {
         Ok(outcome) => made_by(hands, call, caller, outcome),
-        Err(cause) => {
-            hands.err_with(call, caller, error_for(cause));
-            None
-        }
+        Err(cause) => refuse(hands, call, caller, error_for(cause)),
     }
 }
 
@@ -181,27 +163,125 @@ fn reply_body<V: BusView, G: Gate>(
 }
 
 /// Asks the bus, and answers the call.
+#[inline(never)]
 fn answer_query<V: BusView, G: Gate>(
     alloc: Global,
     hands: &mut Hands<V, G>,
     call: &Message,
     caller: Conn,
     query: &Query,
-)
+) -> Option<CloseCause>
     requires { 0 < hands.old.room }
-    ensures comes { Comes V.told G.passes V.alone (Asking query.now (λ heard. and_stays (answered (said call.now) caller heard))) hands.old.world None hands.new.world }
+    ensures comes { Comes V.told G.passes V.alone (serving_request (said call.now) caller (Ok (Asks query.now))) hands.old.world result hands.new.world }
     ensures room { hands.old.room ≤ hands.new.room + 1 }
 {
     let mut body = Vec::new(alloc);
     match hands.ask(query, &mut body) {
         Ok(Asked::Body) => {
             reply_body(alloc, hands, call, caller, BodyKind::of(query), body);
+            None
         }
-        Ok(Asked::NameHasNoOwner) => {
-            hands.err_with(call, caller, ErrorKind::NameHasNoOwner);
-        }
-        Err(fault) => hands.err_with(call, caller, error_unanswered(fault)),
+        Ok(Asked::NameHasNoOwner) => refuse(hands, call, caller, ErrorKind::NameHasNoOwner),
+        Err(fault) => refuse(hands, call, caller, error_unanswered(fault)),
     }
+}
+
+/// Makes a change, and answers the call that asked for it.
+fn make<V: BusView, G: Gate>(
+    hands: &mut Hands<V, G>,
+    right: &V::Right,
+    call: &Message,
+    caller: Conn,
+    change: Change,
+) -> Option<CloseCause>
+    requires room { 1 < hands.old.room }
+    requires served { IsServedChange change }
+    ensures comes { Comes V.told G.passes V.alone (serving_request (said call.now) caller (Ok (Makes change))) hands.old.world result hands.new.world }
+    ensures room { hands.old.room ≤ hands.new.room + 2 }
+{
+    let told = hands.change(right, change);
+    made(hands, call, caller, told)
+}
+
+// A change is large, and what a function holds is cleared at its entry: each has a function of its own, so that queries need
+// not clear it.
+
+#[inline(never)]
+fn request_name<V: BusView, G: Gate>(
+    hands: &mut Hands<V, G>,
+    right: &V::Right,
+    call: &Message,
+    caller: Conn,
+    name: &BusName,
+    flags: RequestFlags,
+) -> Option<CloseCause>
+    requires { 1 < hands.old.room }
+    ensures comes { Comes V.told G.passes V.alone (serving_request (said call.now) caller (request_in caller.number (RequestName name.now flags))) hands.old.world result hands.new.world }
+    ensures room { hands.old.room ≤ hands.new.room + 2 }
+{
+    let change = Change::Request {
+        connection: caller.number,
+        name: *name,
+        flags,
+    };
+    make(hands, right, call, caller, change)
+}
+
+#[inline(never)]
+fn release_name<V: BusView, G: Gate>(
+    hands: &mut Hands<V, G>,
+    right: &V::Right,
+    call: &Message,
+    caller: Conn,
+    name: &BusName,
+) -> Option<CloseCause>
+    requires { 1 < hands.old.room }
+    ensures comes { Comes V.told G.passes V.alone (serving_request (said call.now) caller (request_in caller.number (ReleaseName name.now))) hands.old.world result hands.new.world }
+    ensures room { hands.old.room ≤ hands.new.room + 2 }
+{
+    let change = Change::Release {
+        connection: caller.number,
+        name: *name,
+    };
+    make(hands, right, call, caller, change)
+}
+
+#[inline(never)]
+fn add_match<V: BusView, G: Gate>(
+    hands: &mut Hands<V, G>,
+    right: &V::Right,
+    call: &Message,
+    caller: Conn,
+    rule: &Rule,
+) -> Option<CloseCause>
+    requires { 1 < hands.old.room }
+    ensures comes { Comes V.told G.passes V.alone (serving_request (said call.now) caller (request_in caller.number (AddMatch rule.now))) hands.old.world result hands.new.world }
+    ensures room { hands.old.room ≤ hands.new.room + 2 }
+{
+    let change = Change::AddMatch {
+        connection: caller.number,
+        rule: *rule,
+    };
+    make(hands, right, call, caller, change)
+}
+
+#[inline(never)]
+fn remove_match<V: BusView, G: Gate>(
+    hands: &mut Hands<V, G>,
+    right: &V::Right,
+    call: &Message,
+    caller: Conn,
+    rule: &Rule,
+) -> Option<CloseCause>
+    requires { 1 < hands.old.room }
+    ensures comes { Comes V.told G.passes V.alone (serving_request (said call.now) caller (request_in caller.number (RemoveMatch rule.now))) hands.old.world result hands.new.world }
+    ensures room { hands.old.room ≤ hands.new.room + 2 }
+{
+    let change = Change::RemoveMatch {
+        connection: caller.number,
+        rule: *rule,
+    };
+    make(hands, right, call, caller, change)
 }
 
 /// Does what a call asks, and answers it.
@@ -209,27 +289,46 @@ fn serve_request<V: BusView, G: Gate>(
     alloc: Global,
     hands: &mut Hands<V, G>,
     right: &V::Right,
-    call: &Message,
+    message: &Message,
     caller: Conn,
-    request: Result<Request, ErrorKind>,
+    call: &Call,
 ) -> Option<CloseCause>
-    requires room { 1 < hands.old.room }
-    requires served { IfOk request IsServedRequest }
-    ensures comes { Comes V.told G.passes V.alone (serving_request (said call.now) caller (requested request)) hands.old.world result hands.new.world }
+    requires { 1 < hands.old.room }
+    ensures comes { Comes V.told G.passes V.alone (serving_request (said message.now) caller (request_in caller.number call.now)) hands.old.world result hands.new.world }
     ensures room { hands.old.room ≤ hands.new.room + 2 }
 {
-    match request {
-        Ok(Request::Asks(query)) => {
-            answer_query(alloc, hands, call, caller, &query);
-            None
+    match call {
+        Call::Hello => refuse(hands, message, caller, ErrorKind::Failed),
+        Call::RequestName { name, flags } => {
+            request_name(hands, right, message, caller, name, *flags)
         }
-        Ok(Request::Makes(change)) => {
-            let told = hands.change(right, change);
-            made(hands, call, caller, told)
+        Call::ReleaseName { name } => release_name(hands, right, message, caller, name),
+        Call::GetNameOwner { name } => {
+            answer_query(alloc, hands, message, caller, &Query::GetNameOwner(*name))
         }
-        Err(error) => {
-            hands.err_with(call, caller, error);
-            None
+        Call::NameHasOwner { name } => {
+            answer_query(alloc, hands, message, caller, &Query::NameHasOwner(*name))
+        }
+        Call::ListNames => answer_query(alloc, hands, message, caller, &Query::ListNames),
+        Call::ListActivatableNames => {
+            answer_query(alloc, hands, message, caller, &Query::ListActivatableNames)
+        }
+        Call::ListQueuedOwners { name } => {
+            answer_query(
+                alloc,
+                hands,
+                message,
+                caller,
+                &Query::ListQueuedOwners(*name),
+            )
+        }
+        Call::AddMatch { rule } => add_match(hands, right, message, caller, rule),
+        Call::RemoveMatch { rule } => remove_match(hands, right, message, caller, rule),
+        Call::StartServiceByName { name: _ } => {
+            refuse(hands, message, caller, ErrorKind::UnknownMethod)
+        }
+        Call::BecomeMonitor { rules: _ } => {
+            refuse(hands, message, caller, ErrorKind::UnknownMethod)
         }
     }
 }
@@ -241,22 +340,18 @@ fn serve_reading<V: BusView, G: Gate>(
     right: &V::Right,
     message: &Message,
     caller: Conn,
-    reading: Result<Call, DriverFault>,
+    reading: &Result<Call, DriverFault>,
 ) -> Option<CloseCause>
     requires { 1 < hands.old.room }
-    ensures comes { Comes V.told G.passes V.alone (serving_reading (said message.now) caller reading) hands.old.world result hands.new.world }
+    ensures comes { Comes V.told G.passes V.alone (serving_reading (said message.now) caller reading.now) hands.old.world result hands.new.world }
     ensures room { hands.old.room ≤ hands.new.room + 2 }
 {
     match reading {
         Ok(call) => {
-            hands.pass(&call);
-            let request = request_of(caller.number, call);
-            serve_request(alloc, hands, right, message, caller, request)
+            hands.pass(call);
+            serve_request(alloc, hands, right, message, caller, call)
         }
-        Err(fault) => {
-            hands.err_with(message, caller, fault.error());
-            None
-        }
+        Err(fault) => refuse(hands, message, caller, fault.error()),
     }
 }
 
@@ -273,7 +368,7 @@ fn serve_call<V: BusView, G: Gate>(
     ensures room { hands.old.room ≤ hands.new.room + 2 }
 {
     let reading = read_call(alloc, message);
-    serve_reading(alloc, hands, right, message, caller, reading)
+    serve_reading(alloc, hands, right, message, caller, &reading)
 }
 
 /// Serves a message to the bus ("Message Bus Messages" of the D-Bus Specification). A call is answered, and one that

@@ -10,10 +10,11 @@ ghost use Rattle.router_hands.specs.OncePut.{not_put as unput};
 
 use crate::calls::serve_bus;
 use crate::holding::hold;
+use arrayvec::ArrayVec;
 use bus_view::{BusView, Gone};
-use match_rules::MessageKind;
-use message_core::Message;
-use message_relay::{RelayFault, facts};
+use match_rules::{Facts, MessageKind};
+use message_core::{Message, NO_AUTO_START};
+use message_relay::{RelayFault, put_arguments};
 use router_core::{CloseCause, Gate};
 use router_hands::Hands;
 use seq_bus_core::{Conn, ErrorKind, VerdictKind};
@@ -174,9 +175,18 @@ fn route_message<V: BusView, G: Gate>(
     ensures comes { Comes V.told G.passes V.alone (serving (said message.now) sender) hands.old.world result hands.new.world }
     ensures room { hands.old.room ≤ hands.new.room + 3 }
 {
-    let mut facts = facts(message);
-    // As the bus takes them: with the sender's number they are not copied.
-    facts.sender = sender.number;
+    // Made where they stay, and with the sender's number, as the bus takes them: they are too large to be copied.
+    let mut facts = Facts {
+        kind: message.kind(),
+        auto_start: message.flags() & NO_AUTO_START == 0,
+        sender: sender.number,
+        path: message.path(),
+        interface: message.interface(),
+        member: message.member(),
+        destination: message.destination(),
+        arguments: ArrayVec::new(),
+    };
+    put_arguments(message, &mut facts.arguments);
     let heard = hands.route(sender.number, &facts);
     routed(alloc, hands, right, message, sender, heard)
 }

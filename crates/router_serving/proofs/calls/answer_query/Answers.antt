@@ -14,10 +14,10 @@ pub returns-in-Ok-NameHasNoOwner-clause-comes : goal.returns-in-Ok-NameHasNoOwne
 returns-in-Ok-NameHasNoOwner-clause-comes g c =
     let is : c.ask.result ≡ Ok NameHasNoOwner = search rules in
     asked_none g.V.BusView.told g.G.Gate.passes g.V.BusView.alone (said c.args.call.now) c.args.caller c.args.query.now c.ask.result c.ask.new.body.items
-    c.args.hands.now.world c.ask.new.self.world c.err_with.new.self.world c.ask.ensures.asks is c.err_with.ensures.comes
+    c.args.hands.now.world c.ask.new.self.world c.refuse.new.hands.world c.ask.ensures.asks c.refuse.result is c.refuse.ensures.comes
 
 pub returns-in-Err-clause-comes : goal.returns-in-Err-clause-comes
 returns-in-Err-clause-comes g c =
     let is : c.ask.result ≡ Err c.in-Err.fault = search rules in
     asked_fault g.V.BusView.told g.G.Gate.passes g.V.BusView.alone (said c.args.call.now) c.args.caller c.args.query.now c.ask.result c.ask.new.body.items
-    c.args.hands.now.world c.ask.new.self.world c.err_with-in-Err.new.self.world c.ask.ensures.asks c.in-Err.fault c.error_unanswered.result is c.error_unanswered.ensures c.err_with-in-Err.ensures.comes
+    c.args.hands.now.world c.ask.new.self.world c.refuse-in-Err.new.hands.world c.ask.ensures.asks c.refuse-in-Err.result c.in-Err.fault c.error_unanswered.result is c.error_unanswered.ensures c.refuse-in-Err.ensures.comes

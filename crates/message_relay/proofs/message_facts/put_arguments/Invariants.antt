@@ -3,7 +3,7 @@ use Rattle.std.specs.Prelude.{map}
 use Rattle.marshal_check.specs.ArgumentViews.{checked_left}
 use Rattle.match_rules.specs.FactsView.{argument_of}
 use Rattle.message_relay.specs.FactsOf.{as_argument}
-use Rattle.message_relay.proofs.message_facts.put_first.Given as goal
+use Rattle.message_relay.proofs.message_facts.put_arguments.Given as goal
 
 abbrev pub invariant-loop-argument : goal.invariant-loop-argument
 invariant-loop-argument l = record {

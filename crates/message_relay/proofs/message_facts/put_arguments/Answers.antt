@@ -10,7 +10,7 @@ use Rattle.match_rules.specs.FactsView.{argument_of}
 use Rattle.message_core.specs.Said.{said}
 use Rattle.message_relay.specs.FactsOf.{as_argument}
 use Rattle.message_relay.proofs.ArgumentLemmas.{spelled_there, first_full, first_all}
-use Rattle.message_relay.proofs.message_facts.put_first.Goals as goal
+use Rattle.message_relay.proofs.message_facts.put_arguments.Goals as goal
 
 pub invariant_of-types : goal.invariant_of-types
 invariant_of-types c =

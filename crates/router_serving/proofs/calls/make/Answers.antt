@@ -1,0 +1,5 @@
+use Rattle.router_hands.specs.Hearing.{heard_change}
+use Rattle.router_serving.proofs.calls.make.Goals as goal
+
+pub returns-clause-comes : goal.returns-clause-comes
+returns-clause-comes g c = (heard_change c.change-told.result, c.change-told.new.self.world, c.change-told.ensures.changes, c.made.ensures.comes)
