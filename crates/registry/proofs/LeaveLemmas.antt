@@ -125,7 +125,7 @@ member_left n i (m ∷ ms) rising found = by_test (m.conn.number == n) refl foun
         rw (← at, is) (sym (higher ms above))
     by_test false is e others = rw is (rest (first_place (λ k. k.conn.number == n) ms) refl e others)
 
-pub left_state : (r next : Inside) (n : ℕ) → next ≡ record r { members = next.members; names = next.names; rules = next.rules; monitor_rules = next.monitor_rules } →
+pub left_state : (r next : Inside) (n : ℕ) → next ≡ record r { members = next.members; monitors = next.monitors; names = next.names; rules = next.rules; monitor_rules = next.monitor_rules } →
     next.names ≡ names_without n r.names → next.members.items ≡ filter (λ m. not (m.conn.number == n)) r.members.items → next.rules.rules ≡ rules_without n r.rules.rules → next.monitor_rules.rules ≡ rules_without n r.monitor_rules.rules →
     without_connection (state_of r) n ≡ state_of next
 left_state r next n same names members rules monitor_rules =

@@ -113,7 +113,8 @@ impl Registry {
         let Some(place) = find_place(&self.members, connection) else {
             return;
         };
-        self.members.remove(place);
+        let left = self.members.remove(place);
+        self.monitors -= usize::from(left.is_monitor);
         self.names.leave(connection);
         self.rules.remove_all(connection);
         self.monitor_rules.remove_all(connection);

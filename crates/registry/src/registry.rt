@@ -41,6 +41,8 @@ pub struct Registry {
     pub(crate) services: Vec<WellKnown>,
     /// By rising number.
     pub(crate) members: Vec<Member>,
+    /// How many of them are monitors.
+    pub(crate) monitors: usize,
     pub(crate) names: NameTable,
     pub(crate) rules: RuleTable,
     pub(crate) monitor_rules: RuleTable,
@@ -77,6 +79,7 @@ impl Registry {
             routers,
             services: sorted(alloc, services)?,
             members: Vec::with_capacity(alloc, MAX_CONNECTIONS)?,
+            monitors: 0,
             names: NameTable::new(alloc)?,
             rules: RuleTable::new(alloc, MAX_RULES)?,
             monitor_rules: RuleTable::new(alloc, MAX_MONITOR_RULES)?,

@@ -145,7 +145,8 @@ impl Registry {
         );
     }
 
-    /// Adds the monitors that are shown a message, where names are owned as these owners say.
+    /// Adds the monitors that are shown a message, where names are owned as these owners say. Where there are none, no connection is
+    /// looked at.
     pub(crate) fn add_monitors_shown<O: Owners>(
         &self,
         facts: &Facts<'_>,
@@ -156,6 +157,9 @@ impl Registry {
         requires { shown.old ≡ [] }
         ensures { shown.new ≡ conns_that (λ c. stays leaver c.number && watches_by (O.heads owners.now) facts.now c) self.now.connections }
     {
+        if self.monitors == 0 {
+            return;
+        }
         add_monitors_shown(
             &self.members,
             self.monitor_rules.as_slice(),

@@ -6,7 +6,8 @@ use Rattle.registry.specs.declared.registry.Registry.TheInside.{Inside}
 use Rattle.registry.specs.Hellos.{next_conn}
 use Rattle.registry.specs.Tables.{state_of}
 use Rattle.registry.proofs.HelloLemmas.{has_room, hello_state, grown}
-use Rattle.registry.proofs.Kept.{kept}
+use Rattle.registry.specs.Tables.{monitors_among}
+use Rattle.registry.proofs.Kept.{kept, one_more}
 use Rattle.registry.proofs.registry.Registry.say_hello.Goals as goal
 
 pub push_reserved-requires : goal.push_reserved-requires
@@ -24,6 +25,7 @@ invariant_of-self c =
     let after : (step (state_of i) c.args.seat (Hello c.args.privileged)).0 ≡ state_of next =
     hello_state (state_of i) c.args.seat c.args.privileged c.in-Some.conn made ∙ grown i next c.in-Some.conn c.args.privileged refl c.push_reserved.ensures.items in
     kept i next c.self.invariant c.args.seat (Hello c.args.privileged) after refl (omega (arith, c.self.invariant.members_room, c.push_reserved.ensures.capacity)) c.self.invariant.rules_room
+    (c.self.invariant.monitors ∙ one_more i.members.items c.in-Some.conn c.args.privileged ∙ ap monitors_among (sym c.push_reserved.ensures.items))
 
 pub returns : goal.returns
 returns c =
