@@ -53,12 +53,12 @@ pairs_weaker : {X : Type 0} (R S : X → X → Type 0) → ((a b : X) → R a b 
 pairs_weaker R S weaker [] h = tt
 pairs_weaker R S weaker (x ∷ xs) h = (each_weaker (R x) (S x) (weaker x) xs h.0, pairs_weaker R S weaker xs h.1)
 
-pairs_inserted : {X : Type 0} (R : X → X → Type 0) (xs : List X) (i : ℕ) (y : X) → Pairwise R xs → Each (λ x. R x y) (take i xs) → Each (R y) (drop i xs) → Pairwise R (insert xs i y)
+pub pairs_inserted : {X : Type 0} (R : X → X → Type 0) (xs : List X) (i : ℕ) (y : X) → Pairwise R xs → Each (λ x. R x y) (take i xs) → Each (R y) (drop i xs) → Pairwise R (insert xs i y)
 pairs_inserted R xs zero y h before behind = (behind, h)
 pairs_inserted R [] (suc i) y h before behind = (tt, tt)
 pairs_inserted R (x ∷ xs) (suc i) y h before behind = (each_inserted (R x) xs i y h.0 before.0, pairs_inserted R xs i y h.1 before.1 behind)
 
-pairs_removed : {X : Type 0} (R : X → X → Type 0) (xs : List X) (i : ℕ) → Pairwise R xs → Pairwise R (remove xs i)
+pub pairs_removed : {X : Type 0} (R : X → X → Type 0) (xs : List X) (i : ℕ) → Pairwise R xs → Pairwise R (remove xs i)
 pairs_removed R [] zero h = tt
 pairs_removed R [] (suc i) h = tt
 pairs_removed R (x ∷ xs) zero h = h.1

@@ -5,4 +5,6 @@ pub mod NameTableLemmas
 pub mod Marks
 pub mod Members
 pub mod IndexLemmas
+pub mod RuleIndexLemmas
+pub mod RuleTableLemmas
 pub mod TableIndex

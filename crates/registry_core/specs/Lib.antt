@@ -1,7 +1,8 @@
 pub mod NameTables
+pub mod RuleEntries
+pub mod RuleIndexes
 pub mod RuleTables
 pub mod RulesOf
 pub mod Listening
 pub mod Signals
-pub mod RuleCounts
 pub mod NameIndexes

@@ -10,10 +10,12 @@ pub mod listening;
 mod member;
 mod name_index;
 mod name_table;
-mod rule_counts;
+mod rule_entries;
+mod rule_index;
 mod rule_table;
 pub mod signals;
 
 pub use member::{Member, find_place, number_of};
 pub use name_table::{MAX_NAMES, MAX_QUEUED, NameEntry, NameTable};
-pub use rule_table::{RuleEntry, RuleTable, RulesOf};
+pub use rule_entries::RuleEntry;
+pub use rule_table::{RuleTable, RulesOf};

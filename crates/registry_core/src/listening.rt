@@ -4,10 +4,10 @@ ghost use Rattle.std.specs.Prelude.{◌≡◌, ℕ, ◌<◌, ◌≤◌, ◌&&◌
 ghost use Rattle.std.specs.List.{list_any};
 ghost use Rattle.match_rules.specs.Fitting.{fits};
 ghost use Rattle.registry_core.specs.Listening.{stays, has_fitting, member_wants, member_watches, number_at, rules_of_monitor, watched, Rising};
-ghost use Rattle.registry_core.specs.RuleTables.{added_rule};
+ghost use Rattle.registry_core.specs.RuleEntries.{live};
 
 use crate::member::{Member, find_place};
-use crate::rule_table::RuleEntry;
+use crate::rule_entries::RuleEntry;
 use match_rules::{Facts, Owners};
 use seq_bus_core::Recipients;
 
@@ -27,7 +27,7 @@ pub fn add_those_that_want<O: Owners>(
     requires rising { Rising members.now }
     requires few { length members.now ≤ MAX_CONNECTIONS }
     requires empty { to.old ≡ [] }
-    ensures { to.new ≡ map (λ m. m.conn) (filter (λ m. stays leaver m.conn.number && member_wants (O.heads owners.now) (map added_rule rules.now) facts.now m) members.now) }
+    ensures { to.new ≡ map (λ m. m.conn) (filter (λ m. stays leaver m.conn.number && member_wants (O.heads owners.now) (live rules.now) facts.now m) members.now) }
 {
     let mut marks = no_marks();
     mark(members, rules, facts, owners, &mut marks);
@@ -62,10 +62,10 @@ fn mark<O: Owners>(
     requires rising { Rising members.now }
     requires few { length members.now ≤ length marks.old }
     requires unmarked { (k : ℕ) → get_or marks.old k false ≡ false }
-    ensures { (k : ℕ) → k < length members.now → get_or marks.new k false ≡ has_fitting (O.heads owners.now) (map added_rule rules.now) facts.now (number_at members.now k) }
+    ensures { (k : ℕ) → k < length members.now → get_or marks.new k false ≡ has_fitting (O.heads owners.now) (live rules.now) facts.now (number_at members.now k) }
 {
     for entry in rules {
-        if entry.rule.fits(facts, owners) {
+        if entry.fits(facts, owners) {
             if let Some(place) = find_place(members, entry.connection) {
                 marks[place] = true;
             }
@@ -85,7 +85,7 @@ pub fn add_monitors_shown<O: Owners>(
 )
     requires few { length members.now ≤ MAX_CONNECTIONS }
     requires empty { shown.old ≡ [] }
-    ensures { shown.new ≡ map (λ m. m.conn) (filter (λ m. stays leaver m.conn.number && member_watches (O.heads owners.now) (map added_rule rules.now) facts.now m) members.now) }
+    ensures { shown.new ≡ map (λ m. m.conn) (filter (λ m. stays leaver m.conn.number && member_watches (O.heads owners.now) (live rules.now) facts.now m) members.now) }
 {
     for member in members {
         if member.is_monitor
@@ -99,11 +99,11 @@ pub fn add_monitors_shown<O: Owners>(
 
 /// Whether a monitor is shown a message, by the rules of all monitors.
 fn is_shown<O: Owners>(number: u64, rules: &[RuleEntry], facts: &Facts<'_>, owners: &O) -> bool
-    ensures { result ≡ watched (O.heads owners.now) facts.now (rules_of_monitor number (map added_rule rules.now)) }
+    ensures { result ≡ watched (O.heads owners.now) facts.now (rules_of_monitor number (live rules.now)) }
 {
     let mut has_rules = false;
     for entry in rules {
-        if entry.connection == number {
+        if entry.is_of(number) {
             if entry.rule.fits(facts, owners) {
                 return true;
             }

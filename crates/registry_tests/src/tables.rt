@@ -208,11 +208,84 @@ fn rules_of_one_connection(rt: HostRuntime) {
         make(&rt, alloc, &mut registry, 1, &add_match(connection, rule));
     }
     for (connection, added) in [(1, [tick, all, tick].as_slice()), (2, &[all]), (3, &[])] {
-        let mut rules = registry.rules(connection);
-        for rule in added {
-            assert!(rt; rules.next() == Some(rule));
+        assert!(rt; has_rules(&registry, connection, added));
+    }
+}
+
+/// Whether a connection has these rules, in this order.
+fn has_rules(registry: &Registry, connection: u64, wanted: &[Rule]) -> bool {
+    let mut rules = registry.rules(connection);
+    for rule in wanted {
+        if rules.next() != Some(rule) {
+            return false;
         }
-        assert!(rt; rules.next().is_none());
+    }
+    rules.next().is_none()
+}
+
+/// So many rules are taken out, one by one and with a connection that leaves, that those that are left close ranks; then
+/// some more are taken out and added.
+#[test]
+fn rules_that_are_left_of_many(rt: HostRuntime) {
+    let alloc = rt.alloc();
+    let mut registry = open_with(&rt, alloc, 3);
+    let a = rule(&rt, "member='A'");
+    let b = rule(&rt, "member='B'");
+    let c = rule(&rt, "member='C'");
+    let d = rule(&rt, "member='D'");
+    for _round in 0..12 {
+        for rule in [a, b, c, d] {
+            for connection in 1..4 {
+                make(&rt, alloc, &mut registry, 1, &add_match(connection, rule));
+            }
+        }
+    }
+    for (connection, rule) in [(1, b), (1, d)] {
+        for _round in 0..12 {
+            make(
+                &rt,
+                alloc,
+                &mut registry,
+                1,
+                &remove_match(connection, rule),
+            );
+        }
+    }
+    make(&rt, alloc, &mut registry, 1, &leave(2));
+    for rule in [a, c, d] {
+        for _round in 0..12 {
+            make(&rt, alloc, &mut registry, 1, &remove_match(3, rule));
+        }
+    }
+    make(&rt, alloc, &mut registry, 1, &remove_match(1, a));
+    make(&rt, alloc, &mut registry, 1, &add_match(1, d));
+    make(&rt, alloc, &mut registry, 1, &add_match(3, a));
+
+    let first = [
+        c, a, c, a, c, a, c, a, c, a, c, a, c, a, c, a, c, a, c, a, c, a, c, d,
+    ];
+    let third = [b, b, b, b, b, b, b, b, b, b, b, b, a];
+    for (connection, left) in [(1, first.as_slice()), (2, &[]), (3, &third)] {
+        assert!(rt; has_rules(&registry, connection, left));
+    }
+    let one = Conn {
+        number: 1,
+        slot: 0,
+        router: 1,
+    };
+    let three = Conn {
+        number: 3,
+        slot: 2,
+        router: 1,
+    };
+    for (member, listeners) in [
+        ("A", [one, three].as_slice()),
+        ("B", &[three]),
+        ("C", &[one]),
+        ("D", &[one]),
+    ] {
+        let verdict = registry.route(1, &signal(member));
+        same(&rt, &verdict.to.as_slice(), &listeners);
     }
 }
 

@@ -3,7 +3,7 @@ use Rattle.std.proofs.lemmas.List.{take_more}
 use Rattle.seq_bus_core.specs.declared.connection.Conn.{Conn}
 use Rattle.registry_core.specs.declared.member.Member.{Member}
 use Rattle.registry_core.specs.Listening.{stays, member_wants, has_fitting}
-use Rattle.registry_core.specs.RuleTables.{added_rule}
+use Rattle.registry_core.specs.RuleEntries.{live}
 use Rattle.registry_core.proofs.Places.{few_done, one_done}
 use Rattle.registry_core.proofs.Marks.{number_at_is, no_mark}
 use Rattle.registry_core.proofs.listening.add_those_that_want.Goals.{then-is_recipient, else-is_recipient}
@@ -11,7 +11,7 @@ use Rattle.registry_core.proofs.listening.add_those_that_want.Goals as goal
 
 pub push-requires : goal.push-requires
 push-requires g c =
-    let test : Member → Bool = λ m. stays c.args.leaver m.conn.number && member_wants (g.O.Owners.heads c.args.owners.now) (map added_rule c.args.rules.now) c.args.facts.now m in
+    let test : Member → Bool = λ m. stays c.args.leaver m.conn.number && member_wants (g.O.Owners.heads c.args.owners.now) (live c.args.rules.now) c.args.facts.now m in
     let conn_of : Member → Conn = λ m. m.conn in
     let few : length c.loop-place.to ≤ c.loop-place.place = rw c.loop-place.invariant (few_done conn_of test c.args.members.now c.loop-place.place) in
     omega (arith, few, c.requires.few, c.loop-place-test.true)
@@ -22,7 +22,7 @@ mark-requires-clause-unmarked g c = λ k. rw c.no_marks-marks.ensures (no_mark 2
 pub loop-place-preserved : goal.loop-place-preserved
 loop-place-preserved g c =
     let heads = g.O.Owners.heads c.args.owners.now in
-    let rules = map added_rule c.args.rules.now in
+    let rules = live c.args.rules.now in
     let ms : List Member = c.args.members.now in
     let i = c.loop-place.place in
     let d : Member = record { conn = record { number = 0; slot = 0; router = 0 }; privileged = false; is_monitor = false } in

@@ -1,9 +1,9 @@
-use Rattle.std.proofs.Common.{◌≡◌, ℕ, ◌+◌, ◌&&◌, ◌||◌, ◌==◌, Bool, false, Option, Some, None, List, ◌∷◌, [], ◌++◌, map, take, get_or, ap, sym, ◌∙◌, arith}
+use Rattle.std.proofs.Common.{◌≡◌, ℕ, ◌+◌, ◌&&◌, ◌||◌, ◌==◌, Bool, false, Option, Some, None, List, ◌∷◌, [], ◌++◌, take, get_or, ap, sym, ◌∙◌, arith}
 use Rattle.match_rules.specs.Fitting.{fits}
 use Rattle.registry_core.specs.declared.member.Member.{Member}
-use Rattle.registry_core.specs.declared.rule_table.RuleEntry.{RuleEntry}
+use Rattle.registry_core.specs.declared.rule_entries.RuleEntry.{RuleEntry}
 use Rattle.registry_core.specs.Listening.{has_fitting, number_at}
-use Rattle.registry_core.specs.RuleTables.{added_rule}
+use Rattle.registry_core.specs.RuleEntries.{is_there, live}
 use Rattle.registry_core.proofs.Places.{done_is, first_place, position_is}
 use Rattle.registry_core.proofs.RuleLemmas.{fitting_more}
 use Rattle.registry_core.proofs.Marks.{set_mark, marked, unmarked, none_both, both_none, place_has, no_place_has}
@@ -21,11 +21,11 @@ loop-entry-preserved g c =
     let grown : take (i + 1) c.args.rules.now ≡ done ++ e ∷ [] = done_is c.args.rules.now i e c.loop-entry-test.true c.entry-item.is in
     let test : Member → Bool = λ m. m.conn.number == e.connection in
     λ k lt.
-    let before = has_fitting heads (map added_rule done) facts (number_at ms k) in
+    let before = has_fitting heads (live done) facts (number_at ms k) in
     let same = e.connection == number_at ms k in
-    let fit = fits heads e.rule facts in
-    let then_is : has_fitting heads (map added_rule (take (i + 1) c.args.rules.now)) facts (number_at ms k) ≡ (before || (same && fit)) =
-    ap (λ (es : List RuleEntry). has_fitting heads (map added_rule es) facts (number_at ms k)) grown ∙ fitting_more heads facts (number_at ms k) done e in
+    let fit = is_there e && fits heads e.rule facts in
+    let then_is : has_fitting heads (live (take (i + 1) c.args.rules.now)) facts (number_at ms k) ≡ (before || (same && fit)) =
+    ap (λ (es : List RuleEntry). has_fitting heads (live es) facts (number_at ms k)) grown ∙ fitting_more heads facts (number_at ms k) done e in
     elim c.if-fits.branch [
       | then-fits+in-Some w ↦
           let found : first_place test ms ≡ Some w.in-Some.place = sym (position_is test ms) ∙ sym w.find_place.ensures ∙ w.in-Some.is in

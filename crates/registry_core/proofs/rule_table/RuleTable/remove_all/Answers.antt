@@ -1,47 +1,39 @@
-use Rattle.std.proofs.Common.{◌≡◌, ◌≤◌, ◌==◌, ℕ, Bool, true, false, not, List, length, map, rules, refl, sym, ap, ◌∙◌, subst, arith, vec_capacity}
-use Rattle.std.proofs.lemmas.Bool.{eqb-true}
-use Rattle.std.proofs.lemmas.Fn.{filter_same}
+use Rattle.std.proofs.Common.{◌≡◌, ◌<◌, List, length, take, drop, ◌++◌, sym, ap, ◌∙◌, subst}
+use Rattle.std.specs.List.{AllByRecursion as Each}
 use Rattle.seq_bus_core.specs.BusState.{AddedRule}
-use Rattle.registry_core.specs.RuleCounts.{held}
-use Rattle.registry_core.specs.RuleTables.{RulesInRoom, added_rule}
-use Rattle.registry_core.specs.declared.rule_table.RuleEntry.{RuleEntry}
-use Rattle.registry_core.proofs.Places.{filter-map}
-use Rattle.registry_core.proofs.RuleLemmas.{rules_in, others_of, kept_own, kept_other, kept_length, kept_all}
+use Rattle.seq_bus_core.specs.Steps.{rules_without}
+use Rattle.registry_core.specs.RuleEntries.{live, marked_all, places_in, positions}
+use Rattle.registry_core.specs.RuleTables.{RulesInRoom, ArePlaced}
+use Rattle.registry_core.specs.declared.rule_entries.RuleEntry.{RuleEntry}
+use Rattle.registry_core.proofs.RuleLemmas.{each_place, left_live, length_marked_all, positions_within}
+use Rattle.registry_core.proofs.RuleTableLemmas.{written_back, placed_left}
+use Rattle.registry_core.proofs.rule_table.RuleTable.remove_all.Goals.{After-take_all}
 use Rattle.registry_core.proofs.rule_table.RuleTable.remove_all.Goals as goal
-use Rattle.registry_core.proofs.rule_table.RuleTable.remove_all.Goals.{After-remove}
 
-kept : (c : After-remove) → c.retain.new.self.items ≡ others_of c.args.connection c.self.inside.entries.items
-kept c = filter_same _ _ _ (λ d b f k. search rules) _ _ c.retain.ensures.filtered
-
-pub invariant_of-self : goal.invariant_of-self
-invariant_of-self c =
-    let r = c.self.inside in
-    let es : List RuleEntry = r.entries.items in
+pub mark_all-requires : goal.mark_all-requires
+mark_all-requires c =
+    let entries = c.self.inside.entries.items in
     let n = c.args.connection in
-    let left : List RuleEntry = c.retain.new.self.items in
-    let enough : r.room ≤ vec_capacity r.entries = c.self.invariant.has_room in
-    let counted : (k : ℕ) → held k c.remove.new.self.holders ≡ rules_in k left = λ k. by_test c k (n == k) refl in
-    record {
-      has_room = omega (arith, enough, c.retain.ensures.capacity);
-      counts_room = c.remove.ensures.room ∙ c.self.invariant.counts_room;
-      counted = counted;
-      all = let after : length left ≡ length (others_of n es) = ap length (kept c) in let its : held n r.counts.holders ≡ rules_in n es = c.self.invariant.counted n in omega (arith, c.remove.ensures.all, c.self.invariant.all, kept_length n es, after, its);
-    }
-  where
-    by_test : (c : After-remove) (k : ℕ) (b : Bool) → (c.args.connection == k) ≡ b → held k c.remove.new.self.holders ≡ rules_in k c.retain.new.self.items
-    by_test c k true is =
-        subst (λ m. held m c.remove.new.self.holders ≡ rules_in m c.retain.new.self.items) (eqb-true c.args.connection k is)
-        (c.remove.ensures.own ∙ sym (ap (rules_in c.args.connection) (kept c) ∙ kept_own c.args.connection c.self.inside.entries.items))
-    by_test c k false is = c.remove.ensures.others k is ∙ c.self.invariant.counted k ∙ sym (ap (rules_in k) (kept c) ∙ kept_other c.args.connection k c.self.inside.entries.items is)
+    let its : Each (λ k. k < length entries) (places_in c.of.result.now) = subst (Each (λ k. k < length entries)) (sym (c.of.ensures ∙ c.self.invariant.placed.places_are n)) (positions_within n entries) in
+    subst (λ es. Each (λ p. p.place < length es) c.of.result.now) (sym c.deref_mut.ensures.value) (each_place (length entries) c.of.result.now its)
 
-pub returns-then-count_of-gt0 : goal.returns-then-count_of-gt0
-returns-then-count_of-gt0 c =
-    let in_room : List AddedRule → RulesInRoom = λ rs. record { room = c.self.inside.room; rules = rs } in
-    rw (kept c, ← c.self.view_is) (ap in_room (sym (filter-map (λ r. not (r.connection == c.args.connection)) added_rule c.self.inside.entries.items)))
+-- the entries once the rules of the connection are taken out
+left : (c : After-take_all) → take c.self.inside.entries.len (c.mark_all.new.entries ++ drop (length c.mark_all.new.entries) c.self.inside.entries.items) ≡ marked_all c.self.inside.entries.items (positions c.args.connection c.self.inside.entries.items)
+left c =
+    let entries = c.self.inside.entries.items in
+    let n = c.args.connection in
+    let is : c.mark_all.new.entries ≡ marked_all entries (positions n entries) =
+    c.mark_all.ensures ∙ ap (λ (es : List RuleEntry). marked_all es (places_in c.of.result.now)) c.deref_mut.ensures.value ∙ ap (marked_all entries) (c.of.ensures ∙ c.self.invariant.placed.places_are n) in
+    written_back c.self.inside.entries.len entries c.mark_all.new.entries (ap length is ∙ length_marked_all entries (positions n entries) ∙ sym (ap length c.deref_mut.ensures.value) ∙ c.deref_mut.ensures.len) ∙ is
 
-pub returns-else-count_of-gt0 : goal.returns-else-count_of-gt0
-returns-else-count_of-gt0 c =
+pub sweep_if_due-requires : goal.sweep_if_due-requires
+sweep_if_due-requires c =
     let r = c.self.inside in
-    let in_room : List AddedRule → RulesInRoom = λ rs. record { room = r.room; rules = rs } in
-    let none : rules_in c.args.connection r.entries.items ≡ 0 = omega (arith, c.self.invariant.counted c.args.connection, c.count_of.ensures, c.if-count_of-gt0.false) in
-    rw (← c.self.view_is) (ap in_room (sym (filter-map (λ e. not (e.connection == c.args.connection)) added_rule r.entries.items ∙ ap (map added_rule) (kept_all c.args.connection r.entries.items none))))
+    subst (λ es. ArePlaced es c.take_all.new.self.places) (sym (left (goal.at.sweep_if_due-requires c).After-take_all))
+    (placed_left c.args.connection r.index.places c.take_all.new.self.places r.entries.items c.self.invariant.placed c.take_all.ensures.own c.take_all.ensures.others c.take_all.ensures.all)
+
+pub returns : goal.returns
+returns c =
+    let in_room : List AddedRule → RulesInRoom = λ rs. record { room = c.self.inside.room; rules = rs } in
+    ap in_room (c.sweep_if_due.ensures.live ∙ ap live (left (goal.at.returns c).After-take_all) ∙ left_live c.args.connection c.self.inside.entries.items)
+    ∙ ap (λ (x : RulesInRoom). record x { rules = rules_without c.args.connection x.rules }) c.self.view_is
