@@ -5,3 +5,4 @@ pub mod Monitors
 pub mod Sound
 pub mod TooMany
 pub mod Written
+pub mod SoleTexts

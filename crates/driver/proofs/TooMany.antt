@@ -2,14 +2,10 @@
 use Rattle.std.proofs.Common.{◌≡◌, List, [], ◌∷◌, length, ◌==◌, true, false, None, refl}
 use Rattle.marshal_core.specs.declared.value.Value.{Value}
 use Rattle.marshal_core.specs.Values.{values_of}
-use Rattle.driver.specs.Arguments.{only_text, text_and_number, elements_and_number}
+use Rattle.driver.specs.Arguments.{text_and_number, elements_and_number}
 
 not_both : true ≡ false → ⊥
 not_both e = cc
-
-pub no_text_of_more : (first : Value) (others : List Value) → (length others == 0) ≡ false → None ≡ only_text (values_of (first ∷ others))
-no_text_of_more first [] h = absurd (not_both h)
-no_text_of_more first (x ∷ xs) h = refl
 
 pub no_text_and_number_of_more : (first second : Value) (others : List Value) → (length others == 0) ≡ false → None ≡ text_and_number (values_of (first ∷ second ∷ others))
 no_text_and_number_of_more first second [] h = absurd (not_both h)

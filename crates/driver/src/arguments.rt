@@ -2,9 +2,12 @@
 
 ghost use Rattle.std.specs.Prelude.{◌≡◌, option_map};
 ghost use Rattle.marshal_core.specs.Values.{val_of, values_of};
+ghost use Rattle.message_core.specs.Said.{said};
 ghost use Rattle.driver.specs.Arguments.{elements_and_number, elements_of, number_of, only_text, text_and_number, text_of};
 
+use marshal_check::{Argument, CheckedArguments, Types};
 use marshal_core::{BasicType, BasicValue, DataType, Value};
+use message_core::Message;
 
 pub fn text_of(value: &Value) -> Option<&str>
     ensures { option_map (λ s. s.now) result ≡ text_of (val_of value.now) }
@@ -34,15 +37,22 @@ fn elements_of(value: &Value) -> Option<&[Value]>
     }
 }
 
-/// The text of the one argument, where it is a string.
-pub fn only_text(arguments: &[Value]) -> Option<&str>
-    ensures { option_map (λ s. s.now) result ≡ only_text (values_of arguments.now) }
+/// The text of the one argument of a message, where it is a string. It lies in the message's bytes.
+pub fn only_text(message: &Message) -> Option<&str>
+    ensures { option_map (λ s. s.now) result ≡ only_text (said message.now).body }
 {
-    let (first, others) = arguments.split_first()?;
-    if others.is_empty() {
-        text_of(first)
-    } else {
-        None
+    let types = Types {
+        text: message.signature(),
+    };
+    let mut arguments = CheckedArguments::new(message.order(), 0, types, message.body());
+    match arguments.next() {
+        Some(Argument::String(text)) => match arguments.next() {
+            None => Some(text),
+            Some(_) => None,
+        },
+        Some(Argument::ObjectPath(_)) => None,
+        Some(Argument::Other) => None,
+        None => None,
     }
 }
 

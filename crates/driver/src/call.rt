@@ -1,6 +1,6 @@
 //! Calls of the methods of the bus.
 
-ghost use Rattle.std.specs.Prelude.{◌≡◌, ◌⊎◌, ◌≤◌, Some, Err, length};
+ghost use Rattle.std.specs.Prelude.{◌≡◌, ◌⊎◌, ◌≤◌, Some, Err, IfOk, IfErr, length};
 ghost use Rattle.marshal_core.specs.Values.{values_of};
 ghost use Rattle.message_core.specs.Said.{said};
 ghost use Rattle.driver.specs.declared.fault.DriverFault.TheVariants.{NoMemory};
@@ -62,10 +62,10 @@ pub fn is_hello(message: &Message) -> bool
 }
 
 /// The bus name that is the one argument.
-fn name_in(arguments: &[Value]) -> Result<BusName, DriverFault>
-    ensures { result ≡ name_in (only_text (values_of arguments.now)) }
+fn name_in(message: &Message) -> Result<BusName, DriverFault>
+    ensures { result ≡ name_in (only_text (said message.now).body) }
 {
-    let Some(text) = only_text(arguments) else {
+    let Some(text) = only_text(message) else {
         return Err(DriverFault::InvalidArgs);
     };
     match BusName::parse(text) {
@@ -97,10 +97,10 @@ fn rule_of(text: &str) -> Result<Rule, DriverFault>
 }
 
 /// The match rule whose text is the one argument.
-fn rule_in(arguments: &[Value]) -> Result<Rule, DriverFault>
-    ensures { IsRuleOf (only_text (values_of arguments.now)) result }
+fn rule_in(message: &Message) -> Result<Rule, DriverFault>
+    ensures { IsRuleOf (only_text (said message.now).body) result }
 {
-    match only_text(arguments) {
+    match only_text(message) {
         Some(text) => rule_of(text),
         None => Err(DriverFault::InvalidArgs),
     }
@@ -143,60 +143,74 @@ fn monitor_rules_in(alloc: Global, arguments: &[Value]) -> Result<MonitorRules, 
 // A rule is large, and what a function holds is cleared at its entry: calls with a rule have functions of their own.
 
 #[inline(never)]
-fn add_match(arguments: &[Value]) -> Result<Call, DriverFault>
-    ensures { IsReadBy Method.AddMatch (values_of arguments.now) result }
+fn add_match(message: &Message) -> Result<Call, DriverFault>
+    ensures { IsReadBy Method.AddMatch (said message.now).body result }
 {
-    let rule = rule_in(arguments)?;
+    let rule = rule_in(message)?;
     Ok(Call::AddMatch { rule })
 }
 
 #[inline(never)]
-fn remove_match(arguments: &[Value]) -> Result<Call, DriverFault>
-    ensures { IsReadBy Method.RemoveMatch (values_of arguments.now) result }
+fn remove_match(message: &Message) -> Result<Call, DriverFault>
+    ensures { IsReadBy Method.RemoveMatch (said message.now).body result }
 {
-    let rule = rule_in(arguments)?;
+    let rule = rule_in(message)?;
     Ok(Call::RemoveMatch { rule })
 }
 
-/// A call of the method with these arguments.
-fn read_by(alloc: Global, method: Method, arguments: &[Value]) -> Result<Call, DriverFault>
-    ensures { IsReadBy method (values_of arguments.now) result ⊎ (result ≡ Err NoMemory) }
+/// A call of the method with the arguments of this message. A text alone is read where it lies.
+fn read_by(alloc: Global, method: Method, message: &Message) -> Result<Call, DriverFault>
+    ensures { IsReadBy method (said message.now).body result ⊎ (result ≡ Err NoMemory) }
 {
     match method {
         Method::Hello => Ok(Call::Hello),
         Method::RequestName => {
-            let (name, bits) = name_and_number_in(arguments)?;
+            let arguments = arguments_of(alloc, message)?;
+            let (name, bits) = name_and_number_in(&arguments)?;
             let flags = RequestFlags::from_bits(bits);
             Ok(Call::RequestName { name, flags })
         }
         Method::ReleaseName => {
-            let name = name_in(arguments)?;
+            let name = name_in(message)?;
             Ok(Call::ReleaseName { name })
         }
         Method::GetNameOwner => {
-            let name = name_in(arguments)?;
+            let name = name_in(message)?;
             Ok(Call::GetNameOwner { name })
         }
         Method::NameHasOwner => {
-            let name = name_in(arguments)?;
+            let name = name_in(message)?;
             Ok(Call::NameHasOwner { name })
         }
         Method::ListNames => Ok(Call::ListNames),
         Method::ListActivatableNames => Ok(Call::ListActivatableNames),
         Method::ListQueuedOwners => {
-            let name = name_in(arguments)?;
+            let name = name_in(message)?;
             Ok(Call::ListQueuedOwners { name })
         }
-        Method::AddMatch => add_match(arguments),
-        Method::RemoveMatch => remove_match(arguments),
+        Method::AddMatch => add_match(message),
+        Method::RemoveMatch => remove_match(message),
         Method::StartServiceByName => {
-            let (name, _) = name_and_number_in(arguments)?;
+            let arguments = arguments_of(alloc, message)?;
+            let (name, _) = name_and_number_in(&arguments)?;
             Ok(Call::StartServiceByName { name })
         }
         Method::BecomeMonitor => {
-            let rules = monitor_rules_in(alloc, arguments)?;
+            let arguments = arguments_of(alloc, message)?;
+            let rules = monitor_rules_in(alloc, &arguments)?;
             Ok(Call::BecomeMonitor { rules })
         }
+    }
+}
+
+/// The arguments of a message, as values of their own.
+fn arguments_of(alloc: Global, message: &Message) -> Result<Vec<Value>, DriverFault>
+    ensures values { IfOk result (λ arguments. values_of arguments.items ≡ (said message.now).body) }
+    ensures memory { IfErr result (λ fault. fault ≡ NoMemory) }
+{
+    match message.arguments(alloc) {
+        Ok(arguments) => Ok(arguments),
+        Err(_) => Err(DriverFault::NoMemory),
     }
 }
 
@@ -213,8 +227,5 @@ pub fn read_call(alloc: Global, message: &Message) -> Result<Call, DriverFault>
     ensures { IsCallOrWants (said message.now) result }
 {
     let method = method_of(message)?;
-    let Ok(arguments) = message.arguments(alloc) else {
-        return Err(DriverFault::NoMemory);
-    };
-    read_by(alloc, method, arguments.as_slice())
+    read_by(alloc, method, message)
 }

@@ -1,5 +1,5 @@
 -- Names and paths are strings.
-use Rattle.std.proofs.Common.{◌≡◌, ◌==◌, false, ◌≤◌, [], ◌∷◌, length, refl, ap, ◌∙◌, arith}
+use Rattle.std.proofs.Common.{◌≡◌, ◌==◌, false, [], ◌∷◌, refl, ap, ◌∙◌, arith}
 use Rattle.std.specs.Prelude.{◌||◌, Bool, IsUtf8}
 use Rattle.names.specs.Texts.{Text, has_zero as has_zero_byte}
 use Rattle.names.specs.Interface.{IsInterface}

@@ -1,6 +1,6 @@
 -- Numbers and strings as they stand in bytes.
-use Rattle.std.proofs.Common.{◌≡◌, ℕ, zero, suc, ◌+◌, ◌≤◌, ◌<◌, ◌^◌, Bool, true, false, List, [], ◌∷◌, ◌++◌, length, get_or, take, drop, Result, Ok, Err, is_ok, refl, sym, ap, subst, ◌∙◌, append_assoc, arith, nat_eq}
-use Rattle.std.specs.Prelude.{IsUtf8, ◌||◌}
+use Rattle.std.proofs.Common.{◌≡◌, ℕ, zero, suc, ◌+◌, ◌≤◌, ◌<◌, ◌^◌, Bool, true, List, [], ◌∷◌, ◌++◌, length, get_or, take, drop, Result, Ok, Err, is_ok, refl, sym, ap, subst, ◌∙◌, append_assoc, arith, nat_eq}
+use Rattle.std.specs.Prelude.{◌||◌}
 use Rattle.std.specs.List.{list_any}
 use Rattle.std.specs.Int.{w32}
 use Rattle.std.proofs.lemmas.List.{take_at, drop_at, take-append-drop, length-append, length-take, length-take-le, length-drop}
@@ -11,7 +11,7 @@ use Rattle.marshal_core.specs.declared.order.Order.TheVariants.{Little, Big}
 use Rattle.marshal_core.specs.Types.{Tys}
 use Rattle.marshal_core.specs.Signatures.{codes, signature_of, IsSignature}
 use Rattle.marshal_core.proofs.TypesTaken.{signature_takes}
-use Rattle.marshal_core.specs.Spelling.{IsString, ended, has_zero, number_bytes}
+use Rattle.marshal_core.specs.Spelling.{ended, has_zero, number_bytes}
 use Rattle.message_core.specs.Announcements.{number}
 
 abbrev pub AreBytes : List ℕ → Type 0
@@ -76,20 +76,20 @@ text_met order text rest bytes fits e =
       behind = ap (drop 4) e ∙ drop_at w tail 4 (length-number order (length text)) ∙ append_assoc text (0 ∷ []) rest;
     }
 
-pub string_found : (order : Order) (bytes rest text end got : List ℕ) (n : ℕ) → 4 ≤ length bytes → AreBytes bytes → n ≡ number order 0 bytes → n < 2 ^ 32 → rest ≡ drop 4 bytes → n < length rest
-    → text ≡ take n rest → end ≡ drop n rest → get_or end 0 0 ≡ 0 → list_any (λ y. nat_eq y 0) text ≡ false → got ≡ text → IsUtf8 text
-    → IsString got × (more : List ℕ) × (bytes ≡ number_bytes order w32 (length got) ++ (ended got ++ more))
-string_found order bytes rest text end got n long fits e small er within et ee ends clean eg utf8 =
+pub string_found : (order : Order) (bytes rest text end : List ℕ) (n : ℕ) → 4 ≤ length bytes → AreBytes bytes → n ≡ number order 0 bytes → n < 2 ^ 32 → rest ≡ drop 4 bytes → n < length rest
+    → text ≡ take n rest → end ≡ drop n rest → get_or end 0 0 ≡ 0
+    → (length text < 2 ^ 32) × (more : List ℕ) × (bytes ≡ number_bytes order w32 (length text) ++ (ended text ++ more))
+string_found order bytes rest text end n long fits e small er within et ee ends =
     let R : List ℕ = drop 4 bytes in
     let M : List ℕ = drop 1 (drop n R) in
     let inside : n < length R = subst (λ (x : List ℕ). n < length x) er within in
-    let t : got ≡ take n R = eg ∙ et ∙ ap (take n) er in
+    let t : text ≡ take n R = et ∙ ap (take n) er in
     let z : get_or (drop n R) 0 0 ≡ 0 = ap (λ (x : List ℕ). get_or x 0 0) (sym (ee ∙ ap (drop n) er)) ∙ ends in
-    let len : length got ≡ n = ap length t ∙ length-take-le n R (omega (arith, inside)) in
+    let len : length text ≡ n = ap length t ∙ length-take-le n R (omega (arith, inside)) in
     let f = text_found order bytes n long fits e inside z in
-    let g : bytes ≡ number_bytes order w32 (length got) ++ (ended got ++ M) =
-    f ∙ ap (λ (k : ℕ). number_bytes order w32 k ++ (ended (take n R) ++ M)) (sym len) ∙ ap (λ (x : List ℕ). number_bytes order w32 (length got) ++ (ended x ++ M)) (sym t) in
-    ((omega (arith, len, small), subst IsUtf8 (sym eg) utf8, ap has_zero eg ∙ sym (has_zero_any text) ∙ clean), M, g)
+    let g : bytes ≡ number_bytes order w32 (length text) ++ (ended text ++ M) =
+    f ∙ ap (λ (k : ℕ). number_bytes order w32 k ++ (ended (take n R) ++ M)) (sym len) ∙ ap (λ (x : List ℕ). number_bytes order w32 (length text) ++ (ended x ++ M)) (sym t) in
+    (omega (arith, len, small), M, g)
 
 -- the bytes that a string takes
 pub string_taken : (order : Order) (text more bytes : List ℕ) → bytes ≡ number_bytes order w32 (length text) ++ (ended text ++ more)

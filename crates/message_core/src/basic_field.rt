@@ -1,11 +1,11 @@
 //! Header fields that the standard names: all of them have basic values.
 
-ghost use Rattle.std.specs.Prelude.{◌≡◌, ◌<◌, ◌≤◌, ◌+◌, ◌++◌, ◌↔◌, ℕ, List, IsTrue, length, take, slice_index, IfSome, IfNone};
+ghost use Rattle.std.specs.Prelude.{◌≡◌, ◌<◌, ◌≤◌, ◌+◌, ◌^◌, ◌++◌, ◌↔◌, ℕ, List, IsTrue, length, take, slice_index, IfSome, IfNone};
 ghost use Rattle.std.specs.Int.{w32};
 ghost use Rattle.marshal_core.specs.declared.data_type.BasicType.{BasicType};
 ghost use Rattle.marshal_core.specs.declared.data_type.BasicType.TheVariants as of_type;
 ghost use Rattle.marshal_core.specs.Signatures.{basic_code};
-ghost use Rattle.marshal_core.specs.Spelling.{IsString, ended, number_bytes};
+ghost use Rattle.marshal_core.specs.Spelling.{ended, number_bytes};
 ghost use Rattle.message_core.specs.Kinds.{code_of};
 ghost use Rattle.message_core.specs.HeaderFields.{IsStringOf, IsNumberOf};
 ghost use Rattle.message_core.specs.BasicFields.{BeginsNoString, BeginsValue, BeginsNoValue, BeginsBasic, BeginsNoBasic};
@@ -16,9 +16,9 @@ use marshal_check::Types;
 use marshal_core::Order;
 use names::{BusName, ErrorName, Interface, Member, ObjectPath};
 
-/// The string that begins here.
-fn string(order: Order, bytes: &[u8]) -> Option<&str>
-    ensures some { IfSome result (λ text. IsString text.now × (rest : List ℕ) × (bytes.now ≡ number_bytes order w32 (length text.now) ++ (ended text.now ++ rest))) }
+/// The bytes that begin here as a string does: behind their length, and before a zero byte. They are not looked at.
+fn string(order: Order, bytes: &[u8]) -> Option<&[u8]>
+    ensures some { IfSome result (λ text. (length text.now < 2 ^ 32) × (rest : List ℕ) × (bytes.now ≡ number_bytes order w32 (length text.now) ++ (ended text.now ++ rest))) }
     ensures none { IfNone result (BeginsNoString order bytes.now) }
 {
     if bytes.len() < 4 {
@@ -33,17 +33,11 @@ fn string(order: Order, bytes: &[u8]) -> Option<&str>
     if end[0] != 0 {
         return None;
     }
-    if text.contains(&0) {
-        return None;
-    }
-    match std::str::from_utf8(text) {
-        Ok(text) => Some(text),
-        Err(_) => None,
-    }
+    Some(text)
 }
 
-/// Whether the field takes this string.
-fn takes_string(field: HeaderField, text: &str) -> bool
+/// Whether the field takes this string. All that such fields take are names, so their bytes are looked at once.
+fn takes_string(field: HeaderField, text: &[u8]) -> bool
     ensures { IsTrue result ↔ IsStringOf field text.now }
 {
     match field {
@@ -88,7 +82,7 @@ fn path_value(order: Order, field: HeaderField, bytes: &[u8]) -> Option<usize>
         return None;
     };
     let text = string(order, bytes)?;
-    if ObjectPath::parse(text).is_ok() {
+    if ObjectPath::check(text).is_ok() {
         return Some(5 + text.len());
     }
     None

@@ -42,6 +42,9 @@ is_digit b = nat_le 48 b && nat_le b 57
 abbrev pub is_letter : ℕ → Bool
 is_letter b = (nat_le 65 b && nat_le b 90) || (nat_le 97 b && nat_le b 122)
 
+abbrev pub IsNoLetter : ℕ → Type 0
+IsNoLetter b = is_letter b ≡ false
+
 -- a letter, a digit, an underscore, and where the style allows it a hyphen
 abbrev pub is_element_byte : Style → ℕ → Bool
 is_element_byte style b = is_letter b || is_digit b || (b == underscore) || (style.hyphen && (b == hyphen_byte))

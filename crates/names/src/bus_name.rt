@@ -42,14 +42,14 @@ impl BusName {
         }
     }
 
-    /// Whether a text is a bus name: a unique name where it begins with a colon, else a well-known name or the name of the bus.
-    /// Nothing is copied.
-    pub fn check(text: &str) -> Result<(), NameFault>
+    /// Whether bytes are a bus name: a unique name where it begins with a colon, else a well-known name or the name of the bus.
+    /// Nothing is copied, and they need not be
+    /// known as UTF-8: what is such a name is ASCII.
+    pub fn check(text: &[u8]) -> Result<(), NameFault>
         ensures variant { IsOk result ↔ IsBusName text.now }
         ensures fault { MatchResult result (λ _. bus_name_fault text.now ≡ None) (λ fault. bus_name_fault text.now ≡ Some fault) }
     {
-        let bytes = text.as_bytes();
-        if !bytes.is_empty() && bytes[0] == b':' {
+        if !text.is_empty() && text[0] == b':' {
             UniqueName::check(text)
         } else {
             WellKnown::check(text)
@@ -62,7 +62,7 @@ impl BusName {
         ensures variant { IsOk result ↔ IsBusName text.now }
         ensures fault { MatchResult result (λ _. bus_name_fault text.now ≡ None) (λ fault. bus_name_fault text.now ≡ Some fault) }
     {
-        match BusName::check(text) {
+        match BusName::check(text.as_bytes()) {
             Ok(()) => Ok(BusName {
                 text: ShortText::new(text),
             }),

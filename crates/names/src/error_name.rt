@@ -35,8 +35,9 @@ impl Model for ErrorName {
 }
 
 impl ErrorName {
-    /// Whether a text is an error name, which is spelled as an interface name. Nothing is copied.
-    pub fn check(text: &str) -> Result<(), NameFault>
+    /// Whether bytes are an error name, which is spelled as an interface name. Nothing is copied, and they need not be
+    /// known as UTF-8: what is such a name is ASCII.
+    pub fn check(text: &[u8]) -> Result<(), NameFault>
         ensures variant { IsOk result ↔ IsErrorName text.now }
         ensures fault { MatchResult result (λ _. error_name_fault text.now ≡ None) (λ fault. error_name_fault text.now ≡ Some fault) }
     {
@@ -49,7 +50,7 @@ impl ErrorName {
         ensures variant { IsOk result ↔ IsErrorName text.now }
         ensures fault { MatchResult result (λ _. error_name_fault text.now ≡ None) (λ fault. error_name_fault text.now ≡ Some fault) }
     {
-        match ErrorName::check(text) {
+        match ErrorName::check(text.as_bytes()) {
             Ok(()) => Ok(ErrorName {
                 text: ShortText::new(text),
             }),

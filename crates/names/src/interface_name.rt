@@ -35,8 +35,9 @@ impl Model for Interface {
 }
 
 impl Interface {
-    /// Whether a text is an interface name: two or more elements joined by dots. Nothing is copied.
-    pub fn check(text: &str) -> Result<(), NameFault>
+    /// Whether bytes are an interface name: two or more elements joined by dots. Nothing is copied, and they need not be
+    /// known as UTF-8: what is such a name is ASCII.
+    pub fn check(text: &[u8]) -> Result<(), NameFault>
         ensures variant { IsOk result ↔ IsInterface text.now }
         ensures fault { MatchResult result (λ _. interface_fault text.now ≡ None) (λ fault. interface_fault text.now ≡ Some fault) }
     {
@@ -49,7 +50,7 @@ impl Interface {
         ensures variant { IsOk result ↔ IsInterface text.now }
         ensures fault { MatchResult result (λ _. interface_fault text.now ≡ None) (λ fault. interface_fault text.now ≡ Some fault) }
     {
-        match Interface::check(text) {
+        match Interface::check(text.as_bytes()) {
             Ok(()) => Ok(Interface {
                 text: ShortText::new(text),
             }),

@@ -35,8 +35,9 @@ impl Model for Member {
 }
 
 impl Member {
-    /// Whether a text is a member name: one element, with no dot. Nothing is copied.
-    pub fn check(text: &str) -> Result<(), NameFault>
+    /// Whether bytes are a member name: one element, with no dot. Nothing is copied, and they need not be
+    /// known as UTF-8: what is such a name is ASCII.
+    pub fn check(text: &[u8]) -> Result<(), NameFault>
         ensures variant { IsOk result ↔ IsMember text.now }
         ensures fault { MatchResult result (λ _. member_fault text.now ≡ None) (λ fault. member_fault text.now ≡ Some fault) }
     {
@@ -49,7 +50,7 @@ impl Member {
         ensures variant { IsOk result ↔ IsMember text.now }
         ensures fault { MatchResult result (λ _. member_fault text.now ≡ None) (λ fault. member_fault text.now ≡ Some fault) }
     {
-        match Member::check(text) {
+        match Member::check(text.as_bytes()) {
             Ok(()) => Ok(Member {
                 text: ShortText::new(text),
             }),

@@ -40,25 +40,36 @@ impl<'a> Model for ObjectPath<'a> {
 }
 
 impl<'a> ObjectPath<'a> {
+    /// Whether bytes are an object path: a slash alone, or a slash and then elements joined by slashes. Nothing is copied, and they need not
+    /// be known as UTF-8: what is such a path is ASCII.
+    pub fn check(text: &[u8]) -> Result<(), NameFault>
+        ensures variant { IsOk result ↔ IsObjectPath text.now }
+        ensures fault { MatchResult result (λ _. object_path_fault text.now ≡ None) (λ fault. object_path_fault text.now ≡ Some fault) }
+    {
+        if text.is_empty() {
+            return Err(NameFault::Empty);
+        }
+        if text[0] != b'/' {
+            return Err(NameFault::BadByte(0));
+        }
+        if text.len() == 1 {
+            return Ok(());
+        }
+        match STYLE.fault(true, 1, text) {
+            Some(fault) => Err(fault),
+            None => Ok(()),
+        }
+    }
+
     /// Reads an object path: a slash alone, or a slash and then elements joined by slashes.
     pub fn parse(text: &'a str) -> Result<Self, NameFault>
         ensures value { IfOk result (λ path. path ≡ text.now) }
         ensures variant { IsOk result ↔ IsObjectPath text.now }
         ensures fault { MatchResult result (λ _. object_path_fault text.now ≡ None) (λ fault. object_path_fault text.now ≡ Some fault) }
     {
-        let bytes = text.as_bytes();
-        if bytes.is_empty() {
-            return Err(NameFault::Empty);
-        }
-        if bytes[0] != b'/' {
-            return Err(NameFault::BadByte(0));
-        }
-        if bytes.len() == 1 {
-            return Ok(ObjectPath { text });
-        }
-        match STYLE.fault(true, 1, bytes) {
-            Some(fault) => Err(fault),
-            None => Ok(ObjectPath { text }),
+        match ObjectPath::check(text.as_bytes()) {
+            Ok(()) => Ok(ObjectPath { text }),
+            Err(fault) => Err(fault),
         }
     }
 

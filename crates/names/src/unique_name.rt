@@ -35,8 +35,9 @@ impl Model for UniqueName {
 }
 
 impl UniqueName {
-    /// Whether a text is a unique name: a colon, and then two or more elements joined by dots. Nothing is copied.
-    pub fn check(text: &str) -> Result<(), NameFault>
+    /// Whether bytes are a unique name: a colon, and then two or more elements joined by dots. Nothing is copied, and they need not be
+    /// known as UTF-8: what is such a name is ASCII.
+    pub fn check(text: &[u8]) -> Result<(), NameFault>
         ensures variant { IsOk result ↔ IsUniqueName text.now }
         ensures fault { MatchResult result (λ _. unique_name_fault text.now ≡ None) (λ fault. unique_name_fault text.now ≡ Some fault) }
     {
@@ -46,11 +47,10 @@ impl UniqueName {
         if text.len() > 255 {
             return Err(NameFault::TooLong);
         }
-        let bytes = text.as_bytes();
-        if bytes[0] != b':' {
+        if text[0] != b':' {
             return Err(NameFault::BadByte(0));
         }
-        match STYLE.fault(false, 1, bytes) {
+        match STYLE.fault(false, 1, text) {
             Some(fault) => Err(fault),
             None => Ok(()),
         }
@@ -62,7 +62,7 @@ impl UniqueName {
         ensures variant { IsOk result ↔ IsUniqueName text.now }
         ensures fault { MatchResult result (λ _. unique_name_fault text.now ≡ None) (λ fault. unique_name_fault text.now ≡ Some fault) }
     {
-        match UniqueName::check(text) {
+        match UniqueName::check(text.as_bytes()) {
             Ok(()) => Ok(UniqueName {
                 text: ShortText::new(text),
             }),

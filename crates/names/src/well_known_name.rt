@@ -35,8 +35,9 @@ impl Model for WellKnown {
 }
 
 impl WellKnown {
-    /// Whether a text is a well-known name: two or more elements joined by dots, which may have hyphens. Nothing is copied.
-    pub fn check(text: &str) -> Result<(), NameFault>
+    /// Whether bytes are a well-known name: two or more elements joined by dots, which may have hyphens. Nothing is copied, and they need not be
+    /// known as UTF-8: what is such a name is ASCII.
+    pub fn check(text: &[u8]) -> Result<(), NameFault>
         ensures variant { IsOk result ↔ IsWellKnownName text.now }
         ensures fault { MatchResult result (λ _. well_known_fault text.now ≡ None) (λ fault. well_known_fault text.now ≡ Some fault) }
     {
@@ -49,7 +50,7 @@ impl WellKnown {
         ensures variant { IsOk result ↔ IsWellKnownName text.now }
         ensures fault { MatchResult result (λ _. well_known_fault text.now ≡ None) (λ fault. well_known_fault text.now ≡ Some fault) }
     {
-        match WellKnown::check(text) {
+        match WellKnown::check(text.as_bytes()) {
             Ok(()) => Ok(WellKnown {
                 text: ShortText::new(text),
             }),
@@ -62,7 +63,7 @@ impl WellKnown {
     pub fn is_namespace(text: &str) -> bool
         ensures { IsTrue result ↔ IsNamespace text.now }
     {
-        STYLE.check(true, text).is_ok()
+        STYLE.check(true, text.as_bytes()).is_ok()
     }
 
     pub fn as_str(&self) -> &str

@@ -1,6 +1,7 @@
 use Rattle.std.proofs.Common.{refl}
 use Rattle.marshal_core.specs.Values.{a_string}
 use Rattle.message_core.proofs.Strings.{string_taken}
+use Rattle.message_core.proofs.NamesInFields.{string_of_field}
 use Rattle.message_core.proofs.Absent.{refuted, no_string_taken}
 use Rattle.message_core.proofs.basic_field.string_value.Goals as goal
 
@@ -12,7 +13,7 @@ returns-then-takes_string-clause-some c =
     record {
       value = a_string text;
       typed = refl;
-      takes = record { is_value = found.0; taken = c.takes_string.ensures.0 c.if-takes_string.true };
+      takes = record { is_value = string_of_field c.args.field text found.0 (c.takes_string.ensures.0 c.if-takes_string.true); taken = c.takes_string.ensures.0 c.if-takes_string.true };
       within = taken.0;
       spelled = taken.1;
     }
@@ -20,4 +21,4 @@ returns-then-takes_string-clause-some c =
 pub returns-clause-none : goal.returns-clause-none
 returns-clause-none c =
     let found = c.in_ok-text.ensures.some in
-    no_string_taken c.args.order c.args.field c.args.bytes.now c.in_ok-text.text.now found.1 found.0.0 found.2 (refuted c.takes_string.result c.if-takes_string.false c.takes_string.ensures.1)
+    no_string_taken c.args.order c.args.field c.args.bytes.now c.in_ok-text.text.now found.1 found.0 found.2 (refuted c.takes_string.result c.if-takes_string.false c.takes_string.ensures.1)

@@ -9,7 +9,8 @@ use Rattle.marshal_check.specs.ArgumentViews.{checked_left}
 use Rattle.match_rules.specs.FactsView.{argument_of}
 use Rattle.message_core.specs.Said.{said}
 use Rattle.message_relay.specs.FactsOf.{as_argument}
-use Rattle.message_relay.proofs.ArgumentLemmas.{spelled_there, first_full, first_all}
+use Rattle.message_core.proofs.SignedBodies.{spelled_there}
+use Rattle.message_relay.proofs.ArgumentLemmas.{first_full, first_all}
 use Rattle.message_relay.proofs.message_facts.put_arguments.Goals as goal
 
 pub invariant_of-types : goal.invariant_of-types

@@ -1,7 +1,6 @@
-use Rattle.std.proofs.Common.{◌≡◌, drop, get_or, true, false, refl, ap, sym, ◌∙◌, arith, None}
+use Rattle.std.proofs.Common.{drop, true, false, refl, sym, arith}
 use Rattle.std.proofs.lemmas.Grind.{common_steps}
 use Rattle.std.proofs.lemmas.Bool.Decides.{nat_tests}
-use Rattle.names.specs.Texts.{Text}
 use Rattle.names.specs.Elements.{elements_fault}
 use Rattle.names.specs.UniqueName.{unique_style}
 use Rattle.names.proofs.Faults.{none_some, is_unique_name, elements_of_unique_name}
@@ -9,9 +8,7 @@ use Rattle.names.proofs.unique_name.UniqueName.check.Goals as goal
 
 pub returns-in-None-clause-variant : goal.returns-in-None-clause-variant
 returns-in-None-clause-variant c =
-    let none : elements_fault unique_style true false 1 (drop 1 c.args.text.now) ≡ None = ap (λ (y : Text). elements_fault unique_style true false 1 (drop 1 y)) (sym c.as_bytes-bytes.ensures.value) ∙ sym c.in-None.ensures in
-    let first : get_or c.args.text.now 0 0 ≡ 58 = ap (λ (y : Text). get_or y 0 0) (sym c.as_bytes-bytes.ensures.value) ∙ c.if-bytes-ne58.false in
-    (λ ok. is_unique_name c.args.text.now (omega (arith, c.if-text-gt255.false)) (grind (arith, common_steps, nat_tests)) first none, λ is. refl)
+    (λ ok. is_unique_name c.args.text.now (omega (arith, c.if-text-gt255.false)) (grind (arith, common_steps, nat_tests)) c.if-text-ne58.false (sym c.in-None.ensures), λ is. refl)
 
 pub returns-in-Some-clause-variant : goal.returns-in-Some-clause-variant
-returns-in-Some-clause-variant c = (λ ok. absurd cc, λ is. none_some (elements_fault unique_style true false 1 (drop 1 c.args.text.now)) c.in-Some.fault (elements_of_unique_name c.args.text.now is) (ap (λ (y : Text). elements_fault unique_style true false 1 (drop 1 y)) (sym c.as_bytes-bytes.ensures.value) ∙ sym c.in-Some.ensures))
+returns-in-Some-clause-variant c = (λ ok. absurd cc, λ is. none_some (elements_fault unique_style true false 1 (drop 1 c.args.text.now)) c.in-Some.fault (elements_of_unique_name c.args.text.now is) (sym c.in-Some.ensures))
