@@ -11,10 +11,11 @@ ghost use Rattle.busd_core.specs.Parts.{Delivers};
 use crate::carrying::{Place, bring};
 use crate::fault::RunFault;
 use bus_view::BusView;
-use envelopes::{Content, Envelope, OwnMessage};
+use envelopes::{Content, Envelope, OwnMessage, SharedSignal};
 use router::Engine;
 use router_core::{Action, Event, Gate};
 use seq_bus_core::{AddressedSignal, Conn};
+use std::alloc::Global;
 use std::io::Write;
 
 /// Brings a message to a connection, if it is one of the same router.
@@ -109,6 +110,7 @@ fn deliver<V: BusView, G: Gate, W: Write>(
 
 /// Brings the signals of a change to their recipients, in order.
 fn announce<V: BusView, G: Gate, W: Write>(
+    alloc: Global,
     engine: &mut Engine<V, G>,
     right: &V::Right,
     place: Place,
@@ -118,7 +120,10 @@ fn announce<V: BusView, G: Gate, W: Write>(
     ensures { Delivers V.told G.passes V.alone place.seat place.key engine.old (flat_map (mail_of_signal place.seat) signals.now) (W.contents writer.old) (W.contents writer.new) engine.new result }
 {
     for addressed in signals {
-        let content = Content::Own(OwnMessage::Signal(addressed.signal));
+        let Ok(signal) = SharedSignal::new(alloc, addressed.signal) else {
+            return Err(RunFault::Memory);
+        };
+        let content = Content::Own(OwnMessage::Signal(signal));
         let to = addressed.to.as_slice();
         let monitors = addressed.monitors.as_slice();
         deliver(engine, right, place, to, monitors, &content, writer)?;
@@ -128,6 +133,7 @@ fn announce<V: BusView, G: Gate, W: Write>(
 
 /// Brings what an action puts.
 fn deliver_one<V: BusView, G: Gate, W: Write>(
+    alloc: Global,
     engine: &mut Engine<V, G>,
     right: &V::Right,
     place: Place,
@@ -151,7 +157,7 @@ fn deliver_one<V: BusView, G: Gate, W: Write>(
             writer,
         ),
         Action::Announce { signals, note: _ } => {
-            announce(engine, right, place, signals.as_slice(), writer)
+            announce(alloc, engine, right, place, signals.as_slice(), writer)
         }
         _ => Ok(()),
     }
@@ -159,6 +165,7 @@ fn deliver_one<V: BusView, G: Gate, W: Write>(
 
 /// Brings what the actions put, in order.
 pub fn deliver_all<V: BusView, G: Gate, W: Write>(
+    alloc: Global,
     engine: &mut Engine<V, G>,
     right: &V::Right,
     place: Place,
@@ -168,7 +175,7 @@ pub fn deliver_all<V: BusView, G: Gate, W: Write>(
     ensures { Delivers V.told G.passes V.alone place.seat place.key engine.old (mails_of place.seat actions.now) (W.contents writer.old) (W.contents writer.new) engine.new result }
 {
     for action in actions {
-        deliver_one(engine, right, place, action, writer)?;
+        deliver_one(alloc, engine, right, place, action, writer)?;
     }
     Ok(())
 }

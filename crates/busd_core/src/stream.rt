@@ -47,6 +47,7 @@ fn next_piece<R: Read>(
 /// Serves an event, and carries out its actions: what they write is written, then what they put comes back as mail. Where
 /// they close the connection, the run ends.
 fn carry_out<V: BusView, G: Gate, W: Write>(
+    alloc: Global,
     engine: &mut Engine<V, G>,
     right: &V::Right,
     place: Place,
@@ -60,7 +61,7 @@ fn carry_out<V: BusView, G: Gate, W: Write>(
     if let Some(cause) = closed_by(place.key, &actions) {
         return Err(RunFault::Closed(cause));
     }
-    let delivered = deliver_all(engine, right, place, &actions, writer);
+    let delivered = deliver_all(alloc, engine, right, place, &actions, writer);
     engine.give_back(actions);
     delivered
 }
@@ -90,17 +91,24 @@ pub fn run<V: BusView, G: Gate, R: Read, W: Write>(
 {
     let key = engine.free_key();
     let place = Place { seat, key };
-    carry_out(engine, right, place, Event::Opened { key }, writer)?;
+    carry_out(alloc, engine, right, place, Event::Opened { key }, writer)?;
     let mut buffer = [0u8; PIECE];
     for _ in 0..u64::MAX {
         if engine.has_next(key) {
-            carry_out(engine, right, place, Event::Next { key }, writer)?;
+            carry_out(alloc, engine, right, place, Event::Next { key }, writer)?;
             continue;
         }
         let Some(piece) = next_piece(alloc, reader, &mut buffer)? else {
-            return carry_out(engine, right, place, Event::Closed { key }, writer);
+            return carry_out(alloc, engine, right, place, Event::Closed { key }, writer);
         };
-        carry_out(engine, right, place, Event::Bytes { key, piece }, writer)?;
+        carry_out(
+            alloc,
+            engine,
+            right,
+            place,
+            Event::Bytes { key, piece },
+            writer,
+        )?;
     }
     Err(RunFault::Memory)
 }

@@ -1,7 +1,7 @@
 //! A host of an engine: it hands the engine what happens, and keeps what is written to each connection.
 
 use bus_view::BusView;
-use envelopes::{Content, Envelope, OwnMessage};
+use envelopes::{Content, Envelope, OwnMessage, SharedSignal};
 use router::Engine;
 use router_core::{Action, CloseCause, OpenGate};
 use seq_bus_core::{Conn, Recipients, Signals};
@@ -151,7 +151,8 @@ impl<V: BusView + Drop> Host<V> {
 
     fn announce(&mut self, signals: &Signals) -> Result<(), AllocError> {
         for addressed in signals.as_slice() {
-            let content = Content::Own(OwnMessage::Signal(addressed.signal));
+            let signal = SharedSignal::new(self.alloc, addressed.signal)?;
+            let content = Content::Own(OwnMessage::Signal(signal));
             self.put(
                 addressed.to.as_slice(),
                 addressed.monitors.as_slice(),

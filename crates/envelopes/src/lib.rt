@@ -21,4 +21,4 @@ pub use content::Content;
 pub use envelope::Envelope;
 pub use own_facts::OwnNames;
 pub use own_message::{OwnMessage, ReplyContent};
-pub use shared::SharedBytes;
+pub use shared::{SharedBytes, SharedSignal};

@@ -178,7 +178,7 @@ impl OwnMessage {
         ensures { result ≡ names_of (own_of self.now) }
     {
         match self {
-            OwnMessage::Signal(signal) => OwnNames::of_signal(signal),
+            OwnMessage::Signal(signal) => OwnNames::of_signal(signal.get()),
             OwnMessage::Reply { to, content } => OwnNames {
                 destination: name_of(to.reply_to().caller),
                 first: name_of(content.number()),
@@ -224,7 +224,7 @@ impl OwnMessage {
         ensures { option_map (λ t. t.now) result ≡ (facts_of (own_message 1 (own_of self.now))).member }
     {
         match self {
-            OwnMessage::Signal(signal) => Some(member_of(signal)),
+            OwnMessage::Signal(signal) => Some(member_of(signal.get())),
             OwnMessage::Reply { .. } | OwnMessage::Error { .. } => None,
         }
     }
@@ -237,7 +237,7 @@ impl OwnMessage {
         ensures { map argument_of arguments.new.items ≡ (facts_of (own_message 1 (own_of self.now))).arguments }
     {
         match self {
-            OwnMessage::Signal(signal) => put_texts(signal, names, arguments),
+            OwnMessage::Signal(signal) => put_texts(signal.get(), names, arguments),
             OwnMessage::Reply { to: _, content } => put_carried(content, &names.first, arguments),
             OwnMessage::Error { to: _, error } => arguments.push(Argument::String(error.text())),
         }

@@ -6,8 +6,9 @@ ghost use Rattle.envelopes.specs.Contents.{Answered, carried_of, own_of, carried
 
 use crate::answer::{AnswerBody, BodyKind};
 use crate::call::CallToAnswer;
+use crate::shared::SharedSignal;
 use driver::{ReplyBody, write_error, write_reply, write_signal};
-use seq_bus_core::{BusSignal, ErrorKind};
+use seq_bus_core::ErrorKind;
 use std::alloc::AllocError;
 
 /// What a reply carries.
@@ -53,7 +54,7 @@ impl ReplyContent {
 /// A message of the bus itself, which has no serial yet ("Message Bus Messages" of the D-Bus Specification).
 #[derive(Debug, Drop)]
 pub enum OwnMessage {
-    Signal(BusSignal),
+    Signal(SharedSignal),
     Reply {
         to: CallToAnswer,
         content: ReplyContent,
@@ -76,7 +77,7 @@ impl OwnMessage {
         ensures err { OnErr result (out.new.items ≡ out.old.items) }
     {
         match self {
-            OwnMessage::Signal(signal) => write_signal(serial, signal, out),
+            OwnMessage::Signal(signal) => write_signal(serial, signal.get(), out),
             OwnMessage::Reply { to, content } => {
                 write_reply(serial, to.reply_to(), content.body(), out)
             }
@@ -89,7 +90,10 @@ impl OwnMessage {
         ensures { IfOk result (λ message. message ≡ self.now) }
     {
         match self {
-            OwnMessage::Signal(signal) => Ok(OwnMessage::Signal(*signal)),
+            OwnMessage::Signal(signal) => {
+                let signal = signal.again()?;
+                Ok(OwnMessage::Signal(signal))
+            }
             OwnMessage::Reply { to, content } => {
                 let content = content.again()?;
                 Ok(OwnMessage::Reply { to: *to, content })

@@ -1,8 +1,9 @@
-//! Bytes that several share.
+//! What several share, each of whom gets it.
 
 ghost use Rattle.std.specs.Prelude.{◌≡◌, IfOk};
 
-use std::alloc::AllocError;
+use seq_bus_core::BusSignal;
+use std::alloc::{AllocError, Global};
 use std::marker::Model;
 use std::sync::Arc;
 
@@ -41,5 +42,47 @@ impl SharedBytes {
     {
         let bytes = Arc::try_clone(&self.bytes)?;
         Ok(SharedBytes { bytes })
+    }
+}
+
+/// A signal of the bus that several share. Names lie in it with their fixed room, so it is too large to be moved with each message.
+#[derive(Debug, Drop)]
+pub struct SharedSignal {
+    signal: Arc<BusSignal>,
+}
+
+impl Model for SharedSignal {
+    ghost use Rattle.std.specs.Arc.{arc_value};
+    ghost use Rattle.seq_bus_core.specs.declared.signal.BusSignal.{BusSignal};
+
+    ghost Value = { BusSignal };
+
+    ghost view = { λ s. arc_value s.signal };
+}
+
+impl SharedSignal {
+    /// A signal that is to be shared. It takes memory.
+    pub fn new(alloc: Global, signal: BusSignal) -> Result<SharedSignal, AllocError>
+        ensures { IfOk result (λ shared. shared ≡ signal) }
+    {
+        match Arc::new(alloc, signal) {
+            Ok(signal) => Ok(SharedSignal { signal }),
+            Err(_) => Err(AllocError),
+        }
+    }
+
+    /// The signal itself.
+    pub fn get(&self) -> &BusSignal
+        ensures { result.now ≡ self.now }
+    {
+        &self.signal
+    }
+
+    /// The same signal, for one more. Nothing is copied; it fails where too many share it already.
+    pub fn again(&self) -> Result<SharedSignal, AllocError>
+        ensures { IfOk result (λ signal. signal ≡ self.now) }
+    {
+        let signal = Arc::try_clone(&self.signal)?;
+        Ok(SharedSignal { signal })
     }
 }

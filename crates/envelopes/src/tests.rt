@@ -55,10 +55,12 @@ fn reply_and_signal_of_a_hello(rt: HostRuntime) {
         content: ReplyContent::UniqueName(1),
     };
     assert_eq!(rt; write(&rt, rt.alloc(), &welcome, 1).as_slice(), WELCOME);
-    let acquired = OwnMessage::Signal(BusSignal::NameAcquired {
+    let acquired = BusSignal::NameAcquired {
         name: BusName::from(UniqueName::of(1)),
         owner: 1,
-    });
+    };
+    let acquired = SharedSignal::new(rt.alloc(), acquired).expect(&rt, "there is memory");
+    let acquired = OwnMessage::Signal(acquired);
     assert_eq!(rt; write(&rt, rt.alloc(), &acquired, 2).as_slice(), ACQUIRED);
     assert_eq!(rt; call(7).reply_to().call, 7);
 }
@@ -132,6 +134,7 @@ fn messages_once_more(rt: HostRuntime) {
         name: BusName::from(UniqueName::of(1)),
         owner: 1,
     };
+    let lost = SharedSignal::new(rt.alloc(), lost).expect(&rt, "there is memory");
     assert!(rt; OwnMessage::Signal(lost).again().is_ok());
     for content in [
         ReplyContent::Empty,

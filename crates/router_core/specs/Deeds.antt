@@ -60,7 +60,7 @@ IsDoneBy (Write key bytes) deed = IsWriting key bytes deed
 IsDoneBy (Put to carried content) deed = deed ≡ Puts (all_of to.to to.monitors) (said_of content)
 IsDoneBy (Announce signals carried) deed = ⊥
 IsDoneBy (Close key cause) deed = deed ≡ Closes key cause
-IsDoneBy (Run name start) deed = deed ≡ Runs name start
+IsDoneBy (Run name start) deed = deed ≡ Runs name.value start
 
 -- signals are announced in one action; where there are none, in none
 abbrev pub announcement : {N : Type 0} → List AddressedSignal → Option N → List (Action N)

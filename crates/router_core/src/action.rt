@@ -31,9 +31,9 @@ pub enum Action<N: Drop> {
         key: usize,
         cause: CloseCause,
     },
-    /// The program of a service is to be run.
+    /// The program of a service is to be run. The name lies apart: an action is moved often, and few run a program.
     Run {
-        name: BusName,
+        name: Box<BusName>,
         start: u64,
     },
 }

@@ -2,7 +2,9 @@
 
 use crate::messages::*;
 use driver::ReplyTo;
-use envelopes::{CallToAnswer, Content, Envelope, OwnMessage, ReplyContent, SharedBytes};
+use envelopes::{
+    CallToAnswer, Content, Envelope, OwnMessage, ReplyContent, SharedBytes, SharedSignal,
+};
 use names::{BusName, UniqueName};
 use owner_queues::Profile;
 use router::Engine;
@@ -74,12 +76,13 @@ fn welcome(slot: u16, number: u64) -> Event<()> {
 }
 
 /// The signal that the connection of a number has its name.
-fn acquired(slot: u16, number: u64) -> Event<()> {
+fn acquired(alloc: Global, slot: u16, number: u64) -> Result<Event<()>, AllocError> {
     let signal = BusSignal::NameAcquired {
         name: BusName::from(UniqueName::of(number)),
         owner: number,
     };
-    mail(slot, number, Content::Own(OwnMessage::Signal(signal)))
+    let signal = SharedSignal::new(alloc, signal)?;
+    Ok(mail(slot, number, Content::Own(OwnMessage::Signal(signal))))
 }
 
 fn event_of(alloc: Global, step: Step<'_>) -> Result<Event<()>, AllocError> {
@@ -91,7 +94,7 @@ fn event_of(alloc: Global, step: Step<'_>) -> Result<Event<()>, AllocError> {
         }
         Step::Serves(key) => Ok(Event::Next { key }),
         Step::Welcomes(slot, number) => Ok(welcome(slot, number)),
-        Step::Acquires(slot, number) => Ok(acquired(slot, number)),
+        Step::Acquires(slot, number) => acquired(alloc, slot, number),
         Step::Names(slot, number) => Ok(reply(slot, number, ReplyContent::UniqueName(number))),
         Step::Confirms(slot, number) => Ok(reply(slot, number, ReplyContent::Empty)),
         Step::Relays(slot, number, bytes) => {
@@ -269,7 +272,7 @@ type Plain = Engine<SeqBus, OpenGate>;
 type Mail = (u16, u64, Content);
 
 /// What an action puts.
-fn put(mails: &mut Vec<Mail>, action: &Action<()>) -> Result<(), AllocError> {
+fn put(alloc: Global, mails: &mut Vec<Mail>, action: &Action<()>) -> Result<(), AllocError> {
     match action {
         Action::Put {
             to,
@@ -282,9 +285,10 @@ fn put(mails: &mut Vec<Mail>, action: &Action<()>) -> Result<(), AllocError> {
         }
         Action::Announce { signals, note: _ } => {
             for addressed in signals.as_slice() {
+                let signal = SharedSignal::new(alloc, addressed.signal)?;
+                let content = Content::Own(OwnMessage::Signal(signal));
                 for conn in addressed.to.as_slice() {
-                    let signal = OwnMessage::Signal(addressed.signal);
-                    mails.push((conn.slot, conn.number, Content::Own(signal)))?;
+                    mails.push((conn.slot, conn.number, content.again()?))?;
                 }
             }
         }
@@ -298,7 +302,7 @@ fn exchange(alloc: Global, engine: &mut Plain, written: &mut Vec<u8>) -> Result<
     let actions = engine.next(&(), 0)?;
     let mut mails = Vec::new(alloc);
     for action in &actions {
-        put(&mut mails, action)?;
+        put(alloc, &mut mails, action)?;
     }
     for (slot, number, content) in mails {
         let envelope = Envelope {
