@@ -108,6 +108,26 @@ fn deliver<V: BusView, G: Gate, W: Write>(
     show_to_others(engine, right, place, to, monitors, content, writer)
 }
 
+/// Brings a signal to its recipients, who share it, and then to the monitors.
+fn announce_one<V: BusView, G: Gate, W: Write>(
+    alloc: Global,
+    engine: &mut Engine<V, G>,
+    right: &V::Right,
+    place: Place,
+    addressed: &AddressedSignal,
+    writer: &mut W,
+) -> Result<(), RunFault>
+    ensures { Delivers V.told G.passes V.alone place.seat place.key engine.old (mail_of_signal place.seat addressed.now) (W.contents writer.old) (W.contents writer.new) engine.new result }
+{
+    let Ok(signal) = SharedSignal::new(alloc, addressed.signal) else {
+        return Err(RunFault::Memory);
+    };
+    let content = Content::Own(OwnMessage::Signal(signal));
+    let to = addressed.to.as_slice();
+    let monitors = addressed.monitors.as_slice();
+    deliver(engine, right, place, to, monitors, &content, writer)
+}
+
 /// Brings the signals of a change to their recipients, in order.
 fn announce<V: BusView, G: Gate, W: Write>(
     alloc: Global,
@@ -120,13 +140,7 @@ fn announce<V: BusView, G: Gate, W: Write>(
     ensures { Delivers V.told G.passes V.alone place.seat place.key engine.old (flat_map (mail_of_signal place.seat) signals.now) (W.contents writer.old) (W.contents writer.new) engine.new result }
 {
     for addressed in signals {
-        let Ok(signal) = SharedSignal::new(alloc, addressed.signal) else {
-            return Err(RunFault::Memory);
-        };
-        let content = Content::Own(OwnMessage::Signal(signal));
-        let to = addressed.to.as_slice();
-        let monitors = addressed.monitors.as_slice();
-        deliver(engine, right, place, to, monitors, &content, writer)?;
+        announce_one(alloc, engine, right, place, addressed, writer)?;
     }
     Ok(())
 }

@@ -9,6 +9,7 @@ ghost use Rattle.driver.specs.Calls.{is_call_to_bus, expects_reply, is_hello, na
 
 use crate::arguments::{elements_and_number, only_text, text_and_number, text_of};
 use crate::fault::DriverFault;
+use crate::held_rule::HeldRule;
 use crate::method::{Method, method_of};
 use marshal_core::Value;
 use match_rules::{MessageKind, Rule};
@@ -30,8 +31,8 @@ pub enum Call {
     ListNames,
     ListActivatableNames,
     ListQueuedOwners { name: BusName },
-    AddMatch { rule: Rule },
-    RemoveMatch { rule: Rule },
+    AddMatch { rule: HeldRule },
+    RemoveMatch { rule: HeldRule },
     StartServiceByName { name: BusName },
     BecomeMonitor { rules: MonitorRules },
 }
@@ -97,12 +98,20 @@ fn rule_of(text: &str) -> Result<Rule, DriverFault>
 }
 
 /// The match rule whose text is the one argument.
-fn rule_in(message: &Message) -> Result<Rule, DriverFault>
-    ensures { IsRuleOf (only_text (said message.now).body) result }
+// A rule is large, and what a function holds is cleared at its entry: whoever reads other calls does not hold one.
+#[inline(never)]
+fn rule_in(alloc: Global, message: &Message) -> Result<HeldRule, DriverFault>
+    ensures { IsRuleOf (only_text (said message.now).body) result ⊎ (result ≡ Err NoMemory) }
 {
-    match only_text(message) {
-        Some(text) => rule_of(text),
-        None => Err(DriverFault::InvalidArgs),
+    let Some(text) = only_text(message) else {
+        return Err(DriverFault::InvalidArgs);
+    };
+    match rule_of(text) {
+        Ok(rule) => match HeldRule::new(alloc, rule) {
+            Ok(rule) => Ok(rule),
+            Err(_) => Err(DriverFault::NoMemory),
+        },
+        Err(fault) => Err(fault),
     }
 }
 
@@ -140,24 +149,6 @@ fn monitor_rules_in(alloc: Global, arguments: &[Value]) -> Result<MonitorRules, 
     rules_of(alloc, texts)
 }
 
-// A rule is large, and what a function holds is cleared at its entry: calls with a rule have functions of their own.
-
-#[inline(never)]
-fn add_match(message: &Message) -> Result<Call, DriverFault>
-    ensures { IsReadBy Method.AddMatch (said message.now).body result }
-{
-    let rule = rule_in(message)?;
-    Ok(Call::AddMatch { rule })
-}
-
-#[inline(never)]
-fn remove_match(message: &Message) -> Result<Call, DriverFault>
-    ensures { IsReadBy Method.RemoveMatch (said message.now).body result }
-{
-    let rule = rule_in(message)?;
-    Ok(Call::RemoveMatch { rule })
-}
-
 /// A call of the method with the arguments of this message. A text alone is read where it lies.
 fn read_by(alloc: Global, method: Method, message: &Message) -> Result<Call, DriverFault>
     ensures { IsReadBy method (said message.now).body result ⊎ (result ≡ Err NoMemory) }
@@ -188,8 +179,14 @@ fn read_by(alloc: Global, method: Method, message: &Message) -> Result<Call, Dri
             let name = name_in(message)?;
             Ok(Call::ListQueuedOwners { name })
         }
-        Method::AddMatch => add_match(message),
-        Method::RemoveMatch => remove_match(message),
+        Method::AddMatch => {
+            let rule = rule_in(alloc, message)?;
+            Ok(Call::AddMatch { rule })
+        }
+        Method::RemoveMatch => {
+            let rule = rule_in(alloc, message)?;
+            Ok(Call::RemoveMatch { rule })
+        }
         Method::StartServiceByName => {
             let arguments = arguments_of(alloc, message)?;
             let (name, _) = name_and_number_in(&arguments)?;

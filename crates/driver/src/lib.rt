@@ -10,6 +10,7 @@ mod arguments;
 mod call;
 mod fault;
 mod fields;
+mod held_rule;
 mod layout;
 mod method;
 mod reply;
@@ -18,5 +19,6 @@ mod strings;
 
 pub use call::{Call, expects_reply, is_call_to_bus, is_hello, read_call};
 pub use fault::DriverFault;
+pub use held_rule::HeldRule;
 pub use reply::{ReplyBody, ReplyTo, write_error, write_reply};
 pub use signal::write_signal;

@@ -7,14 +7,14 @@ use Rattle.marshal_core.specs.declared.order.Order.TheVariants.{Little}
 use Rattle.marshal_core.specs.Signatures.{signature_of}
 use Rattle.marshal_core.specs.Spelling.{Spells}
 use Rattle.marshal_core.specs.Types.{Tys, basic, one_type}
-use Rattle.marshal_core.specs.Values.{Val, Vals, values}
+use Rattle.marshal_core.specs.Values.{Vals, values}
 use Rattle.marshal_core.proofs.TypesAgain.{signature_again}
 use Rattle.marshal_check.specs.Arguments.{Argument as Read, argument_of, arguments}
 use Rattle.message_relay.specs.FactsOf.{as_argument}
 use Rattle.marshal_check.specs.SignatureTexts.{types_in, types_or_none, is_signature_text}
 use Rattle.seq_bus_core.specs.Answers.{Answer, OneName, HasOwner, NameList}
 use Rattle.seq_bus.specs.Bodies.{IsBody, answer_value}
-use Rattle.envelopes.specs.declared.answer.BodyKind.TheVariants.{Text, Boolean, Texts}
+use Rattle.envelopes.specs.declared.answer.BodyKind.TheVariants.{Text}
 use Rattle.envelopes.specs.Answers.{kind_of}
 
 abbrev one_string : Tys

@@ -243,26 +243,21 @@ impl OwnMessage {
         }
     }
 
-    /// What match rules and routing look at in the message ("Match Rules" of the D-Bus Specification), lent out of it and
-    /// its names. It is not written for that, and takes no memory.
-    // Inlined, so that these 1,700 bytes are made where the caller looks at them; and made once for all kinds of messages, since room
-    // is cleared for each place where they are made.
-    #[inline(always)]
-    pub fn facts<'a>(&'a self, names: &'a OwnNames) -> Facts<'a>
+    /// Puts what match rules and routing look at in the message ("Match Rules" of the D-Bus Specification), lent out of it and
+    /// its names, in the place of what stood there. The message is not written for that. It takes no memory, and facts are too
+    /// large to be handed on.
+    pub fn put_facts<'a>(&'a self, names: &'a OwnNames, facts: &mut Facts<'a>)
         requires { names.now ≡ names_of (own_of self.now) }
-        ensures { result ≡ facts_of (own_message 1 (own_of self.entry.now)) }
+        ensures { facts.new ≡ facts_of (own_message 1 (own_of self.now)) }
     {
-        let mut facts = Facts {
-            kind: self.kind(),
-            auto_start: true,
-            sender: 0,
-            path: self.path(),
-            interface: self.interface(),
-            member: self.member(),
-            destination: lent(&names.destination),
-            arguments: ArrayVec::new(),
-        };
+        facts.kind = self.kind();
+        facts.auto_start = true;
+        facts.sender = 0;
+        facts.path = self.path();
+        facts.interface = self.interface();
+        facts.member = self.member();
+        facts.destination = lent(&names.destination);
+        facts.arguments.clear();
         self.put_arguments(names, &mut facts.arguments);
-        facts
     }
 }

@@ -3,8 +3,9 @@
 ghost use Rattle.std.specs.Prelude.{◌≡◌, ◌<◌};
 
 use super::*;
+use arrayvec::ArrayVec;
 use driver::ReplyTo;
-use match_rules::{Argument, MessageKind};
+use match_rules::{Argument, Facts, MessageKind};
 use names::{BusName, UniqueName};
 use owner_queues::Profile;
 use seq_bus::{Asked, SeqBus, can_open};
@@ -37,6 +38,19 @@ fn write(rt: &impl Abort, alloc: Global, message: &OwnMessage, serial: u32) -> V
             .expect(rt, "one allocation fails");
     }
     out
+}
+
+fn no_facts() -> Facts<'static> {
+    Facts {
+        kind: MessageKind::Signal,
+        auto_start: false,
+        sender: 1,
+        path: None,
+        interface: None,
+        member: None,
+        destination: None,
+        arguments: ArrayVec::new(),
+    }
 }
 
 fn call(serial: u32) -> CallToAnswer
@@ -72,7 +86,8 @@ fn error_in_place_of_a_reply(rt: HostRuntime) {
         error: ErrorKind::NoMemory,
     };
     let names = refused.names();
-    let facts = refused.facts(&names);
+    let mut facts = no_facts();
+    refused.put_facts(&names, &mut facts);
     assert_eq!(rt; facts.kind, MessageKind::Error);
     assert_eq!(rt; facts.destination, Some(":1.1"));
     assert!(rt;
@@ -122,7 +137,8 @@ fn answer_to_a_query(rt: HostRuntime) {
     };
     assert_eq!(rt; write(&rt, rt.alloc(), &reply, 3).as_slice(), OWNER);
     let names = reply.names();
-    let facts = reply.facts(&names);
+    let mut facts = no_facts();
+    reply.put_facts(&names, &mut facts);
     assert_eq!(rt; facts.kind, MessageKind::MethodReturn);
     assert!(rt; matches!(facts.arguments.as_slice(), [Argument::String(":1.1")]));
     assert!(rt; reply.again().is_ok(), "few share it");

@@ -105,7 +105,10 @@ fn added(call: Call, connection: u64) -> Result<Change, Fail>
     ensures { IfOk result (λ change. IsServedChange change) }
 {
     match call {
-        Call::AddMatch { rule } => Ok(Change::AddMatch { connection, rule }),
+        Call::AddMatch { rule } => Ok(Change::AddMatch {
+            connection,
+            rule: *rule.get(),
+        }),
         _ => Err(Fail::from("no rule")),
     }
 }

@@ -5,7 +5,7 @@ ghost use Rattle.envelopes.specs.Contents.{said_of};
 ghost use Rattle.router_hands.specs.Writing.{IsSpelled};
 
 use driver::Call;
-use envelopes::{Content, OwnMessage};
+use envelopes::{Content, OwnMessage, SharedSignal};
 use names::{BusName, UniqueName};
 use owner_queues::Profile;
 use router_core::{Action, Addressees, CloseCause, OpenGate, WrittenBytes};
@@ -72,11 +72,18 @@ fn spelled(rt: &impl Abort, alloc: Global, content: &Content, serial: u32) -> Wr
 }
 
 /// What the first connection of a bus is shown.
-fn acquired() -> OwnMessage {
-    OwnMessage::Signal(BusSignal::NameAcquired {
+fn acquired(rt: &impl Abort, alloc: Global) -> OwnMessage {
+    let signal = BusSignal::NameAcquired {
         name: BusName::from(UniqueName::of(1)),
         owner: 1,
-    })
+    };
+    match SharedSignal::new(alloc, signal) {
+        Ok(signal) => OwnMessage::Signal(signal),
+        Err(_) => OwnMessage::Signal(SharedSignal::new(alloc, signal).expect(
+            rt,
+            "one allocation fails",
+        )),
+    }
 }
 
 #[test]
@@ -85,7 +92,10 @@ fn steps_over_a_plain_bus(rt: HostRuntime) {
     let outcome = greet(&rt, &mut hands);
     assert_eq!(rt; outcome.reply, Reply::Welcome(FIRST));
     hands.announce(outcome.signals);
-    hands.put(Addressees::one(FIRST), Content::Own(acquired()));
+    hands.put(
+        Addressees::one(FIRST),
+        Content::Own(acquired(&rt, rt.alloc())),
+    );
     assert_eq!(rt; hands.look(1).ok(), Some(true));
     assert_eq!(rt; hands.look(2).ok(), Some(false));
     hands.pass(&Call::ListNames);
@@ -109,7 +119,7 @@ fn steps_over_a_plain_bus(rt: HostRuntime) {
 fn mail_and_a_connection_that_left(rt: HostRuntime) {
     let mut hands = ready(&rt, rt.alloc());
     let mut peer = Peer::new(rt.alloc());
-    let content = Content::Own(acquired());
+    let content = Content::Own(acquired(&rt, rt.alloc()));
     let serial = serial_after(peer.serial());
     let bytes = spelled(&rt, rt.alloc(), &content, serial);
     assert_eq!(rt; bytes.as_slice().len(), 169);

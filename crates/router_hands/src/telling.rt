@@ -11,10 +11,11 @@ ghost use Rattle.router_core.specs.Serving.{answer_with as answering, call_of as
 ghost use Rattle.router_hands.specs.Carrying.{answer_of};
 
 use crate::hands::Hands;
+use arrayvec::ArrayVec;
 use bus_view::BusView;
 use driver::{ReplyTo, expects_reply};
 use envelopes::{CallToAnswer, Content, OwnMessage, ReplyContent};
-use match_rules::MessageKind;
+use match_rules::{Facts, MessageKind};
 use message_core::Message;
 use router_core::Gate;
 use seq_bus_core::{Conn, ErrorKind};
@@ -44,7 +45,19 @@ impl<V: BusView, G: Gate> Hands<V, G> {
         ensures room { self.new.room ≡ self.old.room }
     {
         let names = own.names();
-        match self.route(0, &own.facts(&names)) {
+        // Made where they stay: they are too large to be copied.
+        let mut facts = Facts {
+            kind: MessageKind::Signal,
+            auto_start: true,
+            sender: 0,
+            path: None,
+            interface: None,
+            member: None,
+            destination: None,
+            arguments: ArrayVec::new(),
+        };
+        own.put_facts(&names, &mut facts);
+        match self.route(0, &facts) {
             Ok(()) => {}
             Err(_) => self.tell_no_monitors(),
         }

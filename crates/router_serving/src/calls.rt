@@ -322,8 +322,8 @@ fn serve_request<V: BusView, G: Gate>(
                 &Query::ListQueuedOwners(*name),
             )
         }
-        Call::AddMatch { rule } => add_match(hands, right, message, caller, rule),
-        Call::RemoveMatch { rule } => remove_match(hands, right, message, caller, rule),
+        Call::AddMatch { rule } => add_match(hands, right, message, caller, rule.get()),
+        Call::RemoveMatch { rule } => remove_match(hands, right, message, caller, rule.get()),
         Call::StartServiceByName { name: _ } => {
             refuse(hands, message, caller, ErrorKind::UnknownMethod)
         }

@@ -1,4 +1,4 @@
-use Rattle.std.proofs.Common.{rules, ◌≡◌, [], ◌∷◌}
+use Rattle.std.proofs.Common.{rules, ◌≡◌, []}
 use Rattle.marshal_check.specs.Arguments.{string_argument, path_argument, other_argument, argument_of}
 use Rattle.marshal_check.specs.ArgumentViews.{arguments_left}
 use Rattle.seq_bus.specs.Bodies.{answer_value}
