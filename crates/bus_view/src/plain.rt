@@ -63,6 +63,11 @@ impl BusView for SeqBus {
         Ok(SeqBus::present(self, number))
     }
 
+    // It is asked each time.
+    fn is_watched(&self) -> bool {
+        true
+    }
+
     fn take_note(&mut self, _note: &()) {}
 
     fn note(&self) -> Option<()> {

@@ -2,7 +2,8 @@
 
 ghost use Rattle.std.specs.Prelude.{◌≡◌, true, false, [], Some, is_some, option_map, IfOk, IfErr, IfSome, OnOk, OnErr};
 ghost use Rattle.seq_bus_core.specs.Answers.{answer};
-ghost use Rattle.seq_bus_core.specs.BusState.{connection_of};
+ghost use Rattle.std.specs.List.{list_any};
+ghost use Rattle.seq_bus_core.specs.BusState.{connection_of, is_monitor};
 ghost use Rattle.seq_bus_core.specs.Histories.{History};
 ghost use Rattle.seq_bus_core.specs.Recipients.{recipients};
 ghost use Rattle.seq_bus.specs.Bodies.{Answers};
@@ -92,6 +93,12 @@ pub trait BusView {
         ensures read { OnOk result (IsRead alone (knows self.old) (knows self.new)) }
         ensures gone { OnErr result (knows self.new ≡ knows self.old) }
         ensures there { alone ≡ true → OnErr result ⊥ };
+
+    /// Whether a monitor may be shown messages, as far as this one has seen. Where not, the bus had none when it was read last, which
+    /// was at the end of what was seen. It reads nothing, and takes no memory.
+    fn is_watched(&self) -> bool
+        ensures read { result ≡ false → IsRead alone (knows self.now) (knows self.now) }
+        ensures none { result ≡ false → list_any is_monitor (bus_seen (knows self.now)).state.connections ≡ false };
 
     /// Takes in what another view of the same bus told: from now on this one sees no less. It takes no memory.
     fn take_note(&mut self, note: &Self::Note)

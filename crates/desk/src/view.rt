@@ -108,6 +108,10 @@ impl<'a, J: Naming, R: Wait> BusView for Desk<'a, J, R> {
         }
     }
 
+    fn is_watched(&self) -> bool {
+        self.seat.is_watched()
+    }
+
     fn take_note(&mut self, note: &Note<J>) {
         self.seat.take_note(note.of_seat());
     }

@@ -1,12 +1,12 @@
 -- What every step keeps of the registry's tables.
-use Rattle.std.proofs.Common.{◌≡◌, ℕ, ◌<◌, ◌≤◌, ◌+◌, ◌^◌, ◌&&◌, if◌then◌else◌, Bool, true, false, Option, List, [], ◌∷◌, ◌++◌, filter, get_or, length, remove, vec_capacity, refl, ap, ◌∙◌, subst, arith}
+use Rattle.std.proofs.Common.{◌≡◌, ℕ, ◌<◌, ◌≤◌, ◌+◌, ◌^◌, ◌&&◌, if◌then◌else◌, Bool, true, false, Option, List, [], ◌∷◌, ◌++◌, filter, map, get_or, length, remove, vec_capacity, refl, ap, ◌∙◌, subst, arith}
 use Rattle.std.proofs.lemmas.List.Sums.{sum_by-append, sum_by-cons, sum_by-remove}
 use Rattle.match_rules.specs.Facts.{Facts}
 use Rattle.match_rules.specs.Fitting.{Heads}
-use Rattle.std.specs.List.{AllByRecursion as Each}
+use Rattle.std.specs.List.{AllByRecursion as Each, list_any}
 use Rattle.std.proofs.lemmas.List.{length-map}
 use mir.Val.{bool_byte}
-use Rattle.seq_bus_core.specs.BusState.{AddedRule, max_connections, max_rules}
+use Rattle.seq_bus_core.specs.BusState.{AddedRule, is_monitor, max_connections, max_rules}
 use Rattle.seq_bus_core.specs.Consistency.{IsGiven, IsConsistent, IsWithinLimits}
 use Rattle.seq_bus_core.specs.Steps.{step}
 use Rattle.seq_bus_core.specs.declared.change.Change.{Change}
@@ -68,6 +68,35 @@ nobody_watches heads facts leaver rules (m ∷ ms) none = by_test m.is_monitor r
         let no : one m ≡ 0 = rw is refl in
         let not_it : (stays leaver m.conn.number && member_watches heads rules facts m) ≡ false = rw is (and_not (stays leaver m.conn.number)) in
         rw not_it (others (omega (arith, none, whole, no)))
+
+-- whether there are monitors is told by their number
+abbrev any_among : List AddedRule → List Member → Bool
+any_among rules ms = list_any is_monitor (map (connection_of_member rules) ms)
+
+abbrev one_if : Member → ℕ
+one_if m = if m.is_monitor then 1 else 0
+
+pub none_among : (rules : List AddedRule) (ms : List Member) → monitors_among ms ≡ 0 → any_among rules ms ≡ false
+none_among rules [] none = refl
+none_among rules (m ∷ ms) none = by_test m.is_monitor refl (λ fewer. none_among rules ms fewer)
+  where
+    by_test : (b : Bool) → m.is_monitor ≡ b → (monitors_among ms ≡ 0 → any_among rules ms ≡ false) → any_among rules (m ∷ ms) ≡ false
+    by_test true is others = let it : one_if m ≡ 1 = rw is refl in absurd (omega (arith, none, sum_by-cons one_if m ms, it))
+    by_test false is others =
+        let not_it : one_if m ≡ 0 = rw is refl in
+        let first : is_monitor (connection_of_member rules m) ≡ false = rw is refl in
+        rw first (others (omega (arith, none, sum_by-cons one_if m ms, not_it)))
+
+pub some_among : (rules : List AddedRule) (ms : List Member) → 0 < monitors_among ms → any_among rules ms ≡ true
+some_among rules [] some = absurd (omega (arith, some))
+some_among rules (m ∷ ms) some = by_test m.is_monitor refl (λ more. some_among rules ms more)
+  where
+    by_test : (b : Bool) → m.is_monitor ≡ b → (0 < monitors_among ms → any_among rules ms ≡ true) → any_among rules (m ∷ ms) ≡ true
+    by_test true is others = let first : is_monitor (connection_of_member rules m) ≡ true = rw is refl in rw first refl
+    by_test false is others =
+        let not_it : one_if m ≡ 0 = rw is refl in
+        let first : is_monitor (connection_of_member rules m) ≡ false = rw is refl in
+        rw first (others (omega (arith, some, sum_by-cons one_if m ms, not_it)))
 
 -- who says Hello is no monitor
 pub one_more : (ms : List Member) (conn : Conn) (privileged : Bool) → monitors_among ms ≡ monitors_among (ms ++ record { conn = conn; privileged = privileged; is_monitor = false } ∷ [])

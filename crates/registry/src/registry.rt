@@ -1,7 +1,8 @@
 //! The registry.
 
 ghost use Rattle.std.specs.Prelude.{◌≡◌, IfOk, List, is_some, map, option_map};
-ghost use Rattle.seq_bus_core.specs.BusState.{AddedRule, connection_of, conn_of, head_of, is_client, queue_of};
+ghost use Rattle.std.specs.List.{list_any};
+ghost use Rattle.seq_bus_core.specs.BusState.{AddedRule, connection_of, conn_of, head_of, is_client, is_monitor, queue_of};
 ghost use Rattle.seq_bus_core.specs.Consistency.{IsConsistent, IsWithinLimits};
 ghost use Rattle.seq_bus_core.specs.Histories.{CanOpen, opening};
 ghost use Rattle.seq_bus_core.specs.Steps.{step};
@@ -163,6 +164,16 @@ impl Registry {
             Some(place) => !self.members[place].is_monitor,
             None => false,
         }
+    }
+
+    /// Whether any connection is a monitor.
+    pub fn has_monitors(&self) -> bool
+        ensures { result ≡ list_any is_monitor self.now.connections }
+    {
+        if self.monitors == 0 {
+            return false;
+        }
+        true
     }
 
     /// The connection that messages to a name are delivered to: the owner of a well-known name, the holder of a unique

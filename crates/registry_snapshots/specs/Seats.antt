@@ -1,6 +1,7 @@
 -- What a seat of a registry knows, and what a change, a read and a note do to it.
-use Rattle.std.specs.Prelude.{◌≡◌, ℕ, zero, suc, ◌+◌, ltb, if◌then◌else◌, List, [], ◌∷◌, ◌++◌, length, Option, Some, None}
-use Rattle.std.specs.List.{range_with_len}
+use Rattle.std.specs.Prelude.{◌≡◌, ℕ, zero, suc, ◌+◌, ltb, if◌then◌else◌, false, List, [], ◌∷◌, ◌++◌, length, Option, Some, None}
+use Rattle.std.specs.List.{list_any, range_with_len}
+use Rattle.seq_bus_core.specs.BusState.{is_monitor}
 use Rattle.seq_bus_core.specs.Histories.{History, IsLegal, Begins, numbers_of}
 use Rattle.seq_bus_core.specs.Tickets.{WholeBus, bus_step, bus_after}
 use Rattle.seq_bus_core.specs.declared.change.Change.{Change}
@@ -47,6 +48,11 @@ pub record IsRead (seen : History) (seat made : ℕ) (now : History) : Type 0 wh
   pub begun : Begins seen now
   pub legal : IsLegal now
   pub own : HasJust seat made now
+
+-- At the end of what was seen there is no monitor, and a read may find the bus there.
+pub record IsUnwatched (opening : WholeBus) (seen : History) (seat made : ℕ) : Type 0 where
+  pub read : IsRead seen seat made seen
+  pub none : list_any is_monitor (bus_after opening seen).state.connections ≡ false
 
 -- of what is held and what is told, the longer
 abbrev pub longer : Option History → History → History

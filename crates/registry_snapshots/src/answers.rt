@@ -1,7 +1,8 @@
 //! What a copy of the registry answers, and what it lends.
 
+ghost use Rattle.std.specs.List.{list_any};
 ghost use Rattle.std.specs.Prelude.{◌≡◌, List, is_some, map, option_map};
-ghost use Rattle.seq_bus_core.specs.BusState.{AddedRule, connection_of, conn_of, head_of, queue_of};
+ghost use Rattle.seq_bus_core.specs.BusState.{AddedRule, connection_of, conn_of, head_of, is_monitor, queue_of};
 ghost use Rattle.seq_bus_core.specs.Consistency.{IsConsistent, IsWithinLimits};
 ghost use Rattle.seq_bus_core.specs.Recipients.{recipients};
 ghost use Rattle.registry_core.specs.Listening.{connection_of_member};
@@ -42,6 +43,13 @@ impl Snap {
         ensures { result ≡ option_map conn_of (connection_of self.now.bus number) }
     {
         self.registry().conn(number)
+    }
+
+    /// Whether any connection is a monitor.
+    pub fn has_monitors(&self) -> bool
+        ensures { result ≡ list_any is_monitor self.now.bus.connections }
+    {
+        self.registry().has_monitors()
     }
 
     /// Whether there is a connection of this number.

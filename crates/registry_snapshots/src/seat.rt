@@ -1,6 +1,6 @@
 //! The seats of a registry, one a router.
 
-ghost use Rattle.std.specs.Prelude.{◌≡◌, ◌⊎◌, ◌+◌, [], Some, is_some, OnOk, OnErr, IfOk, IfErr};
+ghost use Rattle.std.specs.Prelude.{◌≡◌, ◌⊎◌, ◌+◌, false, [], Some, is_some, OnOk, OnErr, IfOk, IfErr};
 ghost use Rattle.std.specs.Fn.{FnOnceReturnsAt};
 ghost use Rattle.seq_bus_core.specs.BusState.{connection_of};
 ghost use Rattle.seq_bus_core.specs.Histories.{IsLegal, Begins};
@@ -8,7 +8,7 @@ ghost use Rattle.seq_bus_core.specs.Recipients.{recipients};
 ghost use Rattle.seq_bus_core.specs.Tickets.{bus_after};
 ghost use Rattle.registry.specs.Served.{IsServedChange};
 ghost use Rattle.registry_snapshots.specs.Copies.{SnapView};
-ghost use Rattle.registry_snapshots.specs.Seats.{fresh, longer, IsChanged, IsRead};
+ghost use Rattle.registry_snapshots.specs.Seats.{fresh, longer, IsChanged, IsRead, IsUnwatched};
 
 use crate::history::Front;
 use crate::naming::Naming;
@@ -35,19 +35,21 @@ pub struct Seat<J: Naming> {
     // Gone while it reads.
     reader: Option<SnapReader<J>>,
     front: Front,
+    // Whether there may be a monitor at the end of what was seen.
+    watched: bool,
     held: Option<Note<J>>,
 }
 
 impl<J: Naming> Model for Seat<J> {
-    ghost use Rattle.std.specs.Prelude.{◌≡◌, Some};
+    ghost use Rattle.std.specs.Prelude.{◌≡◌, false, Some};
     ghost use Rattle.seq_bus_core.specs.Histories.{History, Begins};
-    ghost use Rattle.registry_snapshots.specs.Seats.{SeatView};
+    ghost use Rattle.registry_snapshots.specs.Seats.{SeatView, IsUnwatched};
 
     ghost Value = { SeatView };
 
     ghost view = { λ s. record { number = s.number; seen = s.front.log; made = s.made; held = s.held } };
 
-    ghost invariant = { λ s. (s.front.book ≡ J.book) × ((held : History) → s.held ≡ Some held → Begins held s.front.log) };
+    ghost invariant = { λ s. (s.front.book ≡ J.book) × ((held : History) → s.held ≡ Some held → Begins held s.front.log) × (s.watched ≡ false → IsUnwatched J.opening s.front.log s.number s.made) };
 }
 
 type SnapReading<J> = Reading<Snap, (), Kept<J>>;
@@ -84,6 +86,7 @@ impl<J: Naming> Seat<J> {
             made: 0,
             reader: Some(reader),
             front,
+            watched: true,
             held: None,
         }
     }
@@ -117,10 +120,12 @@ impl<J: Naming> Seat<J> {
     // Leaves the copy, which stood for this front.
     fn end_reading(&mut self, reading: SnapReading<J>, front: Front)
         requires book { front.book ≡ J.book }
-        requires begun { Begins self.old.seen front.log }
+        requires read { IsRead self.old.seen self.old.number self.old.made front.log }
+        requires copy { reading.part.value.bus ≡ (bus_after J.opening front.log).state }
         ensures seen { self.new.seen ≡ front.log }
         ensures kept { (self.new.number ≡ self.old.number) × (self.new.made ≡ self.old.made) × (self.new.held ≡ self.old.held) }
     {
+        self.watched = reading.get().has_monitors();
         self.reader = Some(reading.leave());
         self.front = front;
     }
@@ -188,6 +193,14 @@ impl<J: Naming> Seat<J> {
         self.open(|snap| snap.present(number))
     }
 
+    /// Whether a monitor may be shown messages, as far as the seat has seen: where not, there was none when it read the bus last,
+    /// which was at the end of what it has seen. It reads nothing, and takes no memory.
+    pub fn is_watched(&self) -> bool
+        ensures { result ≡ false → IsUnwatched J.opening self.now.seen self.now.number self.now.made }
+    {
+        self.watched
+    }
+
     /// Makes a change, and tells of it in a note.
     ///
     /// It waits for the lock of the registry, and for readers of the copy that it brings up. A change that is refused is
@@ -211,6 +224,7 @@ impl<J: Naming> Seat<J> {
         let note = Note::of(&front);
         self.made += 1;
         self.front = front;
+        self.watched = true;
         self.held = Some(note.again());
         Ok((outcome, note))
     }
@@ -232,6 +246,7 @@ impl<J: Naming> Seat<J> {
             self.front = note.front().again();
         }
         let _legal = self.front.len();
+        self.watched = true;
         self.held = Some(held);
     }
 

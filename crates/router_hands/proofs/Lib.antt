@@ -12,3 +12,4 @@ pub mod Hellos
 pub mod Nexts
 pub mod Judging
 pub mod Waiting
+pub mod Unwatched

@@ -1,9 +1,12 @@
 //! What serves connections: the view of the bus, the gate, and the actions so far.
 
-ghost use Rattle.std.specs.Prelude.{◌≡◌, ◌↔◌, ◌<◌, ◌≤◌, ◌+◌, ◌++◌, ◌∷◌, [], Option, IfOk, IfSome, IsTrue, OnOk, OnErr};
+ghost use Rattle.std.specs.Prelude.{◌≡◌, ◌↔◌, ◌<◌, ◌≤◌, ◌+◌, ◌++◌, ◌∷◌, [], Option, IfOk, IfSome, IsTrue, false, OnOk, OnErr};
 ghost use Rattle.message_core.specs.Messages.{Message, IsWritten};
 ghost use Rattle.seq_bus.specs.Served.{IsServedChange};
+ghost use Rattle.std.specs.List.{list_any};
 ghost use Rattle.seq_bus_core.specs.Answers.{Answer};
+ghost use Rattle.seq_bus_core.specs.BusState.{is_monitor};
+ghost use Rattle.bus_view.specs.Views.{bus_seen, IsRead};
 ghost use Rattle.envelopes.specs.Contents.{said_of};
 ghost use Rattle.router_core.specs.Answers.{Heard};
 ghost use Rattle.router_core.specs.Deeds.{Writes, Sends, Puts, Closes, all_of};
@@ -288,6 +291,14 @@ impl<V: BusView, G: Gate> Hands<V, G> {
             Ok(present) => Ok(present),
             Err(gone) => Err(gone),
         }
+    }
+
+    /// Whether a monitor may be shown messages, as far as the view has seen.
+    pub(crate) fn is_watched(&self) -> bool
+        ensures read { result ≡ false → IsRead V.alone self.now.world.view self.now.world.view }
+        ensures none { result ≡ false → list_any is_monitor (bus_seen self.now.world.view).state.connections ≡ false }
+    {
+        self.view.is_watched()
     }
 
     /// Takes in what another router told.

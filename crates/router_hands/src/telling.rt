@@ -39,11 +39,16 @@ pub fn is_method_call(message: &Message) -> bool
 }
 
 impl<V: BusView, G: Gate> Hands<V, G> {
-    /// Asks which monitors are shown a message of the bus. Where the bus does not say, it is shown to none.
+    /// Asks which monitors are shown a message of the bus. Where the bus does not say, it is shown to none; where there are no
+    /// monitors, what they would see of it is not made.
     pub(crate) fn ask_monitors(&mut self, own: &OwnMessage)
         ensures routes { (heard : Heard Told) × Routes V.alone 0 (facts_of (own_message 1 (own_of own.now))) self.old.world heard self.new.world × (self.new.told.monitors ≡ monitors_in heard) }
         ensures room { self.new.room ≡ self.old.room }
     {
+        if !self.is_watched() {
+            self.tell_no_monitors();
+            return;
+        }
         let names = own.names();
         // Made where they stay: they are too large to be copied.
         let mut facts = Facts {
