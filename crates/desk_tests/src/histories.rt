@@ -78,7 +78,7 @@ fn come<J: Naming, R: Wait + Abort>(
     let (outcome, note) = make(rt, desk, Change::Hello { privileged: true });
     assert_eq!(rt; outcome.reply, Reply::Welcome(conn));
     other.take_note(&note.again());
-    assert!(rt; is_present(rt, other, conn.number));
+    assert!(rt; is_present(rt, other, conn.number) && !other.is_watched());
 }
 
 /// A connection of the first desk listens to one of the second.

@@ -74,7 +74,7 @@ fn first_connection_and_its_name(rt: HostRuntime) {
     assert!(rt; announced.to.as_slice().is_empty());
     assert!(rt; matches!(&acquired.signal, BusSignal::NameAcquired { .. }));
     same(&rt, &acquired.to.as_slice(), &[conn].as_slice());
-    assert!(rt; registry.present(1) && !registry.present(2));
+    assert!(rt; registry.present(1) && !registry.present(2) && !registry.has_monitors());
     assert!(rt; registry.conn(1) == Some(conn));
     same(&rt, &registry.routers(), &2);
     let name = BusName::from(UniqueName::of(1));

@@ -169,14 +169,23 @@ impl<'a, R: Wait + Abort> Serve for Teller<'a, R> {
             &(1, 2, 1),
         );
         assert!(rt; first.note().is_none());
+        assert!(rt; second.is_watched());
         same(rt, &second.present(1).ok(), &Some(false));
+        assert!(rt; !second.is_watched());
         let conn = Conn {
             number: 1,
             slot: 0,
             router: 1,
         };
         same(rt, &hello(rt, &mut first, &shared), &conn);
+        assert!(rt; first.is_watched());
         second.take_note(&first.note().expect(rt, "it made a change"));
+        assert!(rt; second.is_watched());
+        same(
+            rt,
+            &second.open(|snap| snap.has_monitors()).ok(),
+            &Some(false),
+        );
         let name = BusName::from(UniqueName::of(1));
         same(
             rt,
