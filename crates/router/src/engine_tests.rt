@@ -106,7 +106,7 @@ fn mail_of_an_event(rt: HostRuntime) -> Result<(), Fail> {
     let envelope = Envelope {
         number: 1,
         note: None,
-        content: Content::Own(acquired()),
+        content: Content::Own(acquired(&rt, rt.alloc())),
     };
     let actions = engine.event(&(), Event::Mail { slot: 0, envelope })?;
     assert!(rt; actions.len() <= 1);

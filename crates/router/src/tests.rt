@@ -5,7 +5,7 @@ ghost use Rattle.router_core.specs.Standing.{fresh};
 
 use super::*;
 use crate::greeting_tests::HELLO;
-use envelopes::{Content, Envelope, OwnMessage};
+use envelopes::{Content, Envelope, OwnMessage, SharedSignal};
 use match_rules::Rule;
 use names::{BusName, UniqueName};
 use owner_queues::Profile;
@@ -42,11 +42,18 @@ pub(crate) fn serving(rt: &impl Abort, alloc: Global) -> Served<SeqBus, OpenGate
 }
 
 /// What the first connection of a bus is shown.
-pub(crate) fn acquired() -> OwnMessage {
-    OwnMessage::Signal(BusSignal::NameAcquired {
+pub(crate) fn acquired(rt: &impl Abort, alloc: Global) -> OwnMessage {
+    let signal = BusSignal::NameAcquired {
         name: BusName::from(UniqueName::of(1)),
         owner: 1,
-    })
+    };
+    match SharedSignal::new(alloc, signal) {
+        Ok(signal) => OwnMessage::Signal(signal),
+        Err(_) => OwnMessage::Signal(SharedSignal::new(alloc, signal).expect(
+            rt,
+            "one allocation fails",
+        )),
+    }
 }
 
 /// Bytes in a piece of their own, made once more where one allocation failed.
@@ -148,11 +155,11 @@ fn tick(rt: &impl Abort, served: &mut Served<SeqBus, OpenGate>) {
 }
 
 /// Mail comes, with no note, for the connection of this number in slot 0.
-fn send(rt: &impl Abort, served: &mut Served<SeqBus, OpenGate>, number: u64) {
+fn send(rt: &impl Abort, alloc: Global, served: &mut Served<SeqBus, OpenGate>, number: u64) {
     let envelope = Envelope {
         number,
         note: None,
-        content: Content::Own(acquired()),
+        content: Content::Own(acquired(rt, alloc)),
     };
     if served.mail(0, &envelope).is_err() {
         served.mail(0, &envelope).expect(rt, "one allocation fails");
@@ -180,17 +187,17 @@ fn a_named_connection_leaves(rt: HostRuntime) {
 fn mail_comes_late(rt: HostRuntime) {
     let mut served = serving(&rt, rt.alloc());
     assert_eq!(rt; named(&rt, &mut served), FIRST);
-    send(&rt, &mut served, 1);
+    send(&rt, rt.alloc(), &mut served, 1);
     let actions = served.take_actions();
     assert!(rt; matches!(actions.as_slice(), [Action::Write { key: 0, bytes: _ }]));
     close(&rt, &mut served, 0);
     let _left = served.take_actions();
-    send(&rt, &mut served, 1);
+    send(&rt, rt.alloc(), &mut served, 1);
     let newcomer = named(&rt, &mut served);
     assert_eq!(rt; newcomer.slot, 0);
-    send(&rt, &mut served, 1);
+    send(&rt, rt.alloc(), &mut served, 1);
     assert!(rt; served.take_actions().is_empty());
-    send(&rt, &mut served, newcomer.number);
+    send(&rt, rt.alloc(), &mut served, newcomer.number);
     assert_eq!(rt; served.take_actions().len(), 1);
 }
 
