@@ -40,7 +40,7 @@ fn write(rt: &impl Abort, alloc: Global, message: &OwnMessage, serial: u32) -> V
     out
 }
 
-fn no_facts() -> Facts<'static> {
+fn no_facts<'a>() -> Facts<'a> {
     Facts {
         kind: MessageKind::Signal,
         auto_start: false,
