@@ -71,15 +71,19 @@ fn spelled(rt: &impl Abort, alloc: Global, content: &Content, serial: u32) -> Wr
     }
 }
 
-/// What the first connection of a bus is shown.
-fn acquired(rt: &impl Abort, alloc: Global) -> OwnMessage {
-    let signal = BusSignal::NameAcquired {
+/// The signal that the first connection of a bus has its name.
+fn first_name() -> BusSignal {
+    BusSignal::NameAcquired {
         name: BusName::from(UniqueName::of(1)),
         owner: 1,
-    };
-    match SharedSignal::new(alloc, signal) {
+    }
+}
+
+/// What the first connection of a bus is shown, made once more where one allocation failed.
+fn acquired(rt: &impl Abort, alloc: Global) -> OwnMessage {
+    match SharedSignal::new(alloc, first_name()) {
         Ok(signal) => OwnMessage::Signal(signal),
-        Err(_) => OwnMessage::Signal(SharedSignal::new(alloc, signal).expect(
+        Err(_) => OwnMessage::Signal(SharedSignal::new(alloc, first_name()).expect(
             rt,
             "one allocation fails",
         )),

@@ -41,15 +41,19 @@ pub(crate) fn serving(rt: &impl Abort, alloc: Global) -> Served<SeqBus, OpenGate
     }
 }
 
-/// What the first connection of a bus is shown.
-pub(crate) fn acquired(rt: &impl Abort, alloc: Global) -> OwnMessage {
-    let signal = BusSignal::NameAcquired {
+/// The signal that the first connection of a bus has its name.
+fn first_name() -> BusSignal {
+    BusSignal::NameAcquired {
         name: BusName::from(UniqueName::of(1)),
         owner: 1,
-    };
-    match SharedSignal::new(alloc, signal) {
+    }
+}
+
+/// What the first connection of a bus is shown, made once more where one allocation failed.
+pub(crate) fn acquired(rt: &impl Abort, alloc: Global) -> OwnMessage {
+    match SharedSignal::new(alloc, first_name()) {
         Ok(signal) => OwnMessage::Signal(signal),
-        Err(_) => OwnMessage::Signal(SharedSignal::new(alloc, signal).expect(
+        Err(_) => OwnMessage::Signal(SharedSignal::new(alloc, first_name()).expect(
             rt,
             "one allocation fails",
         )),
