@@ -1,40 +1,48 @@
-# Bizsorke: a D-Bus message bus whose every function is proved.
+# Bizsorke: a D-Bus message bus whose every function is proved. Each line here is for a person; CONTRIBUTING.md says more.
 
 SAMPLE = examples/hello-get-name-owner.stream
 
-.PHONY: run test bench memory edits
+.PHONY: run prove test check try bench memory edits sizes
 
-# The main job: the sample stream through `busd run`, the replies shown as bytes and text. The first time it proves
-# and builds the program.
+# The main job: the sample stream through `busd run`, the replies shown as bytes and text.
 run:
-	@mkdir -p crates/busd/out
-	@cd crates/busd && rt run -- run < ../../$(SAMPLE) > out/replies 2> out/run.log || { cat out/run.log; exit 1; }
-	@od -A d -t x1z -v crates/busd/out/replies
+	@tools/run.sh $(SAMPLE)
 
-# The gate: every proof from nothing, the edits that must fail, the tests, the programs as two compilers build them, and
-# each allocation of three of them refused in turn.
+# Proves and builds crates/busd/out/busd with all that it stands on; what passes is kept for the gate.
+prove:
+	@tools/prove.sh
+
+# The gate: every proof, the edits that must fail, the tests, the programs as two compilers build them, and each
+# allocation of three of them refused in turn.
 test:
-	@./gate.sh
+	@tools/gate.sh
 
-# Each allocation of three programs refused in turn: busd on the sample stream; scarce_memory, which reads and writes
-# bodies and messages; scarce_buses, which opens a registry and changes it. Needs cc and glibc. The gate does the same with the
-# programs that it built.
+# One crate, as in `make check CRATE=names`: its proof, over what earlier checks kept.
+check:
+	@cd crates/$(CRATE) && rt check
+
+# The tests of one crate, as in `make try CRATE=test_bytes`, without any proof.
+try:
+	@cd crates/$(CRATE) && rt try --test
+
+# Each allocation of three programs refused in turn, once the gate has built them. Needs cc and glibc.
 memory:
-	@mkdir -p crates/busd/out crates/scarce_memory/out crates/scarce_buses/out
-	@cd crates/busd && rt run -- run < ../../$(SAMPLE) > out/replies 2> out/run.log || { cat out/run.log; exit 1; }
-	@cd crates/scarce_memory && rt run > out/told 2> out/run.log || { cat out/run.log; exit 1; }
-	@cd crates/scarce_buses && rt run > out/told 2> out/run.log || { cat out/run.log; exit 1; }
-	@memory/check.sh
+	@tools/memory/check.sh
 
-# What the calls take, beside the same in plain Rust, and how many allocations those of an engine make. No part of the gate.
+# What the calls take, beside the same in plain Rust, and how many allocations those of an engine make. No part of the
+# gate; needs rustc and cc.
 bench:
 	@$(MAKE) -s -C crates/bench/rust bench
 	@$(MAKE) -s -C crates/bench_bus/rust bench
 	@mkdir -p crates/bench_engine/out
 	@cd crates/bench_engine && rt run > out/bench.log 2>&1 || { cat out/bench.log; exit 1; }
 	@cd crates/bench_engine && rt run -- --time
-	@memory/count.sh
+	@tools/memory/count.sh
 
-# The edits beyond one for each public function: the prover must refuse each. No part of the gate.
+# The edits that the gate leaves out, of all crates or of one: `make edits CRATE=names`. The prover must refuse each.
 edits:
-	@./more-edits.sh
+	@tools/edits.sh $(CRATE)
+
+# Writes the table of docs/GATE.md: the sizes of the crates and what stands on each.
+sizes:
+	@tools/sizes.sh

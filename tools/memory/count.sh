@@ -1,10 +1,10 @@
 #!/usr/bin/env bash
 # How many allocations a round of each work of bench_engine makes: what a thousand rounds more make, by the thousand.
 set -euo pipefail
-cd "$(dirname "$0")/.."
+cd "$(dirname "$0")/../.."
 room=$(mktemp -d)
 trap 'rm -rf "$room"' EXIT
-cc -O2 -shared -fPIC -o "$room/count.so" memory/count.c
+cc -O2 -shared -fPIC -o "$room/count.so" tools/memory/count.c
 
 made() {
     LD_PRELOAD=$room/count.so crates/bench_engine/out/bench_engine --rounds "$1" 9> "$room/made$1" > "$room/works"

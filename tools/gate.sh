@@ -1,16 +1,18 @@
 #!/usr/bin/env bash
 # The gate: `rt ci`, and then each allocation of three of the programs that it built refused in turn.
-# Its last line is the count of `rt ci` with these three programs in it.
+# It is red where an edit is not well formed, too. Its last line is the count of `rt ci` with these three programs in it.
 set -uo pipefail
-cd "$(dirname "$0")"
+cd "$(dirname "$0")/.."
 
 passed=0
 failed=1
+bad=0
 while IFS= read -r line; do
     if [[ $line =~ ^([0-9]+)' passed, '([0-9]+)' failed'$ ]]; then
         passed=${BASH_REMATCH[1]}
         failed=${BASH_REMATCH[2]}
     else
+        [[ $line == *'BAD EDIT'* ]] && bad=$((bad + 1))
         printf '%s\n' "$line"
     fi
 done < <(rt ci)
@@ -18,11 +20,19 @@ done < <(rt ci)
 if [ "$failed" = 0 ]; then
     if ! command -v cc > /dev/null; then
         echo "there is no C compiler here: no allocation was refused"
-    elif memory/check.sh; then
+    elif tools/memory/check.sh; then
         passed=$((passed + 3))
     else
         failed=1
     fi
 fi
+if [ "$bad" != 0 ]; then
+    echo "$bad edits are not well formed: each is to be mended or removed"
+    failed=$((failed + bad))
+fi
+times | awk 'NR == 2 {
+    split($1, user, /[ms]/); split($2, system, /[ms]/)
+    printf "processor minutes of this run: %d\n", user[1] + system[1] + (user[2] + system[2]) / 60
+}'
 echo "$passed passed, $failed failed"
 [ "$failed" = 0 ]

@@ -2,11 +2,11 @@
 # Refuses each allocation of busd, of scarce_memory and of scarce_buses in turn, and stops where one answers otherwise than it
 # should.
 set -euo pipefail
-cd "$(dirname "$0")/.."
+cd "$(dirname "$0")/../.."
 crates=$PWD/crates
 room=$(mktemp -d)
 trap 'rm -rf "$room"' EXIT
-cc -O2 -shared -fPIC -o "$room/refuse.so" memory/refuse.c
+cc -O2 -shared -fPIC -o "$room/refuse.so" tools/memory/refuse.c
 
 # with NUMBER PROGRAM ARGUMENT..: runs a program whose allocation of that number is refused
 with() {

@@ -1,8 +1,8 @@
 #!/usr/bin/env bash
 # Tries the edits of crates/NAME/more-edits, of all crates or of those that are named: the prover must refuse each.
-# The gate leaves them out: it tries one for each public function, which stand in crates/NAME/must-fail.
+# The gate leaves them out: it tries those of crates/NAME/must-fail.
 set -euo pipefail
-cd "$(dirname "$0")"
+cd "$(dirname "$0")/.."
 
 room=$(mktemp -d)
 trap 'rm -rf "$room"' EXIT
