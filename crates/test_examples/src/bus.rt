@@ -1,0 +1,30 @@
+//! A bus in one thread.
+
+use names::BusName;
+use owner_queues::{Profile, RequestFlags};
+use seq_bus::{SeqBus, can_open};
+use seq_bus_core::{Change, Query};
+use std::test::Fail;
+
+#[test]
+fn a_plain_bus_gives_a_name_to_a_connection(rt: HostRuntime) -> Result<(), Fail> {
+    if !can_open(&[], 1) {
+        return Err("a bus needs a router".into());
+    }
+    let mut bus = SeqBus::new(rt.alloc(), &[], 1, Profile::Two)?;
+    let hello = Change::Hello { privileged: false };
+    bus.change(hello).ok().ok_or("out of memory")?;
+
+    let name = BusName::parse("com.example.Clock")?;
+    let request = Change::Request {
+        connection: 1,
+        name,
+        flags: RequestFlags::default(),
+    };
+    bus.change(request).ok().ok_or("out of memory")?;
+
+    let mut body = Vec::new(rt.alloc());
+    bus.ask(&Query::GetNameOwner(name), &mut body)?;
+    assert_eq!(rt; body.as_slice(), b"\x04\0\0\0:1.1\0".as_slice());
+    Ok(())
+}
