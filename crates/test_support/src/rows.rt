@@ -6,7 +6,8 @@ use std::fmt;
 /// A line of a table, in its columns, with ` | ` between them. A column `-` is empty, and so is one that isn't there.
 #[derive(Drop)]
 pub struct Row<'a> {
-    columns: Vec<&'a str>,
+    /// The columns as they stand in the line.
+    pub columns: Vec<&'a str>,
 }
 
 impl<'a> Row<'a> {
@@ -14,11 +15,6 @@ impl<'a> Row<'a> {
         Ok(Row {
             columns: line.split(" | ").collect(alloc)?,
         })
-    }
-
-    /// The columns from a place on, as they stand in the line.
-    pub fn from(&self, place: usize) -> &[&'a str] {
-        self.columns.get(place..).unwrap_or(&[])
     }
 
     /// The text of a column.

@@ -1,12 +1,4 @@
-//! Assertions.
-
-use std::fmt::Debug;
-use std::process::Abort;
-
-/// Asserts that what is found is what is wanted.
-pub fn same<T: PartialEq + Debug>(rt: &impl Abort, found: &T, wanted: &T) {
-    assert_eq!(rt; *found, *wanted);
-}
+//! The second try.
 
 /// What a call makes, which is made once more where the first try is refused, as it is where one allocation fails.
 #[macro_export]
