@@ -1,5 +1,0 @@
-use Rattle.std.specs.Prelude.{refl}
-use Rattle.bus_rows.proofs.limits.no_65th_name.Goals as goal
-
-pub returns : goal.returns
-returns c = (refl, refl, refl, refl)

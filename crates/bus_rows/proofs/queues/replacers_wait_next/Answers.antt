@@ -1,7 +1,0 @@
-use Rattle.std.specs.Prelude.{refl}
-use Rattle.std.specs.Fmt.{digits}
-use Rattle.bus_rows.proofs.queues.replacers_wait_next.Goals as goal
-
-pub returns : goal.returns
-unfolding digits
-returns c = refl

@@ -1,5 +1,0 @@
-use Rattle.std.specs.Prelude.{refl}
-use Rattle.bus_rows.proofs.routers.one_router_has_256_places.Goals as goal
-
-pub returns : goal.returns
-returns c = (refl, refl)

@@ -1,8 +1,0 @@
-//! Limits.
-
-ghost use Rattle.bus_rows.specs.LimitRows.{No65thName};
-
-/// A connection that owns or waits for 64 names gets no other.
-pub fn no_65th_name()
-    ensures { No65thName }
-{}
