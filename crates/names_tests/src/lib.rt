@@ -1,5 +1,0 @@
-//! Names read and shown, in a crate of their own so that `names` is proved once.
-#![tactic(auto)]
-
-#[cfg(test)]
-mod texts;
