@@ -11,8 +11,6 @@ mod message_facts;
 mod parts;
 mod putting;
 mod relaying;
-#[cfg(test)]
-mod tests;
 
 pub use fault::RelayFault;
 pub use message_facts::{facts, put_arguments};

@@ -1,0 +1,49 @@
+//! What the libraries of messages, of their relaying and of the bus's own protocol say of the rows of a table.
+//!
+//! A row is a line of standard input: what is asked, and then its columns, as [`test_support::Row`] has them. Rows `message` and
+//! `stream` bring bytes, and rows below may ask more of these. The line of the same number answers. Empty lines and headings are
+//! repeated.
+#![tactic(auto)]
+
+mod driver_rows;
+mod header_rows;
+mod message_rows;
+mod relay_rows;
+mod stream_rows;
+
+use message::FrameFault;
+use std::alloc::Global;
+use std::io;
+use std::io::{BufRead, BufReader};
+use test_support::Row;
+
+fn answer(alloc: Global, row: &Row<'_>, bytes: &[u8]) -> Result<String, FrameFault> {
+    match row.text(0) {
+        "call" | "reply" | "error-reply" | "signal" => driver_rows::driver(alloc, row),
+        "body" | "values" => header_rows::made(alloc, row),
+        "again" | "relayed" | "facts" => relay_rows::relayed(alloc, row, bytes),
+        "stream" | "pieces" | "cuts" | "long" | "byte" => stream_rows::stream(alloc, row, bytes),
+        _ => message_rows::message(alloc, row, bytes),
+    }
+}
+
+fn main(rt: HostRuntime) -> io::Result<()> {
+    let alloc = rt.alloc();
+    let mut bytes = Vec::new(alloc);
+    for line in BufReader::new(alloc, rt.reader())?.lines(alloc) {
+        let line = line?;
+        if line.is_empty() || line.as_str().starts_with('#') {
+            println!(rt; "{line}")?;
+            continue;
+        }
+        let row = Row::new(alloc, line.as_str())?;
+        if matches!(row.text(0), "message" | "stream") {
+            bytes = row.bytes(alloc, 1)?;
+        }
+        match answer(alloc, &row, &bytes) {
+            Ok(told) => println!(rt; "{told}")?,
+            Err(fault) => println!(rt; "{}: {fault}", fault.code())?,
+        }
+    }
+    Ok(())
+}

@@ -1,0 +1,48 @@
+//! Rows of messages that are written again.
+
+use crate::message_rows::only;
+use message::{FrameFault, Message, RelayFault, facts, relayed_length, with_sender, write};
+use names::UniqueName;
+use std::alloc::Global;
+use test_support::{Escaped, Row};
+
+/// `again`: the bytes that the message is written as. `relayed`: the same behind what stands there, as from `:1.1`, and its length.
+/// `facts`: what rules and routing see of the message.
+pub fn relayed(alloc: Global, row: &Row<'_>, bytes: &[u8]) -> Result<String, FrameFault> {
+    let Some(message) = only(alloc, bytes)? else {
+        return Ok(String::from_str(alloc, "no message")?);
+    };
+    let mut output = Vec::new(alloc);
+    let written = match row.text(0) {
+        "facts" => return seen(alloc, &message),
+        "again" => write(&message, &mut output),
+        _ => {
+            output.extend_from_slice(b"rest")?;
+            with_sender(&message, &UniqueName::of(1), &mut output)
+        }
+    };
+    match written {
+        Ok(()) => told(alloc, &output, relayed_length(&message, &UniqueName::of(1))),
+        Err(fault) => Ok(format!(in alloc; "{}: {fault}", fault.code())?),
+    }
+}
+
+fn told(
+    alloc: Global,
+    output: &[u8],
+    length: Result<usize, RelayFault>,
+) -> Result<String, FrameFault> {
+    Ok(format!(in alloc; "{} {length:?}", Escaped(output))?)
+}
+
+fn seen(alloc: Global, message: &Message) -> Result<String, FrameFault> {
+    let facts = facts(message);
+    let mut text = format!(in alloc; "{} {} {}", facts.kind, facts.auto_start, facts.sender)?;
+    for part in [facts.path, facts.interface, facts.member, facts.destination] {
+        write!(text, " {}", part.unwrap_or("-"))?;
+    }
+    for argument in facts.arguments.as_slice() {
+        write!(text, " {argument:?}")?;
+    }
+    Ok(text)
+}

@@ -1,0 +1,155 @@
+//! Rows of streams that come in pieces.
+
+use message::{FrameFault, Framer};
+use std::alloc::{AllocError, Global};
+use test_support::Row;
+use test_support::messages::HELLO;
+
+/// `stream | BYTES | CUT`: the lengths of the messages where the bytes come in two owned pieces, and whether these are the bytes.
+/// `pieces`: whether the message comes with its last byte, where each is a piece. `cuts`: whether it comes wherever it is cut, and
+/// whether, with any one byte 0 or 255, it is told to be the same wherever it is cut. `long | LENGTH | BYTES`: the lengths of a body
+/// and of a message of bytes and then 7s. `byte | PLACE | BYTE`: the fault where one byte is another, and whether it is told again.
+pub fn stream(alloc: Global, row: &Row<'_>, bytes: &[u8]) -> Result<String, FrameFault> {
+    match row.text(0) {
+        "stream" => owned(alloc, bytes, row.number(2) as usize),
+        "pieces" => pieces(alloc, bytes),
+        "cuts" => cuts(alloc, bytes),
+        "long" => long(alloc, row),
+        _ => {
+            let other = row.bytes(alloc, 2)?;
+            let changed = changed(
+                alloc,
+                bytes,
+                row.number(1) as usize,
+                other.first().copied().unwrap_or(0),
+            )?;
+            fault(alloc, &changed)
+        }
+    }
+}
+
+/// The bytes with one that is another.
+fn changed(alloc: Global, bytes: &[u8], place: usize, other: u8) -> Result<Vec<u8>, AllocError> {
+    let mut changed = Vec::from_slice(alloc, bytes)?;
+    if let Some(slot) = changed.get_mut(place) {
+        *slot = other;
+    }
+    Ok(changed)
+}
+
+fn fault(alloc: Global, bytes: &[u8]) -> Result<String, FrameFault> {
+    let mut framer = Framer::new(alloc);
+    for byte in bytes {
+        framer.feed(&[*byte])?;
+    }
+    let Err(fault) = framer.next() else {
+        return Ok(String::from_str(alloc, "no fault")?);
+    };
+    framer.feed(HELLO)?;
+    let again = framer.next().err() == Some(fault);
+    Ok(format!(in alloc; "{}: {fault} {again}", fault.code())?)
+}
+
+fn owned(alloc: Global, bytes: &[u8], cut: usize) -> Result<String, FrameFault> {
+    let (front, rest) = split(bytes, cut);
+    let mut text = String::new(alloc);
+    let mut found = Vec::new(alloc);
+    let mut framer = Framer::new(alloc);
+    framer.feed_owned(Vec::from_slice(alloc, front)?)?;
+    take(&mut framer, &mut text, &mut found)?;
+    framer.feed_owned(Vec::from_slice(alloc, rest)?)?;
+    take(&mut framer, &mut text, &mut found)?;
+    write!(text, "{}", found.as_slice() == bytes)?;
+    Ok(text)
+}
+
+fn split(bytes: &[u8], cut: usize) -> (&[u8], &[u8]) {
+    bytes
+        .split_at_checked(cut)
+        .unwrap_or((bytes, b"".as_slice()))
+}
+
+/// Takes the messages that are there, of which there are few.
+fn take(framer: &mut Framer, text: &mut String, found: &mut Vec<u8>) -> Result<(), FrameFault> {
+    for _message in 0..4u8 {
+        let Some(message) = framer.next()? else {
+            return Ok(());
+        };
+        write!(text, "{} ", message.as_bytes().len())?;
+        found.extend_from_slice(message.as_bytes())?;
+    }
+    Ok(())
+}
+
+fn pieces(alloc: Global, bytes: &[u8]) -> Result<String, FrameFault> {
+    let mut framer = Framer::new(alloc);
+    for (place, byte) in bytes.iter().enumerate() {
+        if framer.next()?.is_some() {
+            return Ok(format!(in alloc; "at {place}")?);
+        }
+        framer.feed(&[*byte])?;
+    }
+    let found = framer.next()?;
+    let is_same = matches!(&found, Some(message) if message.as_bytes() == bytes);
+    Ok(format!(in alloc; "{is_same}")?)
+}
+
+/// What a framer answers to bytes that come in two pieces: whether there is a message, or the fault.
+fn cut_at(alloc: Global, bytes: &[u8], cut: usize) -> Result<Result<bool, FrameFault>, AllocError> {
+    let (front, rest) = split(bytes, cut);
+    let mut framer = Framer::new(alloc);
+    framer.feed(front)?;
+    match framer.next() {
+        Ok(None) => {}
+        Ok(Some(_)) => return Ok(Ok(true)),
+        Err(fault) => return Ok(Err(fault)),
+    }
+    framer.feed(rest)?;
+    Ok(framer.next().map(|found| found.is_some()))
+}
+
+/// Where the answer is another than that to the bytes in one piece.
+fn other_cut(alloc: Global, bytes: &[u8]) -> Result<Option<usize>, AllocError> {
+    let whole = cut_at(alloc, bytes, 0)?;
+    for cut in 0..bytes.len() {
+        if cut_at(alloc, bytes, cut)? != whole {
+            return Ok(Some(cut));
+        }
+    }
+    Ok(None)
+}
+
+fn cuts(alloc: Global, bytes: &[u8]) -> Result<String, FrameFault> {
+    let mut text = format!(in alloc;
+        "{:?} {:?}",
+        cut_at(alloc, bytes, 0)?,
+        other_cut(alloc, bytes)?
+    )?;
+    for place in 0..bytes.len() {
+        for other in [0, 255] {
+            if let Some(cut) = other_cut(alloc, &changed(alloc, bytes, place, other)?)? {
+                write!(text, ", {other} at {place} cut at {cut}")?;
+            }
+        }
+    }
+    Ok(text)
+}
+
+fn long(alloc: Global, row: &Row<'_>) -> Result<String, FrameFault> {
+    let mut bytes = row.bytes(alloc, 2)?;
+    bytes.resize(row.number(1) as usize, 7)?;
+    let mut framer = Framer::new(alloc);
+    for piece in bytes.chunks(65_536) {
+        if framer.next()?.is_some() {
+            return Ok(String::from_str(alloc, "too early")?);
+        }
+        framer.feed(piece)?;
+    }
+    match framer.next()? {
+        Some(message) => {
+            let is_same = message.as_bytes() == bytes.as_slice();
+            Ok(format!(in alloc; "{} {} {is_same}", message.body().len(), bytes.len())?)
+        }
+        None => Ok(String::from_str(alloc, "no message")?),
+    }
+}
