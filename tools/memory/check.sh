@@ -1,5 +1,5 @@
 #!/usr/bin/env bash
-# Refuses each allocation of busd, of scarce_memory and of scarce_buses in turn, and stops where one answers otherwise than it
+# Refuses each allocation of busd and of test_scarce in turn, and stops where one answers otherwise than it
 # should.
 set -euo pipefail
 cd "$(dirname "$0")/../.."
@@ -64,5 +64,4 @@ same() {
     echo "$1: $count allocations refused in turn, each answered as it should be"
 }
 
-same scarce_memory
-same scarce_buses
+same test_scarce

@@ -7,19 +7,7 @@ use message::{
 };
 use names::{BusName, UniqueName};
 use std::alloc::Global;
-
-/// A call of Hello, little-endian.
-const HELLO: &[u8] =
-    b"l\x01\0\x01\0\0\0\0\x01\0\0\0m\0\0\0\x01\x01o\0\x15\0\0\0/org/freedesktop/DBus\0\0\0\
-    \x02\x01s\0\x14\0\0\0org.freedesktop.DBus\0\0\0\0\x03\x01s\0\x05\0\0\0Hello\0\0\0\x06\
-    \x01s\0\x14\0\0\0org.freedesktop.DBus\0\0\0\0";
-
-/// A call of GetNameOwner, big-endian.
-const GET_NAME_OWNER: &[u8] =
-    b"B\x01\0\x01\0\0\0\x09\0\0\0\x02\0\0\0\x7f\x01\x01o\0\0\0\0\x15/org/freedesktop/DBus\0\
-    \0\0\x02\x01s\0\0\0\0\x14org.freedesktop.DBus\0\0\0\0\x03\x01s\0\0\0\0\x0cGetNameOwn\
-    er\0\0\0\0\x06\x01s\0\0\0\0\x14org.freedesktop.DBus\0\0\0\0\x08\x01g\0\x01s\0\0\0\0\0\
-    \x04:1.1\0";
+use test_support::messages::{GET_NAME_OWNER, HELLO};
 
 /// A return to `:1.2` with a field that the standard does not name.
 const UNKNOWN_FIELD: &[u8] =

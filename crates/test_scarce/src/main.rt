@@ -1,13 +1,16 @@
 //! What calls answer where memory is refused.
 //!
-//! The program reads and writes bodies and messages, and says of each whether the calls answered as
-//! they should: with what was wanted; or that memory ran out, all as it was before, and with what was
-//! wanted once they are made again. It prints the same whichever one allocation is refused:
-//! `make memory` refuses each in turn.
+//! The program reads and writes bodies and messages, opens a plain bus and a registry of two routers, and makes the same changes on
+//! both. It says of each whether the calls answered as they should: with what was wanted; or that memory ran out, all as it was
+//! before, and with what was wanted once they are made again. It prints the same whichever one allocation is refused: `make memory`
+//! refuses each in turn.
 #![tactic(auto)]
 
+mod changes;
 mod codec;
 mod messages;
+mod plain;
+mod seats;
 
 use marshal::Order;
 use std::io;
@@ -67,5 +70,9 @@ fn main(rt: HostRuntime) -> io::Result<()> {
     let relayed = told(messages::is_relayed(rt.alloc()).unwrap_or(false));
     println!(rt; "relayed: {relayed}")?;
     let made = told(messages::is_made(rt.alloc()).unwrap_or(false));
-    println!(rt; "made: {made}")
+    println!(rt; "made: {made}")?;
+    let plain = told(plain::is_answered(rt.alloc()).unwrap_or(false));
+    println!(rt; "plain bus: {plain}")?;
+    let seats = told(seats::are_answered(&rt, rt.alloc()).unwrap_or(false));
+    println!(rt; "seats: {seats}")
 }
