@@ -1,0 +1,11 @@
+pub mod Settings
+pub mod Lines
+pub mod Table
+pub mod Conversations
+pub mod Hearing
+pub mod Words
+pub mod Servers
+pub mod Keyrings
+pub mod Entries
+pub mod Faults
+pub mod Laws

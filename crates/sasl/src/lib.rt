@@ -1,0 +1,29 @@
+//! Authentication of a client, as its bytes come: the server's side of the conversation that goes before the first message.
+//!
+//! [`Server`] is one conversation. `specs/Table.antt` is the table of its states, `specs/Conversations.antt` what a whole
+//! conversation is, after "Authentication Protocol" of the D-Bus Specification, with the mechanisms DBUS_COOKIE_SHA1 and, where
+//! it is allowed, ANONYMOUS. [`read_keyring`] reads the cookies of the former. The laws stand in [`laws`].
+#![tactic(auto)]
+
+mod command;
+mod cookie;
+mod digest;
+mod fault;
+mod identity;
+mod keyring;
+pub mod laws;
+mod phase;
+mod reply;
+mod server;
+mod setting;
+mod step;
+mod words;
+
+pub use cookie::Cookie;
+pub use digest::cookie_digest;
+pub use fault::{AuthenticationFault, KeyringCode, KeyringFault};
+pub use identity::Identity;
+pub use keyring::read_keyring;
+pub use phase::{Awaited, Phase};
+pub use server::Server;
+pub use step::{Progress, Step};
