@@ -20,6 +20,7 @@ use Rattle.sasl.specs.Conversations.{State, at, after}
 
 -- ## A line
 
+-- a reply, and the state after
 abbrev pub Answer : Type 0
 Answer = Reply × Phase
 
@@ -32,22 +33,27 @@ accepted identity = (Accept, WaitingForBegin identity)
 abbrev pub challenged : Answer
 challenged = (Challenge, WaitingForData Digest)
 
+-- whether bytes were found, and these
 abbrev pub are : List ℕ → Option (List ℕ) → Bool
 are bytes (Some found) = bytes_eq found bytes
 are bytes None = false
 
+-- no words
 abbrev pub is_nil : List Word → Bool
 is_nil [] = true
 is_nil (word ∷ words) = false
 
+-- AUTH DBUS_COOKIE_SHA1, and the word behind it
 abbrev pub named : Setting → Option Word → Answer
 named s None = (AskName, WaitingForData Name)
 named s (Some name) = if are s.login.user (hex_value name) then challenged else rejected
 
+-- AUTH ANONYMOUS where that is allowed, and the word behind it
 abbrev pub traced : Option Word → Answer
 traced None = accepted Anonymous
 traced (Some trace) = if is_some (hex_value trace) then accepted Anonymous else rejected
 
+-- AUTH with this mechanism, and the word behind that
 abbrev pub attempted_by : Setting → Word → Option Word → Answer
 attempted_by s mechanism word =
     if bytes_eq mechanism cookie_sha1 then named s word
@@ -61,6 +67,7 @@ attempted s (mechanism ∷ []) = attempted_by s mechanism None
 attempted s (mechanism ∷ word ∷ []) = attempted_by s mechanism (Some word)
 attempted s (mechanism ∷ word ∷ another ∷ others) = rejected
 
+-- a challenge of the client and the right digest
 abbrev pub shows_parts : Setting → List Word → Bool
 shows_parts s (client ∷ digest ∷ []) = not (bytes_eq client []) && bytes_eq digest (cookie_digest (challenge_text s) client s.login.cookie.secret)
 shows_parts s [] = false
@@ -72,6 +79,7 @@ abbrev pub shows_cookie : Setting → Option (List ℕ) → Bool
 shows_cookie s (Some said) = shows_parts s (slice_split (λ b. b == space) said)
 shows_cookie s None = false
 
+-- DATA with this word behind it
 abbrev pub responded_with : Setting → Awaited → Word → Answer
 responded_with s Name name = if are s.login.user (hex_value name) then challenged else rejected
 responded_with s Digest word = if shows_cookie s (hex_value word) then accepted User else rejected
@@ -107,6 +115,7 @@ answer_command s (WaitingForBegin identity) Error words = rejected
 answer_command s (WaitingForBegin identity) Cancel words = rejected
 answer_command s phase command words = (NotUnderstood, phase)
 
+-- the words behind the first
 abbrev pub behind : List Word → List Word
 behind [] = []
 behind (word ∷ words) = words
@@ -123,6 +132,7 @@ pub record Conversed : Type 0 where
   pub state : State
   pub left : List ℕ
 
+-- where nothing is said
 abbrev pub silent : State → List ℕ → Conversed
 silent state left = record { sent = []; state = state; left = left }
 
