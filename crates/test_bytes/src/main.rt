@@ -1,10 +1,12 @@
-//! What the libraries of names, match rules, signatures, bodies and values say of the rows of a table.
+//! What the libraries of names, match rules, signatures, bodies, values and authentication say of the rows of a table.
 //!
 //! A row is a line of standard input: what is asked, and then its columns, as [`test_support::Row`] has them. The line of the
 //! same number answers it. Empty lines and headings are repeated.
 #![tactic(auto)]
 
+mod authentication;
 mod body_rows;
+mod keyrings;
 mod name_rows;
 mod rule_rows;
 mod signature_rows;
@@ -21,6 +23,8 @@ fn answer(alloc: Global, row: &Row<'_>) -> Result<String, AllocError> {
         "arguments" => body_rows::arguments(alloc, row),
         "signature" | "signature-bytes" => signature_rows::signature(alloc, row),
         "kind" | "rule" | "no-keys" | "same" | "fits" => rule_rows::rule(alloc, row),
+        "talk" | "letters" | "digest" | "sha1" => authentication::authentication(alloc, row),
+        "keyring" => keyrings::keyring(alloc, row),
         "string" | "object" | "print" | "write" => value_rows::value(alloc, row),
         _ => name_rows::name(alloc, row),
     }

@@ -1,11 +1,12 @@
 //! What calls answer where memory is refused.
 //!
-//! The program reads and writes bodies and messages, opens a plain bus and a registry of two routers, and makes the same changes on
+//! The program reads and writes bodies and messages, lets a client in, opens a plain bus and a registry of two routers, and makes the same changes on
 //! both. It says of each whether the calls answered as they should: with what was wanted; or that memory ran out, all as it was
 //! before, and with what was wanted once they are made again. It prints the same whichever one allocation is refused: `make memory`
 //! refuses each in turn.
 #![tactic(auto)]
 
+mod authentication;
 mod changes;
 mod codec;
 mod messages;
@@ -74,5 +75,7 @@ fn main(rt: HostRuntime) -> io::Result<()> {
     let plain = told(plain::is_answered(rt.alloc()).unwrap_or(false));
     println!(rt; "plain bus: {plain}")?;
     let seats = told(seats::are_answered(&rt, rt.alloc()).unwrap_or(false));
-    println!(rt; "seats: {seats}")
+    println!(rt; "seats: {seats}")?;
+    let let_in = told(authentication::is_let_in(rt.alloc()));
+    println!(rt; "authentication: {let_in}")
 }
