@@ -1,5 +1,5 @@
 -- What contracts see of a server, and what it makes of a piece of its client's bytes.
-use Rattle.std.specs.Prelude.{◌≡◌, ℕ, ◌<◌, true, false, List, [], ◌++◌, length}
+use Rattle.std.specs.Prelude.{◌≡◌, ℕ, ◌<◌, true, false, List, [], ◌∷◌, ◌++◌, length}
 use Rattle.sasl.specs.declared.fault.AuthenticationFault.TheVariants.{NoMemory}
 use Rattle.sasl.specs.declared.phase.Phase.{Phase}
 use Rattle.sasl.specs.declared.phase.Phase.TheVariants.{Done, Closed}
@@ -8,7 +8,7 @@ use Rattle.sasl.specs.declared.step.Progress.{Progress}
 use Rattle.sasl.specs.declared.step.Progress.TheVariants as progress
 use Rattle.sasl.specs.Settings.{Setting}
 use Rattle.sasl.specs.Lines.{max_line, has_end}
-use Rattle.sasl.specs.Hearing.{Conversed}
+use Rattle.sasl.specs.Hearing.{Conversed, heard, heard_in_line, heard_line}
 use Rattle.sasl.specs.Conversations.{State, at, opening, is_open, reads_lines, max_rejections, Converses}
 
 -- what it is set up with, how far the conversation has come, and the bytes of a line that has no end yet
@@ -65,6 +65,18 @@ pub record IsCutOff (old : Speaker) (piece : List ℕ) (step : Step) (new : Spea
   pub cause : step.progress ≡ progress.Closed NoMemory
   pub state : new.state ≡ at (Closed NoMemory) reached.rejections
   pub setting : new.setting ≡ old.setting
+
+-- what one more byte brings a server
+abbrev pub brought_by : Speaker → ℕ → Conversed
+brought_by x b = heard x.setting x.state x.unfinished b
+
+-- the same where lines are awaited
+abbrev pub brought_in_line : Speaker → ℕ → Conversed
+brought_in_line x b = heard_in_line x.setting x.state.phase x.state.rejections (x.unfinished ++ b ∷ [])
+
+-- what it brings that the unfinished line has ended
+abbrev pub brought_by_line : Speaker → Conversed
+brought_by_line x = heard_line x.setting x.state.phase x.state.rejections x.unfinished
 
 -- Bytes were heard: this became of the server, and of what is to be sent.
 abbrev pub Hears : Speaker → Conversed → List ℕ → Speaker → List ℕ → Type 0

@@ -4,7 +4,6 @@ ghost use Rattle.std.specs.Prelude.{◌≡◌, ◌⊎◌, ◌<◌, ◌≤◌, tr
 ghost use Rattle.std.specs.Arc.{arc_str_bytes};
 ghost use Rattle.sasl.specs.declared.phase.Phase.TheVariants.{Closed as closed};
 ghost use Rattle.sasl.specs.Conversations.{after, at, is_open, reads_lines};
-ghost use Rattle.sasl.specs.Hearing.{heard, heard_in_line, heard_line};
 
 use crate::reply::Reply;
 use crate::setting::Setting;
@@ -63,7 +62,7 @@ fn after(reply: Reply, next: Phase, rejections: u64) -> (Phase, u64)
 }
 
 impl Server {
-    ghost use Rattle.sasl.specs.Servers.{GoesOn, HandsOn, Hears, HearsNothing, IsCutOff, IsTold, newcomer};
+    ghost use Rattle.sasl.specs.Servers.{GoesOn, HandsOn, Hears, HearsNothing, IsCutOff, IsTold, brought_by, brought_by_line, brought_in_line, newcomer};
 
     /// A server that has heard nothing. It has the sixteen bytes of its GUID, the name of the user whose cookie this is, a challenge
     /// of sixteen bytes that nobody can guess, and lets anonymous clients in or not. No memory is taken.
@@ -96,7 +95,8 @@ impl Server {
     ///
     /// `Closed` with the fault that the bytes so far have, or with `NoMemory`, only where memory was refused, and then for good.
     pub fn feed<'a>(&mut self, piece: &'a [u8]) -> Step<'a>
-        ensures { GoesOn self.old piece.now result self.new ⊎ IsCutOff self.old piece.now result self.new }
+        ensures { GoesOn self.old piece.now result self.new
+            ⊎ IsCutOff self.old piece.now result self.new }
     {
         let mut sent = Vec::new(self.alloc);
         let mut used = 0;
@@ -128,7 +128,10 @@ impl Server {
 
     /// Closes the conversation.
     fn close(&mut self, fault: AuthenticationFault)
-        ensures { self.new ≡ record self.old { state = at (closed fault) self.old.state.rejections; unfinished = [] } }
+        ensures { self.new ≡ record self.old {
+          state = at (closed fault) self.old.state.rejections;
+          unfinished = [];
+        } }
     {
         self.phase = Phase::Closed(fault);
         self.line.clear();
@@ -137,7 +140,7 @@ impl Server {
     /// Takes one byte, and adds what is to be sent.
     fn hear(&mut self, byte: u8, sent: &mut Vec<u8>) -> Result<(), AllocError>
         requires { is_open self.old.state.phase ≡ true }
-        ensures ok { OnOk result (Hears self.old (heard self.old.setting self.old.state self.old.unfinished byte) sent.old.items self.new sent.new.items) }
+        ensures ok { OnOk result (Hears self.old (brought_by self.old byte) sent.old.items self.new sent.new.items) }
         ensures err { OnErr result (HearsNothing self.old sent.old.items self.new sent.new.items) }
     {
         if let Phase::WaitingForNul = self.phase {
@@ -154,7 +157,7 @@ impl Server {
     /// Takes one byte of a line, and adds what is to be sent.
     fn hear_in_line(&mut self, byte: u8, sent: &mut Vec<u8>) -> Result<(), AllocError>
         requires { reads_lines self.old.state.phase ≡ true }
-        ensures ok { OnOk result (Hears self.old (heard_in_line self.old.setting self.old.state.phase self.old.state.rejections (self.old.unfinished ++ byte ∷ [])) sent.old.items self.new sent.new.items) }
+        ensures ok { OnOk result (Hears self.old (brought_in_line self.old byte) sent.old.items self.new sent.new.items) }
         ensures err { OnErr result (HearsNothing self.old sent.old.items self.new sent.new.items) }
     {
         if completes_end(&self.line, byte) {
@@ -172,7 +175,7 @@ impl Server {
     /// Answers the line that has come, without its end, and adds what is to be sent.
     fn hear_line(&mut self, sent: &mut Vec<u8>) -> Result<(), AllocError>
         requires { reads_lines self.old.state.phase ≡ true }
-        ensures ok { OnOk result (Hears self.old (heard_line self.old.setting self.old.state.phase self.old.state.rejections self.old.unfinished) sent.old.items self.new sent.new.items) }
+        ensures ok { OnOk result (Hears self.old (brought_by_line self.old) sent.old.items self.new sent.new.items) }
         ensures err { OnErr result (HearsNothing self.old sent.old.items self.new sent.new.items) }
     {
         let (reply, next) = self.setting.answer(self.alloc, self.phase, &self.line)?;

@@ -213,7 +213,8 @@ impl Setting {
         mechanism: &[u8],
         word: Option<&[u8]>,
     ) -> Result<Answer, AllocError>
-        ensures { IfOk result (λ turn. turn ≡ attempted_by self.now mechanism.now (option_map (λ w. w.now) word.entry)) }
+        ensures { IfOk result (λ turn.
+            turn ≡ attempted_by self.now mechanism.now (option_map (λ w. w.now) word.entry)) }
     {
         if mechanism == COOKIE_SHA1 {
             self.named(alloc, word)
