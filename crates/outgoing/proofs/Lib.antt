@@ -1,0 +1,3 @@
+pub mod Flushings
+pub mod PartLemmas
+pub mod Reaching

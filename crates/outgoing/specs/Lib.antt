@@ -1,0 +1,3 @@
+pub mod Flushing
+pub mod Laws
+pub mod Parts
