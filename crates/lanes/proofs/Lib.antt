@@ -1,0 +1,5 @@
+pub mod Giving
+pub mod Grouping
+pub mod Lists
+pub mod Picks
+pub mod Rules
