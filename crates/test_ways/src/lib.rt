@@ -4,6 +4,8 @@
 #[cfg(test)]
 mod lanes_tests;
 #[cfg(test)]
+mod outbox_tests;
+#[cfg(test)]
 mod outgoing_tests;
 #[cfg(test)]
 mod script;
