@@ -8,8 +8,6 @@
 mod again;
 mod plain;
 mod refusal;
-#[cfg(test)]
-mod tests;
 mod view;
 
 pub use again::Again;

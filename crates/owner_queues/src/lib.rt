@@ -15,6 +15,3 @@ pub use owner::QueuedOwner;
 pub use queue::{MAX_PLACES, Queue};
 pub use reply::Reply;
 pub use request::{ALLOW_REPLACEMENT, DO_NOT_QUEUE, Profile, REPLACE_EXISTING, RequestFlags};
-
-#[cfg(test)]
-mod tests;

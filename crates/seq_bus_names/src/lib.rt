@@ -9,6 +9,3 @@ mod owned_names;
 
 pub use name_entry::NameEntry;
 pub use owned_names::Names;
-
-#[cfg(test)]
-mod tests;
