@@ -126,7 +126,7 @@ impl<'a, J: Naming, R: Wait> Exchange<'a, J, R> {
 
     /// A client that has its name.
     fn greet(&mut self) -> Result<usize> {
-        let key = self.host.connect()?;
+        let key = self.host.connect(self.right)?;
         self.host.send(self.right, key, HELLO, HELLO.len())?;
         Ok(key)
     }

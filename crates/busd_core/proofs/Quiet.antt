@@ -32,7 +32,7 @@ module _ {N : Type 0} (seat key : ℕ) where
   sends (Close k cause) to message h = absurd (cc)
   sends (Run name start) to message h = absurd (cc)
 
-module _ {N G : Type 0} (told : N → History) (passes : G → GatedCall → G → Type 0) (alone : Bool) (seat key : ℕ) where
+module _ {N G : Type 0} (told : N → History) (registry_of : N → ℕ) (passes : G → GatedCall → G → Type 0) (alone : Bool) (seat key : ℕ) where
   -- what was done between is quiet
   pub record Adds (w v : World N G) : Type 0 where
     pub more : List (Action N)
@@ -42,7 +42,7 @@ module _ {N G : Type 0} (told : N → History) (passes : G → GatedCall → G �
   nothing : (w v : World N G) → v ≡ w → Adds w v
   nothing w v same = record { more = []; quiet = (refl, refl); grown = ap (λ (k : World N G). k.actions) same ∙ sym (append-nil w.actions) }
 
-  by_peer : (s t : Standing) (to : ℕ) (said : Said) (peer : Option Peer) (w v : World N G) → Comes told passes alone (for_peer s to peer (write to said)) w t v → Adds w v
+  by_peer : (s t : Standing) (to : ℕ) (said : Said) (peer : Option Peer) (w v : World N G) → Comes told registry_of passes alone (for_peer s to peer (write to said)) w t v → Adds w v
   by_peer s t to said None w v comes = nothing w v comes.1
   by_peer s t to (Relays bytes) (Some p) w v comes =
       let does = comes.1 in
@@ -51,16 +51,16 @@ module _ {N G : Type 0} (told : N → History) (passes : G → GatedCall → G �
       let does = comes.1 in
       record { more = does.action ∷ []; quiet = sends seat key does.action to _ does.done; grown = ap (λ (k : World N G). k.actions) (comes.2.1 ∙ does.rest) }
 
-  by_found : (s t : Standing) (said : Said) (found : Option ℕ) (w v : World N G) → Comes told passes alone (mail_found s said found) w t v → Adds w v
+  by_found : (s t : Standing) (said : Said) (found : Option ℕ) (w v : World N G) → Comes told registry_of passes alone (mail_found s said found) w t v → Adds w v
   by_found s t said None w v comes = nothing w v comes.1
   by_found s t said (Some to) w v comes = by_peer s t to said (peer_at s to) w v comes
 
-  pub mail_is_quiet : (before after : State G) (slot : ℕ) (envelope : Envelope N) (actions : List (Action N)) → envelope.note ≡ None → Brings told passes alone before (Mail slot envelope) actions after → IsQuiet seat key actions
+  pub mail_is_quiet : (before after : State G) (slot : ℕ) (envelope : Envelope N) (actions : List (Action N)) → envelope.note ≡ None → Brings told registry_of passes alone before (Mail slot envelope) actions after → IsQuiet seat key actions
   mail_is_quiet before after slot envelope actions none brings =
       let s = before.standing in
       let said = said_of envelope.content in
       let found : Option ℕ = position (is_conn slot envelope.number) s.peers in
       let w : World N G = record { view = before.view; gate = before.gate; actions = [] } in
-      let comes = subst (λ (note : Option N). Comes told passes alone (noted (option_map told note) (mail_found s said found)) w after.standing brings.ends) none brings.comes in
+      let comes = subst (λ (note : Option N). Comes told registry_of passes alone (noted (option_map told note) (mail_found s said found)) w after.standing brings.ends) none brings.comes in
       let adds = by_found s after.standing said found w brings.ends comes in
       subst (IsQuiet seat key) (sym (brings.done ∙ adds.grown)) adds.quiet

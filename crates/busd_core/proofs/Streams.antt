@@ -7,7 +7,7 @@ use Rattle.message_core.specs.declared.fault.FrameFault.{FrameFault}
 use Rattle.router_core.specs.declared.event.Event.{Event}
 use Rattle.router_core.specs.declared.event.Event.TheVariants as event
 use Rattle.router_core.specs.Deeds.{Deed}
-use Rattle.router_core.specs.Events.{Bytes, Closed, Mail, Next, Occasion, Opened, Tick, fed, occasion_of}
+use Rattle.router_core.specs.Events.{Bytes, Closed, Full, Mail, Next, Occasion, Opened, Tick, fed, occasion_of}
 use Rattle.router_core.specs.Fronts.{Front, Waits, Whole, Faulty}
 use Rattle.router_core.specs.OneThread.{Readers, ReadWell, Rest, given}
 use Rattle.router_core.specs.Standing.{Peer, Stage, Unnamed, Named, Shut, peer_at}
@@ -173,6 +173,7 @@ module _ (readers : Readers) (well : ReadWell readers) (seat key : ℕ) where
   as_at_once (Opened of ∷ occasions) all r rests n many = absurd all.0
   as_at_once (Mail slot number told said ∷ occasions) all r rests n many = absurd all.0
   as_at_once (Closed of ∷ occasions) all r rests n many = absurd all.0
+  as_at_once (Full number ∷ occasions) all r rests n many = absurd all.0
   as_at_once (Tick ∷ occasions) all r rests n many = absurd all.0
 
   -- ## From the first event on
@@ -185,6 +186,7 @@ module _ (readers : Readers) (well : ReadWell readers) (seat key : ℕ) where
     serving_is (event.Opened of ∷ events) all = absurd all.0
     serving_is (event.Mail slot envelope ∷ events) all = absurd all.0
     serving_is (event.Closed of ∷ events) all = absurd all.0
+    serving_is (event.Full number ∷ events) all = absurd all.0
     serving_is (event.Tick ∷ events) all = absurd all.0
 
     bytes_are : (events : List (Event N)) → flat_map bytes_in (map (occasion_of told) events) ≡ flat_map piece_of events
@@ -194,6 +196,7 @@ module _ (readers : Readers) (well : ReadWell readers) (seat key : ℕ) where
     bytes_are (event.Opened of ∷ events) = bytes_are events
     bytes_are (event.Mail slot envelope ∷ events) = bytes_are events
     bytes_are (event.Closed of ∷ events) = bytes_are events
+    bytes_are (event.Full number ∷ events) = bytes_are events
     bytes_are (event.Tick ∷ events) = bytes_are events
 
     pub drained : (r : Rest) (events : List (Event N)) (read written : List ℕ) (after : Rest) → AllByRecursion (IsServing key) events → read ≡ flat_map piece_of events →

@@ -16,10 +16,10 @@ LosesPiece old new fault.Input = Consumes old new []
 LosesPiece old new fault.Memory = (lost : List ℕ) × Consumes old new lost
 LosesPiece old new other = ⊥
 
-module _ {N G : Type 0} (told : N → History) (passes : G → GatedCall → G → Type 0) (alone : Bool) (key : ℕ) where
+module _ {N G : Type 0} (told : N → History) (registry_of : N → ℕ) (passes : G → GatedCall → G → Type 0) (alone : Bool) (key : ℕ) where
   -- The event brought these actions, and what they write was written.
   pub record IsBrought (before : State G) (event : Event N) (actions : List (Action N)) (wrote_old wrote_new : Option (List ℕ)) (after : State G) : Type 0 where
-    pub brings : Brings told passes alone before event actions after
+    pub brings : Brings told registry_of passes alone before event actions after
     pub appends : Appends wrote_old wrote_new (written_to key actions)
 
   -- There was no memory for the event, and nothing was done; or of what its actions write a front was written.
@@ -27,7 +27,7 @@ module _ {N G : Type 0} (told : N → History) (passes : G → GatedCall → G �
   IsCutShort before event wrote_old wrote_new after fault.Memory = (after ≡ before) × Appends wrote_old wrote_new []
   IsCutShort before event wrote_old wrote_new after fault.Output =
       (actions : List (Action N)) × (front missing : List ℕ)
-      × Brings told passes alone before event actions after × (written_to key actions ≡ front ++ missing) × Appends wrote_old wrote_new front
+      × Brings told registry_of passes alone before event actions after × (written_to key actions ≡ front ++ missing) × Appends wrote_old wrote_new front
   IsCutShort before event wrote_old wrote_new after other = ⊥
 
 module _ {N G : Type 0} (told : N → History) (passes : G → GatedCall → G → Type 0) (alone : Bool) (seat key : ℕ) where

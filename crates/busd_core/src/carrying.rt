@@ -27,10 +27,11 @@ pub fn bring<V: BusView, G: Gate, W: Write>(
     writer: &mut W,
 ) -> Result<Vec<Action<V::Note>>, RunFault>
     requires { CanHappen V.registry_of engine.old.view.registry engine.old.standing event }
-    ensures ok { IfOk result (λ actions. IsBrought V.told G.passes V.alone key engine.old event actions.items (W.contents writer.old) (W.contents writer.new) engine.new) }
-    ensures err { IfErr result (λ fault. IsCutShort V.told G.passes V.alone key engine.old event (W.contents writer.old) (W.contents writer.new) engine.new fault) }
+    ensures ok { IfOk result (λ actions. IsBrought V.told V.registry_of G.passes V.alone key engine.old event actions.items (W.contents writer.old) (W.contents writer.new) engine.new) }
+    ensures err { IfErr result (λ fault. IsCutShort V.told V.registry_of G.passes V.alone key engine.old event (W.contents writer.old) (W.contents writer.new) engine.new fault) }
 {
-    let Ok(actions) = engine.event(right, event) else {
+    let mut event = event;
+    let Ok(actions) = engine.event(right, &mut event) else {
         return Err(RunFault::Memory);
     };
     let Ok(()) = write_out(writer, key, &actions) else {

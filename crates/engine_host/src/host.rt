@@ -3,7 +3,7 @@
 use bus_view::BusView;
 use envelopes::{Content, Envelope, OwnMessage, SharedSignal};
 use router::Engine;
-use router_core::{Action, CloseCause, OpenGate};
+use router_core::{Action, CloseCause, Event, OpenGate};
 use seq_bus_core::{Conn, Recipients, Signals};
 use std::alloc::{AllocError, Global};
 
@@ -34,16 +34,16 @@ impl<V: BusView + Drop> Host<V> {
     }
 
     /// A connection comes. Its key is told.
-    pub fn connect(&mut self) -> Result<usize, AllocError> {
+    pub fn connect(&mut self, right: &V::Right) -> Result<usize, AllocError> {
         let key = self.engine.free_key();
-        let actions = self.engine.opened(key)?;
+        let actions = self.engine.event(right, &mut Event::Opened { key })?;
         if key == self.lines.len() {
             self.lines.push(Line {
                 written: Vec::new(self.alloc),
                 closed: None,
             })?;
         }
-        self.carry_out(actions)?;
+        self.carry_out(right, actions)?;
         Ok(key)
     }
 
@@ -57,8 +57,8 @@ impl<V: BusView + Drop> Host<V> {
     ) -> Result<(), AllocError> {
         for piece in bytes.chunks(length.max(1)) {
             let piece = Vec::from_slice(self.alloc, piece)?;
-            let actions = self.engine.bytes(key, piece)?;
-            self.carry_out(actions)?;
+            let actions = self.engine.event(right, &mut Event::Bytes { key, piece })?;
+            self.carry_out(right, actions)?;
             self.serve(right, key, bytes.len())?;
         }
         Ok(())
@@ -70,22 +70,22 @@ impl<V: BusView + Drop> Host<V> {
             if !self.engine.has_next(key) {
                 return Ok(());
             }
-            let actions = self.engine.next(right, key)?;
-            self.carry_out(actions)?;
+            let actions = self.engine.event(right, &mut Event::Next { key })?;
+            self.carry_out(right, actions)?;
         }
         Ok(())
     }
 
     /// A connection is gone.
     pub fn disconnect(&mut self, right: &V::Right, key: usize) -> Result<(), AllocError> {
-        let actions = self.engine.closed(right, key)?;
-        self.carry_out(actions)
+        let actions = self.engine.event(right, &mut Event::Closed { key })?;
+        self.carry_out(right, actions)
     }
 
     /// Time has passed.
     pub fn tick(&mut self, right: &V::Right) -> Result<(), AllocError> {
-        let actions = self.engine.tick(right)?;
-        self.carry_out(actions)
+        let actions = self.engine.event(right, &mut Event::Tick)?;
+        self.carry_out(right, actions)
     }
 
     /// How many bytes were written since it was asked last, or since the beginning. They are let go.
@@ -98,23 +98,27 @@ impl<V: BusView + Drop> Host<V> {
         count
     }
 
-    fn carry_out(&mut self, actions: Vec<Action<V::Note>>) -> Result<(), AllocError> {
+    fn carry_out(
+        &mut self,
+        right: &V::Right,
+        actions: Vec<Action<V::Note>>,
+    ) -> Result<(), AllocError> {
         for action in &actions {
-            self.act(action)?;
+            self.act(right, action)?;
         }
         self.engine.give_back(actions);
         Ok(())
     }
 
-    fn act(&mut self, action: &Action<V::Note>) -> Result<(), AllocError> {
+    fn act(&mut self, right: &V::Right, action: &Action<V::Note>) -> Result<(), AllocError> {
         match action {
             Action::Write { key, bytes } => self.write(*key, bytes.as_slice()),
             Action::Put {
                 to,
                 note: _,
                 content,
-            } => self.put(to.to(), to.monitors(), content),
-            Action::Announce { signals, note: _ } => self.announce(signals),
+            } => self.put(right, to.to(), to.monitors(), content),
+            Action::Announce { signals, note: _ } => self.announce(right, signals),
             Action::Close { key, cause } => {
                 self.close(*key, *cause);
                 Ok(())
@@ -137,23 +141,30 @@ impl<V: BusView + Drop> Host<V> {
     }
 
     /// A message goes to its recipients, and to the monitors that are none of them.
-    fn put(&mut self, to: &[Conn], monitors: &[Conn], content: &Content) -> Result<(), AllocError> {
+    fn put(
+        &mut self,
+        right: &V::Right,
+        to: &[Conn],
+        monitors: &[Conn],
+        content: &Content,
+    ) -> Result<(), AllocError> {
         for conn in to {
-            self.bring(*conn, content)?;
+            self.bring(right, *conn, content)?;
         }
         for conn in monitors {
             if !to.contains(conn) {
-                self.bring(*conn, content)?;
+                self.bring(right, *conn, content)?;
             }
         }
         Ok(())
     }
 
-    fn announce(&mut self, signals: &Signals) -> Result<(), AllocError> {
+    fn announce(&mut self, right: &V::Right, signals: &Signals) -> Result<(), AllocError> {
         for addressed in signals.as_slice() {
             let signal = SharedSignal::new(self.alloc, addressed.signal)?;
             let content = Content::Own(OwnMessage::Signal(signal));
             self.put(
+                right,
                 addressed.to.as_slice(),
                 addressed.monitors.as_slice(),
                 &content,
@@ -163,13 +174,17 @@ impl<V: BusView + Drop> Host<V> {
     }
 
     /// Mail for one connection. It needs no note: the engine knows what it told itself.
-    fn bring(&mut self, conn: Conn, content: &Content) -> Result<(), AllocError> {
+    fn bring(&mut self, right: &V::Right, conn: Conn, content: &Content) -> Result<(), AllocError> {
         let envelope = Envelope {
             number: conn.number,
             note: None,
             content: content.again()?,
         };
-        let actions = self.engine.mail(conn.slot, envelope)?;
+        let mut mail = Event::Mail {
+            slot: conn.slot,
+            envelope,
+        };
+        let actions = self.engine.event(right, &mut mail)?;
         self.carry_out_writes(actions)
     }
 

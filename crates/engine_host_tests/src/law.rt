@@ -46,8 +46,8 @@ fn play<V: BusView + Drop>(
     length: usize,
 ) -> Result<Host<V>, Fail> {
     let mut host = Host::new(alloc, view)?;
-    let first = host.connect()?;
-    let second = host.connect()?;
+    let first = host.connect(right)?;
+    let second = host.connect(right)?;
     host.send(right, first, HELLO, length)?;
     let rule = text(alloc, "type='signal'")?;
     let add = call_to_bus(alloc, 2, "AddMatch", "s", &rule)?;
@@ -84,7 +84,7 @@ fn play<V: BusView + Drop>(
     let nobody = between(MessageKind::MethodCall, Some("com.example.Nobody"), None);
     let nobody = bytes_of(alloc, 14, nobody, "", &[])?;
     host.send(right, second, &nobody, length)?;
-    let third = host.connect()?;
+    let third = host.connect(right)?;
     host.send(right, third, &nobody, length)?;
     host.disconnect(right, third)?;
     let remove = call_to_bus(alloc, 5, "RemoveMatch", "s", &rule)?;
@@ -181,10 +181,10 @@ fn one_more_than_there_is_room_for(rt: HostRuntime) -> Result<(), Fail> {
     let alloc = rt.alloc();
     let mut host = Host::new(alloc, bus(&rt, alloc))?;
     for _connection in 0..256 {
-        let key = host.connect()?;
+        let key = host.connect(&())?;
         host.send(&(), key, HELLO, HELLO.len())?;
     }
-    let key = host.connect()?;
+    let key = host.connect(&())?;
     host.send(&(), key, HELLO, HELLO.len())?;
     for line in host.lines.iter().take(256) {
         assert_eq!(rt; line.closed, None);

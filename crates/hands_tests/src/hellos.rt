@@ -19,7 +19,7 @@ fn sender_of(alloc: Global, bytes: &[u8]) -> Result<Peer, Fail>
     ensures { IfOk result (λ peer. peer.stage ≡ Unnamed true) }
 {
     let mut peer = Peer::new(alloc);
-    peer.feed(Vec::from_slice(alloc, bytes)?)?;
+    peer.feed(&mut Vec::from_slice(alloc, bytes)?)?;
     Ok(peer)
 }
 

@@ -91,16 +91,21 @@ impl Framer {
         Ok(())
     }
 
-    /// Takes a piece as [`feed`](Framer::feed) does. Where all that came before was given out, it keeps the piece itself and copies nothing.
-    pub fn feed_owned(&mut self, piece: Vec<u8>) -> Result<(), AllocError>
-        ensures good { IfNone self.old.fault (OnOk result (self.new ≡ record self.old { bytes = self.old.bytes ++ piece.items })) }
+    /// Takes a piece as [`feed`](Framer::feed) does, and leaves none of it. Where all that came before was given out, it keeps the
+    /// piece itself and copies nothing. Without memory the piece stays where it was.
+    pub fn feed_owned(&mut self, piece: &mut Vec<u8>) -> Result<(), AllocError>
+        ensures good { IfNone self.old.fault (OnOk result (self.new ≡ record self.old { bytes = self.old.bytes ++ piece.old.items })) }
         ensures spent { IfSome self.old.fault (λ _. self.new ≡ self.old) }
+        ensures taken { OnOk result (piece.new.items ≡ []) }
         ensures err { OnErr result (self.new ≡ self.old) }
+        ensures kept { OnErr result (piece.new ≡ piece.old) }
     {
         if self.fault.is_some() || self.from < self.buffer.len() {
-            return self.feed(&piece);
+            self.feed(piece.as_slice())?;
+            piece.clear();
+            return Ok(());
         }
-        self.buffer = piece;
+        self.buffer = std::mem::replace(piece, Vec::new(self.alloc));
         self.from = 0;
         Ok(())
     }

@@ -1,5 +1,5 @@
 -- What a script may give.
-use Rattle.std.proofs.Common.{Bool, true, false, List, [], ◌∷◌, sym, subst, if◌then◌else◌}
+use Rattle.std.proofs.Common.{ℕ, Bool, true, false, List, [], ◌∷◌, sym, subst, if◌then◌else◌}
 use Rattle.seq_bus_core.specs.Histories.{History}
 use Rattle.seq_bus_core.specs.declared.connection.Conn.{Conn}
 use Rattle.envelopes.specs.Contents.{Said}
@@ -22,8 +22,8 @@ AllGive P (Doing deed s) = AllGive P s
 AllGive P (Announcing signals s) = AllGive P s
 
 -- so what comes of it is such
-module _ {N G : Type 0} (told : N → History) (passes : G → GatedCall → G → Type 0) (alone : Bool) {X : Type 0} (P : X → Type 0) (x : X) (v : World N G) where
-  pub given : (s : Script X) (w : World N G) → AllGive P s → Comes told passes alone s w x v → P x
+module _ {N G : Type 0} (told : N → History) (registry_of : N → ℕ) (passes : G → GatedCall → G → Type 0) (alone : Bool) {X : Type 0} (P : X → Type 0) (x : X) (v : World N G) where
+  pub given : (s : Script X) (w : World N G) → AllGive P s → Comes told registry_of passes alone s w x v → P x
   given (Gives y) w all p = subst P (sym p.0) all
   given (Changing change goes_on) w all p = given (goes_on p.0) p.1 (all p.0) p.3
   given (Asking query goes_on) w all p = given (goes_on p.0) p.1 (all p.0) p.3

@@ -9,24 +9,24 @@ use Rattle.router_core.specs.Standing.{Peer, Standing, peer_at, with_peer}
 use Rattle.router_hands.specs.Noting.{once_noted, IsHeeded}
 use Rattle.router_hands.proofs.Sequels.{comes_then}
 
-module _ {N G : Type 0} (told : N → History) (passes : G → GatedCall → G → Type 0) (alone : Bool) (held : Option History) (w m : World N G) where
+module _ {N G : Type 0} (told : N → History) (registry_of : N → ℕ) (passes : G → GatedCall → G → Type 0) (alone : Bool) (held : Option History) (w m : World N G) where
   -- nobody has the slot and the number
-  pub dropped : (s t : Standing) (said : Said) (found : Option ℕ) → found ≡ None → t ≡ s → IsHeeded alone held w m → Comes told passes alone (noted held (mail_found s said found)) w t m
+  pub dropped : (s t : Standing) (said : Said) (found : Option ℕ) → found ≡ None → t ≡ s → IsHeeded alone held w m → Comes told registry_of passes alone (noted held (mail_found s said found)) w t m
   dropped s t said found none same heeds =
-      subst (λ o. Comes told passes alone (noted held (mail_found s said o)) w t m) (sym none) (by_note held heeds)
+      subst (λ o. Comes told registry_of passes alone (noted held (mail_found s said o)) w t m) (sym none) (by_note held heeds)
     where
-      by_note : (h : Option History) → IsHeeded alone h w m → Comes told passes alone (noted h (Gives s)) w t m
+      by_note : (h : Option History) → IsHeeded alone h w m → Comes told registry_of passes alone (noted h (Gives s)) w t m
       by_note None unchanged = (same, unchanged)
       by_note (Some history) takes = (m, takes, (same, refl))
 
-module _ {N G : Type 0} (told : N → History) (passes : G → GatedCall → G → Type 0) (alone : Bool) (w v : World N G) where
+module _ {N G : Type 0} (told : N → History) (registry_of : N → ℕ) (passes : G → GatedCall → G → Type 0) (alone : Bool) (w v : World N G) where
   pub written : (held : Option History) (s : Standing) (key : ℕ) (said : Said) (q : Option Peer) →
-      Comes told passes alone (once_noted held (for_slot (peer_at s key) (write key said))) w q v →
-      Comes told passes alone (noted held (mail_found s said (Some key))) w (with_peer s key q) v
-  written None s key said q done = comes_then told passes alone (λ o. Gives (with_peer s key o)) q v (with_peer s key q) v (refl, refl) (for_slot (peer_at s key) (write key said)) w done
+      Comes told registry_of passes alone (once_noted held (for_slot (peer_at s key) (write key said))) w q v →
+      Comes told registry_of passes alone (noted held (mail_found s said (Some key))) w (with_peer s key q) v
+  written None s key said q done = comes_then told registry_of passes alone (λ o. Gives (with_peer s key o)) q v (with_peer s key q) v (refl, refl) (for_slot (peer_at s key) (write key said)) w done
   written (Some history) s key said q done =
-      (done.0, done.1, comes_then told passes alone (λ o. Gives (with_peer s key o)) q v (with_peer s key q) v (refl, refl) (for_slot (peer_at s key) (write key said)) done.0 done.2)
+      (done.0, done.1, comes_then told registry_of passes alone (λ o. Gives (with_peer s key o)) q v (with_peer s key q) v (refl, refl) (for_slot (peer_at s key) (write key said)) done.0 done.2)
 
   pub delivered : (held : Option History) (s : Standing) (said : Said) (found : Option ℕ) (key : ℕ) (q : Option Peer) → found ≡ Some key →
-      Comes told passes alone (once_noted held (for_slot (peer_at s key) (write key said))) w q v → Comes told passes alone (noted held (mail_found s said found)) w (with_peer s key q) v
-  delivered held s said found key q is done = subst (λ o. Comes told passes alone (noted held (mail_found s said o)) w (with_peer s key q) v) (sym is) (written held s key said q done)
+      Comes told registry_of passes alone (once_noted held (for_slot (peer_at s key) (write key said))) w q v → Comes told registry_of passes alone (noted held (mail_found s said found)) w (with_peer s key q) v
+  delivered held s said found key q is done = subst (λ o. Comes told registry_of passes alone (noted held (mail_found s said o)) w (with_peer s key q) v) (sym is) (written held s key said q done)

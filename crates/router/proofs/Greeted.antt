@@ -95,21 +95,21 @@ module _ (s : Standing) (key : ℕ) where
     greeted_same (Says o) = by_reply m p o was privileged there unnamed o.reply
 
     -- what comes of a Hello while the place is empty comes of it
-    pub greets : {N G : Type 0} (told : N → History) (passes : G → GatedCall → G → Type 0) (alone known : Bool) (w : World N G) (t : Standing) (v : World N G) →
-        Comes told passes alone (greet emptied key m p known) w t v → Comes told passes alone (greet s key m p known) w t v
-    greets told passes alone known w t v h =
-        (h.0, h.1, (h.2.0, h.2.1, h.2.2, subst (λ script. Comes told passes alone script h.2.1 t v) (greeted_same h.2.0) h.2.3))
+    pub greets : {N G : Type 0} (told : N → History) (registry_of : N → ℕ) (passes : G → GatedCall → G → Type 0) (alone known : Bool) (w : World N G) (t : Standing) (v : World N G) →
+        Comes told registry_of passes alone (greet emptied key m p known) w t v → Comes told registry_of passes alone (greet s key m p known) w t v
+    greets told registry_of passes alone known w t v h =
+        (h.0, h.1, (h.2.0, h.2.1, h.2.2, subst (λ script. Comes told registry_of passes alone script h.2.1 t v) (greeted_same h.2.0) h.2.3))
 
 -- A Hello is served by greeting its connection.
-pub hello_next : {N G : Type 0} (told : N → History) (passes : G → GatedCall → G → Type 0) (alone : Bool) (s : Standing) (key : ℕ) (p q : Peer) (privileged : Bool) (message : List ℕ) (w : World N G) (t : Standing) (v : World N G) →
+pub hello_next : {N G : Type 0} (told : N → History) (registry_of : N → ℕ) (passes : G → GatedCall → G → Type 0) (alone : Bool) (s : Standing) (key : ℕ) (p q : Peer) (privileged : Bool) (message : List ℕ) (w : World N G) (t : Standing) (v : World N G) →
     peer_at s key ≡ Some p → p.stage ≡ Unnamed privileged → IsFront p.unread (Whole message q.unread) → IsRest p q → is_hello (said message) ≡ true →
-    Comes told passes alone (greet s key (said message) q privileged) w t v → Comes told passes alone (next s key (peer_at s key)) w t v
-hello_next told passes alone s key p q privileged message w t v there unnamed front rest hello done =
+    Comes told registry_of passes alone (greet s key (said message) q privileged) w t v → Comes told registry_of passes alone (next s key (peer_at s key)) w t v
+hello_next told registry_of passes alone s key p q privileged message w t v there unnamed front rest hello done =
     let m = said message in
     let x : Peer = record p { unread = q.unread } in
-    let greets_it = subst (λ (r : Peer). Comes told passes alone (greet s key m r privileged) w t v) rest done in
-    let chosen : Comes told passes alone (serve_at s key m x (Unnamed privileged)) w t v =
-    subst (λ (b : Bool). Comes told passes alone (if b then greet s key m x privileged else for_peer s key (Some x) (closing key cause.NotHello)) w t v) (sym hello) greets_it in
-    let served = subst (λ (stage : Stage). Comes told passes alone (serve_at s key m x stage) w t v) (sym unnamed) chosen in
-    let reads : Comes told passes alone (next_at s key p (Unnamed privileged)) w t v = (Whole message q.unread, front, served) in
-    subst (λ (o : Option Peer). Comes told passes alone (next s key o) w t v) (sym there) (subst (λ (stage : Stage). Comes told passes alone (next_at s key p stage) w t v) (sym unnamed) reads)
+    let greets_it = subst (λ (r : Peer). Comes told registry_of passes alone (greet s key m r privileged) w t v) rest done in
+    let chosen : Comes told registry_of passes alone (serve_at s key m x (Unnamed privileged)) w t v =
+    subst (λ (b : Bool). Comes told registry_of passes alone (if b then greet s key m x privileged else for_peer s key (Some x) (closing key cause.NotHello)) w t v) (sym hello) greets_it in
+    let served = subst (λ (stage : Stage). Comes told registry_of passes alone (serve_at s key m x stage) w t v) (sym unnamed) chosen in
+    let reads : Comes told registry_of passes alone (next_at s key p (Unnamed privileged)) w t v = (Whole message q.unread, front, served) in
+    subst (λ (o : Option Peer). Comes told registry_of passes alone (next s key o) w t v) (sym there) (subst (λ (stage : Stage). Comes told registry_of passes alone (next_at s key p stage) w t v) (sym unnamed) reads)

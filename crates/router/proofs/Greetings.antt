@@ -15,28 +15,28 @@ use Rattle.router_hands.proofs.Hellos.{for_there}
 use Rattle.router_hands.proofs.Sequels.{comes_then}
 use Rattle.router.specs.Welcomes.{welcomed}
 
-module _ {N G : Type 0} (told : N → History) (passes : G → GatedCall → G → Type 0) (alone : Bool) where
+module _ {N G : Type 0} (told : N → History) (registry_of : N → ℕ) (passes : G → GatedCall → G → Type 0) (alone : Bool) where
   -- what is done for a connection that is there
-  pub for_some : (s : Standing) (key : ℕ) (p q : Peer) (work : Peer → OfPeer) (w n : World N G) → Comes told passes alone (work p) w q n → Comes told passes alone (for_peer s key (Some p) work) w (with_peer s key (Some q)) n
+  pub for_some : (s : Standing) (key : ℕ) (p q : Peer) (work : Peer → OfPeer) (w n : World N G) → Comes told registry_of passes alone (work p) w q n → Comes told registry_of passes alone (for_peer s key (Some p) work) w (with_peer s key (Some q)) n
   for_some s key p q work w n done =
-      comes_then told passes alone (λ (o : Option Peer). Gives (with_peer s key o)) (Some q) n (with_peer s key (Some q)) n (refl, refl) (for_slot (Some p) work) w
-      (for_there told passes alone p q work w n done)
+      comes_then told registry_of passes alone (λ (o : Option Peer). Gives (with_peer s key o)) (Some q) n (with_peer s key (Some q)) n (refl, refl) (for_slot (Some p) work) w
+      (for_there told registry_of passes alone p q work w n done)
 
   -- whoever had the slot is closed
   pub closes_former : (s : Standing) (conn : Conn) (key : ℕ) (q : Option Peer) (w n : World N G) → position (has_slot conn.slot) s.peers ≡ Some key →
-      Comes told passes alone (for_slot (peer_at s key) (λ (p : Peer). closing key cause.Left p)) w q n → Comes told passes alone (close_former s conn) w (with_peer s key q) n
+      Comes told registry_of passes alone (for_slot (peer_at s key) (λ (p : Peer). closing key cause.Left p)) w q n → Comes told registry_of passes alone (close_former s conn) w (with_peer s key q) n
   closes_former s conn key q w n some done =
-      subst (λ (found : Option ℕ). Comes told passes alone (close_found s found) w (with_peer s key q) n) (sym some)
-      (comes_then told passes alone (λ (o : Option Peer). Gives (with_peer s key o)) q n (with_peer s key q) n (refl, refl) (for_slot (peer_at s key) (λ (p : Peer). closing key cause.Left p)) w done)
+      subst (λ (found : Option ℕ). Comes told registry_of passes alone (close_found s found) w (with_peer s key q) n) (sym some)
+      (comes_then told registry_of passes alone (λ (o : Option Peer). Gives (with_peer s key o)) q n (with_peer s key q) n (refl, refl) (for_slot (peer_at s key) (λ (p : Peer). closing key cause.Left p)) w done)
 
   module _ (s : Standing) (key : ℕ) (m : Message) (p : Peer) (o : Outcome) (w : World N G) (t : Standing) (v : World N G) where
-    pub is_welcome : (reply : Reply) (conn : Conn) → welcomed reply ≡ Some conn → Comes told passes alone (and_then (close_former s conn) (λ (u : Standing). welcome key m p o conn u)) w t v →
-        Comes told passes alone (greeted_by s key m p o reply) w t v
+    pub is_welcome : (reply : Reply) (conn : Conn) → welcomed reply ≡ Some conn → Comes told registry_of passes alone (and_then (close_former s conn) (λ (u : Standing). welcome key m p o conn u)) w t v →
+        Comes told registry_of passes alone (greeted_by s key m p o reply) w t v
     is_welcome (Welcome c) conn is done =
         let same : conn ≡ c = cc in
-        subst (λ (d : Conn). Comes told passes alone (and_then (close_former s d) (λ (u : Standing). welcome key m p o d u)) w t v) same done
+        subst (λ (d : Conn). Comes told registry_of passes alone (and_then (close_former s d) (λ (u : Standing). welcome key m p o d u)) w t v) same done
     is_welcome other conn is done = let never : ⊥ = cc in absurd never
 
-    pub is_turned_away : (reply : Reply) → welcomed reply ≡ None → Comes told passes alone (for_peer s key (Some p) (turn_away key m)) w t v → Comes told passes alone (greeted_by s key m p o reply) w t v
+    pub is_turned_away : (reply : Reply) → welcomed reply ≡ None → Comes told registry_of passes alone (for_peer s key (Some p) (turn_away key m)) w t v → Comes told registry_of passes alone (greeted_by s key m p o reply) w t v
     is_turned_away (Welcome c) is done = let never : ⊥ = cc in absurd never
     is_turned_away other is done = done

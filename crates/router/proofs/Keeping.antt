@@ -278,31 +278,31 @@ module _ (slot key : ℕ) where
 
 -- ---- what came
 
-module _ {N G : Type 0} (told : N → History) (passes : G → GatedCall → G → Type 0) (alone : Bool) (w v : World N G) where
-  pub feed_keeps : (piece : List ℕ) (old new : Option Peer) → Comes told passes alone (for_slot old (λ p. Gives (fed piece p p.stage))) w new v → Keeps old new
-  feed_keeps piece old new came = given told passes alone (λ o. Keeps old o) new v (for_slot old (λ p. Gives (fed piece p p.stage))) w (feeding piece old) came
+module _ {N G : Type 0} (told : N → History) (registry_of : N → ℕ) (passes : G → GatedCall → G → Type 0) (alone : Bool) (w v : World N G) where
+  pub feed_keeps : (piece : List ℕ) (old new : Option Peer) → Comes told registry_of passes alone (for_slot old (λ p. Gives (fed piece p p.stage))) w new v → Keeps old new
+  feed_keeps piece old new came = given told registry_of passes alone (λ o. Keeps old o) new v (for_slot old (λ p. Gives (fed piece p p.stage))) w (feeding piece old) came
 
-  pub closed_has_none : (key : ℕ) (why : CloseCause) (old new : Option Peer) → Comes told passes alone (for_slot old (λ p. closing key why p)) w new v → Keeps None new
-  closed_has_none key why old new came = given told passes alone (λ o. Keeps None o) new v (for_slot old (λ p. closing key why p)) w (leaving key why old) came
+  pub closed_has_none : (key : ℕ) (why : CloseCause) (old new : Option Peer) → Comes told registry_of passes alone (for_slot old (λ p. closing key why p)) w new v → Keeps None new
+  closed_has_none key why old new came = given told registry_of passes alone (λ o. Keeps None o) new v (for_slot old (λ p. closing key why p)) w (leaving key why old) came
 
-  pub brought_keeps : (held : Option History) (key : ℕ) (said : Said) (old new : Option Peer) → Comes told passes alone (once_noted held (for_slot old (write key said))) w new v → Keeps old new
-  brought_keeps held key said old new came = given told passes alone (λ o. Keeps old o) new v (once_noted held (for_slot old (write key said))) w (bringing held key said old) came
+  pub brought_keeps : (held : Option History) (key : ℕ) (said : Said) (old new : Option Peer) → Comes told registry_of passes alone (once_noted held (for_slot old (write key said))) w new v → Keeps old new
+  brought_keeps held key said old new came = given told registry_of passes alone (λ o. Keeps old o) new v (once_noted held (for_slot old (write key said))) w (bringing held key said old) came
 
-  pub looked_keeps : (old new : List (Option Peer)) → Comes told passes alone (look_all [] old) w new v → KeepsAll old new
+  pub looked_keeps : (old new : List (Option Peer)) → Comes told registry_of passes alone (look_all [] old) w new v → KeepsAll old new
   looked_keeps old new came =
-      let rest = given told passes alone (λ all. KeepsRest [] old all) new v (look_all [] old) w (looking [] old) came in
+      let rest = given told registry_of passes alone (λ all. KeepsRest [] old all) new v (look_all [] old) w (looking [] old) came in
       subst (λ xs. KeepsAll old xs) (sym rest.1) rest.2
 
-  pub refused_is_like : (key : ℕ) (m : Message) (kind : ErrorKind) (p q : Peer) → Comes told passes alone (refuse_with key m kind p) w q v → q.stage ≡ p.stage
-  refused_is_like key m kind p q came = given told passes alone (λ r. r.stage ≡ p.stage) q v (refuse_with key m kind p) w (refusing key m p kind) came
+  pub refused_is_like : (key : ℕ) (m : Message) (kind : ErrorKind) (p q : Peer) → Comes told registry_of passes alone (refuse_with key m kind p) w q v → q.stage ≡ p.stage
+  refused_is_like key m kind p q came = given told registry_of passes alone (λ r. r.stage ≡ p.stage) q v (refuse_with key m kind p) w (refusing key m p kind) came
 
-  pub turned_away_has_none : (key : ℕ) (m : Message) (p q : Peer) → Comes told passes alone (turn_away key m p) w q v → Keeps None (Some q)
-  turned_away_has_none key m p q came = given told passes alone (λ r. Keeps None (Some r)) q v (turn_away key m p) w (turning_away key m p) came
+  pub turned_away_has_none : (key : ℕ) (m : Message) (p q : Peer) → Comes told registry_of passes alone (turn_away key m p) w q v → Keeps None (Some q)
+  turned_away_has_none key m p q came = given told registry_of passes alone (λ r. Keeps None (Some r)) q v (turn_away key m p) w (turning_away key m p) came
 
 -- A connection whose next message is served where it stands gets no slot, whoever else is there.
-pub next_keeps : {N G : Type 0} (told : N → History) (passes : G → GatedCall → G → Type 0) (alone : Bool) (key : ℕ) (old new : Option Peer) (w v : World N G) →
-    ((s : Standing) → peer_at s key ≡ old → Comes told passes alone (next s key old) w (with_peer s key new) v) → Keeps old new
-next_keeps told passes alone key old new w v comes slot has =
+pub next_keeps : {N G : Type 0} (told : N → History) (registry_of : N → ℕ) (passes : G → GatedCall → G → Type 0) (alone : Bool) (key : ℕ) (old new : Option Peer) (w v : World N G) →
+    ((s : Standing) → peer_at s key ≡ old → Comes told registry_of passes alone (next s key old) w (with_peer s key new) v) → Keeps old new
+next_keeps told registry_of passes alone key old new w v comes slot has =
     let other : Option Peer = Some (record { stage = Named (record { number = 0; slot = slot; router = 0 }); unread = []; serial = 0 }) in
     let is : has_slot slot other ≡ true = eq-eqb slot slot refl in
     let s : Standing = record { peers = two key old other; leaves = [] } in
@@ -310,7 +310,7 @@ next_keeps told passes alone key old new w v comes slot has =
       | inl had ↦ had
       | inr hadnt ↦
           let done = comes s (first_of key old other) in
-          let never = given told passes alone (NotBoth slot key) (with_peer s key new) v (next s key old) w (coming slot key other is old hadnt) done in
+          let never = given told registry_of passes alone (NotBoth slot key) (with_peer s key new) v (next s key old) w (coming slot key other is old hadnt) done in
           let first : get_or (set s.peers key new) key None ≡ new = ap (λ xs. get_or xs key None) (set_first key old other new) ∙ first_of key new other in
           let second : get_or (set s.peers key new) (suc key) None ≡ other = ap (λ xs. get_or xs (suc key) None) (set_first key old other new) ∙ second_of key new other in
           absurd (never (subst (λ o. has_slot slot o ≡ true) (sym first) has) (subst (λ o. has_slot slot o ≡ true) (sym second) is))

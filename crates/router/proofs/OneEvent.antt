@@ -1,5 +1,5 @@
 -- One event over a bus of one thread.
-use Rattle.std.proofs.Common.{Bool, List, subst}
+use Rattle.std.proofs.Common.{◌≡◌, ℕ, Bool, List, Result, Ok, Err, IfOk, OnErr, ap, subst}
 use Rattle.seq_bus_core.specs.Histories.{History}
 use Rattle.router_core.specs.declared.action.Action.{Action}
 use Rattle.router_core.specs.declared.event.Event.{Event}
@@ -8,15 +8,22 @@ use Rattle.router_core.specs.Deeds.{GatedCall}
 use Rattle.router_core.specs.Events.{occasion_of}
 use Rattle.router_core.proofs.Asked.{answers_are_lawful}
 use Rattle.router_core.proofs.Functions.{one_thread_is_a_function}
+use Rattle.router_core.proofs.Registries.{notes_are_own}
 use Rattle.router.specs.OneEvent.{IsServedWell, rest_in}
 
-pub served_well : {N G : Type 0} (told : N → History) (passes : G → GatedCall → G → Type 0) (alone : Bool) (before after : State G) (event : Event N) (actions : List (Action N)) →
-    Brings told passes alone before event actions after → IsServedWell told passes alone before event actions after
-served_well told passes alone before after event actions brings =
-    let h = answers_are_lawful told passes alone before after event actions brings in
+pub served_well : {N G : Type 0} (told : N → History) (registry_of : N → ℕ) (passes : G → GatedCall → G → Type 0) (alone : Bool) (before after : State G) (event : Event N) (actions : List (Action N)) →
+    Brings told registry_of passes alone before event actions after → IsServedWell told passes alone before event actions after
+served_well told registry_of passes alone before after event actions brings =
+    let h = answers_are_lawful told registry_of passes alone before after event actions brings in
     record {
       served = h;
       one_thread = λ is_alone granted readers read.
           one_thread_is_a_function readers (rest_in before) (rest_in after) (occasion_of told event) h.asked h.deeds
           (subst (λ (b : Bool). IsServedBy b before.standing before.view (occasion_of told event) h.asked h.deeds after.standing after.view) is_alone h.served) granted read;
     }
+
+-- the registry that the view is of stays, whether the event was served or refused
+pub registry_stays : {N G T E : Type 0} (told : N → History) (registry_of : N → ℕ) (passes : G → GatedCall → G → Type 0) (alone : Bool) (before after : State G) (event : Event N) (actions_in : T → List (Action N)) (r : Result T E) →
+    IfOk r (λ x. Brings told registry_of passes alone before event (actions_in x) after) → OnErr r (after ≡ before) → after.view.registry ≡ before.view.registry
+registry_stays told registry_of passes alone before after event actions_in (Ok x) brings same = (notes_are_own told registry_of passes alone before after event (actions_in x) brings).0
+registry_stays {G = G} told registry_of passes alone before after event actions_in (Err e) brings same = ap (λ (s : State G). s.view.registry) same

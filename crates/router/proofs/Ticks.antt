@@ -7,14 +7,14 @@ use Rattle.router_core.specs.Scripts.{Gives, World, Comes}
 use Rattle.router_core.specs.Standing.{Peer, Standing}
 use Rattle.router_hands.proofs.Sequels.{comes_then}
 
-module _ {N G : Type 0} (told : N → History) (passes : G → GatedCall → G → Type 0) (alone : Bool) (w m v : World N G) where
+module _ {N G : Type 0} (told : N → History) (registry_of : N → ℕ) (passes : G → GatedCall → G → Type 0) (alone : Bool) (w m v : World N G) where
   -- the Leaves, then the connections
   pub ticks : (s : Standing) (kept : List ℕ) (ys : List (Option Peer)) →
-      Comes told passes alone (leave_all s.leaves (record s { leaves = [] })) w (record s { leaves = kept }) m → Comes told passes alone (look_all [] s.peers) m ys v →
-      Comes told passes alone (tick s) w (record { peers = ys; leaves = kept }) v
+      Comes told registry_of passes alone (leave_all s.leaves (record s { leaves = [] })) w (record s { leaves = kept }) m → Comes told registry_of passes alone (look_all [] s.peers) m ys v →
+      Comes told registry_of passes alone (tick s) w (record { peers = ys; leaves = kept }) v
   ticks s kept ys made looked =
       let between : Standing = record s { leaves = kept } in
       let end : Standing = record { peers = ys; leaves = kept } in
-      comes_then told passes alone look_at_all between m end v
-      (comes_then told passes alone (λ peers. Gives (record between { peers = peers })) ys v end v (refl, refl) (look_all [] s.peers) m looked)
+      comes_then told registry_of passes alone look_at_all between m end v
+      (comes_then told registry_of passes alone (λ peers. Gives (record between { peers = peers })) ys v end v (refl, refl) (look_all [] s.peers) m looked)
       (leave_all s.leaves (record s { leaves = [] })) w made

@@ -1,10 +1,12 @@
 //! The engine: what serves the events of a router.
 
-ghost use Rattle.std.specs.Prelude.{◌≡◌, ◌↔◌, IsTrue, true, false, OnErr, IfOk};
+ghost use Rattle.std.specs.Prelude.{◌≡◌, ◌≢◌, ◌↔◌, [], IsTrue, true, false, OnErr, IfOk, position};
+ghost use Rattle.std.specs.List.{AllByRecursion};
 ghost use Rattle.router_core.specs.Acts.{Brings};
+ghost use Rattle.router_core.specs.Deeds.{CarriesOwn};
 ghost use Rattle.router_core.specs.Events.{CanHappen, IsFree};
-ghost use Rattle.router_core.specs.Standing.{fresh};
-ghost use Rattle.router_core.specs.declared.event.Event.TheVariants.{Opened, Bytes, Next, Mail, Closed, Tick};
+ghost use Rattle.router_core.specs.Standing.{fresh, has_slot};
+ghost use Rattle.router_core.specs.declared.event.Event.TheVariants.{Opened, Bytes, Next, Mail, Closed, Full, Tick};
 ghost use Rattle.router.specs.OneEvent.{IsServedWell};
 ghost use Rattle.router.specs.Upcoming.{HasNoNext};
 
@@ -60,22 +62,37 @@ impl<V: BusView, G: Gate> Engine<V, G> {
     }
 
     /// A connection came, and has this key.
-    pub fn opened(&mut self, key: usize) -> Result<Vec<Action<V::Note>>, AllocError>
+    fn opened(&mut self, key: usize) -> Result<Vec<Action<V::Note>>, AllocError>
         requires { CanHappen V.registry_of self.old.view.registry self.old.standing (Opened key) }
-        ensures brings { IfOk result (λ actions. Brings V.told G.passes V.alone self.old (Opened key) actions.items self.new) }
+        ensures brings { IfOk result (λ actions. Brings V.told V.registry_of G.passes V.alone self.old (Opened key) actions.items self.new) }
         ensures err { OnErr result (self.new ≡ self.old) }
     {
         self.served.open(key)?;
         Ok(self.served.take_actions())
     }
 
-    /// Bytes of a connection came.
-    pub fn bytes(&mut self, key: usize, piece: Vec<u8>) -> Result<Vec<Action<V::Note>>, AllocError>
-        ensures brings { IfOk result (λ actions. Brings V.told G.passes V.alone self.old (Bytes key piece) actions.items self.new) }
+    /// Bytes of a connection came. Without memory they stay where they were.
+    fn bytes(&mut self, key: usize, piece: &mut Vec<u8>) -> Result<Vec<Action<V::Note>>, AllocError>
+        ensures brings { IfOk result (λ actions. Brings V.told V.registry_of G.passes V.alone self.old (Bytes key piece.old) actions.items self.new) }
         ensures err { OnErr result (self.new ≡ self.old) }
+        ensures kept { OnErr result (piece.new ≡ piece.old) }
     {
         self.served.feed(key, piece)?;
         Ok(self.served.take_actions())
+    }
+
+    /// The key of the connection that has a name and this slot.
+    pub fn key_of(&self, slot: u16) -> Option<usize>
+        ensures { result ≡ position (has_slot slot) self.now.standing.peers }
+    {
+        self.served.key_of(slot)
+    }
+
+    /// Whether a Leave was refused, and is due at the next tick.
+    pub fn ticks(&self) -> bool
+        ensures { IsTrue result ↔ (self.now.standing.leaves ≢ []) }
+    {
+        self.served.ticks()
     }
 
     /// Takes back the actions that an event brought, once they are done. Those of the next events stand where they stood; without this
@@ -96,8 +113,8 @@ impl<V: BusView, G: Gate> Engine<V, G> {
     }
 
     /// The next whole message of a connection is served. There are no actions where there is none.
-    pub fn next(&mut self, right: &V::Right, key: usize) -> Result<Vec<Action<V::Note>>, AllocError>
-        ensures brings { IfOk result (λ actions. Brings V.told G.passes V.alone self.old (Next key) actions.items self.new) }
+    fn next(&mut self, right: &V::Right, key: usize) -> Result<Vec<Action<V::Note>>, AllocError>
+        ensures brings { IfOk result (λ actions. Brings V.told V.registry_of G.passes V.alone self.old (Next key) actions.items self.new) }
         ensures err { OnErr result (self.new ≡ self.old) }
     {
         self.served.next(right, key)?;
@@ -105,61 +122,88 @@ impl<V: BusView, G: Gate> Engine<V, G> {
     }
 
     /// An envelope came for the connection in a slot.
-    pub fn mail(
+    fn mail(
         &mut self,
         slot: u16,
-        envelope: Envelope<V::Note>,
+        envelope: &Envelope<V::Note>,
     ) -> Result<Vec<Action<V::Note>>, AllocError>
-        requires { CanHappen V.registry_of self.old.view.registry self.old.standing (Mail slot envelope) }
-        ensures brings { IfOk result (λ actions. Brings V.told G.passes V.alone self.old (Mail slot envelope) actions.items self.new) }
+        requires { CanHappen V.registry_of self.old.view.registry self.old.standing (Mail slot envelope.now) }
+        ensures brings { IfOk result (λ actions. Brings V.told V.registry_of G.passes V.alone self.old (Mail slot envelope.now) actions.items self.new) }
         ensures err { OnErr result (self.new ≡ self.old) }
     {
-        self.served.mail(slot, &envelope)?;
+        self.served.mail(slot, envelope)?;
         Ok(self.served.take_actions())
     }
 
     /// A connection is gone, and its key is free.
-    pub fn closed(
-        &mut self,
-        right: &V::Right,
-        key: usize,
-    ) -> Result<Vec<Action<V::Note>>, AllocError>
-        ensures brings { IfOk result (λ actions. Brings V.told G.passes V.alone self.old (Closed key) actions.items self.new) }
+    fn closed(&mut self, right: &V::Right, key: usize) -> Result<Vec<Action<V::Note>>, AllocError>
+        ensures brings { IfOk result (λ actions. Brings V.told V.registry_of G.passes V.alone self.old (Closed key) actions.items self.new) }
         ensures err { OnErr result (self.new ≡ self.old) }
     {
         self.served.close(right, key)?;
         Ok(self.served.take_actions())
     }
 
+    /// The connection of a number takes no more mail.
+    fn full(&mut self, right: &V::Right, number: u64) -> Result<Vec<Action<V::Note>>, AllocError>
+        ensures brings { IfOk result (λ actions. Brings V.told V.registry_of G.passes V.alone self.old (Full number) actions.items self.new) }
+        ensures err { OnErr result (self.new ≡ self.old) }
+    {
+        self.served.leave(right, number)?;
+        Ok(self.served.take_actions())
+    }
+
     /// Time has passed.
-    pub fn tick(&mut self, right: &V::Right) -> Result<Vec<Action<V::Note>>, AllocError>
-        ensures brings { IfOk result (λ actions. Brings V.told G.passes V.alone self.old Tick actions.items self.new) }
+    fn tick(&mut self, right: &V::Right) -> Result<Vec<Action<V::Note>>, AllocError>
+        ensures brings { IfOk result (λ actions. Brings V.told V.registry_of G.passes V.alone self.old Tick actions.items self.new) }
         ensures err { OnErr result (self.new ≡ self.old) }
     {
         self.served.tick(right)?;
         Ok(self.served.take_actions())
     }
 
+    /// Serves an event. Without memory nothing changes, and the event neither.
+    fn serve(
+        &mut self,
+        right: &V::Right,
+        event: &mut Event<V::Note>,
+    ) -> Result<Vec<Action<V::Note>>, AllocError>
+        requires { CanHappen V.registry_of self.old.view.registry self.old.standing event.old }
+        ensures brings { IfOk result (λ actions. Brings V.told V.registry_of G.passes V.alone self.old event.old actions.items self.new) }
+        ensures err { OnErr result (self.new ≡ self.old) }
+        ensures kept { OnErr result (event.new ≡ event.old) }
+    {
+        match event {
+            Event::Opened { key } => self.opened(*key),
+            Event::Bytes { key, piece } => self.bytes(*key, piece),
+            Event::Next { key } => self.next(right, *key),
+            Event::Mail { slot, envelope } => self.mail(*slot, envelope),
+            Event::Closed { key } => self.closed(right, *key),
+            Event::Full { number } => self.full(right, *number),
+            Event::Tick => self.tick(right),
+        }
+    }
+
     /// Something happened. What it brings, it brings for some answers that the bus may give; over a bus of one thread, where
-    /// nothing is refused, it is a function of the event.
-    #[tactic(auto, using(crate::proofs::OneEvent::served_well))]
+    /// nothing is refused, it is a function of the event. What its actions carry is for any engine over a view of the same bus.
+    ///
+    /// # Errors
+    ///
+    /// There is no memory for it. Then nothing changed, and the event is as it was: it may be served again, and brings then what it would
+    /// have brought. An event that was served has given its bytes away.
     pub fn event(
         &mut self,
         right: &V::Right,
-        event: Event<V::Note>,
+        event: &mut Event<V::Note>,
     ) -> Result<Vec<Action<V::Note>>, AllocError>
-        requires { CanHappen V.registry_of self.old.view.registry self.old.standing event }
-        ensures brings { IfOk result (λ actions. Brings V.told G.passes V.alone self.old event actions.items self.new) }
-        ensures served { IfOk result (λ actions. IsServedWell V.told G.passes V.alone self.old event actions.items self.new) }
+        requires { CanHappen V.registry_of self.old.view.registry self.old.standing event.old }
+        ensures brings { IfOk result (λ actions. Brings V.told V.registry_of G.passes V.alone self.old event.old actions.items self.new) }
+        ensures served { IfOk result (λ actions. IsServedWell V.told G.passes V.alone self.old event.old actions.items self.new) }
+        ensures notes { IfOk result (λ actions. AllByRecursion (CarriesOwn V.registry_of self.old.view.registry) actions.items) }
+        ensures registry { self.new.view.registry ≡ self.old.view.registry }
         ensures err { OnErr result (self.new ≡ self.old) }
+        ensures handed_back { OnErr result (event.new ≡ event.old) }
     {
-        match event {
-            Event::Opened { key } => self.opened(key),
-            Event::Bytes { key, piece } => self.bytes(key, piece),
-            Event::Next { key } => self.next(right, key),
-            Event::Mail { slot, envelope } => self.mail(slot, envelope),
-            Event::Closed { key } => self.closed(right, key),
-            Event::Tick => self.tick(right),
-        }
+        self.serve(right, event)
     }
 }

@@ -75,10 +75,17 @@ fn keep_key(places: &mut [usize; SLOT_COUNT], slot: u16, key: usize)
 }
 
 impl<V: BusView, G: Gate> Served<V, G> {
+    /// The key of the connection that has a name, and this slot.
+    pub fn key_of(&self, slot: u16) -> Option<usize>
+        ensures { result ≡ position (has_slot slot) self.now.standing.peers }
+    {
+        find_slot(&self.peers, &self.places, slot)
+    }
+
     /// Whoever had the slot before has left, though its connection is not gone yet: it is closed.
     fn close_former(&mut self, conn: Conn)
         requires { 0 < self.old.work.room }
-        ensures comes { Comes V.told G.passes V.alone (close_former self.old.standing conn) self.old.work.world self.new.standing self.new.work.world }
+        ensures comes { Comes V.told V.registry_of G.passes V.alone (close_former self.old.standing conn) self.old.work.world self.new.standing self.new.work.world }
         ensures room { self.old.work.room ≤ self.new.work.room + 1 }
         ensures keys { length self.new.standing.peers ≡ length self.old.standing.peers }
         ensures vacant { IsVacant conn.slot self.new.standing.peers }
@@ -94,7 +101,7 @@ impl<V: BusView, G: Gate> Served<V, G> {
         requires room { 1 < self.old.work.room }
         requires key { key < length self.old.standing.peers }
         requires vacant { IsVacant conn.slot self.old.standing.peers }
-        ensures { Comes V.told G.passes V.alone (welcome key (said hello.now) peer outcome conn self.old.standing) self.old.work.world self.new.standing self.new.work.world }
+        ensures { Comes V.told V.registry_of G.passes V.alone (welcome key (said hello.now) peer outcome conn self.old.standing) self.old.work.world self.new.standing self.new.work.world }
     {
         self.hands
             .reply_with(hello, conn, ReplyContent::UniqueName(conn.number));
@@ -117,7 +124,7 @@ impl<V: BusView, G: Gate> Served<V, G> {
         requires unnamed { IsUnnamed peer.stage }
         requires key { key < length self.old.standing.peers }
         requires written { AreRefusals (said hello.now) (next_serial peer.serial) errors }
-        ensures { Comes V.told G.passes V.alone (for_peer self.old.standing key (Some peer) (refuse_with key (said hello.now) (error_for (refusal_of why)))) self.old.work.world self.new.standing self.new.work.world }
+        ensures { Comes V.told V.registry_of G.passes V.alone (for_peer self.old.standing key (Some peer) (refuse_with key (said hello.now) (error_for (refusal_of why)))) self.old.work.world self.new.standing self.new.work.world }
     {
         self.hands.refuse_for(key, hello, &mut peer, why, errors);
         self.peers[key] = Some(peer);
@@ -128,7 +135,7 @@ impl<V: BusView, G: Gate> Served<V, G> {
         requires room { 2 < self.old.work.room }
         requires key { key < length self.old.standing.peers }
         requires written { IsRefusal (said hello.now) ErrorKind.LimitsExceeded (next_serial peer.serial) bytes }
-        ensures { Comes V.told G.passes V.alone (for_peer self.old.standing key (Some peer) (turn_away key (said hello.now))) self.old.work.world self.new.standing self.new.work.world }
+        ensures { Comes V.told V.registry_of G.passes V.alone (for_peer self.old.standing key (Some peer) (turn_away key (said hello.now))) self.old.work.world self.new.standing self.new.work.world }
     {
         self.hands.turn_away(key, hello, &mut peer, bytes);
         self.peers[key] = Some(peer);
@@ -146,7 +153,7 @@ impl<V: BusView, G: Gate> Served<V, G> {
         requires room { 2 < self.old.work.room }
         requires key { key < length self.old.standing.peers }
         requires written { AreRefusals (said hello.now) (next_serial peer.serial) errors }
-        ensures { Comes V.told G.passes V.alone (greeted_by self.old.standing key (said hello.now) peer outcome outcome.reply) self.old.work.world self.new.standing self.new.work.world }
+        ensures { Comes V.told V.registry_of G.passes V.alone (greeted_by self.old.standing key (said hello.now) peer outcome outcome.reply) self.old.work.world self.new.standing self.new.work.world }
     {
         match welcomed(outcome.reply) {
             Some(conn) => {
@@ -170,7 +177,7 @@ impl<V: BusView, G: Gate> Served<V, G> {
         requires unnamed { IsUnnamed peer.stage }
         requires key { key < length self.old.standing.peers }
         requires written { AreRefusals (said hello.now) (next_serial peer.serial) errors }
-        ensures { Comes V.told G.passes V.alone (greeted self.old.standing key (said hello.now) peer (heard_change heard)) self.old.work.world self.new.standing self.new.work.world }
+        ensures { Comes V.told V.registry_of G.passes V.alone (greeted self.old.standing key (said hello.now) peer (heard_change heard)) self.old.work.world self.new.standing self.new.work.world }
     {
         match heard {
             Ok(outcome) => self.answer_hello(key, hello, peer, outcome, errors),
@@ -196,7 +203,7 @@ impl<V: BusView, G: Gate> Served<V, G> {
         requires unnamed { IsUnnamed peer.stage }
         requires key { key < length self.old.standing.peers }
         requires written { AreRefusals (said hello.now) (next_serial peer.serial) errors }
-        ensures { Comes V.told G.passes V.alone (greet self.old.standing key (said hello.now) peer privileged) self.old.work.world self.new.standing self.new.work.world }
+        ensures { Comes V.told V.registry_of G.passes V.alone (greet self.old.standing key (said hello.now) peer privileged) self.old.work.world self.new.standing self.new.work.world }
     {
         self.hands.pass(&Call::Hello);
         let heard = self.hands.change(right, Change::Hello { privileged });

@@ -5,17 +5,11 @@
 #![tactic(auto)]
 
 mod engine;
-#[cfg(test)]
-mod engine_tests;
 mod greeting;
-#[cfg(test)]
-mod greeting_tests;
 mod inbox;
 mod leaving;
 mod next;
 mod served;
-#[cfg(test)]
-mod tests;
 mod tick;
 
 pub use engine::Engine;

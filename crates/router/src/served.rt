@@ -130,12 +130,13 @@ impl<V: BusView, G: Gate> Served<V, G> {
         Ok(())
     }
 
-    /// Bytes of a connection came. Without memory nothing changes.
+    /// Bytes of a connection came. Without memory nothing changes, and they stay where they were.
     #[tactic(auto, using(crate::proofs::Slots::set_beyond, crate::proofs::Slots::set_same, crate::proofs::Slots::none_beyond))]
-    pub fn feed(&mut self, key: usize, piece: Vec<u8>) -> Result<(), AllocError>
-        ensures comes { OnOk result (Comes V.told G.passes V.alone (for_peer self.old.standing key (peer_at self.old.standing key) (λ p. Gives (fed piece.items p p.stage))) self.old.work.world self.new.standing self.new.work.world) }
+    pub fn feed(&mut self, key: usize, piece: &mut Vec<u8>) -> Result<(), AllocError>
+        ensures comes { OnOk result (Comes V.told V.registry_of G.passes V.alone (for_peer self.old.standing key (peer_at self.old.standing key) (λ p. Gives (fed piece.old.items p p.stage))) self.old.work.world self.new.standing self.new.work.world) }
         ensures err { OnErr result (self.new.standing ≡ self.old.standing) }
         ensures world { OnErr result (self.new.work.world ≡ self.old.work.world) }
+        ensures kept { OnErr result (piece.new ≡ piece.old) }
     {
         if key >= self.peers.len() {
             return Ok(());

@@ -1,5 +1,5 @@
 -- What comes of a script, as a list of what was asked and answered.
-use Rattle.std.proofs.Common.{◌≡◌, Bool, Option, List, [], ◌∷◌, ◌++◌, refl, sym, ap, ◌∙◌, subst, append_assoc}
+use Rattle.std.proofs.Common.{◌≡◌, ℕ, Bool, Option, List, [], ◌∷◌, ◌++◌, refl, sym, ap, ◌∙◌, subst, append_assoc}
 use mathlib.Core.List.{append-nil}
 use Rattle.seq_bus_core.specs.Histories.{History}
 use Rattle.seq_bus_core.specs.declared.signal.AddressedSignal.{AddressedSignal}
@@ -10,7 +10,7 @@ use Rattle.router_core.specs.Deeds.{Deed, GatedCall, PassesAll, announced, annou
 use Rattle.router_core.specs.Events.{script, occasion_of}
 use Rattle.router_core.specs.Laws.{AnswersAreLawful}
 use Rattle.router_core.specs.Scripts.{Script, Gives, Changing, Asking, Routing, Looking, Noting, Fronting, Calling, Gating, Wanting, Doing, Announcing, World, Comes, knowing}
-use Rattle.router_core.proofs.Knowing.{change_seat, answer_seat, verdict_seat, present_seat, note_seat}
+use Rattle.router_core.proofs.Knowing.{seat_kept, change_home, answer_home, verdict_home, present_home, note_home}
 
 -- ## Deeds of actions
 
@@ -53,8 +53,8 @@ module _ {N G : Type 0} (passes : G → GatedCall → G → Type 0) (w m v : Wor
       subst (λ n. PassesAll passes w.gate (gated_in n asked) v.gate) same
       (subst (λ (z : World N G). PassesAll passes z.gate (gated_in m.view.seat asked) v.gate) rest h)
 
-pub listed : {N G : Type 0} (told : N → History) (passes : G → GatedCall → G → Type 0) (alone : Bool) {X : Type 0} (s : Script X) (w : World N G) (x : X) (v : World N G) → Comes told passes alone s w x v → Listed passes alone s w x v
-listed {N = N} {G = G} told passes alone (Gives y) w x v p = record {
+pub listed : {N G : Type 0} (told : N → History) (registry_of : N → ℕ) (passes : G → GatedCall → G → Type 0) (alone : Bool) {X : Type 0} (s : Script X) (w : World N G) (x : X) (v : World N G) → Comes told registry_of passes alone s w x v → Listed passes alone s w x v
+listed {N = N} {G = G} told registry_of passes alone (Gives y) w x v p = record {
   asked = [];
   deeds = [];
   actions = [];
@@ -64,8 +64,8 @@ listed {N = N} {G = G} told passes alone (Gives y) w x v p = record {
   added = ap (λ (z : World N G). z.actions) p.1 ∙ sym (append-nil w.actions);
   shown = ap (λ (z : World N G). z.gate) p.1;
 }
-listed told passes alone (Changing change goes_on) w x v p =
-    let l = listed told passes alone (goes_on p.0) p.1 x v p.3 in
+listed told registry_of passes alone (Changing change goes_on) w x v p =
+    let l = listed told registry_of passes alone (goes_on p.0) p.1 x v p.3 in
     record {
       asked = Changed change p.0 ∷ l.asked;
       deeds = l.deeds;
@@ -74,10 +74,10 @@ listed told passes alone (Changing change goes_on) w x v p =
       lawful = ((p.1).view, p.2.hears, l.lawful);
       done = l.done;
       added = kept_actions passes w p.1 v p.2.rest l.actions l.added;
-      shown = kept_gate passes w p.1 v p.2.rest l.asked (change_seat alone change p.0 w.view (p.1).view p.2.hears) l.shown;
+      shown = kept_gate passes w p.1 v p.2.rest l.asked (seat_kept w.view (p.1).view (change_home alone change p.0 w.view (p.1).view p.2.hears)) l.shown;
     }
-listed told passes alone (Asking query goes_on) w x v p =
-    let l = listed told passes alone (goes_on p.0) p.1 x v p.3 in
+listed told registry_of passes alone (Asking query goes_on) w x v p =
+    let l = listed told registry_of passes alone (goes_on p.0) p.1 x v p.3 in
     record {
       asked = Asked query p.0 ∷ l.asked;
       deeds = l.deeds;
@@ -86,10 +86,10 @@ listed told passes alone (Asking query goes_on) w x v p =
       lawful = ((p.1).view, p.2.hears, l.lawful);
       done = l.done;
       added = kept_actions passes w p.1 v p.2.rest l.actions l.added;
-      shown = kept_gate passes w p.1 v p.2.rest l.asked (answer_seat alone query p.0 w.view (p.1).view p.2.hears) l.shown;
+      shown = kept_gate passes w p.1 v p.2.rest l.asked (seat_kept w.view (p.1).view (answer_home alone query p.0 w.view (p.1).view p.2.hears)) l.shown;
     }
-listed told passes alone (Routing from facts goes_on) w x v p =
-    let l = listed told passes alone (goes_on p.0) p.1 x v p.3 in
+listed told registry_of passes alone (Routing from facts goes_on) w x v p =
+    let l = listed told registry_of passes alone (goes_on p.0) p.1 x v p.3 in
     record {
       asked = Routed from facts p.0 ∷ l.asked;
       deeds = l.deeds;
@@ -98,10 +98,10 @@ listed told passes alone (Routing from facts goes_on) w x v p =
       lawful = ((p.1).view, p.2.hears, l.lawful);
       done = l.done;
       added = kept_actions passes w p.1 v p.2.rest l.actions l.added;
-      shown = kept_gate passes w p.1 v p.2.rest l.asked (verdict_seat alone from facts p.0 w.view (p.1).view p.2.hears) l.shown;
+      shown = kept_gate passes w p.1 v p.2.rest l.asked (seat_kept w.view (p.1).view (verdict_home alone from facts p.0 w.view (p.1).view p.2.hears)) l.shown;
     }
-listed told passes alone (Looking number goes_on) w x v p =
-    let l = listed told passes alone (goes_on p.0) p.1 x v p.3 in
+listed told registry_of passes alone (Looking number goes_on) w x v p =
+    let l = listed told registry_of passes alone (goes_on p.0) p.1 x v p.3 in
     record {
       asked = Looked number p.0 ∷ l.asked;
       deeds = l.deeds;
@@ -110,10 +110,10 @@ listed told passes alone (Looking number goes_on) w x v p =
       lawful = ((p.1).view, p.2.hears, l.lawful);
       done = l.done;
       added = kept_actions passes w p.1 v p.2.rest l.actions l.added;
-      shown = kept_gate passes w p.1 v p.2.rest l.asked (present_seat alone number p.0 w.view (p.1).view p.2.hears) l.shown;
+      shown = kept_gate passes w p.1 v p.2.rest l.asked (seat_kept w.view (p.1).view (present_home alone number p.0 w.view (p.1).view p.2.hears)) l.shown;
     }
-listed told passes alone (Noting history s) w x v p =
-    let l = listed told passes alone s p.0 x v p.2 in
+listed told registry_of passes alone (Noting history s) w x v p =
+    let l = listed told registry_of passes alone s p.0 x v p.2 in
     record {
       asked = Noted history ∷ l.asked;
       deeds = l.deeds;
@@ -122,10 +122,10 @@ listed told passes alone (Noting history s) w x v p =
       lawful = ((p.0).view, p.1.noted, l.lawful);
       done = l.done;
       added = kept_actions passes w p.0 v p.1.rest l.actions l.added;
-      shown = kept_gate passes w p.0 v p.1.rest l.asked (note_seat alone history w.view (p.0).view p.1.noted) l.shown;
+      shown = kept_gate passes w p.0 v p.1.rest l.asked (seat_kept w.view (p.0).view (note_home alone history w.view (p.0).view p.1.noted)) l.shown;
     }
-listed told passes alone (Fronting bytes goes_on) w x v p =
-    let l = listed told passes alone (goes_on p.0) w x v p.2 in
+listed told registry_of passes alone (Fronting bytes goes_on) w x v p =
+    let l = listed told registry_of passes alone (goes_on p.0) w x v p.2 in
     record {
       asked = Fronted bytes p.0 ∷ l.asked;
       deeds = l.deeds;
@@ -136,8 +136,8 @@ listed told passes alone (Fronting bytes goes_on) w x v p =
       added = l.added;
       shown = l.shown;
     }
-listed told passes alone (Calling m goes_on) w x v p =
-    let l = listed told passes alone (goes_on p.0) w x v p.2 in
+listed told registry_of passes alone (Calling m goes_on) w x v p =
+    let l = listed told registry_of passes alone (goes_on p.0) w x v p.2 in
     record {
       asked = Called m p.0 ∷ l.asked;
       deeds = l.deeds;
@@ -148,8 +148,8 @@ listed told passes alone (Calling m goes_on) w x v p =
       added = l.added;
       shown = l.shown;
     }
-listed {N = N} {G = G} told passes alone (Gating call s) w x v p =
-    let l = listed told passes alone s p.0 x v p.2 in
+listed {N = N} {G = G} told registry_of passes alone (Gating call s) w x v p =
+    let l = listed told registry_of passes alone s p.0 x v p.2 in
     let seat : (p.0).view.seat ≡ w.view.seat = ap (λ (z : World N G). z.view.seat) p.1.rest in
     record {
       asked = Gated call ∷ l.asked;
@@ -161,8 +161,8 @@ listed {N = N} {G = G} told passes alone (Gating call s) w x v p =
       added = l.added ∙ ap (λ (z : World N G). z.actions ++ l.actions) p.1.rest;
       shown = ((p.0).gate, p.1.shown, subst (λ n. PassesAll passes (p.0).gate (gated_in n l.asked) v.gate) seat l.shown);
     }
-listed told passes alone (Wanting goes_on) w x v p =
-    let l = listed told passes alone (goes_on p.0) w x v p.1 in
+listed told registry_of passes alone (Wanting goes_on) w x v p =
+    let l = listed told registry_of passes alone (goes_on p.0) w x v p.1 in
     record {
       asked = Wanted p.0 ∷ l.asked;
       deeds = l.deeds;
@@ -173,8 +173,8 @@ listed told passes alone (Wanting goes_on) w x v p =
       added = l.added;
       shown = l.shown;
     }
-listed {N = N} {G = G} told passes alone (Doing deed s) w x v p =
-    let l = listed told passes alone s p.0 x v p.2 in
+listed {N = N} {G = G} told registry_of passes alone (Doing deed s) w x v p =
+    let l = listed told registry_of passes alone s p.0 x v p.2 in
     record {
       asked = l.asked;
       deeds = deed ∷ l.deeds;
@@ -185,8 +185,8 @@ listed {N = N} {G = G} told passes alone (Doing deed s) w x v p =
       added = snoc v.actions w.actions l.actions (p.1.action ∷ []) (l.added ∙ ap (λ (z : World N G). z.actions ++ l.actions) p.1.rest);
       shown = subst (λ (z : World N G). PassesAll passes z.gate (gated_in z.view.seat l.asked) v.gate) p.1.rest l.shown;
     }
-listed {N = N} {G = G} told passes alone (Announcing signals s) w x v p =
-    let l = listed told passes alone s p.0 x v p.2 in
+listed {N = N} {G = G} told registry_of passes alone (Announcing signals s) w x v p =
+    let l = listed told registry_of passes alone s p.0 x v p.2 in
     record {
       asked = l.asked;
       deeds = announced signals ++ l.deeds;
@@ -198,9 +198,9 @@ listed {N = N} {G = G} told passes alone (Announcing signals s) w x v p =
       shown = subst (λ (z : World N G). PassesAll passes z.gate (gated_in z.view.seat l.asked) v.gate) p.1.rest l.shown;
     }
 
-pub answers_are_lawful : {N G : Type 0} (told : N → History) (passes : G → GatedCall → G → Type 0) (alone : Bool) → AnswersAreLawful told passes alone
-answers_are_lawful told passes alone before after event actions brings =
-    let l = listed told passes alone (script before.standing (occasion_of told event)) (world_of before) after.standing brings.ends brings.comes in
+pub answers_are_lawful : {N G : Type 0} (told : N → History) (registry_of : N → ℕ) (passes : G → GatedCall → G → Type 0) (alone : Bool) → AnswersAreLawful told registry_of passes alone
+answers_are_lawful told registry_of passes alone before after event actions brings =
+    let l = listed told registry_of passes alone (script before.standing (occasion_of told event)) (world_of before) after.standing brings.ends brings.comes in
     record {
       asked = l.asked;
       deeds = l.deeds;

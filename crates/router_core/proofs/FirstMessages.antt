@@ -1,5 +1,5 @@
 -- Connections before their Hello, and once they were closed.
-use Rattle.std.proofs.Common.{Bool, Some, if◌then◌else◌, refl, ap, ◌∙◌, subst}
+use Rattle.std.proofs.Common.{ℕ, Bool, Some, if◌then◌else◌, refl, ap, ◌∙◌, subst}
 use Rattle.seq_bus_core.specs.Histories.{History}
 use Rattle.router_core.specs.Deeds.{GatedCall}
 use Rattle.router_core.specs.Events.{next, next_at, for_peer, fed, closing, greet}
@@ -22,7 +22,7 @@ closed_get_no_mail slot number p conn is = rw is refl
 pub unknown_types_bring_nothing : UnknownTypesBringNothing
 unknown_types_bring_nothing m sender unknown = rw unknown refl
 
-pub only_hello_greets : {N G : Type 0} (told : N → History) (passes : G → GatedCall → G → Type 0) (alone : Bool) → OnlyHelloGreets told passes alone
-only_hello_greets told passes alone s t key m p privileged w v other comes =
-    let closed : Comes told passes alone (for_peer s key (Some p) (closing key NotHello)) w t v = subst (λ b. Comes told passes alone (if b then greet s key m p privileged else for_peer s key (Some p) (closing key NotHello)) w t v) other comes in
+pub only_hello_greets : {N G : Type 0} (told : N → History) (registry_of : N → ℕ) (passes : G → GatedCall → G → Type 0) (alone : Bool) → OnlyHelloGreets told registry_of passes alone
+only_hello_greets told registry_of passes alone s t key m p privileged w v other comes =
+    let closed : Comes told registry_of passes alone (for_peer s key (Some p) (closing key NotHello)) w t v = subst (λ b. Comes told registry_of passes alone (if b then greet s key m p privileged else for_peer s key (Some p) (closing key NotHello)) w t v) other comes in
     (closed.2.0, (closed.1.action, closed.1.done, closed.2.1 ∙ closed.1.rest))

@@ -10,32 +10,41 @@ use Rattle.seq_bus_core.specs.declared.verdict.Verdict.{Verdict}
 use Rattle.bus_view.specs.Views.{Knowledge, IsChanged, IsRead, IsNoted, next_entry, having_changed}
 use Rattle.router_core.specs.Answers.{Heard, Says, Refuses, HearsChange, HearsAnswer, HearsVerdict, HearsPresent}
 
--- ## The seat stays
+-- ## The registry and the seat stay
 
-seat_of : (k m : Knowledge) → m ≡ k → m.seat ≡ k.seat
-seat_of k m e = ap (λ (n : Knowledge). n.seat) e
+abbrev pub home : Knowledge → ℕ × ℕ
+home k = (k.registry, k.seat)
 
-read_seat : (alone : Bool) (k m : Knowledge) → IsRead alone k m → m.seat ≡ k.seat
-read_seat alone k m read = ap (λ (n : Knowledge). n.seat) read.kept
+pub registry_kept : (k m : Knowledge) → home m ≡ home k → m.registry ≡ k.registry
+registry_kept k m e = ap (λ (h : ℕ × ℕ). h.0) e
 
-pub change_seat : (alone : Bool) (change : Change) (heard : Heard Outcome) (k m : Knowledge) → HearsChange alone change k heard m → m.seat ≡ k.seat
-change_seat alone change (Says o) k m h = ap (λ (n : Knowledge). n.seat) h.added
-change_seat alone change (Refuses r) k m h = seat_of k m h.0
+pub seat_kept : (k m : Knowledge) → home m ≡ home k → m.seat ≡ k.seat
+seat_kept k m e = ap (λ (h : ℕ × ℕ). h.1) e
 
-pub answer_seat : (alone : Bool) (query : Query) (heard : Heard (Option Answer)) (k m : Knowledge) → HearsAnswer alone query k heard m → m.seat ≡ k.seat
-answer_seat alone query (Says told) k m h = read_seat alone k m h.0
-answer_seat alone query (Refuses r) k m h = ap (λ (n : Knowledge). n.seat) h.0.kept
+home_of : (k m : Knowledge) → m ≡ k → home m ≡ home k
+home_of k m e = ap (λ (n : Knowledge). home n) e
 
-pub verdict_seat : (alone : Bool) (from : ℕ) (facts : Facts) (heard : Heard Verdict) (k m : Knowledge) → HearsVerdict alone from facts k heard m → m.seat ≡ k.seat
-verdict_seat alone from facts (Says v) k m h = read_seat alone k m h.0
-verdict_seat alone from facts (Refuses r) k m h = seat_of k m h.0
+read_home : (alone : Bool) (k m : Knowledge) → IsRead alone k m → home m ≡ home k
+read_home alone k m read = ap (λ (n : Knowledge). home n) read.kept
 
-pub present_seat : (alone : Bool) (number : ℕ) (heard : Heard Bool) (k m : Knowledge) → HearsPresent alone number k heard m → m.seat ≡ k.seat
-present_seat alone number (Says there) k m h = read_seat alone k m h.0
-present_seat alone number (Refuses r) k m h = seat_of k m h.0
+pub change_home : (alone : Bool) (change : Change) (heard : Heard Outcome) (k m : Knowledge) → HearsChange alone change k heard m → home m ≡ home k
+change_home alone change (Says o) k m h = ap (λ (n : Knowledge). home n) h.added
+change_home alone change (Refuses r) k m h = home_of k m h.0
 
-pub note_seat : (alone : Bool) (told : History) (k m : Knowledge) → IsNoted alone k told m → m.seat ≡ k.seat
-note_seat alone told k m h = ap (λ (n : Knowledge). n.seat) h.kept
+pub answer_home : (alone : Bool) (query : Query) (heard : Heard (Option Answer)) (k m : Knowledge) → HearsAnswer alone query k heard m → home m ≡ home k
+answer_home alone query (Says told) k m h = read_home alone k m h.0
+answer_home alone query (Refuses r) k m h = ap (λ (n : Knowledge). home n) h.0.kept
+
+pub verdict_home : (alone : Bool) (from : ℕ) (facts : Facts) (heard : Heard Verdict) (k m : Knowledge) → HearsVerdict alone from facts k heard m → home m ≡ home k
+verdict_home alone from facts (Says v) k m h = read_home alone k m h.0
+verdict_home alone from facts (Refuses r) k m h = home_of k m h.0
+
+pub present_home : (alone : Bool) (number : ℕ) (heard : Heard Bool) (k m : Knowledge) → HearsPresent alone number k heard m → home m ≡ home k
+present_home alone number (Says there) k m h = read_home alone k m h.0
+present_home alone number (Refuses r) k m h = home_of k m h.0
+
+pub note_home : (alone : Bool) (told : History) (k m : Knowledge) → IsNoted alone k told m → home m ≡ home k
+note_home alone told k m h = ap (λ (n : Knowledge). home n) h.kept
 
 -- ## Where nobody else makes changes
 

@@ -1,4 +1,5 @@
 pub mod Knowing
 pub mod Asked
+pub mod Registries
 pub mod Functions
 pub mod FirstMessages

@@ -90,9 +90,9 @@ abbrev pub world_of : {N G : Type 0} → State G → World N G
 world_of s = record { view = s.view; gate = s.gate; actions = [] }
 
 -- The event brings these actions, and leaves the engine so.
-pub record Brings {N G : Type 0} (told : N → History) (passes : G → GatedCall → G → Type 0) (alone : Bool) (before : State G) (event : Event N) (actions : List (Action N)) (after : State G) : Type 0 where
+pub record Brings {N G : Type 0} (told : N → History) (registry_of : N → ℕ) (passes : G → GatedCall → G → Type 0) (alone : Bool) (before : State G) (event : Event N) (actions : List (Action N)) (after : State G) : Type 0 where
   pub ends : World N G
-  pub comes : Comes told passes alone (script before.standing (occasion_of told event)) (world_of before) after.standing ends
+  pub comes : Comes told registry_of passes alone (script before.standing (occasion_of told event)) (world_of before) after.standing ends
   pub view : after.view ≡ ends.view
   pub gate : after.gate ≡ ends.gate
   pub done : actions ≡ ends.actions

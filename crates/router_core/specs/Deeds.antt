@@ -1,5 +1,5 @@
 -- What a router does, in the terms of the definitions.
-use Rattle.std.specs.Prelude.{◌≡◌, ℕ, Bool, false, not, Option, option_map, List, [], ◌∷◌, ◌++◌, filter}
+use Rattle.std.specs.Prelude.{◌≡◌, ℕ, Bool, false, not, Option, option_map, IfSome, List, [], ◌∷◌, ◌++◌, filter}
 use Rattle.names.specs.Texts.{Text}
 use Rattle.seq_bus_core.specs.Histories.{History}
 use Rattle.seq_bus_core.specs.Steps.{is_among}
@@ -7,6 +7,7 @@ use Rattle.seq_bus_core.specs.declared.connection.Conn.{Conn}
 use Rattle.seq_bus_core.specs.declared.signal.AddressedSignal.{AddressedSignal}
 use Rattle.message_core.specs.Messages.{Message, IsWritten}
 use Rattle.driver.specs.declared.call.Call.{Call}
+use Rattle.bus_view.specs.Views.{Knowledge}
 use Rattle.envelopes.specs.Contents.{Said, Tells, Signals, said_of}
 use Rattle.router_core.specs.declared.action.Action.{Action}
 use Rattle.router_core.specs.declared.action.Action.TheVariants.{Write, Put, Announce, Close, Run}
@@ -69,14 +70,25 @@ announcement (s ∷ signals) carried = Announce (s ∷ signals) carried ∷ []
 
 -- ## What actions carry
 
--- It is the furthest note that the view held. Where nobody else makes changes, notes tell nothing.
-abbrev pub IsFurthest : {N : Type 0} → (N → History) → Bool → Option History → Option N → Type 0
-IsFurthest told alone held carried = alone ≡ false → option_map told carried ≡ held
+-- the note, if there is one, is of this registry
+abbrev pub IsOwnNote : {N : Type 0} → (N → ℕ) → (registry : ℕ) → Option N → Type 0
+IsOwnNote registry_of registry carried = IfSome carried (λ note. registry_of note ≡ registry)
 
-abbrev pub CarriesFurthest : {N : Type 0} → (N → History) → Bool → Option History → Action N → Type 0
-CarriesFurthest told alone held (Put to carried content) = IsFurthest told alone held carried
-CarriesFurthest told alone held (Announce signals carried) = IsFurthest told alone held carried
-CarriesFurthest told alone held other = Unit {0}
+-- It is the furthest note that the view held, and of the view's registry. Where nobody else makes changes, notes tell nothing.
+pub record IsFurthest {N : Type 0} (told : N → History) (registry_of : N → ℕ) (alone : Bool) (view : Knowledge) (carried : Option N) : Type 0 where
+  pub own : IsOwnNote registry_of view.registry carried
+  pub tells : alone ≡ false → option_map told carried ≡ view.held
+
+abbrev pub CarriesFurthest : {N : Type 0} → (N → History) → (N → ℕ) → Bool → Knowledge → Action N → Type 0
+CarriesFurthest told registry_of alone view (Put to carried content) = IsFurthest told registry_of alone view carried
+CarriesFurthest told registry_of alone view (Announce signals carried) = IsFurthest told registry_of alone view carried
+CarriesFurthest told registry_of alone view other = Unit {0}
+
+-- what an action carries is of this registry
+abbrev pub CarriesOwn : {N : Type 0} → (N → ℕ) → (registry : ℕ) → Action N → Type 0
+CarriesOwn registry_of registry (Put to carried content) = IsOwnNote registry_of registry carried
+CarriesOwn registry_of registry (Announce signals carried) = IsOwnNote registry_of registry carried
+CarriesOwn registry_of registry other = Unit {0}
 
 -- ## What actions do
 

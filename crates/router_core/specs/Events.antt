@@ -20,7 +20,7 @@ use Rattle.router_core.specs.declared.cause.CloseCause.TheVariants as cause
 use Rattle.router_core.specs.declared.event.Event.{Event}
 use Rattle.router_core.specs.declared.event.Event.TheVariants as event
 use Rattle.router_core.specs.Answers.{Heard, Says, Refuses, error_for}
-use Rattle.router_core.specs.Deeds.{Writes, Sends, Closes}
+use Rattle.router_core.specs.Deeds.{Writes, Sends, Closes, IsOwnNote}
 use Rattle.router_core.specs.Fronts.{Front, Waits, Whole, Faulty}
 use Rattle.router_core.specs.Scripts.{Script, Gives, Changing, Routing, Looking, Noting, Fronting, Gating, Doing, Announcing, and_then, putting}
 use Rattle.router_core.specs.Serving.{monitors_in, reply_with, serve}
@@ -33,6 +33,8 @@ pub data Occasion : Type 0 where
   Next : (key : ℕ) → Occasion
   Mail : (slot number : ℕ) → (note : Option History) → Said → Occasion
   Closed : (key : ℕ) → Occasion
+  -- a recipient could not be reached
+  Full : (number : ℕ) → Occasion
   Tick : Occasion
 
 -- a script that leaves a connection so
@@ -200,6 +202,7 @@ script s (Bytes key piece) = for_peer s key (peer_at s key) (λ p. Gives (fed pi
 script s (Next key) = next s key (peer_at s key)
 script s (Mail slot number told said) = noted told (mail_found s said (position (is_conn slot number) s.peers))
 script s (Closed key) = closed s key (peer_at s key)
+script s (Full number) = leave s number
 script s Tick = tick s
 
 -- the event; `told` says which history a note tells
@@ -209,6 +212,7 @@ occasion_of told (event.Bytes key piece) = Bytes key piece.items
 occasion_of told (event.Next key) = Next key
 occasion_of told (event.Mail slot envelope) = Mail slot envelope.number (option_map told envelope.note) (said_of envelope.content)
 occasion_of told (event.Closed key) = Closed key
+occasion_of told (event.Full number) = Full number
 occasion_of told event.Tick = Tick
 
 -- ## What can happen
@@ -216,11 +220,6 @@ occasion_of told event.Tick = Tick
 -- no connection has the key, and none above it is left out
 abbrev pub IsFree : Standing → ℕ → Type 0
 IsFree s key = (peer_at s key ≡ None) × (key ≤ length s.peers)
-
--- the note, if there is one, is of this registry
-abbrev pub IsOwnNote : {N : Type 0} → (N → ℕ) → ℕ → Option N → Type 0
-IsOwnNote registry_of registry None = Unit {0}
-IsOwnNote registry_of registry (Some n) = registry_of n ≡ registry
 
 abbrev pub CanHappen : {N : Type 0} → (N → ℕ) → ℕ → Standing → Event N → Type 0
 CanHappen registry_of registry s (event.Opened key) = IsFree s key

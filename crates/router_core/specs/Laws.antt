@@ -1,5 +1,6 @@
 -- Laws of what a router does.
 use Rattle.std.specs.Prelude.{◌≡◌, ℕ, Bool, true, false, Option, Some, List, [], ◌∷◌}
+use Rattle.std.specs.List.{AllByRecursion}
 use Rattle.match_rules.specs.Kinds.{kind_of}
 use Rattle.seq_bus_core.specs.Histories.{History}
 use Rattle.seq_bus_core.specs.declared.connection.Conn.{Conn}
@@ -9,7 +10,7 @@ use Rattle.router_core.specs.declared.cause.CloseCause.TheVariants.{NotHello}
 use Rattle.router_core.specs.declared.action.Action.{Action}
 use Rattle.router_core.specs.declared.event.Event.{Event}
 use Rattle.router_core.specs.Acts.{State, Brings, IsServed, IsServedBy, Exchange, IsGranted}
-use Rattle.router_core.specs.Deeds.{Deed, Closes, GatedCall, IsDoneBy}
+use Rattle.router_core.specs.Deeds.{Deed, Closes, GatedCall, IsDoneBy, CarriesOwn}
 use Rattle.router_core.specs.Events.{Occasion, Bytes, Next, script, serve_at}
 use Rattle.router_core.specs.OneThread.{Readers, Rest, given, rest_after, bus_bytes, AreReadBy, IsRun}
 use Rattle.router_core.specs.Scripts.{Gives, World, having_done, Comes}
@@ -37,16 +38,22 @@ abbrev pub UnknownTypesBringNothing : Type 0
 UnknownTypesBringNothing = (m : Message) (sender : Conn) → is_unknown (kind_of m.kind) ≡ true → serve m sender ≡ stays_open
 
 -- Before its Hello a connection is closed for anything else.
-abbrev pub OnlyHelloGreets : {N G : Type 0} → (N → History) → (G → GatedCall → G → Type 0) → Bool → Type 0
-OnlyHelloGreets {N = N} {G = G} told passes alone = (s t : Standing) (key : ℕ) (m : Message) (p : Peer) (privileged : Bool) (w v : World N G) →
-    is_hello m ≡ false → Comes told passes alone (serve_at s key m p (Unnamed privileged)) w t v →
+abbrev pub OnlyHelloGreets : {N G : Type 0} → (N → History) → (N → ℕ) → (G → GatedCall → G → Type 0) → Bool → Type 0
+OnlyHelloGreets {N = N} {G = G} told registry_of passes alone = (s t : Standing) (key : ℕ) (m : Message) (p : Peer) (privileged : Bool) (w v : World N G) →
+    is_hello m ≡ false → Comes told registry_of passes alone (serve_at s key m p (Unnamed privileged)) w t v →
     (t ≡ with_peer s key (Some (shut p))) × ((action : Action N) × IsDoneBy action (Closes key NotHello) × (v ≡ having_done w (action ∷ [])))
 
 -- What an event brings it brings for some answers that the bus may give, one after the other, and the gate is shown the calls among
 -- them, each once.
-abbrev pub AnswersAreLawful : {N G : Type 0} → (N → History) → (G → GatedCall → G → Type 0) → Bool → Type 0
-AnswersAreLawful {N = N} {G = G} told passes alone = (before after : State G) (event : Event N) (actions : List (Action N)) →
-    Brings told passes alone before event actions after → IsServed told passes alone before event actions after
+abbrev pub AnswersAreLawful : {N G : Type 0} → (N → History) → (N → ℕ) → (G → GatedCall → G → Type 0) → Bool → Type 0
+AnswersAreLawful {N = N} {G = G} told registry_of passes alone = (before after : State G) (event : Event N) (actions : List (Action N)) →
+    Brings told registry_of passes alone before event actions after → IsServed told passes alone before event actions after
+
+-- An event leaves the view of the registry that it was of, and the notes that its actions carry are of that registry.
+abbrev pub NotesAreOwn : {N G : Type 0} → (N → History) → (N → ℕ) → (G → GatedCall → G → Type 0) → Bool → Type 0
+NotesAreOwn {N = N} {G = G} told registry_of passes alone = (before after : State G) (event : Event N) (actions : List (Action N)) →
+    Brings told registry_of passes alone before event actions after →
+    (after.view.registry ≡ before.view.registry) × AllByRecursion (CarriesOwn registry_of before.view.registry) actions
 
 -- Over a bus of one thread, where nothing is refused, what an occasion brings is a function of it and of what was read.
 abbrev pub OneThreadIsAFunction : Type 0

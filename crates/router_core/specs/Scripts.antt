@@ -101,35 +101,35 @@ pub record Passes {N G : Type 0} (passes : G → GatedCall → G → Type 0) (ca
   pub shown : passes w.gate (record { seat = w.view.seat; call = call }) m.gate
   pub rest : m ≡ record w { gate = m.gate }
 
--- an action is taken, which carries the furthest note; `told` says which history a note tells
-pub record Does {N G : Type 0} (told : N → History) (alone : Bool) (deed : Deed) (w m : World N G) : Type 0 where
+-- an action is taken, which carries the furthest note; `told` says which history a note tells, and `registry_of` which registry it is of
+pub record Does {N G : Type 0} (told : N → History) (registry_of : N → ℕ) (alone : Bool) (deed : Deed) (w m : World N G) : Type 0 where
   pub action : Action N
   pub done : IsDoneBy action deed
-  pub carries : CarriesFurthest told alone w.view.held action
+  pub carries : CarriesFurthest told registry_of alone w.view action
   pub rest : m ≡ having_done w (action ∷ [])
 
-pub record Announces {N G : Type 0} (told : N → History) (alone : Bool) (signals : List AddressedSignal) (w m : World N G) : Type 0 where
+pub record Announces {N G : Type 0} (told : N → History) (registry_of : N → ℕ) (alone : Bool) (signals : List AddressedSignal) (w m : World N G) : Type 0 where
   pub note : Option N
-  pub carries : IsFurthest told alone w.view.held note
+  pub carries : IsFurthest told registry_of alone w.view note
   pub rest : m ≡ having_done w (announcement signals note)
 
 -- ## All of it
 
 -- The script, begun in one world, comes to this result in another.
-abbrev pub Comes : {N G : Type 0} → (N → History) → (G → GatedCall → G → Type 0) → Bool → {X : Type 0} → Script X → World N G → X → World N G → Type 0
-Comes told passes alone (Gives y) w x v = (x ≡ y) × (v ≡ w)
-Comes {N = N} {G = G} told passes alone (Changing change goes_on) w x v =
-    (heard : Heard Outcome) × (m : World N G) × Changes alone change w heard m × Comes told passes alone (goes_on heard) m x v
-Comes {N = N} {G = G} told passes alone (Asking query goes_on) w x v =
-    (heard : Heard (Option Answer)) × (m : World N G) × Asks alone query w heard m × Comes told passes alone (goes_on heard) m x v
-Comes {N = N} {G = G} told passes alone (Routing from facts goes_on) w x v =
-    (heard : Heard Verdict) × (m : World N G) × Routes alone from facts w heard m × Comes told passes alone (goes_on heard) m x v
-Comes {N = N} {G = G} told passes alone (Looking number goes_on) w x v =
-    (heard : Heard Bool) × (m : World N G) × Looks alone number w heard m × Comes told passes alone (goes_on heard) m x v
-Comes {N = N} {G = G} told passes alone (Noting history s) w x v = (m : World N G) × Takes alone history w m × Comes told passes alone s m x v
-Comes told passes alone (Fronting bytes goes_on) w x v = (front : Front) × IsFront bytes front × Comes told passes alone (goes_on front) w x v
-Comes told passes alone (Calling m goes_on) w x v = (reading : Reading Call) × IsCall m reading × Comes told passes alone (goes_on reading) w x v
-Comes {N = N} {G = G} told passes alone (Gating call s) w x v = (m : World N G) × Passes passes call w m × Comes told passes alone s m x v
-Comes told passes alone (Wanting goes_on) w x v = (granted : Bool) × Comes told passes alone (goes_on granted) w x v
-Comes {N = N} {G = G} told passes alone (Doing deed s) w x v = (m : World N G) × Does told alone deed w m × Comes told passes alone s m x v
-Comes {N = N} {G = G} told passes alone (Announcing signals s) w x v = (m : World N G) × Announces told alone signals w m × Comes told passes alone s m x v
+abbrev pub Comes : {N G : Type 0} → (N → History) → (N → ℕ) → (G → GatedCall → G → Type 0) → Bool → {X : Type 0} → Script X → World N G → X → World N G → Type 0
+Comes told registry_of passes alone (Gives y) w x v = (x ≡ y) × (v ≡ w)
+Comes {N = N} {G = G} told registry_of passes alone (Changing change goes_on) w x v =
+    (heard : Heard Outcome) × (m : World N G) × Changes alone change w heard m × Comes told registry_of passes alone (goes_on heard) m x v
+Comes {N = N} {G = G} told registry_of passes alone (Asking query goes_on) w x v =
+    (heard : Heard (Option Answer)) × (m : World N G) × Asks alone query w heard m × Comes told registry_of passes alone (goes_on heard) m x v
+Comes {N = N} {G = G} told registry_of passes alone (Routing from facts goes_on) w x v =
+    (heard : Heard Verdict) × (m : World N G) × Routes alone from facts w heard m × Comes told registry_of passes alone (goes_on heard) m x v
+Comes {N = N} {G = G} told registry_of passes alone (Looking number goes_on) w x v =
+    (heard : Heard Bool) × (m : World N G) × Looks alone number w heard m × Comes told registry_of passes alone (goes_on heard) m x v
+Comes {N = N} {G = G} told registry_of passes alone (Noting history s) w x v = (m : World N G) × Takes alone history w m × Comes told registry_of passes alone s m x v
+Comes told registry_of passes alone (Fronting bytes goes_on) w x v = (front : Front) × IsFront bytes front × Comes told registry_of passes alone (goes_on front) w x v
+Comes told registry_of passes alone (Calling m goes_on) w x v = (reading : Reading Call) × IsCall m reading × Comes told registry_of passes alone (goes_on reading) w x v
+Comes {N = N} {G = G} told registry_of passes alone (Gating call s) w x v = (m : World N G) × Passes passes call w m × Comes told registry_of passes alone s m x v
+Comes told registry_of passes alone (Wanting goes_on) w x v = (granted : Bool) × Comes told registry_of passes alone (goes_on granted) w x v
+Comes {N = N} {G = G} told registry_of passes alone (Doing deed s) w x v = (m : World N G) × Does told registry_of alone deed w m × Comes told registry_of passes alone s m x v
+Comes {N = N} {G = G} told registry_of passes alone (Announcing signals s) w x v = (m : World N G) × Announces told registry_of alone signals w m × Comes told registry_of passes alone s m x v

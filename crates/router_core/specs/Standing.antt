@@ -62,6 +62,16 @@ has_slot slot (Some p) = is_in p.stage
     is_in (Unnamed privileged) = false
     is_in (Shut conn) = false
 
+-- it is there, and has no name yet
+abbrev pub is_unnamed : Option Peer → Bool
+is_unnamed None = false
+is_unnamed (Some p) = is_without p.stage
+  where
+    is_without : Stage → Bool
+    is_without (Unnamed privileged) = true
+    is_without (Named conn) = false
+    is_without (Shut conn) = false
+
 -- it has a name, this slot and this number
 abbrev pub is_conn : (slot number : ℕ) → Option Peer → Bool
 is_conn slot number None = false

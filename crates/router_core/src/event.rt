@@ -15,6 +15,8 @@ pub enum Event<N: Drop> {
     Mail { slot: u16, envelope: Envelope<N> },
     /// A connection is gone, and its key is free.
     Closed { key: usize },
+    /// The connection of this number, of whatever router, takes no more mail: an envelope for it could not be put.
+    Full { number: u64 },
     /// Time has passed.
     Tick,
 }

@@ -1,7 +1,7 @@
 //! Laws of the definitions.
 
 ghost use Rattle.std.specs.Prelude.{◌≡◌};
-ghost use Rattle.router_core.specs.Laws.{ClosedAreNotServed, ClosedTakeNothing, ClosedGetNoMail, UnknownTypesBringNothing, OnlyHelloGreets, AnswersAreLawful, OneThreadIsAFunction, BytesAreAFunction};
+ghost use Rattle.router_core.specs.Laws.{ClosedAreNotServed, ClosedTakeNothing, ClosedGetNoMail, UnknownTypesBringNothing, OnlyHelloGreets, AnswersAreLawful, NotesAreOwn, OneThreadIsAFunction, BytesAreAFunction};
 ghost use Rattle.router_core.specs.Standing.{next_serial};
 
 use crate::gate::Gate;
@@ -30,13 +30,18 @@ pub fn unknown_types_bring_nothing()
 /// A connection that sends anything before the call of Hello is closed for it, and nothing else is done.
 #[tactic(auto, using(crate::proofs::FirstMessages::only_hello_greets))]
 pub fn only_hello_greets<V: BusView, G: Gate>()
-    ensures { OnlyHelloGreets V.told G.passes V.alone }
+    ensures { OnlyHelloGreets V.told V.registry_of G.passes V.alone }
 {}
 
 /// What an event brings is what it brings for some answers that the bus may give.
-#[tactic(auto, using(crate::proofs::Asked::answers_are_lawful))]
 pub fn answers_are_lawful<V: BusView, G: Gate>()
-    ensures { AnswersAreLawful V.told G.passes V.alone }
+    ensures { AnswersAreLawful V.told V.registry_of G.passes V.alone }
+{}
+
+/// An event leaves the view of the registry that it was of, and the notes that its actions carry are of that registry: they may be
+/// handed to any other engine over a view of it.
+pub fn notes_are_own<V: BusView, G: Gate>()
+    ensures { NotesAreOwn V.told V.registry_of G.passes V.alone }
 {}
 
 /// Over a bus of one thread, where nothing is refused, what an event brings is a function of it and of what was read.

@@ -15,8 +15,6 @@ mod event;
 mod gate;
 pub mod laws;
 mod recipients;
-#[cfg(test)]
-mod tests;
 mod written;
 
 pub use action::Action;

@@ -44,6 +44,6 @@ pub record SaysHello (greeting : Greeting) (old : Option Peer) : Type 0 where
   pub errors : AreRefusals (said greeting.hello) (next_serial greeting.peer.serial) greeting.errors
 
 -- The next message was served, or it is a Hello that is to be served yet.
-abbrev pub ComesOfNext : {N G : Type 0} → (N → History) → (G → GatedCall → G → Type 0) → Bool → ℕ → Option Greeting → Option Peer → Option Peer → World N G → World N G → Type 0
-ComesOfNext told passes alone key None old new w v = (s : Standing) → peer_at s key ≡ old → Comes told passes alone (next s key old) w (with_peer s key new) v
-ComesOfNext told passes alone key (Some greeting) old new w v = SaysHello greeting old × (new ≡ None) × (v ≡ w)
+abbrev pub ComesOfNext : {N G : Type 0} → (N → History) → (N → ℕ) → (G → GatedCall → G → Type 0) → Bool → ℕ → Option Greeting → Option Peer → Option Peer → World N G → World N G → Type 0
+ComesOfNext told registry_of passes alone key None old new w v = (s : Standing) → peer_at s key ≡ old → Comes told registry_of passes alone (next s key old) w (with_peer s key new) v
+ComesOfNext told registry_of passes alone key (Some greeting) old new w v = SaysHello greeting old × (new ≡ None) × (v ≡ w)

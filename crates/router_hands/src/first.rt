@@ -85,7 +85,7 @@ impl<V: BusView, G: Gate> Hands<V, G> {
     ) -> Result<Option<Greeting>, AllocError>
         requires room { 0 < self.old.room }
         requires unnamed { IfSome slot.old (λ p. p.stage ≡ Unnamed privileged) }
-        ensures next { IfOk result (λ greeting. ComesOfNext V.told G.passes V.alone key greeting slot.old slot.new self.old.world self.new.world) }
+        ensures next { IfOk result (λ greeting. ComesOfNext V.told V.registry_of G.passes V.alone key greeting slot.old slot.new self.old.world self.new.world) }
         ensures room { self.old.room ≤ self.new.room + 1 }
         ensures kept { IfOk result (λ greeting. IfSome greeting (λ _. self.new.room ≡ self.old.room)) }
         ensures err { OnErr result (slot.new ≡ slot.old) }

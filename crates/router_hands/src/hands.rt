@@ -127,7 +127,7 @@ impl<V: BusView, G: Gate> Hands<V, G> {
     /// Writes a message of another connection to the connection of this key.
     pub fn write(&mut self, key: usize, bytes: WrittenBytes)
         requires { 0 < self.old.room }
-        ensures does { Does V.told V.alone (Writes key bytes) self.old.world self.new.world }
+        ensures does { Does V.told V.registry_of V.alone (Writes key bytes) self.old.world self.new.world }
         ensures room { self.new.room + 1 ≡ self.old.room }
     {
         self.act(Action::Write { key, bytes });
@@ -136,7 +136,7 @@ impl<V: BusView, G: Gate> Hands<V, G> {
     /// Writes a message of the bus to the connection of this key.
     pub fn send(&mut self, key: usize, message: WrittenBytes)
         requires { 0 < self.old.room }
-        ensures does { (m : Message) → IsWritten message m → Does V.told V.alone (Sends key m) self.old.world self.new.world }
+        ensures does { (m : Message) → IsWritten message m → Does V.told V.registry_of V.alone (Sends key m) self.old.world self.new.world }
         ensures told { self.new.told ≡ self.old.told }
         ensures room { self.new.room + 1 ≡ self.old.room }
     {
@@ -149,7 +149,7 @@ impl<V: BusView, G: Gate> Hands<V, G> {
     /// Closes the connection of this key.
     pub fn close(&mut self, key: usize, cause: CloseCause)
         requires { 0 < self.old.room }
-        ensures does { Does V.told V.alone (Closes key cause) self.old.world self.new.world }
+        ensures does { Does V.told V.registry_of V.alone (Closes key cause) self.old.world self.new.world }
         ensures room { self.new.room + 1 ≡ self.old.room }
     {
         self.act(Action::Close { key, cause });
@@ -158,7 +158,7 @@ impl<V: BusView, G: Gate> Hands<V, G> {
     /// Puts a message to these connections, with the furthest note.
     pub fn put(&mut self, to: Addressees, content: Content)
         requires { 0 < self.old.room }
-        ensures does { Does V.told V.alone (Puts (all_of to.to to.monitors) (said_of content)) self.old.world self.new.world }
+        ensures does { Does V.told V.registry_of V.alone (Puts (all_of to.to to.monitors) (said_of content)) self.old.world self.new.world }
         ensures room { self.new.room + 1 ≡ self.old.room }
     {
         let note = self.view.note();
@@ -168,7 +168,7 @@ impl<V: BusView, G: Gate> Hands<V, G> {
     /// Puts a message to those that the bus told last, where they are several.
     fn put_to_crowd(&mut self, content: Content)
         requires { 0 < self.old.room }
-        ensures does { Does V.told V.alone (Puts (all_of self.old.told.to self.old.told.monitors) (said_of content)) self.old.world self.new.world }
+        ensures does { Does V.told V.registry_of V.alone (Puts (all_of self.old.told.to self.old.told.monitors) (said_of content)) self.old.world self.new.world }
         ensures room { self.old.room ≤ self.new.room + 1 }
     {
         let note = self.view.note();
@@ -182,7 +182,7 @@ impl<V: BusView, G: Gate> Hands<V, G> {
     /// Puts a message to the recipients and to the monitors that the bus told last, each once; to nobody it is not put.
     pub fn put_told(&mut self, content: Content)
         requires { 0 < self.old.room }
-        ensures comes { Comes V.told G.passes V.alone (putting (all_of self.old.told.to self.old.told.monitors) (said_of content) nothing) self.old.world tt self.new.world }
+        ensures comes { Comes V.told V.registry_of G.passes V.alone (putting (all_of self.old.told.to self.old.told.monitors) (said_of content) nothing) self.old.world tt self.new.world }
         ensures room { self.old.room ≤ self.new.room + 1 }
     {
         if let Some(conn) = self.only_one() {
@@ -198,7 +198,7 @@ impl<V: BusView, G: Gate> Hands<V, G> {
     /// Puts the signals of a change, in order.
     pub fn announce(&mut self, signals: Signals)
         requires { 0 < self.old.room }
-        ensures announces { Announces V.told V.alone signals self.old.world self.new.world }
+        ensures announces { Announces V.told V.registry_of V.alone signals self.old.world self.new.world }
         ensures room { self.old.room ≤ self.new.room + 1 }
     {
         let note = self.view.note();

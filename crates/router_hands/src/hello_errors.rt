@@ -93,7 +93,7 @@ impl<V: BusView, G: Gate> Hands<V, G> {
     fn refuse(&mut self, key: usize, peer: &mut Peer, own: OwnMessage, bytes: WrittenBytes)
         requires room { 1 < self.old.room }
         requires written { IsWritten bytes (own_message (next_serial peer.old.serial) (own_of own)) }
-        ensures comes { Comes V.told G.passes V.alone (Routing 0 (facts_of (own_message 1 (own_of own))) (λ heard. refuse key (own_of own) peer.old heard)) self.old.world peer.new self.new.world }
+        ensures comes { Comes V.told V.registry_of G.passes V.alone (Routing 0 (facts_of (own_message 1 (own_of own))) (λ heard. refuse key (own_of own) peer.old heard)) self.old.world peer.new self.new.world }
         ensures room { self.old.room ≤ self.new.room + 2 }
     {
         self.ask_monitors(&own);
@@ -114,7 +114,7 @@ impl<V: BusView, G: Gate> Hands<V, G> {
     )
         requires room { 1 < self.old.room }
         requires written { IsRefusal (said hello.now) error (next_serial peer.old.serial) bytes }
-        ensures comes { Comes V.told G.passes V.alone (refuse_with key (said hello.now) error peer.old) self.old.world peer.new self.new.world }
+        ensures comes { Comes V.told V.registry_of G.passes V.alone (refuse_with key (said hello.now) error peer.old) self.old.world peer.new self.new.world }
         ensures room { self.old.room ≤ self.new.room + 2 }
     {
         if expects_reply(hello) {
@@ -126,7 +126,7 @@ impl<V: BusView, G: Gate> Hands<V, G> {
     pub fn turn_away(&mut self, key: usize, hello: &Message, peer: &mut Peer, bytes: WrittenBytes)
         requires room { 2 < self.old.room }
         requires written { IsRefusal (said hello.now) ErrorKind.LimitsExceeded (next_serial peer.old.serial) bytes }
-        ensures { Comes V.told G.passes V.alone (turn_away key (said hello.now) peer.old) self.old.world peer.new self.new.world }
+        ensures { Comes V.told V.registry_of G.passes V.alone (turn_away key (said hello.now) peer.old) self.old.world peer.new self.new.world }
     {
         self.refuse_with(key, hello, peer, ErrorKind::LimitsExceeded, bytes);
         self.close_peer(key, peer, CloseCause::LimitsExceeded);
@@ -143,7 +143,7 @@ impl<V: BusView, G: Gate> Hands<V, G> {
     )
         requires room { 1 < self.old.room }
         requires written { AreRefusals (said hello.now) (next_serial peer.old.serial) errors }
-        ensures { Comes V.told G.passes V.alone (refuse_with key (said hello.now) (error_for (refusal_of why)) peer.old) self.old.world peer.new self.new.world }
+        ensures { Comes V.told V.registry_of G.passes V.alone (refuse_with key (said hello.now) (error_for (refusal_of why)) peer.old) self.old.world peer.new self.new.world }
     {
         match why {
             Cause::NoMemory => {

@@ -13,10 +13,10 @@ use seq_bus_core::{Change, Conn};
 
 impl<V: BusView, G: Gate> Hands<V, G> {
     /// Makes the Leave of a number and announces it. A Leave that is refused is kept.
-    fn leave(&mut self, right: &V::Right, number: u64, leaves: &mut Vec<u64>)
+    pub fn leave(&mut self, right: &V::Right, number: u64, leaves: &mut Vec<u64>)
         requires room { 0 < self.old.room }
         requires spare { vec_len leaves.old < vec_capacity leaves.old }
-        ensures comes { (peers : List (Option Standing_peer)) → Comes V.told G.passes V.alone (leaving (record { peers = peers; leaves = leaves.old.items }) number) self.old.world (record { peers = peers; leaves = leaves.new.items }) self.new.world }
+        ensures comes { (peers : List (Option Standing_peer)) → Comes V.told V.registry_of G.passes V.alone (leaving (record { peers = peers; leaves = leaves.old.items }) number) self.old.world (record { peers = peers; leaves = leaves.new.items }) self.new.world }
         ensures room { self.old.room ≤ self.new.room + 1 }
         ensures len { vec_len leaves.new ≤ vec_len leaves.old + 1 }
         ensures capacity { vec_capacity leaves.old ≤ vec_capacity leaves.new }
@@ -31,7 +31,7 @@ impl<V: BusView, G: Gate> Hands<V, G> {
     pub fn leave_of(&mut self, right: &V::Right, conn: Option<Conn>, leaves: &mut Vec<u64>)
         requires room { 0 < self.old.room }
         requires spare { vec_len leaves.old < vec_capacity leaves.old }
-        ensures comes { (peers : List (Option Standing_peer)) → Comes V.told G.passes V.alone (leaving_of (record { peers = peers; leaves = leaves.old.items }) conn) self.old.world (record { peers = peers; leaves = leaves.new.items }) self.new.world }
+        ensures comes { (peers : List (Option Standing_peer)) → Comes V.told V.registry_of G.passes V.alone (leaving_of (record { peers = peers; leaves = leaves.old.items }) conn) self.old.world (record { peers = peers; leaves = leaves.new.items }) self.new.world }
     {
         match conn {
             None => {}
@@ -43,7 +43,7 @@ impl<V: BusView, G: Gate> Hands<V, G> {
     pub fn leave_all(&mut self, right: &V::Right, numbers: &[u64], leaves: &mut Vec<u64>)
         requires room { length numbers.now ≤ self.old.room }
         requires spare { vec_len leaves.old + length numbers.now ≤ vec_capacity leaves.old }
-        ensures comes { (peers : List (Option Standing_peer)) → Comes V.told G.passes V.alone (leaving_all numbers.now (record { peers = peers; leaves = leaves.old.items })) self.old.world (record { peers = peers; leaves = leaves.new.items }) self.new.world }
+        ensures comes { (peers : List (Option Standing_peer)) → Comes V.told V.registry_of G.passes V.alone (leaving_all numbers.now (record { peers = peers; leaves = leaves.old.items })) self.old.world (record { peers = peers; leaves = leaves.new.items }) self.new.world }
         ensures room { self.old.room ≤ self.new.room + length numbers.now }
     {
         for number in numbers {

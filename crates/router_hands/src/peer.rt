@@ -88,10 +88,11 @@ impl Peer {
         self.stage
     }
 
-    /// Takes a piece of its bytes. Once it was closed they are let go. Without memory nothing changes.
-    pub fn feed(&mut self, piece: Vec<u8>) -> Result<(), AllocError>
-        ensures ok { OnOk result (self.new ≡ fed piece.items self.old self.old.stage) }
+    /// Takes a piece of its bytes. Once it was closed it takes none. Without memory nothing changes, and the piece stays where it was.
+    pub fn feed(&mut self, piece: &mut Vec<u8>) -> Result<(), AllocError>
+        ensures ok { OnOk result (self.new ≡ fed piece.old.items self.old self.old.stage) }
         ensures err { OnErr result (self.new ≡ self.old) }
+        ensures kept { OnErr result (piece.new ≡ piece.old) }
     {
         match self.stage {
             Stage::Shut(_) => Ok(()),
@@ -155,7 +156,7 @@ impl<V: BusView, G: Gate> Hands<V, G> {
     /// Closes a connection.
     pub fn close_peer(&mut self, key: usize, peer: &mut Peer, cause: CloseCause)
         requires { 0 < self.old.room }
-        ensures comes { Comes V.told G.passes V.alone (closing key cause peer.old) self.old.world peer.new self.new.world }
+        ensures comes { Comes V.told V.registry_of G.passes V.alone (closing key cause peer.old) self.old.world peer.new self.new.world }
         ensures room { self.old.room ≤ self.new.room + 1 }
     {
         peer.shut();
@@ -165,7 +166,7 @@ impl<V: BusView, G: Gate> Hands<V, G> {
     /// Closes a connection that has a name, if it has left.
     fn look_at(&mut self, key: usize, peer: &mut Peer, conn: Conn)
         requires { 0 < self.old.room }
-        ensures comes { Comes V.told G.passes V.alone (look key peer.old (Named conn)) self.old.world peer.new self.new.world }
+        ensures comes { Comes V.told V.registry_of G.passes V.alone (look key peer.old (Named conn)) self.old.world peer.new self.new.world }
         ensures room { self.old.room ≤ self.new.room + 1 }
     {
         match self.look(conn.number) {
@@ -178,7 +179,7 @@ impl<V: BusView, G: Gate> Hands<V, G> {
     /// Closes a connection that has left.
     pub fn look_after(&mut self, key: usize, peer: &mut Peer)
         requires { 0 < self.old.room }
-        ensures comes { Comes V.told G.passes V.alone (look key peer.old peer.old.stage) self.old.world peer.new self.new.world }
+        ensures comes { Comes V.told V.registry_of G.passes V.alone (look key peer.old peer.old.stage) self.old.world peer.new self.new.world }
         ensures room { self.old.room ≤ self.new.room + 1 }
     {
         if let Stage::Named(conn) = peer.stage() {

@@ -45,7 +45,7 @@ impl<V: BusView, G: Gate> Hands<V, G> {
     /// It would be too long with that name, or there is no memory for it: then it is dropped whole.
     pub fn relay(&mut self, message: &Message, sender: Conn) -> Result<(), RelayFault>
         requires { 0 < self.old.room }
-        ensures comes { (goes_on : Fated) (fate : Option Cause) (end : World V.Note G) → Comes V.told G.passes V.alone (once_put result (said message.now) sender goes_on) self.new.world fate end → Comes V.told G.passes V.alone (relayed (said message.now) sender (all_of self.old.told.to self.old.told.monitors) goes_on) self.old.world fate end }
+        ensures comes { (goes_on : Fated) (fate : Option Cause) (end : World V.Note G) → Comes V.told V.registry_of G.passes V.alone (once_put result (said message.now) sender goes_on) self.new.world fate end → Comes V.told V.registry_of G.passes V.alone (relayed (said message.now) sender (all_of self.old.told.to self.old.told.monitors) goes_on) self.old.world fate end }
         ensures room { self.old.room ≤ self.new.room + 1 }
     {
         if self.is_for_nobody() {
@@ -70,7 +70,7 @@ impl<V: BusView, G: Gate> Hands<V, G> {
     /// As those of `relay`.
     pub fn relay_to_monitors(&mut self, message: &Message, sender: Conn) -> Result<(), RelayFault>
         requires { 0 < self.old.room }
-        ensures comes { (goes_on : Fated) (fate : Option Cause) (end : World V.Note G) → Comes V.told G.passes V.alone (once_put result (said message.now) sender goes_on) self.new.world fate end → Comes V.told G.passes V.alone (relayed (said message.now) sender self.old.told.monitors goes_on) self.old.world fate end }
+        ensures comes { (goes_on : Fated) (fate : Option Cause) (end : World V.Note G) → Comes V.told V.registry_of G.passes V.alone (once_put result (said message.now) sender goes_on) self.new.world fate end → Comes V.told V.registry_of G.passes V.alone (relayed (said message.now) sender self.old.told.monitors goes_on) self.old.world fate end }
         ensures room { self.old.room ≤ self.new.room + 1 }
     {
         self.tell_monitors_alone();
@@ -84,7 +84,7 @@ impl<V: BusView, G: Gate> Hands<V, G> {
     /// As those of `relay`.
     pub fn show(&mut self, message: &Message, sender: Conn) -> Result<(), RelayFault>
         requires { 0 < self.old.room }
-        ensures comes { (goes_on : Fated) (fate : Option Cause) (end : World V.Note G) → Comes V.told G.passes V.alone (once_put result (said message.now) sender goes_on) self.new.world fate end → Comes V.told G.passes V.alone (shown (said message.now) sender self.old.told.monitors goes_on) self.old.world fate end }
+        ensures comes { (goes_on : Fated) (fate : Option Cause) (end : World V.Note G) → Comes V.told V.registry_of G.passes V.alone (once_put result (said message.now) sender goes_on) self.new.world fate end → Comes V.told V.registry_of G.passes V.alone (shown (said message.now) sender self.old.told.monitors goes_on) self.old.world fate end }
         ensures room { self.old.room ≤ self.new.room + 1 }
     {
         if self.told.monitors.as_slice().is_empty() {

@@ -2,7 +2,8 @@
 
 ghost use Rattle.std.specs.Prelude.{◌≡◌, ◌<◌, ◌≤◌, ◌+◌, [], length, option_map, OnOk, OnErr};
 ghost use Rattle.envelopes.specs.Contents.{said_of};
-ghost use Rattle.router_core.specs.Events.{closing, fed, for_slot, look, look_all as looking_at_all, write as writing, IsOwnNote};
+ghost use Rattle.router_core.specs.Deeds.{IsOwnNote};
+ghost use Rattle.router_core.specs.Events.{closing, fed, for_slot, look, look_all as looking_at_all, write as writing};
 ghost use Rattle.router_core.specs.Scripts.{Gives, Comes};
 ghost use Rattle.router_hands.specs.Noting.{once_noted};
 
@@ -14,10 +15,11 @@ use router_core::{CloseCause, Gate};
 use std::alloc::{AllocError, Global};
 
 impl<V: BusView, G: Gate> Hands<V, G> {
-    /// Takes a piece of the bytes of a connection, if it is there.
-    pub fn feed_slot(&self, slot: &mut Option<Peer>, piece: Vec<u8>) -> Result<(), AllocError>
-        ensures ok { OnOk result (Comes V.told G.passes V.alone (for_slot slot.old (λ p. Gives (fed piece.items p p.stage))) self.now.world slot.new self.now.world) }
+    /// Takes a piece of the bytes of a connection, if it is there. Without memory nothing changes, and the piece stays where it was.
+    pub fn feed_slot(&self, slot: &mut Option<Peer>, piece: &mut Vec<u8>) -> Result<(), AllocError>
+        ensures ok { OnOk result (Comes V.told V.registry_of G.passes V.alone (for_slot slot.old (λ p. Gives (fed piece.old.items p p.stage))) self.now.world slot.new self.now.world) }
         ensures err { OnErr result (slot.new ≡ slot.old) }
+        ensures kept { OnErr result (piece.new ≡ piece.old) }
     {
         match slot {
             None => Ok(()),
@@ -36,7 +38,7 @@ impl<V: BusView, G: Gate> Hands<V, G> {
     ) -> Result<(), AllocError>
         requires room { 0 < self.old.room }
         requires own { IsOwnNote V.registry_of self.old.world.view.registry envelope.now.note }
-        ensures comes { OnOk result (Comes V.told G.passes V.alone (once_noted (option_map V.told envelope.now.note) (for_slot slot.old (writing key (said_of envelope.now.content)))) self.old.world slot.new self.new.world) }
+        ensures comes { OnOk result (Comes V.told V.registry_of G.passes V.alone (once_noted (option_map V.told envelope.now.note) (for_slot slot.old (writing key (said_of envelope.now.content)))) self.old.world slot.new self.new.world) }
         ensures err { OnErr result (slot.new ≡ slot.old) }
         ensures world { OnErr result (self.new.world ≡ self.old.world) }
     {
@@ -52,7 +54,7 @@ impl<V: BusView, G: Gate> Hands<V, G> {
     /// Closes a connection that has left, if it is there.
     pub fn close_left(&mut self, key: usize, slot: &mut Option<Peer>)
         requires { 0 < self.old.room }
-        ensures comes { Comes V.told G.passes V.alone (for_slot slot.old (λ p. closing key CloseCause.Left p)) self.old.world slot.new self.new.world }
+        ensures comes { Comes V.told V.registry_of G.passes V.alone (for_slot slot.old (λ p. closing key CloseCause.Left p)) self.old.world slot.new self.new.world }
         ensures room { self.old.room ≤ self.new.room + 1 }
     {
         if let Some(peer) = slot {
@@ -63,7 +65,7 @@ impl<V: BusView, G: Gate> Hands<V, G> {
     /// Closes the connection of a key, if it is there and has left.
     fn look_into(&mut self, key: usize, slot: &mut Option<Peer>)
         requires { 0 < self.old.room }
-        ensures comes { Comes V.told G.passes V.alone (for_slot slot.old (λ p. look key p p.stage)) self.old.world slot.new self.new.world }
+        ensures comes { Comes V.told V.registry_of G.passes V.alone (for_slot slot.old (λ p. look key p p.stage)) self.old.world slot.new self.new.world }
         ensures room { self.old.room ≤ self.new.room + 1 }
     {
         match slot {
@@ -75,7 +77,7 @@ impl<V: BusView, G: Gate> Hands<V, G> {
     /// Closes those that have left, by rising key.
     pub fn look_at_all(&mut self, peers: &mut [Option<Peer>])
         requires { length peers.old ≤ self.old.room }
-        ensures { Comes V.told G.passes V.alone (looking_at_all [] peers.old) self.old.world peers.new self.new.world }
+        ensures { Comes V.told V.registry_of G.passes V.alone (looking_at_all [] peers.old) self.old.world peers.new self.new.world }
     {
         for key in 0..peers.len() {
             self.look_into(key, &mut peers[key]);

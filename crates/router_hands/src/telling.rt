@@ -71,7 +71,7 @@ impl<V: BusView, G: Gate> Hands<V, G> {
     /// Tells a connection a message of the bus. The monitors are shown it too.
     pub fn tell(&mut self, conn: Conn, own: OwnMessage)
         requires { 0 < self.old.room }
-        ensures comes { Comes V.told G.passes V.alone (telling conn (own_of own)) self.old.world tt self.new.world }
+        ensures comes { Comes V.told V.registry_of G.passes V.alone (telling conn (own_of own)) self.old.world tt self.new.world }
         ensures room { self.old.room ≤ self.new.room + 1 }
     {
         self.ask_monitors(&own);
@@ -82,7 +82,7 @@ impl<V: BusView, G: Gate> Hands<V, G> {
     /// Replies to a call. One that wants no reply gets none.
     pub fn reply_with(&mut self, call: &Message, caller: Conn, content: ReplyContent)
         requires { 0 < self.old.room }
-        ensures comes { Comes V.told G.passes V.alone (replying (said call.now) caller (carried_of content)) self.old.world tt self.new.world }
+        ensures comes { Comes V.told V.registry_of G.passes V.alone (replying (said call.now) caller (carried_of content)) self.old.world tt self.new.world }
         ensures room { self.old.room ≤ self.new.room + 1 }
     {
         if expects_reply(call) {
@@ -94,7 +94,7 @@ impl<V: BusView, G: Gate> Hands<V, G> {
     /// Answers a call an error. One that wants no reply gets none.
     pub fn err_with(&mut self, call: &Message, caller: Conn, error: ErrorKind)
         requires { 0 < self.old.room }
-        ensures comes { Comes V.told G.passes V.alone (erring (said call.now) caller error) self.old.world tt self.new.world }
+        ensures comes { Comes V.told V.registry_of G.passes V.alone (erring (said call.now) caller error) self.old.world tt self.new.world }
         ensures room { self.old.room ≤ self.new.room + 1 }
     {
         if expects_reply(call) {
@@ -106,7 +106,7 @@ impl<V: BusView, G: Gate> Hands<V, G> {
     /// Answers a call an error; another message is dropped.
     pub fn err_if_call(&mut self, message: &Message, sender: Conn, error: ErrorKind)
         requires { 0 < self.old.room }
-        ensures comes { Comes V.told G.passes V.alone (erring_if_call (said message.now) sender error) self.old.world tt self.new.world }
+        ensures comes { Comes V.told V.registry_of G.passes V.alone (erring_if_call (said message.now) sender error) self.old.world tt self.new.world }
         ensures room { self.old.room ≤ self.new.room + 1 }
     {
         if is_method_call(message) {
@@ -122,7 +122,7 @@ impl<V: BusView, G: Gate> Hands<V, G> {
         answer: Result<ReplyContent, ErrorKind>,
     )
         requires { 0 < self.old.room }
-        ensures comes { Comes V.told G.passes V.alone (answering (said call.now) caller (answer_of answer)) self.old.world tt self.new.world }
+        ensures comes { Comes V.told V.registry_of G.passes V.alone (answering (said call.now) caller (answer_of answer)) self.old.world tt self.new.world }
         ensures room { self.old.room ≤ self.new.room + 1 }
     {
         match answer {

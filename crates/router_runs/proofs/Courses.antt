@@ -6,7 +6,7 @@ use Rattle.router_core.specs.declared.action.Action.{Action}
 use Rattle.router_core.specs.declared.event.Event.{Event}
 use Rattle.router_core.specs.Acts.{State, Brings}
 use Rattle.router_core.specs.Deeds.{GatedCall}
-use Rattle.router_core.specs.Events.{CanHappen, Occasion, Opened, Bytes, Next, Mail, Closed, Tick}
+use Rattle.router_core.specs.Events.{CanHappen, Occasion, Opened, Bytes, Next, Mail, Closed, Full, Tick}
 use Rattle.router_core.specs.OneThread.{bus_bytes, keys_after, written_to}
 use Rattle.router_core.proofs.Asked.{answers_are_lawful}
 use Rattle.router_runs.specs.declared.fault.RunFault.{RunFault}
@@ -52,6 +52,7 @@ met_keys (Bytes key piece) out = refl
 met_keys (Next key) out = refl
 met_keys (Mail slot number told said) out = refl
 met_keys (Closed key) out = refl
+met_keys (Full number) out = refl
 met_keys Tick out = refl
 
 met_each : (occasion : Occasion) (out : Output) (k : ℕ) → get_or (met occasion out).written k [] ≡ get_or out.written k []
@@ -60,6 +61,7 @@ met_each (Bytes key piece) out k = refl
 met_each (Next key) out k = refl
 met_each (Mail slot number told said) out k = refl
 met_each (Closed key) out k = refl
+met_each (Full number) out k = refl
 met_each Tick out k = refl
 
 met_count : (occasion : Occasion) (out : Output) → length out.written ≡ length out.keys → length (met occasion out).written ≡ length (met occasion out).keys
@@ -68,17 +70,18 @@ met_count (Bytes key piece) out h = h
 met_count (Next key) out h = h
 met_count (Mail slot number told said) out h = h
 met_count (Closed key) out h = h
+met_count (Full number) out h = h
 met_count Tick out h = h
 
 -- ## Courses
 
 module _ {G : Type 0} (passes : G → GatedCall → G → Type 0) where
   pub turn_of : (before after : State G) (sent sends : Output) (event : Event (Unit {0})) (actions : List (Action (Unit {0}))) →
-      Brings (λ _. []) passes true before event actions after →
+      Brings (λ _. []) (λ _. 0) passes true before event actions after →
       Adds (met (happening event) sent) (λ opening. bytes_by_all opening (met (happening event) sent).keys actions) sends →
       IsTurn passes before sent event after sends
   turn_of before after sent sends event actions brings added =
-      let h = answers_are_lawful (λ _. []) passes true before after event actions brings in
+      let h = answers_are_lawful (λ _. []) (λ _. 0) passes true before after event actions brings in
       let out : Output = met (happening event) sent in
       record {
         turn = record { asked = h.asked; deeds = h.deeds };

@@ -54,7 +54,8 @@ impl<G: Gate + Drop> Session<G> {
             return Err(RunFault::KeyTaken(index));
         }
         self.outlets.meet(&event)?;
-        let actions = self.engine.event(&(), event)?;
+        let mut event = event;
+        let actions = self.engine.event(&(), &mut event)?;
         self.outlets.take_all(&actions)?;
         Ok(())
     }

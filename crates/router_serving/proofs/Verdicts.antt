@@ -27,19 +27,19 @@ pub lent : (o : Option (Bor (List ℕ))) (text : Option Text) → Lends o text �
 lent None text is = sym is
 lent (Some x) text is = sym is
 
-module _ {N G : Type 0} (told : N → History) (passes : G → GatedCall → G → Type 0) (alone : Bool) (m : Message) (sender : Conn) (fate : Option CloseCause) (w v : World N G) where
+module _ {N G : Type 0} (told : N → History) (registry_of : N → ℕ) (passes : G → GatedCall → G → Type 0) (alone : Bool) (m : Message) (sender : Conn) (fate : Option CloseCause) (w v : World N G) where
   pub serves : {facts : Facts} (heard : Heard Verdict) (r : World N G) → is_unknown (kind_of m.kind) ≡ false → facts ≡ facts_of m → Routes alone sender.number (record facts { sender = sender.number }) w heard r →
-      Comes told passes alone (routed m sender heard) r fate v → Comes told passes alone (serve m sender) w fate v
+      Comes told registry_of passes alone (routed m sender heard) r fate v → Comes told registry_of passes alone (serve m sender) w fate v
   serves {facts} heard r known are routes done =
       let own : Routes alone sender.number facts w heard r = record { hears = hears_own alone sender.number sender.number facts w.view r.view heard routes.hears; rest = routes.rest } in
-      subst (λ (b : Bool). Comes told passes alone (if b then stays_open else Routing sender.number (facts_of m) (λ h. routed m sender h)) w fate v) (sym known)
+      subst (λ (b : Bool). Comes told registry_of passes alone (if b then stays_open else Routing sender.number (facts_of m) (λ h. routed m sender h)) w fate v) (sym known)
       (heard, r, subst (λ (f : Facts). Routes alone sender.number f w heard r) are own, done)
 
   -- what was looked at, field by field
   pub serves_seen : {seen : Facts} (heard : Heard Verdict) (r : World N G) → is_unknown (kind_of m.kind) ≡ false →
       seen.kind ≡ (facts_of m).kind → seen.auto_start ≡ (facts_of m).auto_start → seen.sender ≡ sender.number → seen.path ≡ (facts_of m).path → seen.interface ≡ (facts_of m).interface →
       seen.member ≡ (facts_of m).member → seen.destination ≡ (facts_of m).destination → seen.arguments ≡ (facts_of m).arguments → Routes alone sender.number seen w heard r →
-      Comes told passes alone (routed m sender heard) r fate v → Comes told passes alone (serve m sender) w fate v
+      Comes told registry_of passes alone (routed m sender heard) r fate v → Comes told registry_of passes alone (serve m sender) w fate v
   serves_seen {seen} heard r known kind auto_start from path interface member destination arguments routes done =
       let are : seen ≡ record (facts_of m) { sender = sender.number } = λ i. record {
         kind = kind i;

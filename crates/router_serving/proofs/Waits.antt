@@ -12,13 +12,13 @@ use Rattle.router_core.specs.Scripts.{World, Comes}
 use Rattle.router_core.specs.Serving.{err_with, hold}
 use Rattle.router_serving.proofs.Answering.{stays}
 
-module _ {N G : Type 0} (told : N → History) (passes : G → GatedCall → G → Type 0) (alone : Bool) (m : Message) (sender : Conn) (lent : Option (Bor (List ℕ))) (name : Option Text) (lends : Lends lent name) where
-  pub waits_for_nothing : (w : World N G) → lent ≡ None → Comes told passes alone (hold m sender name) w None w
+module _ {N G : Type 0} (told : N → History) (registry_of : N → ℕ) (passes : G → GatedCall → G → Type 0) (alone : Bool) (m : Message) (sender : Conn) (lent : Option (Bor (List ℕ))) (name : Option Text) (lends : Lends lent name) where
+  pub waits_for_nothing : (w : World N G) → lent ≡ None → Comes told registry_of passes alone (hold m sender name) w None w
   waits_for_nothing w is =
       let so : Lends None name = subst (λ (l : Option (Bor (List ℕ))). Lends l name) is lends in
-      subst (λ (n : Option Text). Comes told passes alone (hold m sender n) w None w) (sym so) (refl, refl)
+      subst (λ (n : Option Text). Comes told registry_of passes alone (hold m sender n) w None w) (sym so) (refl, refl)
 
-  pub waits_in_vain : (x : Bor (List ℕ)) (w v : World N G) → lent ≡ Some x → Comes told passes alone (err_with m sender error.NoMemory) w tt v → Comes told passes alone (hold m sender name) w None v
+  pub waits_in_vain : (x : Bor (List ℕ)) (w v : World N G) → lent ≡ Some x → Comes told registry_of passes alone (err_with m sender error.NoMemory) w tt v → Comes told registry_of passes alone (hold m sender name) w None v
   waits_in_vain x w v is comes =
       let so : Lends (Some x) name = subst (λ (l : Option (Bor (List ℕ))). Lends l name) is lends in
-      subst (λ (n : Option Text). Comes told passes alone (hold m sender n) w None v) (sym so) (false, stays told passes alone (err_with m sender error.NoMemory) w v comes)
+      subst (λ (n : Option Text). Comes told registry_of passes alone (hold m sender n) w None v) (sym so) (false, stays told registry_of passes alone (err_with m sender error.NoMemory) w v comes)

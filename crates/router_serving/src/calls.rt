@@ -77,7 +77,7 @@ fn refuse<V: BusView, G: Gate>(
     error: ErrorKind,
 ) -> Option<CloseCause>
     requires { 0 < hands.old.room }
-    ensures comes { Comes V.told G.passes V.alone (and_stays (erring (said call.now) caller error)) hands.old.world result hands.new.world }
+    ensures comes { Comes V.told V.registry_of G.passes V.alone (and_stays (erring (said call.now) caller error)) hands.old.world result hands.new.world }
     ensures room { hands.old.room ≤ hands.new.room + 1 }
 {
     hands.err_with(call, caller, error);
@@ -93,7 +93,7 @@ fn tell_change<V: BusView, G: Gate>(
 )
     requires room { 1 < hands.old.room }
     requires settled { outcome.tickets ≡ [] }
-    ensures comes { Comes V.told G.passes V.alone (telling_change (said call.now) caller outcome) hands.old.world tt hands.new.world }
+    ensures comes { Comes V.told V.registry_of G.passes V.alone (telling_change (said call.now) caller outcome) hands.old.world tt hands.new.world }
     ensures room { hands.old.room ≤ hands.new.room + 2 }
 {
     hands.announce(outcome.signals);
@@ -109,7 +109,7 @@ fn made_by<V: BusView, G: Gate>(
 ) -> Option<CloseCause>
     requires room { 1 < hands.old.room }
     requires settled { outcome.tickets ≡ [] }
-    ensures comes { Comes V.told G.passes V.alone (made_in (said call.now) caller (Says outcome)) hands.old.world result hands.new.world }
+    ensures comes { Comes V.told V.registry_of G.passes V.alone (made_in (said call.now) caller (Says outcome)) hands.old.world result hands.new.world }
     ensures room { hands.old.room ≤ hands.new.room + 2 }
 {
     match outcome.reply {
@@ -130,7 +130,7 @@ fn made<V: BusView, G: Gate>(
 ) -> Option<CloseCause>
     requires room { 1 < hands.old.room }
     requires settled { IfOk told (λ outcome. outcome.tickets ≡ []) }
-    ensures comes { Comes V.told G.passes V.alone (made_in (said call.now) caller (heard_change told)) hands.old.world result hands.new.world }
+    ensures comes { Comes V.told V.registry_of G.passes V.alone (made_in (said call.now) caller (heard_change told)) hands.old.world result hands.new.world }
     ensures room { hands.old.room ≤ hands.new.room + 2 }
 {
     match told {
@@ -150,7 +150,7 @@ fn reply_body<V: BusView, G: Gate>(
 )
     requires room { 0 < hands.old.room }
     requires carried { (told : Answer) × Carries (record { kind = kind; bytes = body.items }) told }
-    ensures comes { (told : Answer) → Carries (record { kind = kind; bytes = body.items }) told → Comes V.told G.passes V.alone (answered (said call.now) caller (Says (Some told))) hands.old.world tt hands.new.world }
+    ensures comes { (told : Answer) → Carries (record { kind = kind; bytes = body.items }) told → Comes V.told V.registry_of G.passes V.alone (answered (said call.now) caller (Says (Some told))) hands.old.world tt hands.new.world }
     ensures room { hands.old.room ≤ hands.new.room + 1 }
 {
     match Arc::new(alloc, body) {
@@ -172,7 +172,7 @@ fn answer_query<V: BusView, G: Gate>(
     query: &Query,
 ) -> Option<CloseCause>
     requires { 0 < hands.old.room }
-    ensures comes { Comes V.told G.passes V.alone (serving_request (said call.now) caller (Ok (Asks query.now))) hands.old.world result hands.new.world }
+    ensures comes { Comes V.told V.registry_of G.passes V.alone (serving_request (said call.now) caller (Ok (Asks query.now))) hands.old.world result hands.new.world }
     ensures room { hands.old.room ≤ hands.new.room + 1 }
 {
     let mut body = Vec::new(alloc);
@@ -196,7 +196,7 @@ fn make<V: BusView, G: Gate>(
 ) -> Option<CloseCause>
     requires room { 1 < hands.old.room }
     requires served { IsServedChange change }
-    ensures comes { Comes V.told G.passes V.alone (serving_request (said call.now) caller (Ok (Makes change))) hands.old.world result hands.new.world }
+    ensures comes { Comes V.told V.registry_of G.passes V.alone (serving_request (said call.now) caller (Ok (Makes change))) hands.old.world result hands.new.world }
     ensures room { hands.old.room ≤ hands.new.room + 2 }
 {
     let told = hands.change(right, change);
@@ -216,7 +216,7 @@ fn request_name<V: BusView, G: Gate>(
     flags: RequestFlags,
 ) -> Option<CloseCause>
     requires { 1 < hands.old.room }
-    ensures comes { Comes V.told G.passes V.alone (serving_request (said call.now) caller (request_in caller.number (RequestName name.now flags))) hands.old.world result hands.new.world }
+    ensures comes { Comes V.told V.registry_of G.passes V.alone (serving_request (said call.now) caller (request_in caller.number (RequestName name.now flags))) hands.old.world result hands.new.world }
     ensures room { hands.old.room ≤ hands.new.room + 2 }
 {
     let change = Change::Request {
@@ -236,7 +236,7 @@ fn release_name<V: BusView, G: Gate>(
     name: &BusName,
 ) -> Option<CloseCause>
     requires { 1 < hands.old.room }
-    ensures comes { Comes V.told G.passes V.alone (serving_request (said call.now) caller (request_in caller.number (ReleaseName name.now))) hands.old.world result hands.new.world }
+    ensures comes { Comes V.told V.registry_of G.passes V.alone (serving_request (said call.now) caller (request_in caller.number (ReleaseName name.now))) hands.old.world result hands.new.world }
     ensures room { hands.old.room ≤ hands.new.room + 2 }
 {
     let change = Change::Release {
@@ -255,7 +255,7 @@ fn add_match<V: BusView, G: Gate>(
     rule: &Rule,
 ) -> Option<CloseCause>
     requires { 1 < hands.old.room }
-    ensures comes { Comes V.told G.passes V.alone (serving_request (said call.now) caller (request_in caller.number (AddMatch rule.now))) hands.old.world result hands.new.world }
+    ensures comes { Comes V.told V.registry_of G.passes V.alone (serving_request (said call.now) caller (request_in caller.number (AddMatch rule.now))) hands.old.world result hands.new.world }
     ensures room { hands.old.room ≤ hands.new.room + 2 }
 {
     let change = Change::AddMatch {
@@ -274,7 +274,7 @@ fn remove_match<V: BusView, G: Gate>(
     rule: &Rule,
 ) -> Option<CloseCause>
     requires { 1 < hands.old.room }
-    ensures comes { Comes V.told G.passes V.alone (serving_request (said call.now) caller (request_in caller.number (RemoveMatch rule.now))) hands.old.world result hands.new.world }
+    ensures comes { Comes V.told V.registry_of G.passes V.alone (serving_request (said call.now) caller (request_in caller.number (RemoveMatch rule.now))) hands.old.world result hands.new.world }
     ensures room { hands.old.room ≤ hands.new.room + 2 }
 {
     let change = Change::RemoveMatch {
@@ -294,7 +294,7 @@ fn serve_request<V: BusView, G: Gate>(
     call: &Call,
 ) -> Option<CloseCause>
     requires { 1 < hands.old.room }
-    ensures comes { Comes V.told G.passes V.alone (serving_request (said message.now) caller (request_in caller.number call.now)) hands.old.world result hands.new.world }
+    ensures comes { Comes V.told V.registry_of G.passes V.alone (serving_request (said message.now) caller (request_in caller.number call.now)) hands.old.world result hands.new.world }
     ensures room { hands.old.room ≤ hands.new.room + 2 }
 {
     match call {
@@ -343,7 +343,7 @@ fn serve_reading<V: BusView, G: Gate>(
     reading: &Result<Call, DriverFault>,
 ) -> Option<CloseCause>
     requires { 1 < hands.old.room }
-    ensures comes { Comes V.told G.passes V.alone (serving_reading (said message.now) caller reading.now) hands.old.world result hands.new.world }
+    ensures comes { Comes V.told V.registry_of G.passes V.alone (serving_reading (said message.now) caller reading.now) hands.old.world result hands.new.world }
     ensures room { hands.old.room ≤ hands.new.room + 2 }
 {
     match reading {
@@ -364,7 +364,7 @@ fn serve_call<V: BusView, G: Gate>(
     caller: Conn,
 ) -> Option<CloseCause>
     requires { 1 < hands.old.room }
-    ensures comes { Comes V.told G.passes V.alone (serving_call (said message.now) caller) hands.old.world result hands.new.world }
+    ensures comes { Comes V.told V.registry_of G.passes V.alone (serving_call (said message.now) caller) hands.old.world result hands.new.world }
     ensures room { hands.old.room ≤ hands.new.room + 2 }
 {
     let reading = read_call(alloc, message);
@@ -382,7 +382,7 @@ pub fn serve_bus<V: BusView, G: Gate>(
     sender: Conn,
 ) -> Option<CloseCause>
     requires { 1 < hands.old.room }
-    ensures comes { Comes V.told G.passes V.alone (serving_bus (said message.now) sender) hands.old.world result hands.new.world }
+    ensures comes { Comes V.told V.registry_of G.passes V.alone (serving_bus (said message.now) sender) hands.old.world result hands.new.world }
     ensures room { hands.old.room ≤ hands.new.room + 2 }
 {
     if is_method_call(message) {

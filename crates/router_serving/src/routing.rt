@@ -28,7 +28,7 @@ fn err_and_stay<V: BusView, G: Gate>(
     error: ErrorKind,
 ) -> Option<CloseCause>
     requires { 0 < hands.old.room }
-    ensures comes { Comes V.told G.passes V.alone (and_stays (err_if_call (said message.now) sender error)) hands.old.world result hands.new.world }
+    ensures comes { Comes V.told V.registry_of G.passes V.alone (and_stays (err_if_call (said message.now) sender error)) hands.old.world result hands.new.world }
     ensures room { hands.old.room ≤ hands.new.room + 1 }
 {
     hands.err_if_call(message, sender, error);
@@ -43,7 +43,7 @@ fn not_put<V: BusView, G: Gate>(
     fault: RelayFault,
 ) -> Option<CloseCause>
     requires { 0 < hands.old.room }
-    ensures comes { Comes V.told G.passes V.alone (unput fault (said message.now) sender) hands.old.world result hands.new.world }
+    ensures comes { Comes V.told V.registry_of G.passes V.alone (unput fault (said message.now) sender) hands.old.world result hands.new.world }
     ensures room { hands.old.room ≤ hands.new.room + 1 }
 {
     match fault {
@@ -60,7 +60,7 @@ fn relay_plainly<V: BusView, G: Gate>(
 ) -> Option<CloseCause>
     requires room { 1 < hands.old.room }
     requires plain { hands.old.told.kind ≡ VerdictKind.Plain }
-    ensures comes { Comes V.told G.passes V.alone (relaying (said message.now) sender hands.old.told hands.old.told.kind) hands.old.world result hands.new.world }
+    ensures comes { Comes V.told V.registry_of G.passes V.alone (relaying (said message.now) sender hands.old.told hands.old.told.kind) hands.old.world result hands.new.world }
     ensures room { hands.old.room ≤ hands.new.room + 2 }
 {
     match hands.relay(message, sender) {
@@ -77,7 +77,7 @@ fn relay_to_nobody<V: BusView, G: Gate>(
 ) -> Option<CloseCause>
     requires room { 1 < hands.old.room }
     requires nobody { hands.old.told.kind ≡ VerdictKind.Nobody }
-    ensures comes { Comes V.told G.passes V.alone (relaying (said message.now) sender hands.old.told hands.old.told.kind) hands.old.world result hands.new.world }
+    ensures comes { Comes V.told V.registry_of G.passes V.alone (relaying (said message.now) sender hands.old.told hands.old.told.kind) hands.old.world result hands.new.world }
     ensures room { hands.old.room ≤ hands.new.room + 2 }
 {
     match hands.relay_to_monitors(message, sender) {
@@ -96,7 +96,7 @@ fn relay_to_bus<V: BusView, G: Gate>(
 ) -> Option<CloseCause>
     requires room { 2 < hands.old.room }
     requires bus { hands.old.told.kind ≡ VerdictKind.Bus }
-    ensures comes { Comes V.told G.passes V.alone (relaying (said message.now) sender hands.old.told hands.old.told.kind) hands.old.world result hands.new.world }
+    ensures comes { Comes V.told V.registry_of G.passes V.alone (relaying (said message.now) sender hands.old.told hands.old.told.kind) hands.old.world result hands.new.world }
     ensures room { hands.old.room ≤ hands.new.room + 3 }
 {
     match hands.show(message, sender) {
@@ -113,7 +113,7 @@ fn relay_to_service<V: BusView, G: Gate>(
 ) -> Option<CloseCause>
     requires room { 1 < hands.old.room }
     requires start { hands.old.told.kind ≡ VerdictKind.Start }
-    ensures comes { Comes V.told G.passes V.alone (relaying (said message.now) sender hands.old.told hands.old.told.kind) hands.old.world result hands.new.world }
+    ensures comes { Comes V.told V.registry_of G.passes V.alone (relaying (said message.now) sender hands.old.told hands.old.told.kind) hands.old.world result hands.new.world }
     ensures room { hands.old.room ≤ hands.new.room + 2 }
 {
     match hands.relay_to_monitors(message, sender) {
@@ -131,7 +131,7 @@ fn relay<V: BusView, G: Gate>(
     sender: Conn,
 ) -> Option<CloseCause>
     requires { 2 < hands.old.room }
-    ensures comes { Comes V.told G.passes V.alone (relaying (said message.now) sender hands.old.told hands.old.told.kind) hands.old.world result hands.new.world }
+    ensures comes { Comes V.told V.registry_of G.passes V.alone (relaying (said message.now) sender hands.old.told hands.old.told.kind) hands.old.world result hands.new.world }
     ensures room { hands.old.room ≤ hands.new.room + 3 }
 {
     match hands.told_kind() {
@@ -153,7 +153,7 @@ fn routed<V: BusView, G: Gate>(
     heard: Result<(), Gone>,
 ) -> Option<CloseCause>
     requires { 2 < hands.old.room }
-    ensures comes { Comes V.told G.passes V.alone (routing (said message.now) sender (heard_verdict heard hands.old.told)) hands.old.world result hands.new.world }
+    ensures comes { Comes V.told V.registry_of G.passes V.alone (routing (said message.now) sender (heard_verdict heard hands.old.told)) hands.old.world result hands.new.world }
     ensures room { hands.old.room ≤ hands.new.room + 3 }
 {
     match heard {
@@ -172,7 +172,7 @@ fn route_message<V: BusView, G: Gate>(
 ) -> Option<CloseCause>
     requires room { 2 < hands.old.room }
     requires known { is_unknown (kind_of (said message.now).kind) ≡ false }
-    ensures comes { Comes V.told G.passes V.alone (serving (said message.now) sender) hands.old.world result hands.new.world }
+    ensures comes { Comes V.told V.registry_of G.passes V.alone (serving (said message.now) sender) hands.old.world result hands.new.world }
     ensures room { hands.old.room ≤ hands.new.room + 3 }
 {
     // Made where they stay, and with the sender's number, as the bus takes them: they are too large to be copied.
@@ -203,7 +203,7 @@ pub fn serve<V: BusView, G: Gate>(
     sender: Conn,
 ) -> Option<CloseCause>
     requires { 2 < hands.old.room }
-    ensures comes { Comes V.told G.passes V.alone (serving (said message.now) sender) hands.old.world result hands.new.world }
+    ensures comes { Comes V.told V.registry_of G.passes V.alone (serving (said message.now) sender) hands.old.world result hands.new.world }
     ensures room { hands.old.room ≤ hands.new.room + 3 }
 {
     match message.kind() {

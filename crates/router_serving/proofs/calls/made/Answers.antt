@@ -11,8 +11,9 @@ use Rattle.router_serving.proofs.calls.made.Goals as goal
 pub returns-in-Err-clause-comes : goal.returns-in-Err-clause-comes
 returns-in-Err-clause-comes g c =
     let told = g.V.BusView.told in
+    let registry_of = g.V.BusView.registry_of in
     let passes = g.G.Gate.passes in
     let alone = g.V.BusView.alone in
     let m = said c.args.call.now in
-    let errs = subst (λ (e : ErrorKind). Comes told passes alone (and_stays (err_with m c.args.caller e)) c.args.hands.now.world c.refuse.result c.refuse.new.hands.world) c.error_for.ensures c.refuse.ensures.comes in
-    subst (λ (r : Result Outcome Cause). Comes told passes alone (made m c.args.caller (heard_change r)) c.args.hands.now.world c.refuse.result c.refuse.new.hands.world) (sym c.in-Err.is) errs
+    let errs = subst (λ (e : ErrorKind). Comes told registry_of passes alone (and_stays (err_with m c.args.caller e)) c.args.hands.now.world c.refuse.result c.refuse.new.hands.world) c.error_for.ensures c.refuse.ensures.comes in
+    subst (λ (r : Result Outcome Cause). Comes told registry_of passes alone (made m c.args.caller (heard_change r)) c.args.hands.now.world c.refuse.result c.refuse.new.hands.world) (sym c.in-Err.is) errs

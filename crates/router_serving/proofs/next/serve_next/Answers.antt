@@ -12,7 +12,7 @@ returns-in-Waits-clause-comes g c s there =
     let w = c.args.hands.now.world in
     let front = subst (λ (f : Front). HasFront f p.unread r.unread) c.in-Waits.is c.in_ok-take_next.ensures.front in
     let same : r ≡ p = c.in_ok-take_next.ensures.rest ∙ (λ i. record p { unread = front.1 i }) in
-    reads_waiting g.V.BusView.told g.G.Gate.passes g.V.BusView.alone c.args.key p w w s r same there front.0 refl
+    reads_waiting g.V.BusView.told g.V.BusView.registry_of g.G.Gate.passes g.V.BusView.alone c.args.key p w w s r same there front.0 refl
 
 pub returns-in-Faulty-clause-comes : goal.returns-in-Faulty-clause-comes
 returns-in-Faulty-clause-comes g c s there =
@@ -20,12 +20,12 @@ returns-in-Faulty-clause-comes g c s there =
     let r : Peer = c.take_next.new.self in
     let front = subst (λ (f : Front). HasFront f p.unread r.unread) c.in-Faulty.is c.in_ok-take_next.ensures.front in
     let same : r ≡ record p { unread = [] } = c.in_ok-take_next.ensures.rest ∙ (λ i. record p { unread = front.1 i }) in
-    reads_faulty g.V.BusView.told g.G.Gate.passes g.V.BusView.alone c.args.key p c.args.hands.now.world c.close_peer.new.self.world s c.in-Faulty.fault r c.close_peer.new.peer front.0 same c.close_peer.ensures.comes
+    reads_faulty g.V.BusView.told g.V.BusView.registry_of g.G.Gate.passes g.V.BusView.alone c.args.key p c.args.hands.now.world c.close_peer.new.self.world s c.in-Faulty.fault r c.close_peer.new.peer front.0 same c.close_peer.ensures.comes
 
 pub returns-in-Whole-clause-comes : goal.returns-in-Whole-clause-comes
 returns-in-Whole-clause-comes g c s there =
     let p : Peer = c.args.peer.now in
     let r : Peer = c.take_next.new.self in
     let front = subst (λ (f : Front). HasFront f p.unread r.unread) c.in-Whole.is c.in_ok-take_next.ensures.front in
-    reads_named g.V.BusView.told g.G.Gate.passes g.V.BusView.alone c.args.key p c.args.hands.now.world c.close_if.new.self.world s c.in-Whole.message r c.close_if.new.peer c.args.conn c.serve-fate.result c.serve-fate.new.hands.world
+    reads_named g.V.BusView.told g.V.BusView.registry_of g.G.Gate.passes g.V.BusView.alone c.args.key p c.args.hands.now.world c.close_if.new.self.world s c.in-Whole.message r c.close_if.new.peer c.args.conn c.serve-fate.result c.serve-fate.new.hands.world
     front c.in_ok-take_next.ensures.rest c.requires.named c.serve-fate.ensures.comes c.close_if.ensures.comes

@@ -17,5 +17,5 @@ returns-in-Some g c =
     let w = c.args.self.now.work.world in
     let t = c.welcome.new.self.standing in
     let v = c.welcome.new.self.work.world in
-    is_welcome g.V.BusView.told g.G.Gate.passes g.V.BusView.alone s key m p o w t v o.reply conn (sym c.in-Some.ensures)
-    (comes_then g.V.BusView.told g.G.Gate.passes g.V.BusView.alone (λ (u : Standing). welcome key m p o conn u) c.close_former.new.self.standing c.close_former.new.self.work.world t v c.welcome.ensures (close_former s conn) w c.close_former.ensures.comes)
+    is_welcome g.V.BusView.told g.V.BusView.registry_of g.G.Gate.passes g.V.BusView.alone s key m p o w t v o.reply conn (sym c.in-Some.ensures)
+    (comes_then g.V.BusView.told g.V.BusView.registry_of g.G.Gate.passes g.V.BusView.alone (λ (u : Standing). welcome key m p o conn u) c.close_former.new.self.standing c.close_former.new.self.work.world t v c.welcome.ensures (close_former s conn) w c.close_former.ensures.comes)

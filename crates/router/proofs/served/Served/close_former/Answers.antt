@@ -23,9 +23,9 @@ returns-in-Some-clause-comes g c =
     let q = c.close_left.new.slot in
     let some : position test s.peers ≡ Some key = sym (c.in-Some.ensures ∙ ap (position test) c.deref.ensures.value) in
     let there : c.index_mut.result.now ≡ peer_at s key = get_or_read s.peers key c.index_mut.result.now (position-Some test s.peers key None some).0 c.index_mut.ensures.value None in
-    let found = subst (λ (o : Option Peer). Comes g.V.BusView.told g.G.Gate.passes g.V.BusView.alone (for_slot o (λ (p : Peer). closing key Left p)) w q v) there c.close_left.ensures.comes in
-    subst (λ (k : Table g.row.V-Note.Denot g.row.G.Denot). Comes g.V.BusView.told g.G.Gate.passes g.V.BusView.alone (close_former k.standing conn) k.work.world (with_peer s key q) v) c.self.view_is
-    (closes_former g.V.BusView.told g.G.Gate.passes g.V.BusView.alone s conn key q w v some found)
+    let found = subst (λ (o : Option Peer). Comes g.V.BusView.told g.V.BusView.registry_of g.G.Gate.passes g.V.BusView.alone (for_slot o (λ (p : Peer). closing key Left p)) w q v) there c.close_left.ensures.comes in
+    subst (λ (k : Table g.row.V-Note.Denot g.row.G.Denot). Comes g.V.BusView.told g.V.BusView.registry_of g.G.Gate.passes g.V.BusView.alone (close_former k.standing conn) k.work.world (with_peer s key q) v) c.self.view_is
+    (closes_former g.V.BusView.told g.V.BusView.registry_of g.G.Gate.passes g.V.BusView.alone s conn key q w v some found)
 
 pub returns-in-Some-clause-vacant : goal.returns-in-Some-clause-vacant
 returns-in-Some-clause-vacant g c =
@@ -35,7 +35,7 @@ returns-in-Some-clause-vacant g c =
     let peers = c.self.inside.peers.items in
     let some : position test peers ≡ Some key = sym (c.in-Some.ensures ∙ ap (position test) c.deref.ensures.value) in
     let has = (position-Some test peers key None some).1 in
-    let gone = closed_has_none g.V.BusView.told g.G.Gate.passes g.V.BusView.alone c.self.inside.hands.world c.close_left.new.self.world key Left c.index_mut.result.now c.close_left.new.slot c.close_left.ensures.comes in
+    let gone = closed_has_none g.V.BusView.told g.V.BusView.registry_of g.G.Gate.passes g.V.BusView.alone c.self.inside.hands.world c.close_left.new.self.world key Left c.index_mut.result.now c.close_left.new.slot c.close_left.ensures.comes in
     vacant_closed conn.slot key c.close_left.new.slot peers c.self.inside.places c.self.invariant has gone
 
 pub returns-in-None-clause-vacant : goal.returns-in-None-clause-vacant

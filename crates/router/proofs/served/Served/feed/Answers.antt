@@ -16,6 +16,6 @@ invariant_of-self g c =
     let there = get_or_read peers key old inside c.index_mut.ensures.value None in
     let keeps =
     either_way c.feed_slot.result c.feed_slot.ensures.ok c.feed_slot.ensures.err
-    (λ came. feed_keeps g.V.BusView.told g.G.Gate.passes g.V.BusView.alone world world c.args.piece.items old new came) (λ same. same_keeps old new same)
+    (λ came. feed_keeps g.V.BusView.told g.V.BusView.registry_of g.G.Gate.passes g.V.BusView.alone world world c.args.piece.now.items old new came) (λ same. same_keeps old new same)
     in
     index_at peers c.self.inside.places key old new there keeps c.self.invariant

@@ -11,5 +11,5 @@ returns g c =
     let m = said c.args.hello.now in
     let t = c.greeted.new.self.standing in
     let v = c.greeted.new.self.work.world in
-    subst (λ (k : Table g.row.V-Note.Denot g.row.G.Denot). Comes g.V.BusView.told g.G.Gate.passes g.V.BusView.alone (greet k.standing c.args.key m c.args.peer c.args.privileged) k.work.world t v) c.self.view_is
+    subst (λ (k : Table g.row.V-Note.Denot g.row.G.Denot). Comes g.V.BusView.told g.V.BusView.registry_of g.G.Gate.passes g.V.BusView.alone (greet k.standing c.args.key m c.args.peer c.args.privileged) k.work.world t v) c.self.view_is
     (c.pass.new.self.world, c.pass.ensures.passes, (heard_change c.change-heard.result, c.change-heard.new.self.world, c.change-heard.ensures.changes, c.greeted.ensures))

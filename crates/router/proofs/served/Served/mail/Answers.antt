@@ -16,6 +16,7 @@ use Rattle.router.proofs.served.Served.mail.Goals as goal
 pub returns-in-None-clause-comes : goal.returns-in-None-clause-comes
 returns-in-None-clause-comes g c =
     let told = g.V.BusView.told in
+    let registry_of = g.V.BusView.registry_of in
     let passes = g.G.Gate.passes in
     let alone = g.V.BusView.alone in
     let held = option_map told c.args.envelope.now.note in
@@ -25,12 +26,13 @@ returns-in-None-clause-comes g c =
     let m = c.heed.new.self.world in
     let none : position test s.peers ≡ None = sym (c.in-None.ensures ∙ ap (position test) c.deref.ensures.value) in
     let heeds = subst (λ k. IsHeeded alone held k m) c.reserve.ensures.world c.heed.ensures.heeds in
-    subst (λ (k : Table g.row.V-Note.Denot g.row.G.Denot). Comes told passes alone (noted held (mail_found k.standing said (position test k.standing.peers))) k.work.world s m) c.self.view_is
-    (dropped told passes alone held c.self.inside.hands.world m s s said (position test s.peers) none refl heeds)
+    subst (λ (k : Table g.row.V-Note.Denot g.row.G.Denot). Comes told registry_of passes alone (noted held (mail_found k.standing said (position test k.standing.peers))) k.work.world s m) c.self.view_is
+    (dropped told registry_of passes alone held c.self.inside.hands.world m s s said (position test s.peers) none refl heeds)
 
 pub returns-in-Some-clause-comes : goal.returns-in-Some-clause-comes
 returns-in-Some-clause-comes g c =
     let told = g.V.BusView.told in
+    let registry_of = g.V.BusView.registry_of in
     let passes = g.G.Gate.passes in
     let alone = g.V.BusView.alone in
     let held = option_map told c.args.envelope.now.note in
@@ -46,10 +48,10 @@ returns-in-Some-clause-comes g c =
     let there : c.index_mut.result.now ≡ peer_at s key = get_or_read s.peers key c.index_mut.result.now (position-Some test s.peers key None some).0 c.index_mut.ensures.value None in
     on_ok_weaker c.bring_to.result
     (λ brought.
-    let here = subst (λ k. Comes told passes alone (once_noted held (for_slot c.index_mut.result.now (write key said))) k q v) c.reserve.ensures.world brought in
-    let found = subst (λ o. Comes told passes alone (once_noted held (for_slot o (write key said))) w q v) there here in
-    subst (λ (k : Table g.row.V-Note.Denot g.row.G.Denot). Comes told passes alone (noted held (mail_found k.standing said (position test k.standing.peers))) k.work.world t v) c.self.view_is
-    (delivered told passes alone w v held s said (position test s.peers) key q some found))
+    let here = subst (λ k. Comes told registry_of passes alone (once_noted held (for_slot c.index_mut.result.now (write key said))) k q v) c.reserve.ensures.world brought in
+    let found = subst (λ o. Comes told registry_of passes alone (once_noted held (for_slot o (write key said))) w q v) there here in
+    subst (λ (k : Table g.row.V-Note.Denot g.row.G.Denot). Comes told registry_of passes alone (noted held (mail_found k.standing said (position test k.standing.peers))) k.work.world t v) c.self.view_is
+    (delivered told registry_of passes alone w v held s said (position test s.peers) key q some found))
     c.bring_to.ensures.comes
 
 pub invariant_of-self-in-Some : goal.invariant_of-self-in-Some
@@ -65,6 +67,6 @@ invariant_of-self-in-Some g c =
     let said = said_of c.args.envelope.now.content in
     let keeps =
     either_way c.bring_to.result c.bring_to.ensures.comes c.bring_to.ensures.err
-    (λ came. brought_keeps g.V.BusView.told g.G.Gate.passes g.V.BusView.alone c.reserve.new.self.world c.bring_to.new.self.world held key said old new came) (λ same. same_keeps old new same)
+    (λ came. brought_keeps g.V.BusView.told g.V.BusView.registry_of g.G.Gate.passes g.V.BusView.alone c.reserve.new.self.world c.bring_to.new.self.world held key said old new came) (λ same. same_keeps old new same)
     in
     index_at peers c.self.inside.places key old new there keeps c.self.invariant

@@ -24,11 +24,11 @@ returns g c =
     let w = c.self.inside.hands.world in
     let v = c.announce.new.self.world in
     let done =
-    comes_then g.V.BusView.told g.G.Gate.passes g.V.BusView.alone (λ (done : Unit {0}). Announcing o.signals (Gives (with_peer s key (Some named)))) tt c.reply_with.new.self.world (with_peer s key (Some named)) v (v, c.announce.ensures.announces, (refl, refl))
+    comes_then g.V.BusView.told g.V.BusView.registry_of g.G.Gate.passes g.V.BusView.alone (λ (done : Unit {0}). Announcing o.signals (Gives (with_peer s key (Some named)))) tt c.reply_with.new.self.world (with_peer s key (Some named)) v (v, c.announce.ensures.announces, (refl, refl))
     (reply_with m conn (UniqueName conn.number)) w c.reply_with.ensures.comes
     in
-    subst (λ (k : Table g.row.V-Note.Denot g.row.G.Denot). Comes g.V.BusView.told g.G.Gate.passes g.V.BusView.alone (welcome key m p o conn k.standing) k.work.world (with_peer s key (Some c.welcome.new.self)) v) c.self.view_is
-    (subst (λ (q : Peer). Comes g.V.BusView.told g.G.Gate.passes g.V.BusView.alone (welcome key m p o conn s) w (with_peer s key (Some q)) v) (sym c.welcome.ensures) done)
+    subst (λ (k : Table g.row.V-Note.Denot g.row.G.Denot). Comes g.V.BusView.told g.V.BusView.registry_of g.G.Gate.passes g.V.BusView.alone (welcome key m p o conn k.standing) k.work.world (with_peer s key (Some c.welcome.new.self)) v) c.self.view_is
+    (subst (λ (q : Peer). Comes g.V.BusView.told g.V.BusView.registry_of g.G.Gate.passes g.V.BusView.alone (welcome key m p o conn s) w (with_peer s key (Some q)) v) (sym c.welcome.ensures) done)
 
 pub invariant_of-self : goal.invariant_of-self
 invariant_of-self g c =

@@ -7,10 +7,10 @@ use Rattle.router_hands.proofs.hands.Hands.bring_to.Goals as goal
 
 pub returns-in-None-clause-comes : goal.returns-in-None-clause-comes
 returns-in-None-clause-comes g c =
-    for_nobody g.V.BusView.told g.G.Gate.passes g.V.BusView.alone (option_map g.V.BusView.told c.args.envelope.now.note) c.args.self.now.world c.heed.new.self.world c.args.slot.now (write c.args.key (said_of c.args.envelope.now.content)) c.in-None.is c.heed.ensures.heeds
+    for_nobody g.V.BusView.told g.V.BusView.registry_of g.G.Gate.passes g.V.BusView.alone (option_map g.V.BusView.told c.args.envelope.now.note) c.args.self.now.world c.heed.new.self.world c.args.slot.now (write c.args.key (said_of c.args.envelope.now.content)) c.in-None.is c.heed.ensures.heeds
 
 pub returns-in-Some-clause-comes : goal.returns-in-Some-clause-comes
 returns-in-Some-clause-comes g c =
     on_ok_weaker c.bring.result
-    (for_one_noted g.V.BusView.told g.G.Gate.passes g.V.BusView.alone c.args.self.now.world c.bring.new.self.world (option_map g.V.BusView.told c.args.envelope.now.note) c.args.slot.now c.in-Some.peer c.bring.new.peer (write c.args.key (said_of c.args.envelope.now.content)) c.in-Some.is)
+    (for_one_noted g.V.BusView.told g.V.BusView.registry_of g.G.Gate.passes g.V.BusView.alone c.args.self.now.world c.bring.new.self.world (option_map g.V.BusView.told c.args.envelope.now.note) c.args.slot.now c.in-Some.peer c.bring.new.peer (write c.args.key (said_of c.args.envelope.now.content)) c.in-Some.is)
     c.bring.ensures.comes

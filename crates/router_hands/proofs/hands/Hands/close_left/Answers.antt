@@ -11,5 +11,5 @@ returns-in-Some-clause-comes g c =
     let w = c.args.self.now.world in
     let v = c.close_peer.new.self.world in
     let q = c.close_peer.new.peer in
-    subst (λ (o : Option Peer). Comes g.V.BusView.told g.G.Gate.passes g.V.BusView.alone (for_slot o (λ (p : Peer). closing c.args.key Left p)) w (Some q) v) (sym c.in-Some.is)
-    (for_there g.V.BusView.told g.G.Gate.passes g.V.BusView.alone c.in-Some.peer q (λ (p : Peer). closing c.args.key Left p) w v c.close_peer.ensures.comes)
+    subst (λ (o : Option Peer). Comes g.V.BusView.told g.V.BusView.registry_of g.G.Gate.passes g.V.BusView.alone (for_slot o (λ (p : Peer). closing c.args.key Left p)) w (Some q) v) (sym c.in-Some.is)
+    (for_there g.V.BusView.told g.V.BusView.registry_of g.G.Gate.passes g.V.BusView.alone c.in-Some.peer q (λ (p : Peer). closing c.args.key Left p) w v c.close_peer.ensures.comes)

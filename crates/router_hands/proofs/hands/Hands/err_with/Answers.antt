@@ -11,8 +11,9 @@ use Rattle.router_hands.proofs.hands.Hands.err_with.Goals as goal
 pub returns-then-expects_reply-clause-comes : goal.returns-then-expects_reply-clause-comes
 returns-then-expects_reply-clause-comes g c =
     let told = g.V.BusView.told in
+    let registry_of = g.V.BusView.registry_of in
     let passes = g.G.Gate.passes in
     let alone = g.V.BusView.alone in
     let m = said c.args.call.now in
-    let told_so = subst (λ (to : ReplyTo). Comes told passes alone (tell c.args.caller (Errs to c.args.error)) c.args.self.now.world tt c.tell.new.self.world) c.call_of-to.ensures c.tell.ensures.comes in
-    chosen told passes alone (let to = call_of m c.args.caller in tell c.args.caller (Errs to c.args.error)) nothing c.args.self.now.world c.tell.new.self.world tt (expects_reply m) (sym c.expects_reply.ensures ∙ c.if-expects_reply.true) told_so
+    let told_so = subst (λ (to : ReplyTo). Comes told registry_of passes alone (tell c.args.caller (Errs to c.args.error)) c.args.self.now.world tt c.tell.new.self.world) c.call_of-to.ensures c.tell.ensures.comes in
+    chosen told registry_of passes alone (let to = call_of m c.args.caller in tell c.args.caller (Errs to c.args.error)) nothing c.args.self.now.world c.tell.new.self.world tt (expects_reply m) (sym c.expects_reply.ensures ∙ c.if-expects_reply.true) told_so

@@ -8,6 +8,7 @@ use Rattle.router_hands.proofs.hands.Hands.greet_or_close.Goals as goal
 pub returns-in-Ok-Waits-clause-next : goal.returns-in-Ok-Waits-clause-next
 returns-in-Ok-Waits-clause-next g c =
     let told = g.V.BusView.told in
+    let registry_of = g.V.BusView.registry_of in
     let passes = g.G.Gate.passes in
     let alone = g.V.BusView.alone in
     let p = c.in-Some.peer in
@@ -16,12 +17,13 @@ returns-in-Ok-Waits-clause-next g c =
     let there : c.args.slot.now ≡ Some p = sym c.take.ensures.value ∙ c.in-Some.is in
     let unnamed = subst (λ (o : Option Peer). IfSome o (λ x. x.stage ≡ Unnamed c.args.privileged)) there c.requires.unnamed in
     let front = subst (λ (f : First). HasFirst f p q) c.in-Ok-Waits.field-0-is c.in-Ok-Waits.ensures.ok in
-    λ s is. next_unnamed told passes alone c.args.key p w w s q c.args.slot.now c.args.privileged there unnamed
-    (reads_waiting told passes alone c.args.key p w w s q front.1 (is ∙ there) front.0 refl)
+    λ s is. next_unnamed told registry_of passes alone c.args.key p w w s q c.args.slot.now c.args.privileged there unnamed
+    (reads_waiting told registry_of passes alone c.args.key p w w s q front.1 (is ∙ there) front.0 refl)
 
 pub returns-in-Ok-Other-clause-next : goal.returns-in-Ok-Other-clause-next
 returns-in-Ok-Other-clause-next g c =
     let told = g.V.BusView.told in
+    let registry_of = g.V.BusView.registry_of in
     let passes = g.G.Gate.passes in
     let alone = g.V.BusView.alone in
     let p = c.in-Some.peer in
@@ -32,12 +34,13 @@ returns-in-Ok-Other-clause-next g c =
     let there : c.args.slot.now ≡ Some p = sym c.take.ensures.value ∙ c.in-Some.is in
     let unnamed = subst (λ (o : Option Peer). IfSome o (λ x. x.stage ≡ Unnamed c.args.privileged)) there c.requires.unnamed in
     let front = subst (λ (f : First). HasFirst f p r) c.in-Ok-Other.field-0-is c.in-Ok-Other.ensures.ok in
-    λ s is. next_unnamed told passes alone c.args.key p w v s q c.args.slot.now c.args.privileged there unnamed
-    (reads_other told passes alone c.args.key p w v s c.in-Ok-Other._message r q c.args.privileged front.0 front.1 front.2 unnamed c.close_peer.ensures.comes)
+    λ s is. next_unnamed told registry_of passes alone c.args.key p w v s q c.args.slot.now c.args.privileged there unnamed
+    (reads_other told registry_of passes alone c.args.key p w v s c.in-Ok-Other._message r q c.args.privileged front.0 front.1 front.2 unnamed c.close_peer.ensures.comes)
 
 pub returns-in-Ok-Faulty-clause-next : goal.returns-in-Ok-Faulty-clause-next
 returns-in-Ok-Faulty-clause-next g c =
     let told = g.V.BusView.told in
+    let registry_of = g.V.BusView.registry_of in
     let passes = g.G.Gate.passes in
     let alone = g.V.BusView.alone in
     let p = c.in-Some.peer in
@@ -48,5 +51,5 @@ returns-in-Ok-Faulty-clause-next g c =
     let there : c.args.slot.now ≡ Some p = sym c.take.ensures.value ∙ c.in-Some.is in
     let unnamed = subst (λ (o : Option Peer). IfSome o (λ x. x.stage ≡ Unnamed c.args.privileged)) there c.requires.unnamed in
     let front = subst (λ (f : First). HasFirst f p r) c.in-Ok-Faulty.field-0-is c.in-Ok-Faulty.ensures.ok in
-    λ s is. next_unnamed told passes alone c.args.key p w v s q c.args.slot.now c.args.privileged there unnamed
-    (reads_faulty told passes alone c.args.key p w v s c.in-Ok-Faulty.fault r q front.0 front.1 c.close_peer-in-Ok-Faulty.ensures.comes)
+    λ s is. next_unnamed told registry_of passes alone c.args.key p w v s q c.args.slot.now c.args.privileged there unnamed
+    (reads_faulty told registry_of passes alone c.args.key p w v s c.in-Ok-Faulty.fault r q front.0 front.1 c.close_peer-in-Ok-Faulty.ensures.comes)

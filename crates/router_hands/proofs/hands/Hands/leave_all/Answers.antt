@@ -14,5 +14,5 @@ loop-number-preserved g c =
           let before : Standing = record { peers = peers; leaves = c.loop-number.leaves.items } in
           let after : Standing = record { peers = peers; leaves = c.leave.new.leaves.items } in
           c.loop-number.invariant.comes peers end v
-          (leaves_more g.V.BusView.told g.G.Gate.passes g.V.BusView.alone c.loop-number.self.world c.leave.new.self.world v numbers c.loop-number.number-index inside before after end (c.leave.ensures.comes peers) later);
+          (leaves_more g.V.BusView.told g.V.BusView.registry_of g.G.Gate.passes g.V.BusView.alone c.loop-number.self.world c.leave.new.self.world v numbers c.loop-number.number-index inside before after end (c.leave.ensures.comes peers) later);
     }

@@ -9,6 +9,6 @@ invariant-loop-number g l = record {
   room : l.initial.self.room ≤ l.self.room + l.number-index;
   spare : vec_len l.leaves + length l.numbers ≤ vec_capacity l.leaves + l.number-index;
   comes : (peers : List (Option Peer)) (end : Standing) (v : World g.row.V-Note.Denot g.row.G.Denot) →
-      Comes g.V.BusView.told g.G.Gate.passes g.V.BusView.alone (leave_all (drop l.number-index l.numbers) (record { peers = peers; leaves = l.leaves.items })) l.self.world end v →
-      Comes g.V.BusView.told g.G.Gate.passes g.V.BusView.alone (leave_all l.numbers (record { peers = peers; leaves = l.initial.leaves.items })) l.initial.self.world end v;
+      Comes g.V.BusView.told g.V.BusView.registry_of g.G.Gate.passes g.V.BusView.alone (leave_all (drop l.number-index l.numbers) (record { peers = peers; leaves = l.leaves.items })) l.self.world end v →
+      Comes g.V.BusView.told g.V.BusView.registry_of g.G.Gate.passes g.V.BusView.alone (leave_all l.numbers (record { peers = peers; leaves = l.initial.leaves.items })) l.initial.self.world end v;
 }

@@ -8,6 +8,7 @@ use Rattle.router_hands.proofs.hands.Hands.look_at_all.Goals as goal
 pub loop-key-preserved : goal.loop-key-preserved
 loop-key-preserved g c =
     let told = g.V.BusView.told in
+    let registry_of = g.V.BusView.registry_of in
     let passes = g.G.Gate.passes in
     let alone = g.V.BusView.alone in
     let key = c.loop-key.key in
@@ -21,5 +22,5 @@ loop-key-preserved g c =
       room = omega arith;
       comes = λ ys v later.
           c.loop-key.invariant.comes ys v
-          (looks_more told passes alone w m v peers key inside q ys (subst (λ o. Comes told passes alone (for_slot o (λ p. look key p p.stage)) w q m) read c.look_into.ensures.comes) later);
+          (looks_more told registry_of passes alone w m v peers key inside q ys (subst (λ o. Comes told registry_of passes alone (for_slot o (λ p. look key p p.stage)) w q m) read c.look_into.ensures.comes) later);
     }

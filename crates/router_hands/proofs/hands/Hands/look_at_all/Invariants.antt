@@ -8,6 +8,6 @@ abbrev pub invariant-loop-key : goal.invariant-loop-key
 invariant-loop-key g l = record {
   room : l.initial.self.room ≤ l.self.room + l.key;
   comes : (ys : List (Option Peer)) (v : World g.row.V-Note.Denot g.row.G.Denot) →
-      Comes g.V.BusView.told g.G.Gate.passes g.V.BusView.alone (look_all (take l.key l.peers) (drop l.key l.peers)) l.self.world ys v →
-      Comes g.V.BusView.told g.G.Gate.passes g.V.BusView.alone (look_all [] l.initial.peers) l.initial.self.world ys v;
+      Comes g.V.BusView.told g.V.BusView.registry_of g.G.Gate.passes g.V.BusView.alone (look_all (take l.key l.peers) (drop l.key l.peers)) l.self.world ys v →
+      Comes g.V.BusView.told g.V.BusView.registry_of g.G.Gate.passes g.V.BusView.alone (look_all [] l.initial.peers) l.initial.self.world ys v;
 }

@@ -12,6 +12,6 @@ pub returns-clause-comes : goal.returns-clause-comes
 returns-clause-comes g c goes_on fate end p =
     let now = c.args.self.now in
     let relays = subst
-    (λ (k : Work g.row.V-Note.Denot g.row.G.Denot). Comes g.V.BusView.told g.G.Gate.passes g.V.BusView.alone (relayed (said c.args.message.now) c.args.sender (all_of k.told.to k.told.monitors) goes_on) k.world fate end)
+    (λ (k : Work g.row.V-Note.Denot g.row.G.Denot). Comes g.V.BusView.told g.V.BusView.registry_of g.G.Gate.passes g.V.BusView.alone (relayed (said c.args.message.now) c.args.sender (all_of k.told.to k.told.monitors) goes_on) k.world fate end)
     c.tell_monitors_alone.ensures (c.relay.ensures.comes goes_on fate end p) in
-    subst (λ (to : List Conn). Comes g.V.BusView.told g.G.Gate.passes g.V.BusView.alone (relayed (said c.args.message.now) c.args.sender to goes_on) now.world fate end) (all_of_none now.told.monitors) relays
+    subst (λ (to : List Conn). Comes g.V.BusView.told g.V.BusView.registry_of g.G.Gate.passes g.V.BusView.alone (relayed (said c.args.message.now) c.args.sender to goes_on) now.world fate end) (all_of_none now.told.monitors) relays

@@ -11,9 +11,9 @@ pub returns-clause-comes : goal.returns-clause-comes
 returns-clause-comes g c =
     let asked = c.ask_monitors in
     let put = subst
-    (λ (k : Work g.row.V-Note.Denot g.row.G.Denot). Comes g.V.BusView.told g.G.Gate.passes g.V.BusView.alone (putting (all_of k.told.to k.told.monitors) (Tells (own_of c.args.own)) nothing) k.world tt c.put_told.new.self.world)
+    (λ (k : Work g.row.V-Note.Denot g.row.G.Denot). Comes g.V.BusView.told g.V.BusView.registry_of g.G.Gate.passes g.V.BusView.alone (putting (all_of k.told.to k.told.monitors) (Tells (own_of c.args.own)) nothing) k.world tt c.put_told.new.self.world)
     c.tell_one.ensures c.put_told.ensures.comes in
     let shown = subst
-    (λ (shown : List Conn). Comes g.V.BusView.told g.G.Gate.passes g.V.BusView.alone (putting (all_of (c.args.conn ∷ []) shown) (Tells (own_of c.args.own)) nothing) asked.new.self.world tt c.put_told.new.self.world)
+    (λ (shown : List Conn). Comes g.V.BusView.told g.V.BusView.registry_of g.G.Gate.passes g.V.BusView.alone (putting (all_of (c.args.conn ∷ []) shown) (Tells (own_of c.args.own)) nothing) asked.new.self.world tt c.put_told.new.self.world)
     asked.ensures.routes.2 put in
     (asked.ensures.routes.0, asked.new.self.world, asked.ensures.routes.1, shown)

@@ -8,5 +8,5 @@ use Rattle.router_hands.proofs.hands.Hands.turn_away.Goals as goal
 
 pub returns : goal.returns
 returns g c =
-    comes_then g.V.BusView.told g.G.Gate.passes g.V.BusView.alone (λ (q : Peer). closing c.args.key LimitsExceeded q) c.refuse_with.new.peer c.refuse_with.new.self.world c.close_peer.new.peer c.close_peer.new.self.world c.close_peer.ensures.comes
+    comes_then g.V.BusView.told g.V.BusView.registry_of g.G.Gate.passes g.V.BusView.alone (λ (q : Peer). closing c.args.key LimitsExceeded q) c.refuse_with.new.peer c.refuse_with.new.self.world c.close_peer.new.peer c.close_peer.new.self.world c.close_peer.ensures.comes
     (refuse_with c.args.key (said c.args.hello.now) error.LimitsExceeded c.args.peer.now) c.args.self.now.world c.refuse_with.ensures.comes
