@@ -1,0 +1,9 @@
+pub mod FieldFaults
+pub mod Faults
+pub mod Fronts
+pub mod Calls
+pub mod Readers
+pub mod Agreeing
+pub mod Joining
+pub mod Recutting
+pub mod Cutting

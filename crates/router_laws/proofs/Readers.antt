@@ -1,0 +1,118 @@
+-- Readers who read what was asked.
+use Rattle.std.proofs.Common.{◌≡◌, ℕ, Bool, true, false, List, [], ◌∷◌, ◌++◌, refl, ap, ◌∙◌, subst, arith}
+use Rattle.std.proofs.lemmas.Bool.Decides.{nat_tests}
+use Rattle.std.specs.Prelude.{◌==◌, ◌&&◌, if◌then◌else◌}
+use Rattle.marshal_core.proofs.Results.{both_true, eqb-yes}
+use Rattle.bus_view.specs.Views.{Knowledge}
+use Rattle.driver.specs.Calls.{IsCall}
+use Rattle.router_core.specs.Acts.{Exchange, Changed, Asked, Routed, Looked, Noted, Fronted, Called, Gated, Wanted, IsLawful}
+use Rattle.router_core.specs.Fronts.{Front, Waits, IsFront}
+use Rattle.router_core.specs.OneThread.{Readers, AreReadBy}
+use Rattle.router_laws.proofs.Calls.{calls_are_one, calls_are_read}
+use Rattle.router_laws.proofs.Fronts.{fronts_are_one}
+
+-- ## What is read rightly
+
+abbrev pub AreRight : List Exchange → Type 0
+AreRight [] = Unit {0}
+AreRight (Fronted bytes front ∷ later) = IsFront bytes front × AreRight later
+AreRight (Called m reading ∷ later) = IsCall m reading × AreRight later
+AreRight (other ∷ later) = AreRight later
+
+pub right_lawful : (alone : Bool) (asked : List Exchange) (before after : Knowledge) → IsLawful alone before asked after → AreRight asked
+right_lawful alone [] before after h = tt
+right_lawful alone (Changed change heard ∷ later) before after h = right_lawful alone later h.0 after h.2
+right_lawful alone (Asked query heard ∷ later) before after h = right_lawful alone later h.0 after h.2
+right_lawful alone (Routed from facts heard ∷ later) before after h = right_lawful alone later h.0 after h.2
+right_lawful alone (Looked number heard ∷ later) before after h = right_lawful alone later h.0 after h.2
+right_lawful alone (Noted told ∷ later) before after h = right_lawful alone later h.0 after h.2
+right_lawful alone (Fronted bytes front ∷ later) before after h = (h.0, right_lawful alone later before after h.1)
+right_lawful alone (Called m reading ∷ later) before after h = (h.0, right_lawful alone later before after h.1)
+right_lawful alone (Gated call ∷ later) before after h = right_lawful alone later before after h
+right_lawful alone (Wanted granted ∷ later) before after h = right_lawful alone later before after h
+
+pub right_append : (first later : List Exchange) → AreRight first → AreRight later → AreRight (first ++ later)
+right_append [] later h k = k
+right_append (Changed change heard ∷ first) later h k = right_append first later h k
+right_append (Asked query heard ∷ first) later h k = right_append first later h k
+right_append (Routed from facts heard ∷ first) later h k = right_append first later h k
+right_append (Looked number heard ∷ first) later h k = right_append first later h k
+right_append (Noted told ∷ first) later h k = right_append first later h k
+right_append (Fronted bytes front ∷ first) later h k = (h.0, right_append first later h.1 k)
+right_append (Called m reading ∷ first) later h k = (h.0, right_append first later h.1 k)
+right_append (Gated call ∷ first) later h k = right_append first later h k
+right_append (Wanted granted ∷ first) later h k = right_append first later h k
+
+-- ## Readers
+
+abbrev same_bytes : List ℕ → List ℕ → Bool
+same_bytes [] [] = true
+same_bytes (a ∷ later) (b ∷ others) = (a == b) && same_bytes later others
+same_bytes a b = false
+
+are_same : (a b : List ℕ) → same_bytes a b ≡ true → a ≡ b
+are_same [] [] e = refl
+are_same (a ∷ later) (b ∷ others) e =
+    let h = both_true (a == b) (same_bytes later others) e in
+    ap (λ (n : ℕ). n ∷ later) (eqb-yes a b h.0) ∙ ap (λ (bs : List ℕ). b ∷ bs) (are_same later others h.1)
+are_same [] (b ∷ others) e = absurd cc
+are_same (a ∷ later) [] e = absurd cc
+
+eqb-same : (n : ℕ) → (n == n) ≡ true
+eqb-same n = grind (arith, nat_tests)
+
+same_is : (a : List ℕ) → same_bytes a a ≡ true
+same_is [] = refl
+same_is (a ∷ later) = rw (eqb-same a) (same_is later)
+
+-- these bytes are read so, and others as before
+abbrev front_or : List ℕ → Front → (List ℕ → Front) → List ℕ → Front
+front_or bytes front others other = if same_bytes bytes other then front else others other
+
+abbrev fronts_of : List Exchange → List ℕ → Front
+fronts_of [] = λ bytes. Waits
+fronts_of (Fronted bytes front ∷ later) = front_or bytes front (fronts_of later)
+fronts_of (other ∷ later) = fronts_of later
+
+abbrev reading_by : (List ℕ → Front) → Readers
+reading_by front = record { front = front; call = λ m. (calls_are_read m).0 }
+
+-- readers who read all that was asked
+abbrev pub readers_of : List Exchange → Readers
+readers_of asked = reading_by (fronts_of asked)
+
+module _ (bytes : List ℕ) (front : Front) (is : IsFront bytes front) (others : List ℕ → Front) where
+  still_read : (other : List ℕ) (so : Front) → IsFront other so → so ≡ others other → so ≡ front_or bytes front others other
+  still_read other so right e = by_test (same_bytes bytes other) refl
+    where
+      by_test : (b : Bool) → same_bytes bytes other ≡ b → so ≡ front_or bytes front others other
+      by_test true same =
+          rw same (fronts_are_one other so front right (subst (λ (bs : List ℕ). IsFront bs front) (are_same bytes other same) is))
+      by_test false same = rw same e
+
+  still : (asked : List Exchange) → AreRight asked → AreReadBy (reading_by others) asked → AreReadBy (reading_by (front_or bytes front others)) asked
+  still [] right read = tt
+  still (Changed change heard ∷ later) right read = still later right read
+  still (Asked query heard ∷ later) right read = still later right read
+  still (Routed from facts heard ∷ later) right read = still later right read
+  still (Looked number heard ∷ later) right read = still later right read
+  still (Noted told ∷ later) right read = still later right read
+  still (Fronted other so ∷ later) right read = (still_read other so right.0 read.0, still later right.1 read.1)
+  still (Called m reading ∷ later) right read = (read.0, still later right.1 read.1)
+  still (Gated call ∷ later) right read = still later right read
+  still (Wanted granted ∷ later) right read = still later right read
+
+-- they do
+pub read_so : (asked : List Exchange) → AreRight asked → AreReadBy (readers_of asked) asked
+read_so [] right = tt
+read_so (Changed change heard ∷ later) right = read_so later right
+read_so (Asked query heard ∷ later) right = read_so later right
+read_so (Routed from facts heard ∷ later) right = read_so later right
+read_so (Looked number heard ∷ later) right = read_so later right
+read_so (Noted told ∷ later) right = read_so later right
+read_so (Fronted bytes front ∷ later) right = (rw (same_is bytes) refl, still bytes front right.0 (fronts_of later) later right.1 (read_so later right.1))
+read_so (Called m reading ∷ later) right =
+    let found = calls_are_read m in
+    (calls_are_one m reading found.0 right.0 found.1, read_so later right.1)
+read_so (Gated call ∷ later) right = read_so later right
+read_so (Wanted granted ∷ later) right = read_so later right

@@ -1,0 +1,23 @@
+//! What bytes and calls are read as.
+
+ghost use Rattle.router_laws.specs.Readings.{CallsAreOne, CallsAreRead, FrontsAreOne, FrontsStay};
+
+/// What stands at the front of bytes is one thing: a message and what is behind it, or one fault, or the beginning of a
+/// message.
+#[tactic(auto, using(crate::proofs::Fronts::fronts_are_one))]
+pub fn fronts_are_one()
+    ensures { FrontsAreOne }
+{}
+
+/// More bytes behind a message or a fault make no other of it.
+#[tactic(auto, using(crate::proofs::Fronts::fronts_stay))]
+pub fn fronts_stay()
+    ensures { FrontsStay }
+{}
+
+/// A message to the bus is read as one call, or has one fault.
+#[tactic(auto, using(crate::proofs::Calls::calls_are_one, crate::proofs::Calls::calls_are_read))]
+pub fn calls_have_one_reading()
+    ensures one { CallsAreOne }
+    ensures read { CallsAreRead }
+{}
