@@ -13,7 +13,7 @@ prove:
 	@tools/prove.sh
 
 # The gate: every proof, the edits that must fail, the tests, the programs as two compilers build them, and each
-# allocation of three of them refused in turn.
+# allocation of two of them refused in turn.
 test:
 	@tools/gate.sh
 
@@ -23,20 +23,18 @@ check:
 
 # The tests of one crate, as in `make try CRATE=test_bytes`, without any proof.
 try:
-	@cd crates/$(CRATE) && rt try --test
+	@tools/try.sh $(CRATE)
 
-# Each allocation of three programs refused in turn, once the gate has built them. Needs cc and glibc.
+# Each allocation of two programs refused in turn, once the gate has built them. Needs cc and glibc.
 memory:
 	@tools/memory/check.sh
 
 # What the calls take, beside the same in plain Rust, and how many allocations those of an engine make. No part of the
 # gate; needs rustc and cc.
 bench:
-	@$(MAKE) -s -C crates/bench/rust bench
+	@$(MAKE) -s -C crates/bench_bytes/rust bench
 	@$(MAKE) -s -C crates/bench_bus/rust bench
-	@mkdir -p crates/bench_engine/out
-	@cd crates/bench_engine && rt run > out/bench.log 2>&1 || { cat out/bench.log; exit 1; }
-	@cd crates/bench_engine && rt run -- --time
+	@cd crates/bench_bus && rt run -- engine --time
 	@tools/memory/count.sh
 
 # The edits that the gate leaves out, of all crates or of one: `make edits CRATE=names`. The prover must refuse each.
