@@ -8,7 +8,8 @@ ghost use Rattle.owner_queues.specs.declared.request.Profile.TheVariants.{Two};
 ghost use Rattle.seq_bus_core.specs.Tickets.{opening_bus};
 ghost use Rattle.busd_core.specs.Statuses.{status_of};
 ghost use Rattle.busd_core.specs.declared.fault.RunFault.TheVariants.{Output};
-ghost use Rattle.busd.specs.Statuses.{refusal_status};
+ghost use Rattle.std.specs.IoError.{error_kind};
+ghost use Rattle.busd.specs.Statuses.{refusal_status, unread_status};
 
 use bus_view::BusView;
 use busd_core::{RunFault, run};
@@ -109,9 +110,21 @@ fn words<R: Env + AllocGlobal>(rt: &R) -> io::Result<Vec<String>> {
     Ok(env::args(rt)?.collect(rt.alloc())?)
 }
 
+/// Tells why the command line can't be read: a word of it is no text, or there is no memory for it.
+fn fail_unread<R: Eprint>(rt: &R, error: &io::Error) -> ExitCode
+    ensures { exit_status result ≡ unread_status (error_kind error.now) }
+{
+    if error.kind() == io::ErrorKind::InvalidData {
+        let _ = eprintln!(rt; "error: an argument is no UTF-8");
+        return ExitCode::from(2);
+    }
+    fail(rt, RunFault::Memory)
+}
+
 fn main(rt: HostRuntime) -> ExitCode {
-    let Ok(words) = words(&rt) else {
-        return fail(&rt, RunFault::Memory);
+    let words = match words(&rt) {
+        Ok(words) => words,
+        Err(error) => return fail_unread(&rt, &error),
     };
     let Ok(command) = command_line(rt.alloc()) else {
         return fail(&rt, RunFault::Memory);
