@@ -4,12 +4,12 @@
 //! in tenths of a nanosecond, as `bench_bus --plain` reads them.
 
 #[allow(dead_code)]
-#[path = "../../bench/rust/names.rs"]
+#[path = "../../bench_bytes/rust/names.rs"]
 mod names;
-#[path = "../../bench/rust/report.rs"]
+#[path = "../../bench_bytes/rust/report.rs"]
 mod report;
 #[allow(dead_code)]
-#[path = "../../bench/rust/rules.rs"]
+#[path = "../../bench_bytes/rust/rules.rs"]
 mod rules;
 mod owned;
 mod tables;

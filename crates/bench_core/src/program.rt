@@ -2,7 +2,7 @@
 
 use crate::plain_times::PlainTimes;
 use crate::report::Report;
-use anyhow::{Context, Result};
+use anyhow::{Context, Result, ensure};
 use clap::{Arg, ArgAction, ArgMatches, Command, Error};
 use std::alloc::{AllocError, Global};
 use std::process::ExitCode;
@@ -40,8 +40,12 @@ fn command_line<'a>(
         .value_name("COUNT")
         .action(ArgAction::Set)
         .help("How many rounds make a checksum, 64 if it is not said");
+    let part = Arg::new(alloc, "part")
+        .value_name("PART")
+        .action(ArgAction::Set)
+        .help("The works that are measured, all if it is not said");
     let command = Command::new(alloc, name).about(about).arg(time)?;
-    command.arg(plain)?.arg(rounds)
+    command.arg(plain)?.arg(rounds)?.arg(part)
 }
 
 fn words<R: Env + AllocGlobal>(rt: &R) -> io::Result<Vec<String>> {
@@ -59,6 +63,7 @@ fn refuse<R: Print + Eprint>(rt: &R, error: &Error) -> ExitCode {
 fn report<'a, R: Files + AllocGlobal>(
     rt: &'a R,
     matches: &ArgMatches<'_>,
+    parts: &[&str],
 ) -> Result<Report<'a, R>> {
     let plain = match matches.get_str("plain") {
         Some(file) => {
@@ -71,24 +76,33 @@ fn report<'a, R: Files + AllocGlobal>(
         Some(count) => count.parse::<u64>().context("a count of rounds")?,
         None => ROUNDS,
     };
+    let part = match matches.get_str("part") {
+        Some(word) => {
+            ensure!(parts.contains(&word), "there is no part {word}");
+            Some(String::from_str(rt.alloc(), word)?)
+        }
+        None => None,
+    };
     Ok(Report {
         rt,
+        part,
         timed: matches.get_flag("time"),
         rounds,
         plain,
     })
 }
 
-/// Reads the command line of a program of this name.
+/// Reads the command line of a program of this name, whose works have these parts. A word chooses one of them.
 pub fn open<'a, R: Print + Eprint + Env + Files + AllocGlobal>(
     rt: &'a R,
     name: &str,
     about: &str,
+    parts: &[&str],
 ) -> Result<Opening<'a, R>> {
     let words = words(rt)?;
     let command = command_line(rt.alloc(), name, about)?;
     match command.try_get_matches_from(words.as_slice()) {
-        Ok(matches) => Ok(Opening::Report(report(rt, &matches)?)),
+        Ok(matches) => Ok(Opening::Report(report(rt, &matches, parts)?)),
         Err(error) => Ok(Opening::Ended(refuse(rt, &error))),
     }
 }

@@ -15,6 +15,8 @@ const RUNS: u32 = 100;
 #[derive(Drop)]
 pub struct Report<'a, R> {
     pub rt: &'a R,
+    /// The part of the works that is told of, if not all are.
+    pub part: Option<String>,
     /// Whether times are told, in place of checksums.
     pub timed: bool,
     /// How many rounds make a checksum.
@@ -23,6 +25,14 @@ pub struct Report<'a, R> {
 }
 
 impl<R: Print + Clock> Report<'_, R> {
+    /// Whether works of this part are told of.
+    pub fn covers(&self, part: &str) -> bool {
+        match &self.part {
+            Some(chosen) => chosen.as_str() == part,
+            None => true,
+        }
+    }
+
     /// Tells of one work: its checksum, or its time.
     pub fn tell<W: Work>(&self, work: &mut W) -> io::Result<()> {
         if self.timed {

@@ -12,8 +12,6 @@ mod envelope;
 mod own_facts;
 mod own_message;
 mod shared;
-#[cfg(test)]
-mod tests;
 
 pub use answer::{AnswerBody, BodyKind};
 pub use call::CallToAnswer;

@@ -24,7 +24,13 @@ enum End {
 
 /// Speaks to a server whose user's cookie is that of the line `5 1700000000 c0ffee`, and whose challenge are the bytes 0 to 15, in
 /// pieces of this length.
-fn speak(alloc: Global, user: &str, allow_anonymous: bool, text: &[u8], length: usize) -> Result<Outcome, AllocError> {
+fn speak(
+    alloc: Global,
+    user: &str,
+    allow_anonymous: bool,
+    text: &[u8],
+    length: usize,
+) -> Result<Outcome, AllocError> {
     let guid = *b"\xa0\xa1\xa2\xa3\xa4\xa5\xa6\xa7\xa8\xa9\xaa\xab\xac\xad\xae\xaf";
     let challenge = [0, 1, 2, 3, 4, 5, 6, 7, 8, 9, 10, 11, 12, 13, 14, 15];
     let user = ArcStr::from_str(alloc, user)?;
@@ -51,7 +57,12 @@ fn speak(alloc: Global, user: &str, allow_anonymous: bool, text: &[u8], length: 
 }
 
 /// `talk | USER | anonymous or not | BYTES`: what the server sends, and how the conversation stands, in one piece and byte by byte.
-fn talk(alloc: Global, user: &str, allow_anonymous: bool, text: &[u8]) -> Result<String, AllocError> {
+fn talk(
+    alloc: Global,
+    user: &str,
+    allow_anonymous: bool,
+    text: &[u8],
+) -> Result<String, AllocError> {
     let whole = speak(alloc, user, allow_anonymous, text, text.len())?;
     if speak(alloc, user, allow_anonymous, text, 1)? != whole {
         return String::from_str(alloc, "the cut makes a difference");
@@ -79,10 +90,19 @@ fn letters(alloc: Global, number: u64) -> Result<String, AllocError> {
 /// it stands on.
 pub fn authentication(alloc: Global, row: &Row<'_>) -> Result<String, AllocError> {
     match row.text(0) {
-        "talk" => talk(alloc, row.text(1), row.text(2) == "anonymous", &row.bytes(alloc, 3)?),
+        "talk" => talk(
+            alloc,
+            row.text(1),
+            row.text(2) == "anonymous",
+            &row.bytes(alloc, 3)?,
+        ),
         "letters" => letters(alloc, row.number(1)),
         "digest" => {
-            let digest = cookie_digest(&row.bytes(alloc, 1)?, &row.bytes(alloc, 2)?, &row.bytes(alloc, 3)?);
+            let digest = cookie_digest(
+                &row.bytes(alloc, 1)?,
+                &row.bytes(alloc, 2)?,
+                &row.bytes(alloc, 3)?,
+            );
             String::from_str(alloc, str::from_utf8(&digest).unwrap_or("no text"))
         }
         "sha1" => hex::encode(alloc, Sha1::digest(&row.bytes(alloc, 1)?)),

@@ -55,9 +55,9 @@ fn owned(alloc: Global, bytes: &[u8], cut: usize) -> Result<String, FrameFault> 
     let mut text = String::new(alloc);
     let mut found = Vec::new(alloc);
     let mut framer = Framer::new(alloc);
-    framer.feed_owned(Vec::from_slice(alloc, front)?)?;
+    framer.feed_owned(&mut Vec::from_slice(alloc, front)?)?;
     take(&mut framer, &mut text, &mut found)?;
-    framer.feed_owned(Vec::from_slice(alloc, rest)?)?;
+    framer.feed_owned(&mut Vec::from_slice(alloc, rest)?)?;
     take(&mut framer, &mut text, &mut found)?;
     write!(text, "{}", found.as_slice() == bytes)?;
     Ok(text)

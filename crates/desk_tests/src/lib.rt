@@ -1,5 +1,0 @@
-//! Runs over desks, in a crate of their own so that `desk` is proved once.
-#![tactic(auto)]
-
-#[cfg(test)]
-mod histories;
