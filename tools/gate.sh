@@ -16,6 +16,7 @@ while IFS= read -r line; do
         printf '%s\n' "$line"
     fi
 done < <(rt ci)
+wait $!
 
 if [ "$failed" = 0 ]; then
     if ! command -v cc > /dev/null; then
@@ -30,9 +31,12 @@ if [ "$bad" != 0 ]; then
     echo "$bad edits are not well formed: each is to be mended or removed"
     failed=$((failed + bad))
 fi
-times | awk 'NR == 2 {
-    split($1, user, /[ms]/); split($2, system, /[ms]/)
-    printf "processor minutes of this run: %d\n", user[1] + system[1] + (user[2] + system[2]) / 60
-}'
+spent=$(mktemp)
+times > "$spent"
+awk 'NR == 2 {
+    split($1, user, /[ms]/); split($2, kernel, /[ms]/)
+    printf "processor minutes of this run: %d\n", user[1] + kernel[1] + (user[2] + kernel[2]) / 60
+}' "$spent"
+rm -f "$spent"
 echo "$passed passed, $failed failed"
 [ "$failed" = 0 ]
