@@ -1,9 +1,0 @@
-use Rattle.std.proofs.Common.{[]}
-use Rattle.owner_queues.specs.declared.request.Profile.TheVariants.{One}
-use Rattle.seq_bus_core.specs.Tickets.{opening_bus}
-use Rattle.bench_bus.specs.declared.samples.TheConstants.{ROUTERS}
-use Rattle.bench_bus.proofs.readers.measure.Given as goal
-
--- the registry that is just opened
-abbrev pub ghosts-measure_readers : goal.ghosts-measure_readers
-ghosts-measure_readers g a = record { book = a.opened; opening = opening_bus One ROUTERS [] }
