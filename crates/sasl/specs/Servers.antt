@@ -47,11 +47,13 @@ handed_on progress.Going = []
 handed_on (progress.Done identity rest) = rest.now
 handed_on (progress.Closed cause) = []
 
--- The conversation went on with the piece: this was sent, and the bytes that are left are kept, or handed on once it is done.
+-- The conversation went on with the piece: this was sent, and the bytes that are left are kept, or handed on once it is done. Only bytes of a
+-- line are kept.
 pub record GoesOn (old : Speaker) (piece : List ℕ) (step : Step) (new : Speaker) : Type 0 where
   pub converses : Converses old.setting old.state (old.unfinished ++ piece) step.sent.items new.state (new.unfinished ++ handed_on step.progress)
   pub told : IsTold new.state.phase step.progress
   pub setting : new.setting ≡ old.setting
+  pub kept : reads_lines new.state.phase ≡ false → new.unfinished ≡ []
 
 -- Want of memory closed it on the way, while it was open. Up to there it went on, and what was sent is what was due.
 pub record IsCutOff (old : Speaker) (piece : List ℕ) (step : Step) (new : Speaker) : Type 0 where

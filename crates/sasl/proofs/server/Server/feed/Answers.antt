@@ -72,4 +72,5 @@ returns c =
       converses = ends_told from.setting from.state from.unfinished piece used c.loop-used.sent.items new.state new.unfinished inv.goes_on c.progress-progress.result c.progress-progress.ensures.told handed all kept;
       told = c.progress-progress.ensures.told;
       setting = inv.setting;
+      kept = kept.1;
     })
