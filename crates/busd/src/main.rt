@@ -67,7 +67,7 @@ fn serve_at<J: Naming, R: Input + Print + AllocGlobal + Wait>(
 ) -> Result<(), RunFault> {
     let desk = Desk::new(rt.alloc(), seat, shared);
     let number = desk.seat();
-    let Ok(mut engine) = Engine::new(rt.alloc(), desk, OpenGate) else {
+    let Ok(mut engine) = Engine::new(rt.alloc(), desk, OpenGate, None) else {
         return Err(RunFault::Memory);
     };
     run(

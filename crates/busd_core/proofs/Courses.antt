@@ -72,21 +72,21 @@ module _ {N G : Type 0} (told : N → History) (passes : G → GatedCall → G �
   -- what was read and written since the connection came
   pub record IsUnderWay (before after : State G) (read written : List ℕ) : Type 0 where
     pub later : List (Event N)
-    pub serves : Serves told passes alone seat key before (Opened key ∷ later) read written after
+    pub serves : Serves told passes alone seat key before (Opened key None ∷ later) read written after
 
-  pub comes_first : (before after : State G) (written : List ℕ) → Happens told passes alone seat key before (Opened key) written after → IsUnderWay before after [] written
+  pub comes_first : (before after : State G) (written : List ℕ) → Happens told passes alone seat key before (Opened key None) written after → IsUnderWay before after [] written
   comes_first before after written h =
-      record { later = []; serves = serves_so before (Opened key ∷ []) [] written after (refl, tt) (after, written, [], h, (refl, refl), sym (append-nil written)) refl }
+      record { later = []; serves = serves_so before (Opened key None ∷ []) [] written after (refl, tt) (after, written, [], h, (refl, refl), sym (append-nil written)) refl }
 
   pub goes_on : (before between after : State G) (event : Event N) (read written more : List ℕ) → IsUnderWay before between read written → IsServing key event →
       Happens told passes alone seat key between event more after → IsUnderWay before after (read ++ piece_of event) (written ++ more)
   goes_on before between after event read written more h is happens =
       record {
         later = h.later ++ event ∷ [];
-        serves = serves_so before (Opened key ∷ (h.later ++ event ∷ [])) (read ++ piece_of event) (written ++ more) after
+        serves = serves_so before (Opened key None ∷ (h.later ++ event ∷ [])) (read ++ piece_of event) (written ++ more) after
             (h.serves.life.0, all_serving h.later event h.serves.life.1 is)
-            (all_then before between after (Opened key ∷ h.later) event written more h.serves.happen happens)
+            (all_then before between after (Opened key None ∷ h.later) event written more h.serves.happen happens)
             (ap (λ (l : List ℕ). l ++ piece_of event) h.serves.reads
-            ∙ ap (λ (l : List ℕ). flat_map piece_of (Opened key ∷ h.later) ++ l) (sym (append-nil (piece_of event)))
-            ∙ sym (flat_map-append piece_of (Opened key ∷ h.later) (event ∷ [])));
+            ∙ ap (λ (l : List ℕ). flat_map piece_of (Opened key None ∷ h.later) ++ l) (sym (append-nil (piece_of event)))
+            ∙ sym (flat_map-append piece_of (Opened key None ∷ h.later) (event ∷ [])));
       }

@@ -1,5 +1,5 @@
 -- How a run goes on, and how it ends.
-use Rattle.std.proofs.Common.{◌≡◌, ℕ, Bool, Option, List, [], ◌∷◌, ◌++◌, Result, Ok, Err, OnOk, refl, sym, ap, ◌∙◌, subst, append-nil, inl, inr}
+use Rattle.std.proofs.Common.{◌≡◌, ℕ, Bool, Option, None, List, [], ◌∷◌, ◌++◌, Result, Ok, Err, OnOk, refl, sym, ap, ◌∙◌, subst, append-nil, inl, inr}
 use Rattle.std.specs.Io.KnownBytes.{Consumes, Appends}
 use Rattle.std.proofs.KnownBytes.{Consumes-nil, Consumes-trans, Appends-trans}
 use Rattle.seq_bus_core.specs.Histories.{History}
@@ -8,13 +8,11 @@ use Rattle.router_core.specs.declared.event.Event.TheVariants.{Opened, Closed}
 use Rattle.router_core.specs.Acts.{State}
 use Rattle.router_core.specs.Deeds.{GatedCall}
 use Rattle.router_core.specs.Events.{IsFree}
-use Rattle.router.specs.OneEvent.{rest_in}
 use Rattle.router.specs.Upcoming.{HasNoNext}
 use Rattle.busd_core.specs.declared.fault.RunFault.{RunFault}
 use Rattle.busd_core.specs.declared.fault.RunFault.TheVariants as fault
 use Rattle.busd_core.specs.Sessions.{piece_of, IsServing, IsOf, Serves, Ends, Runs}
 use Rattle.busd_core.specs.Parts.{LosesPiece, HappensSo, IsCarriedOut}
-use Rattle.busd_core.proofs.Streams.{drained}
 use Rattle.busd_core.proofs.Courses.{IsUnderWay, comes_first, goes_on, serves_so}
 
 pub on_ok_given : {A E : Type 0} (result : Result A E) (P : Type 0) → P → OnOk result P
@@ -38,10 +36,10 @@ module _ {N G : Type 0} (told : N → History) (passes : G → GatedCall → G �
       inr (record { events = events; event = event; between = b; fed = fed; first = first; last = last; serves = h; is_of = is; ends = breaks; reads = refl; writes = refl })
   ends_at a b c events event fed first last fault.Input h is so = absurd so
 
-  goes : (a b c : State G) (later : List (Event N)) (read first last : List ℕ) (result : Result (Unit {0}) RunFault) → Serves told passes alone seat key a (Opened key ∷ later) read first b →
+  goes : (a b c : State G) (later : List (Event N)) (read first last : List ℕ) (result : Result (Unit {0}) RunFault) → Serves told passes alone seat key a (Opened key None ∷ later) read first b →
       HasNoNext b.standing key → HappensSo told passes alone seat key b (Closed key) last c result → Ends told passes alone seat key a c (read ++ []) (first ++ last) result
   goes a b c later read first last (Ok u) h quiet so =
-      let here : Serves told passes alone seat key a (Opened key ∷ later) (read ++ []) first b = subst (λ (l : List ℕ). Serves told passes alone seat key a (Opened key ∷ later) l first b) (sym (append-nil read)) h in
+      let here : Serves told passes alone seat key a (Opened key None ∷ later) (read ++ []) first b = subst (λ (l : List ℕ). Serves told passes alone seat key a (Opened key None ∷ later) l first b) (sym (append-nil read)) h in
       record {
         later = later;
         between = b;
@@ -49,12 +47,10 @@ module _ {N G : Type 0} (told : N → History) (passes : G → GatedCall → G �
         last = last;
         serves = here;
         quiet = quiet;
-        stream = λ is readers well granted reads.
-            drained readers well seat key told (rest_in a) later (read ++ []) first (rest_in b) here.life.1 here.reads quiet (here.one_thread is readers granted reads);
         goes = so;
         writes = refl;
       }
-  goes a b c later read first last (Err e) h quiet so = ends_at a b c (Opened key ∷ later) (Closed key) read first last e h refl so
+  goes a b c later read first last (Err e) h quiet so = ends_at a b c (Opened key None ∷ later) (Closed key) read first last e h refl so
 
   -- ## By what is known of the reader and the writer
 
@@ -67,17 +63,17 @@ module _ {N G : Type 0} (told : N → History) (passes : G → GatedCall → G �
 
   -- all turns are over
   pub rests : (a b : State G) (r q w v : Option (List ℕ)) → IsFree a.standing key → HasServed a r q w v b → Runs told passes alone seat a b r q w v (Err fault.Memory)
-  rests a b r q w v free h = (key, h.read, h.written, free, h.consumed, h.appended, inl (Opened key ∷ h.under_way.later, h.read, [], h.under_way.serves, sym (append-nil h.read)))
+  rests a b r q w v free h = (key, h.read, h.written, free, h.consumed, h.appended, inl (Opened key None ∷ h.under_way.later, h.read, [], h.under_way.serves, sym (append-nil h.read)))
 
-  pub begins : (a b : State G) (r w v : Option (List ℕ)) → IsCarriedOut told passes alone seat key a (Opened key) w v b (Ok tt) → HasServed a r r w v b
+  pub begins : (a b : State G) (r w v : Option (List ℕ)) → IsCarriedOut told passes alone seat key a (Opened key None) w v b (Ok tt) → HasServed a r r w v b
   begins a b r w v h =
       record { read = []; written = h.0; consumed = Consumes-nil r; appended = h.1; under_way = comes_first told passes alone seat key a b h.0 h.2 }
 
-  pub begins_not : (a b : State G) (r w v : Option (List ℕ)) (e : RunFault) → IsFree a.standing key → IsCarriedOut told passes alone seat key a (Opened key) w v b (Err e) →
+  pub begins_not : (a b : State G) (r w v : Option (List ℕ)) (e : RunFault) → IsFree a.standing key → IsCarriedOut told passes alone seat key a (Opened key None) w v b (Err e) →
       Runs told passes alone seat a b r r w v (Err e)
   begins_not a b r w v e free h =
       let none : Serves told passes alone seat key a [] [] [] a = serves_so told passes alone seat key a [] [] [] a tt (refl, refl) refl in
-      (key, [], h.0, free, Consumes-nil r, h.1, ends_at a a b [] (Opened key) [] [] h.0 e none refl h.2)
+      (key, [], h.0, free, Consumes-nil r, h.1, ends_at a a b [] (Opened key None) [] [] h.0 e none (refl, refl) h.2)
 
   pub serves_on : (a b c : State G) (r q p w v u : Option (List ℕ)) (event : Event N) → HasServed a r q w v b → IsServing key event → Consumes q p (piece_of event) →
       IsCarriedOut told passes alone seat key b event v u c (Ok tt) → HasServed a r p w u c
@@ -99,7 +95,7 @@ module _ {N G : Type 0} (told : N → History) (passes : G → GatedCall → G �
     free,
     Consumes-trans r q p h.read (piece_of event) h.consumed consumed,
     Appends-trans w v u h.written so.0 h.appended so.1,
-    ends_at a b c (Opened key ∷ h.under_way.later) event h.read h.written so.0 e h.under_way.serves is so.2,
+    ends_at a b c (Opened key None ∷ h.under_way.later) event h.read h.written so.0 e h.under_way.serves is so.2,
   )
 
   pub is_gone : (a b c : State G) (r q p w v u : Option (List ℕ)) (result : Result (Unit {0}) RunFault) → IsFree a.standing key → HasServed a r q w v b → HasNoNext b.standing key → Consumes q p [] →
@@ -120,10 +116,10 @@ module _ {N G : Type 0} (told : N → History) (passes : G → GatedCall → G �
       let all : Consumes r p h.read = subst (Consumes r p) (append-nil h.read) (Consumes-trans r q p h.read [] h.consumed nothing) in
       (key, h.read, h.written, free, all, h.appended, (h.under_way.later, h.under_way.serves, quiet))
   loses a b r q p w v fault.Memory free h quiet lost =
-      (key, h.read ++ lost.0, h.written, free, Consumes-trans r q p h.read lost.0 h.consumed lost.1, h.appended, inl (Opened key ∷ h.under_way.later, h.read, lost.0, h.under_way.serves, refl))
+      (key, h.read ++ lost.0, h.written, free, Consumes-trans r q p h.read lost.0 h.consumed lost.1, h.appended, inl (Opened key None ∷ h.under_way.later, h.read, lost.0, h.under_way.serves, refl))
   loses a b r q p w v fault.Output free h quiet lost = absurd lost
   loses a b r q p w v (fault.Closed cause) free h quiet lost = absurd lost
 
   -- it is not over after so many events
   pub gives_up : (a b : State G) (r q w v : Option (List ℕ)) → IsFree a.standing key → HasServed a r q w v b → Runs told passes alone seat a b r q w v (Err fault.Memory)
-  gives_up a b r q w v free h = (key, h.read, h.written, free, h.consumed, h.appended, inl (Opened key ∷ h.under_way.later, h.read, [], h.under_way.serves, sym (append-nil h.read)))
+  gives_up a b r q w v free h = (key, h.read, h.written, free, h.consumed, h.appended, inl (Opened key None ∷ h.under_way.later, h.read, [], h.under_way.serves, sym (append-nil h.read)))

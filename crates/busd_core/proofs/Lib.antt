@@ -5,6 +5,5 @@ pub mod Quiet
 pub mod Mailing
 pub mod Letters
 pub mod OneThread
-pub mod Streams
 pub mod Courses
 pub mod Endings

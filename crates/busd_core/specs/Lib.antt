@@ -1,6 +1,5 @@
 pub mod Happenings
 pub mod OneThread
-pub mod Streams
 pub mod Sessions
 pub mod Parts
 pub mod Transfers

@@ -1,5 +1,5 @@
 -- How the engine of a router serves the stream of one connection.
-use Rattle.std.specs.Prelude.{◌≡◌, ◌⊎◌, ℕ, Bool, true, Option, Result, Ok, Err, List, [], ◌∷◌, ◌++◌, map}
+use Rattle.std.specs.Prelude.{◌≡◌, ◌⊎◌, ℕ, Bool, true, Option, None, Result, Ok, Err, List, [], ◌∷◌, ◌++◌, map}
 use Rattle.std.specs.Io.KnownBytes.{Consumes, Appends}
 use Rattle.std.specs.List.{flat_map, AllByRecursion}
 use Rattle.seq_bus_core.specs.Histories.{History}
@@ -8,14 +8,13 @@ use Rattle.router_core.specs.declared.event.Event.TheVariants.{Opened, Bytes, Ne
 use Rattle.router_core.specs.Acts.{Exchange, IsGranted, State}
 use Rattle.router_core.specs.Deeds.{GatedCall}
 use Rattle.router_core.specs.Events.{IsFree, occasion_of}
-use Rattle.router_core.specs.OneThread.{AreReadBy, Readers, ReadWell}
+use Rattle.router_core.specs.OneThread.{AreReadBy, Readers}
 use Rattle.router.specs.OneEvent.{rest_in}
 use Rattle.router.specs.Upcoming.{HasNoNext}
 use Rattle.busd_core.specs.declared.fault.RunFault.{RunFault}
 use Rattle.busd_core.specs.declared.fault.RunFault.TheVariants as fault
 use Rattle.busd_core.specs.Happenings.{AllHappen, Happens, Closes, Breaks}
 use Rattle.busd_core.specs.OneThread.{all_happened, asked_all}
-use Rattle.busd_core.specs.Streams.{arrived, Drains}
 
 abbrev pub piece_of : {N : Type 0} → Event N → List ℕ
 piece_of (Bytes key piece) = piece.items
@@ -27,14 +26,14 @@ IsServing key (Bytes of piece) = of ≡ key
 IsServing key (Next of) = of ≡ key
 IsServing key other = ⊥
 
--- The connection comes, and is served from then on.
+-- The connection comes, and is served from then on; nobody asks it who it is.
 abbrev pub IsLife : {N : Type 0} → ℕ → List (Event N) → Type 0
 IsLife key [] = Unit {0}
-IsLife key (event ∷ events) = (event ≡ Opened key) × AllByRecursion (IsServing key) events
+IsLife key (event ∷ events) = (event ≡ Opened key None) × AllByRecursion (IsServing key) events
 
 -- what happens to the connection
 abbrev pub IsOf : {N : Type 0} → ℕ → Event N → Type 0
-IsOf key (Opened of) = of ≡ key
+IsOf key (Opened of challenge) = (of ≡ key) × (challenge ≡ None)
 IsOf key (Closed of) = of ≡ key
 IsOf key event = IsServing key event
 
@@ -67,17 +66,14 @@ module _ {N G : Type 0} (told : N → History) (passes : G → GatedCall → G �
     pub reads : read ≡ fed ++ piece_of event
     pub writes : written ≡ first ++ last
 
-  -- At the end of the input nothing is left to be served, and the connection goes. Where nobody else makes changes of the bus and nothing
-  -- is refused, what was written until then is what all that was read brings over the bus of one thread, however it was cut.
+  -- At the end of the input nothing is left to be served, and the connection goes.
   pub record Goes (before : State G) (read written : List ℕ) (after : State G) : Type 0 where
     pub later : List (Event N)
     pub between : State G
     pub first : List ℕ
     pub last : List ℕ
-    pub serves : Serves before (Opened key ∷ later) read first between
+    pub serves : Serves before (Opened key None ∷ later) read first between
     pub quiet : HasNoNext between.standing key
-    pub stream : alone ≡ true → (readers : Readers) → ReadWell readers → IsGranted (asked_in serves) → AreReadBy readers (asked_in serves) →
-        Drains readers seat key (arrived readers seat key (rest_in before) read) first (rest_in between)
     pub goes : Happens told passes alone seat key between (Closed key) last after
     pub writes : written ≡ first ++ last
 
@@ -89,7 +85,7 @@ module _ {N G : Type 0} (told : N → History) (passes : G → GatedCall → G �
   abbrev pub Ends : (before after : State G) → (read written : List ℕ) → Result (Unit {0}) RunFault → Type 0
   Ends before after read written (Ok u) = Goes before read written after
   Ends before after read written (Err (fault.Closed cause)) = EndsAt (λ s event last t. Closes told passes alone seat key s event cause last t) before read written after
-  Ends before after read written (Err fault.Input) = (later : List (Event N)) × Serves before (Opened key ∷ later) read written after × HasNoNext after.standing key
+  Ends before after read written (Err fault.Input) = (later : List (Event N)) × Serves before (Opened key None ∷ later) read written after × HasNoNext after.standing key
   Ends before after read written (Err fault.Output) = EndsAt (λ s event last t. (missing : List ℕ) × Breaks told passes alone seat key s event last missing t) before read written after
   Ends before after read written (Err fault.Memory) = Rests before read written after ⊎ EndsAt (λ s event last t. Breaks told passes alone seat key s event last [] t) before read written after
 

@@ -7,7 +7,6 @@
 mod actions;
 mod carrying;
 mod fault;
-pub mod laws;
 mod mail;
 mod stream;
 mod transfer;

@@ -91,7 +91,11 @@ pub fn run<V: BusView, G: Gate, R: Read, W: Write>(
 {
     let key = engine.free_key();
     let place = Place { seat, key };
-    carry_out(alloc, engine, right, place, Event::Opened { key }, writer)?;
+    let comes = Event::Opened {
+        key,
+        challenge: None,
+    };
+    carry_out(alloc, engine, right, place, comes, writer)?;
     let mut buffer = [0u8; PIECE];
     for _ in 0..u64::MAX {
         if engine.has_next(key) {

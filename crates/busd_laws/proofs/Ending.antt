@@ -7,30 +7,30 @@ use Rattle.router_core.specs.declared.event.Event.{Event}
 use Rattle.router_core.specs.declared.event.Event.TheVariants as event
 use Rattle.router_core.specs.Acts.{Exchange, Fronted, IsGranted, State}
 use Rattle.router_core.specs.Deeds.{GatedCall}
-use Rattle.router_core.specs.Events.{Closed, Next, Occasion, Opened, occasion_of}
+use Rattle.router_core.specs.Events.{Closed, Next, Occasion, occasion_of}
 use Rattle.router_core.specs.Fronts.{Waits}
 use Rattle.router_core.specs.OneThread.{AreReadBy, Readers, Rest, given}
-use Rattle.router_core.specs.Standing.{Peer, Stage, Unnamed, Named, Shut, peer_at}
+use Rattle.router_core.specs.Standing.{Peer, Stage, Authenticating, Unnamed, Named, Shut, peer_at}
 use Rattle.router_hands.specs.Quiet.{IsQuiet, IsQuietAt}
 use Rattle.router.specs.OneEvent.{rest_in}
-use Rattle.router.proofs.Feeding.{none_given, shut_given, waiting_given}
+use Rattle.router.proofs.Feeding.{authenticating_given, none_given, shut_given, waiting_given}
 use Rattle.router.proofs.Grants.{granted_parts, read_parts}
 use Rattle.busd_core.specs.OneThread.{asked_all, happened}
 use Rattle.busd_core.specs.Sessions.{Goes, piece_of, asked_in}
-use Rattle.busd_core.specs.Streams.{arrived, served}
 use Rattle.router_laws.proofs.Readers.{AreRight, read_so, readers_of, right_append}
 use Rattle.busd_laws.specs.Streams.{StreamsAgree, asked_at, asked_until_gone}
-use Rattle.busd_laws.proofs.AtOnce.{AllSettled, all_at_once}
+use Rattle.busd_laws.proofs.AtOnce.{AllSettled, all_at_once, arrived, served}
 use Rattle.busd_laws.proofs.Extending.{all_right, all_settled, asked_of, bytes_are, extended, extended_all, extended_all_right, happens_right, one_so, serving_is}
 
 -- ## Where nothing is left
 
--- the bytes of a connection that are not served, where there is one that was not closed
+-- the bytes of a connection that are not served, where there is one that has begun its messages and was not closed
 abbrev left_of : Option Peer → List Exchange
 left_of None = []
 left_of (Some p) = at_stage p.stage
   where
     at_stage : Stage → List Exchange
+    at_stage (Authenticating setting state) = []
     at_stage (Shut conn) = []
     at_stage stage = Fronted p.unread Waits ∷ []
 
@@ -39,6 +39,7 @@ left_right None quiet = tt
 left_right (Some p) quiet = by_stage p.stage refl quiet
   where
     by_stage : (stage : Stage) → p.stage ≡ stage → IsQuietAt p stage → AreRight (left_of (Some p))
+    by_stage (Authenticating setting state) is waits = rw is tt
     by_stage (Unnamed privileged) is waits = rw is (waits, tt)
     by_stage (Named conn) is waits = rw is (waits, tt)
     by_stage (Shut conn) is waits = rw is tt
@@ -47,6 +48,7 @@ quiet_given : (readers : Readers) (key : ℕ) (r : Rest) → AreReadBy readers (
 quiet_given readers key r read = by_peer (peer_at r.standing key) refl read
   where
     by_stage : (p : Peer) → peer_at r.standing key ≡ Some p → (stage : Stage) → p.stage ≡ stage → AreReadBy readers (left_of (Some p)) → given readers r (Next key) ≡ ([], r)
+    by_stage p here (Authenticating setting state) is so = authenticating_given readers key r p setting state here is
     by_stage p here (Unnamed privileged) is so = let waits : AreReadBy readers (Fronted p.unread Waits ∷ []) = rw is at so in waiting_given readers key r p here (sym waits.0)
     by_stage p here (Named conn) is so = let waits : AreReadBy readers (Fronted p.unread Waits ∷ []) = rw is at so in waiting_given readers key r p here (sym waits.0)
     by_stage p here (Shut conn) is so = shut_given readers key r p conn here is
@@ -61,18 +63,18 @@ module _ {N G : Type 0} (told : N → History) (passes : G → GatedCall → G �
     (g : Goes told passes alone seat key before read written after) where
   -- all that it read, and what that is with the rest of the stream behind it
   abbrev pub besides : List Exchange
-  besides = extended_all told passes alone seat key before (event.Opened key ∷ g.later) g.first g.between g.serves.happen ++ left_of (peer_at g.between.standing key)
+  besides = extended_all told passes alone seat key before (event.Opened key None ∷ g.later) g.first g.between g.serves.happen ++ left_of (peer_at g.between.standing key)
 
   pub besides_right : AreRight besides
   besides_right =
-      right_append (extended_all told passes alone seat key before (event.Opened key ∷ g.later) g.first g.between g.serves.happen) (left_of (peer_at g.between.standing key))
-      (extended_all_right told passes alone seat key before (event.Opened key ∷ g.later) g.first g.between g.serves.happen)
+      right_append (extended_all told passes alone seat key before (event.Opened key None ∷ g.later) g.first g.between g.serves.happen) (left_of (peer_at g.between.standing key))
+      (extended_all_right told passes alone seat key before (event.Opened key None ∷ g.later) g.first g.between g.serves.happen)
       (left_right (peer_at g.between.standing key) g.quiet)
 
   pub asked_right : AreRight (asked_until_gone told passes alone seat key g)
   asked_right =
       right_append (asked_in told passes alone seat key g.serves) (asked_at told passes alone seat key g.goes)
-      (all_right told passes alone seat key before (event.Opened key ∷ g.later) g.first g.between g.serves.happen)
+      (all_right told passes alone seat key before (event.Opened key None ∷ g.later) g.first g.between g.serves.happen)
       (happens_right told passes alone seat key g.between (event.Closed key) g.last after g.goes)
 
   -- It is what comes of all bytes at once, and then of the end.
@@ -84,7 +86,7 @@ module _ {N G : Type 0} (told : N → History) (passes : G → GatedCall → G �
 
   pub at_once : alone ≡ true → (readers : Readers) → IsGranted (asked_until_gone told passes alone seat key g) → AreReadBy readers (asked_until_gone told passes alone seat key g) → AreReadBy readers besides → IsAtOnce readers
   at_once is readers granted reads more =
-      let events : List (Event N) = event.Opened key ∷ g.later in
+      let events : List (Event N) = event.Opened key None ∷ g.later in
       let occasions : List Occasion = map (occasion_of told) g.later in
       let happen = g.serves.happen in
       let asked : List Exchange = asked_in told passes alone seat key g.serves in
@@ -93,10 +95,10 @@ module _ {N G : Type 0} (told : N → History) (passes : G → GatedCall → G �
       let mores = read_parts readers (extended_all told passes alone seat key before events g.first g.between happen) (left_of (peer_at g.between.standing key)) more in
       let so = g.serves.one_thread is readers grants.0 read_of.0 in
       let gone = one_so told passes alone seat key is readers g.between (event.Closed key) g.last after g.goes grants.1 read_of.1 in
-      let here = granted_parts (asked_of told passes alone seat key before (event.Opened key) happen.1 happen.0 happen.3) (asked_all told passes alone seat key happen.0 g.later happen.2 g.between happen.4) grants.0 in
-      let there = read_parts readers (asked_of told passes alone seat key before (event.Opened key) happen.1 happen.0 happen.3) (asked_all told passes alone seat key happen.0 g.later happen.2 g.between happen.4) read_of.0 in
+      let here = granted_parts (asked_of told passes alone seat key before (event.Opened key None) happen.1 happen.0 happen.3) (asked_all told passes alone seat key happen.0 g.later happen.2 g.between happen.4) grants.0 in
+      let there = read_parts readers (asked_of told passes alone seat key before (event.Opened key None) happen.1 happen.0 happen.3) (asked_all told passes alone seat key happen.0 g.later happen.2 g.between happen.4) read_of.0 in
       let behind = read_parts readers (extended (flat_map piece_of g.later) happen.3.serves.served.asked) (extended_all told passes alone seat key happen.0 g.later happen.2 g.between happen.4) mores.0 in
-      let came = one_so told passes alone seat key is readers before (event.Opened key) happen.1 happen.0 happen.3 here.0 there.0 in
+      let came = one_so told passes alone seat key is readers before (event.Opened key None) happen.1 happen.0 happen.3 here.0 there.0 in
       let settled = subst (λ (r : Rest). AllSettled readers seat key occasions r) came.1
       (all_settled told passes alone seat key is readers happen.0 g.later happen.2 g.between happen.4 g.serves.life.1 here.1 there.1 behind.1) in
       let quiet = subst (λ (r : Rest). given readers r (Next key) ≡ ([], r)) so.1 (quiet_given readers key (rest_in g.between) mores.1) in

@@ -28,7 +28,7 @@ impl<V: BusView + Drop> Host<V> {
     pub fn new(alloc: Global, view: V) -> Result<Self, AllocError> {
         Ok(Host {
             alloc,
-            engine: Engine::new(alloc, view, OpenGate)?,
+            engine: Engine::new(alloc, view, OpenGate, None)?,
             lines: Vec::new(alloc),
         })
     }
@@ -36,7 +36,11 @@ impl<V: BusView + Drop> Host<V> {
     /// A connection comes. Its key is told.
     pub fn connect(&mut self, right: &V::Right) -> Result<usize, AllocError> {
         let key = self.engine.free_key();
-        let actions = self.engine.event(right, &mut Event::Opened { key })?;
+        let mut comes = Event::Opened {
+            key,
+            challenge: None,
+        };
+        let actions = self.engine.event(right, &mut comes)?;
         if key == self.lines.len() {
             self.lines.push(Line {
                 written: Vec::new(self.alloc),

@@ -1,5 +1,6 @@
 -- More bytes of a connection change nothing of what is done before they are read.
 use Rattle.std.proofs.Common.{◌≡◌, ◌⊎◌, ℕ, zero, suc, Bool, true, false, Option, Some, None, cond, not, nat_lt, ◌+◌, List, [], ◌∷◌, ◌++◌, length, get_or, set, inl, inr, if◌then◌else◌, refl, sym, ap, ◌∙◌, subst, append_assoc}
+use Rattle.std.specs.Prelude.{IfSome}
 use Rattle.std.specs.List.{position, position_or_len}
 use Rattle.std.proofs.lemmas.Bool.{cases_eq}
 use Rattle.std.proofs.lemmas.List.{length-set, set-get_or}
@@ -13,6 +14,8 @@ use Rattle.seq_bus_core.specs.declared.outcome.Reply.TheVariants as reply
 use Rattle.seq_bus_core.specs.declared.change.Change.TheVariants.{Hello}
 use Rattle.seq_bus_core.specs.declared.verdict.Verdict.{Verdict}
 use Rattle.message_core.specs.declared.fault.FrameFault.{FrameFault}
+use Rattle.sasl.specs.Settings.{Setting}
+use Rattle.sasl.specs.Conversations.{State as AuthState}
 use Rattle.message_core.specs.Messages.{Message}
 use Rattle.message_core.specs.Said.{said as message_said}
 use Rattle.driver.specs.declared.call.Call.TheVariants as call
@@ -23,12 +26,12 @@ use Rattle.router_core.specs.declared.cause.CloseCause.{CloseCause}
 use Rattle.router_core.specs.declared.cause.CloseCause.TheVariants as cause
 use Rattle.router_core.specs.Answers.{Heard, Says, Refuses, error_for}
 use Rattle.router_core.specs.Deeds.{Deed, Closes, Sends}
-use Rattle.router_core.specs.Events.{Bytes, Mail, Next, OfPeer, Stands, closing, close_if, send, write, for_slot, for_peer, fed, refuse, refuse_with, close_found, close_former, welcome, turn_away, greeted_by, greeted, greet, serve_at, read, next_at, next, mail_found}
+use Rattle.router_core.specs.Events.{Bytes, Mail, Next, OfPeer, Stands, hear, closing, close_if, send, write, for_slot, for_peer, fed, refuse, refuse_with, close_found, close_former, welcome, turn_away, greeted_by, greeted, greet, serve_at, read, next_at, next, mail_found}
 use Rattle.router_core.specs.Fronts.{Front, Waits, Whole, Faulty}
 use Rattle.router_core.specs.OneThread.{Readers, Rest, Course, alone, given, rest_of}
 use Rattle.router_core.specs.Scripts.{Script, Gives, Changing, Asking, Routing, Looking, Noting, Fronting, Calling, Gating, Wanting, Doing, Announcing, and_then, putting}
 use Rattle.router_core.specs.Serving.{monitors_in, reply_with, serve}
-use Rattle.router_core.specs.Standing.{Stage, Unnamed, Named, Shut, Peer, Standing, peer_at, with_peer, shut, next_serial, has_slot, is_conn}
+use Rattle.router_core.specs.Standing.{Stage, Authenticating, Unnamed, Named, Shut, Peer, Standing, SpeaksDBus, peer_at, with_peer, shut, next_serial, has_slot, is_conn}
 
 -- ## Scripts one after the other
 
@@ -149,6 +152,7 @@ module _ (piece : List ℕ) (key : ℕ) where
   slot_same slot (Some p) = by_stage p.stage
     where
       by_stage : (stage : Stage) → has_slot slot (Some (fed piece p stage)) ≡ has_slot slot (Some p)
+      by_stage (Authenticating setting state) = refl
       by_stage (Unnamed privileged) = refl
       by_stage (Named conn) = refl
       by_stage (Shut conn) = refl
@@ -158,22 +162,26 @@ module _ (piece : List ℕ) (key : ℕ) where
   conn_same slot number (Some p) = by_stage p.stage
     where
       by_stage : (stage : Stage) → is_conn slot number (Some (fed piece p stage)) ≡ is_conn slot number (Some p)
+      by_stage (Authenticating setting state) = refl
       by_stage (Unnamed privileged) = refl
       by_stage (Named conn) = refl
       by_stage (Shut conn) = refl
 
   stage_same : (p : Peer) (stage : Stage) → (fed piece p stage).stage ≡ p.stage
+  stage_same p (Authenticating setting state) = refl
   stage_same p (Unnamed privileged) = refl
   stage_same p (Named conn) = refl
   stage_same p (Shut conn) = refl
 
   serial_same : (p : Peer) (stage : Stage) → (fed piece p stage).serial ≡ p.serial
+  serial_same p (Authenticating setting state) = refl
   serial_same p (Unnamed privileged) = refl
   serial_same p (Named conn) = refl
   serial_same p (Shut conn) = refl
 
   -- a connection that is closed lets go of all
   shut_same : (p : Peer) (stage : Stage) → shut (fed piece p stage) ≡ shut p
+  shut_same p (Authenticating setting state) = refl
   shut_same p (Unnamed privileged) = refl
   shut_same p (Named conn) = refl
   shut_same p (Shut conn) = refl
@@ -194,6 +202,7 @@ module _ (piece : List ℕ) (key : ℕ) where
   numbered p n = record p { serial = n }
 
   numbered_more : (p : Peer) (n : ℕ) (stage : Stage) → numbered (fed piece p stage) n ≡ fed piece (numbered p n) stage
+  numbered_more p n (Authenticating setting state) = refl
   numbered_more p n (Unnamed privileged) = refl
   numbered_more p n (Named conn) = refl
   numbered_more p n (Shut conn) = refl
@@ -347,6 +356,7 @@ module _ (piece : List ℕ) (key : ℕ) where
   -- ## The next message
 
   pub serve_more : (s : Standing) (m : Message) (p : Peer) (stage : Stage) → p.stage ≡ stage → serve_at (with_more s) key m (more p) stage ≡ seen_as with_more (serve_at s key m p stage)
+  serve_more s m p (Authenticating setting state) is = refl
   serve_more s m p (Unnamed privileged) is = hello_more m p privileged is s (is_hello m)
   serve_more s m p (Named conn) is = here s (λ q. and_then (serve m conn) (λ fate. close_if key fate q)) (serve_natural key m conn) (Some p)
   serve_more s m p (Shut conn) is = refl
@@ -357,7 +367,7 @@ module _ (piece : List ℕ) (key : ℕ) where
 abbrev pub come_to : Readers → Rest → Stands → List Deed × Rest
 come_to readers r s = let end = alone readers s (record { view = r.view; deeds = [] }) in (end.1.deeds, rest_of end)
 
-abbrev standing_so : Rest → Standing → Rest
+abbrev pub standing_so : Rest → Standing → Rest
 standing_so r s = record { standing = s; view = r.view }
 
 module _ (piece : List ℕ) (key : ℕ) where
@@ -372,12 +382,23 @@ module _ (readers : Readers) (piece : List ℕ) (key : ℕ) where
   come_to_more : (r : Rest) (s : Stands) → come_to readers r (seen_as (with_more piece key) s) ≡ end_more piece key (come_to readers r s)
   come_to_more r s = ap (λ (end : Standing × Course). let at : List Deed × Rest = (end.1.deeds, rest_of end) in at) (alone_seen readers (with_more piece key) s (record { view = r.view; deeds = [] }))
 
-  pub bytes_given : (r : Rest) → given readers r (Bytes key piece) ≡ ([], rest_more piece key r)
-  bytes_given r = by_peer (peer_at r.standing key)
+  -- bytes of a connection that has begun its messages
+  pub bytes_given : (r : Rest) → IfSome (peer_at r.standing key) (λ p. SpeaksDBus p.stage) → given readers r (Bytes key piece) ≡ ([], rest_more piece key r)
+  bytes_given r begun = by_peer (peer_at r.standing key) begun
     where
-      by_peer : (o : Option Peer) → come_to readers r (for_peer r.standing key o (λ p. Gives (fed piece p p.stage))) ≡ ([], standing_so r (with_peer r.standing key (more_if piece key o)))
-      by_peer None = refl
-      by_peer (Some p) = refl
+      heard : Peer → Stage → Stands
+      heard p stage = and_then (and_then (hear key piece p stage) (λ q. Gives (Some q))) (λ q. Gives (with_peer r.standing key q))
+
+      by_stage : (p : Peer) (stage : Stage) → SpeaksDBus stage → come_to readers r (heard p stage) ≡ ([], standing_so r (with_peer r.standing key (Some (fed piece p stage))))
+      by_stage p (Authenticating setting state) begun = absurd begun
+      by_stage p (Unnamed privileged) begun = refl
+      by_stage p (Named conn) begun = refl
+      by_stage p (Shut conn) begun = refl
+
+      by_peer : (o : Option Peer) → IfSome o (λ p. SpeaksDBus p.stage) →
+          come_to readers r (for_peer r.standing key o (λ p. hear key piece p p.stage)) ≡ ([], standing_so r (with_peer r.standing key (more_if piece key o)))
+      by_peer None begun = refl
+      by_peer (Some p) begun = by_stage p p.stage begun
 
   pub mail_given : (r : Rest) (slot number : ℕ) (said : Said) → given readers (rest_more piece key r) (Mail slot number None said) ≡ end_more piece key (given readers r (Mail slot number None said))
   mail_given r slot number said =
@@ -403,6 +424,7 @@ module _ (readers : Readers) (piece : List ℕ) (key : ℕ) where
 
     turn_at : (stage : Stage) → p.stage ≡ stage → readers.front p.unread ≡ Whole message rest → readers.front (p.unread ++ piece) ≡ Whole message (rest ++ piece) → (c : Course) →
         alone readers (next_at (with_more piece key s) key (more piece key p) stage) c ≡ alone readers (seen_as (with_more piece key) (next_at s key p stage)) c
+    turn_at (Authenticating setting state) is front later c = refl
     turn_at (Unnamed privileged) is front later c = turn (Unnamed privileged) is refl refl front later c
     turn_at (Named conn) is front later c = turn (Named conn) is refl refl front later c
     turn_at (Shut conn) is front later c = refl
@@ -423,8 +445,9 @@ module _ (readers : Readers) (piece : List ℕ) (key : ℕ) where
 
 -- ## When nothing is to be served, or no message comes
 
--- bytes are taken, since it was not closed
+-- it has begun its messages, and was not closed
 abbrev pub TakesBytes : Stage → Type 0
+TakesBytes (Authenticating setting state) = ⊥
 TakesBytes (Unnamed privileged) = Unit {0}
 TakesBytes (Named conn) = Unit {0}
 TakesBytes (Shut conn) = ⊥
@@ -448,10 +471,14 @@ module _ (readers : Readers) (key : ℕ) where
   pub shut_given : (r : Rest) (p : Peer) (conn : Option Conn) → peer_at r.standing key ≡ Some p → p.stage ≡ Shut conn → given readers r (Next key) ≡ ([], r)
   shut_given r p conn here is = ap (next_so r) here ∙ ap (λ (stage : Stage). come_to readers r (next_at r.standing key p stage)) is
 
+  pub authenticating_given : (r : Rest) (p : Peer) (setting : Setting) (state : AuthState) → peer_at r.standing key ≡ Some p → p.stage ≡ Authenticating setting state → given readers r (Next key) ≡ ([], r)
+  authenticating_given r p setting state here is = ap (next_so r) here ∙ ap (λ (stage : Stage). come_to readers r (next_at r.standing key p stage)) is
+
   pub waiting_given : (r : Rest) (p : Peer) → peer_at r.standing key ≡ Some p → readers.front p.unread ≡ Waits → given readers r (Next key) ≡ ([], r)
   waiting_given r p here front = ap (next_so r) here ∙ by_stage p.stage
     where
       by_stage : (stage : Stage) → come_to readers r (next_at r.standing key p stage) ≡ ([], r)
+      by_stage (Authenticating setting state) = refl
       by_stage (Unnamed privileged) = ap (λ (f : Front). come_to readers r (read r.standing key p f)) front
       by_stage (Named conn) = ap (λ (f : Front). come_to readers r (read r.standing key p f)) front
       by_stage (Shut conn) = refl
@@ -461,6 +488,7 @@ module _ (readers : Readers) (key : ℕ) where
   faulty_given r p fault here takes front = ap (next_so r) here ∙ by_stage p.stage takes
     where
       by_stage : (stage : Stage) → TakesBytes stage → come_to readers r (next_at r.standing key p stage) ≡ (Closes key (cause.Faulty fault) ∷ [], closed_so key r p)
+      by_stage (Authenticating setting state) takes = absurd takes
       by_stage (Unnamed privileged) takes = ap (λ (f : Front). come_to readers r (read r.standing key p f)) front
       by_stage (Named conn) takes = ap (λ (f : Front). come_to readers r (read r.standing key p f)) front
       by_stage (Shut conn) takes = absurd takes
@@ -469,6 +497,7 @@ module _ (readers : Readers) (key : ℕ) where
 
 module _ (key : ℕ) where
   fed_joined : (first second : List ℕ) (p : Peer) (stage : Stage) → fed second (fed first p stage) stage ≡ fed (first ++ second) p stage
+  fed_joined first second p (Authenticating setting state) = ap (λ (bytes : List ℕ). let q : Peer = record p { unread = bytes } in q) (append_assoc p.unread first second)
   fed_joined first second p (Unnamed privileged) = ap (λ (bytes : List ℕ). let q : Peer = record p { unread = bytes } in q) (append_assoc p.unread first second)
   fed_joined first second p (Named conn) = ap (λ (bytes : List ℕ). let q : Peer = record p { unread = bytes } in q) (append_assoc p.unread first second)
   fed_joined first second p (Shut conn) = refl
@@ -489,6 +518,7 @@ module _ (key : ℕ) where
   more_nothing (Some p) = ap (λ (q : Peer). Some q) (by_stage p.stage)
     where
       by_stage : (stage : Stage) → fed [] p stage ≡ p
+      by_stage (Authenticating setting state) = ap (λ (bytes : List ℕ). let q : Peer = record p { unread = bytes } in q) (append-nil p.unread)
       by_stage (Unnamed privileged) = ap (λ (bytes : List ℕ). let q : Peer = record p { unread = bytes } in q) (append-nil p.unread)
       by_stage (Named conn) = ap (λ (bytes : List ℕ). let q : Peer = record p { unread = bytes } in q) (append-nil p.unread)
       by_stage (Shut conn) = refl

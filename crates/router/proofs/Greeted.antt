@@ -16,11 +16,11 @@ use Rattle.envelopes.specs.Contents.{UniqueName}
 use Rattle.router_core.specs.declared.cause.CloseCause.TheVariants as cause
 use Rattle.router_core.specs.Answers.{Heard, Says, Refuses, error_for}
 use Rattle.router_core.specs.Deeds.{GatedCall, Closes}
-use Rattle.router_core.specs.Events.{OfPeer, Stands, closing, for_slot, for_peer, close_found, close_former, welcome, turn_away, refuse_with, greeted_by, greeted, greet, serve_at, next_at, next}
+use Rattle.router_core.specs.Events.{OfPeer, Stands, closing, for_slot, for_peer, close_found, welcome, turn_away, refuse_with, greeted_by, greeted, greet, serve_at, next_at, next}
 use Rattle.router_core.specs.Fronts.{Whole, IsFront}
-use Rattle.router_core.specs.Scripts.{Script, Gives, Doing, Announcing, World, Comes, and_then}
+use Rattle.router_core.specs.Scripts.{Gives, Doing, Announcing, World, Comes, and_then}
 use Rattle.router_core.specs.Serving.{reply_with}
-use Rattle.router_core.specs.Standing.{Peer, Standing, Stage, Named, Unnamed, Shut, peer_at, with_peer, has_slot, shut}
+use Rattle.router_core.specs.Standing.{Peer, Standing, Stage, Named, Unnamed, peer_at, with_peer, has_slot, shut}
 use Rattle.router_hands.specs.Reading.{IsRest}
 
 -- where the one that is replaced and what replaces it are told apart by no test, the same place is found

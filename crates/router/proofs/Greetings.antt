@@ -10,10 +10,18 @@ use Rattle.router_core.specs.declared.cause.CloseCause.TheVariants as cause
 use Rattle.router_core.specs.Deeds.{GatedCall}
 use Rattle.router_core.specs.Events.{OfPeer, closing, for_slot, for_peer, close_found, close_former, welcome, turn_away, greeted_by}
 use Rattle.router_core.specs.Scripts.{Gives, World, Comes, and_then}
-use Rattle.router_core.specs.Standing.{Peer, Standing, peer_at, with_peer, has_slot}
+use Rattle.router_core.specs.Standing.{Stage, Authenticating, Unnamed, Named, Shut, Peer, Standing, SpeaksDBus, peer_at, with_peer, has_slot}
 use Rattle.router_hands.proofs.Hellos.{for_there}
 use Rattle.router_hands.proofs.Sequels.{comes_then}
+use Rattle.router.specs.Indexed.{IsUnnamed}
 use Rattle.router.specs.Welcomes.{welcomed}
+
+-- one without a name has begun its messages
+pub speaks : (stage : Stage) → IsUnnamed stage → SpeaksDBus stage
+speaks (Authenticating setting state) unnamed = absurd unnamed
+speaks (Unnamed privileged) unnamed = tt
+speaks (Named conn) unnamed = absurd unnamed
+speaks (Shut conn) unnamed = absurd unnamed
 
 module _ {N G : Type 0} (told : N → History) (registry_of : N → ℕ) (passes : G → GatedCall → G → Type 0) (alone : Bool) where
   -- what is done for a connection that is there

@@ -1,11 +1,11 @@
 -- The index of slots: what is found in it, and what keeps it true.
-use Rattle.std.proofs.Common.{◌≡◌, ◌≢◌, ◌⊎◌, ℕ, zero, suc, ◌<◌, ◌≤◌, Bool, true, false, ◌==◌, ◌&&◌, nat_lt, cond, Option, Some, None, Result, Ok, Err, OnOk, OnErr, List, [], ◌∷◌, ◌++◌, length, get_or, set, position, refl, sym, ap, ◌∙◌, inl, inr, arith, subst}
+use Rattle.std.proofs.Common.{◌≡◌, ◌≢◌, ◌⊎◌, ℕ, zero, suc, ◌<◌, ◌≤◌, Bool, true, false, ◌==◌, nat_lt, cond, Option, Some, None, Result, Ok, Err, OnOk, OnErr, List, [], ◌∷◌, ◌++◌, length, get_or, set, position, refl, sym, ap, ◌∙◌, inl, inr, arith, subst}
 use Rattle.std.specs.List.{position_or_len}
 use Rattle.std.proofs.lemmas.Bool.{false≢true, false_from_ne_true, eqb-true, lt-ltb, le-ltb, cases_eq, cases_lt, and_parts}
 use Rattle.std.proofs.lemmas.List.{get_or-set_same, get_or-set_other, get_or_past, set_past}
 use Rattle.std.proofs.lemmas.List.Sums.{position_or_len_is, fails_before_first}
 use Rattle.seq_bus_core.specs.declared.connection.Conn.{Conn}
-use Rattle.router_core.specs.Standing.{Peer, Stage, Unnamed, Named, Shut, has_slot, is_conn}
+use Rattle.router_core.specs.Standing.{Peer, Stage, Authenticating, Unnamed, Named, Shut, has_slot, is_conn}
 use Rattle.router.specs.Indexed.{slot_count, IsIndexed, IsVacant, IsUnnamed}
 
 -- ---- what is found
@@ -17,6 +17,7 @@ slot_of_conn slot number (Some p) is = in_stage p.stage is
   where
     in_stage : (stage : Stage) → is_conn slot number (Some (record p { stage = stage })) ≡ true → has_slot slot (Some (record p { stage = stage })) ≡ true
     in_stage (Named conn) is = (and_parts (conn.slot == slot) (conn.number == number) is).0
+    in_stage (Authenticating setting state) is = is
     in_stage (Unnamed privileged) is = is
     in_stage (Shut conn) is = is
 
@@ -173,6 +174,7 @@ pub unnamed_keeps : (p q : Peer) → IsUnnamed p.stage → q.stage ≡ p.stage �
 unnamed_keeps p q unnamed same = λ slot has. absurd (false≢true (sym (none slot q.stage (subst (λ (stage : Stage). IsUnnamed stage) (sym same) unnamed)) ∙ has))
   where
     none : (slot : ℕ) (stage : Stage) → IsUnnamed stage → has_slot slot (Some (record q { stage = stage })) ≡ false
+    none slot (Authenticating setting state) is = absurd is
     none slot (Unnamed privileged) is = refl
     none slot (Named conn) is = absurd is
     none slot (Shut conn) is = absurd is

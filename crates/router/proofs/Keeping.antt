@@ -1,5 +1,5 @@
 -- No connection gets a slot but by its Hello.
-use Rattle.std.proofs.Common.{◌≡◌, ◌≢◌, ℕ, zero, suc, ◌<◌, Bool, true, false, not, ◌+◌, Option, Some, None, List, [], ◌∷◌, ◌++◌, length, get_or, set, position, cond, nat_lt, refl, sym, ap, ◌∙◌, subst, inl, inr, arith, append_assoc, if◌then◌else◌}
+use Rattle.std.proofs.Common.{◌≡◌, ◌≢◌, ℕ, zero, suc, ◌<◌, Bool, true, false, not, ◌+◌, Option, Some, None, List, [], ◌∷◌, ◌++◌, length, get_or, set, position, cond, nat_lt, refl, sym, ap, ◌∙◌, subst, inl, inr, arith, append_assoc}
 use Rattle.std.proofs.lemmas.Bool.{false≢true, cases_Bool, cases_eq, eqb-true, eq-eqb, lt-ltb}
 use Rattle.std.proofs.lemmas.List.{append-nil, get_or-set_other}
 use Rattle.std.specs.List.{position_or_len}
@@ -11,6 +11,10 @@ use Rattle.seq_bus_core.specs.declared.outcome.Outcome.{Outcome}
 use Rattle.seq_bus_core.specs.declared.outcome.Reply.{Reply}
 use Rattle.seq_bus_core.specs.declared.outcome.Reply.TheVariants.{Welcome}
 use Rattle.seq_bus_core.specs.declared.verdict.Verdict.{Verdict}
+use Rattle.sasl.specs.declared.phase.Phase.{Phase}
+use Rattle.sasl.specs.declared.phase.Phase.TheVariants.{WaitingForNul, WaitingForAuth, WaitingForData, WaitingForBegin, Done, Closed}
+use Rattle.sasl.specs.Settings.{Setting}
+use Rattle.sasl.specs.Hearing.{Conversed, conversed}
 use Rattle.message_core.specs.Messages.{Message}
 use Rattle.message_core.specs.Said.{said as message_said}
 use Rattle.message_relay.specs.FactsOf.{facts_of}
@@ -20,11 +24,11 @@ use Rattle.router_core.specs.declared.cause.CloseCause.{CloseCause}
 use Rattle.router_core.specs.declared.cause.CloseCause.TheVariants as cause
 use Rattle.router_core.specs.Answers.{Heard, Says, Refuses, error_for}
 use Rattle.router_core.specs.Deeds.{GatedCall}
-use Rattle.router_core.specs.Events.{OfPeer, Stands, closing, close_if, close_at, close_found, close_former, write, for_slot, for_peer, fed, refuse, refuse_with, turn_away, welcome, greeted, greeted_by, greet, serve_at, read, next, next_at, looked, look, look_all}
+use Rattle.router_core.specs.Events.{OfPeer, closing, close_if, close_at, close_found, close_former, write, for_slot, for_peer, hear, answering, conversed_to, converse_if, refuse, refuse_with, turn_away, welcome, greeted, greeted_by, greet, serve_at, read, next, next_at, looked, look, look_all}
 use Rattle.router_core.specs.Fronts.{Front, Waits, Whole, Faulty}
-use Rattle.router_core.specs.Scripts.{Script, Gives, Routing, Announcing, World, Comes, and_then}
+use Rattle.router_core.specs.Scripts.{Gives, Routing, Announcing, World, Comes, and_then}
 use Rattle.router_core.specs.Serving.{monitors_in, reply_with, serve}
-use Rattle.router_core.specs.Standing.{Peer, Standing, Stage, Unnamed, Named, Shut, peer_at, with_peer, next_serial, has_slot, shut}
+use Rattle.router_core.specs.Standing.{Peer, Standing, Stage, Authenticating, Unnamed, Named, Shut, peer_at, with_peer, next_serial, has_slot, shut}
 use Rattle.router_hands.specs.Noting.{once_noted}
 use Rattle.router_hands.specs.Refusing.{hello_of}
 use Rattle.router.proofs.Endings.{AllGive, given, then_give, all_give, weaker_give, if_give, putting_give}
@@ -32,17 +36,35 @@ use Rattle.router.proofs.Indexing.{Keeps, KeepsAll}
 
 -- ---- one connection
 
-fed_keeps : (piece : List ℕ) (p : Peer) → Keeps (Some p) (Some (fed piece p p.stage))
-fed_keeps piece p = in_stage p.stage
+hear_keeps : (key : ℕ) (piece : List ℕ) (p : Peer) → AllGive (λ q. Keeps (Some p) (Some q)) (hear key piece p p.stage)
+hear_keeps key piece p = in_stage p.stage
   where
-    in_stage : (stage : Stage) → Keeps (Some (record p { stage = stage })) (Some (fed piece (record p { stage = stage }) stage))
+    -- a connection that says who it is has no slot, and gets none
+    in_phase : (q : Peer) (setting : Setting) (said : Conversed) (phase : Phase) → AllGive (λ r. Keeps (Some q) (Some r)) (conversed_to key setting said phase q)
+    in_phase q setting said WaitingForNul = λ slot has. absurd (false≢true has)
+    in_phase q setting said WaitingForAuth = λ slot has. absurd (false≢true has)
+    in_phase q setting said (WaitingForData due) = λ slot has. absurd (false≢true has)
+    in_phase q setting said (WaitingForBegin identity) = λ slot has. absurd (false≢true has)
+    in_phase q setting said (Done identity) = λ slot has. absurd (false≢true has)
+    in_phase q setting said (Closed fault) = λ slot has. absurd (false≢true has)
+
+    answering_keeps : (q : Peer) (sent : List ℕ) (s : OfPeer) → AllGive (λ r. Keeps (Some q) (Some r)) s → AllGive (λ r. Keeps (Some q) (Some r)) (answering key sent s)
+    answering_keeps q [] s all = all
+    answering_keeps q (b ∷ bytes) s all = all
+
+    by_grant : (q : Peer) (setting : Setting) (said : Conversed) (granted : Bool) → AllGive (λ r. Keeps (Some q) (Some r)) (converse_if key setting said q granted)
+    by_grant q setting said true = answering_keeps q said.sent (conversed_to key setting said said.state.phase q) (in_phase q setting said said.state.phase)
+    by_grant q setting said false = λ slot has. absurd (false≢true has)
+
+    in_stage : (stage : Stage) → AllGive (λ q. Keeps (Some (record p { stage = stage })) (Some q)) (hear key piece (record p { stage = stage }) stage)
+    in_stage (Authenticating setting state) = λ granted. by_grant (record p { stage = Authenticating setting state }) setting (conversed setting state [] (p.unread ++ piece)) granted
     in_stage (Unnamed privileged) = λ slot has. has
     in_stage (Named conn) = λ slot has. has
     in_stage (Shut conn) = λ slot has. has
 
-pub feeding : (piece : List ℕ) (old : Option Peer) → AllGive (λ new. Keeps old new) (for_slot old (λ p. Gives (fed piece p p.stage)))
-feeding piece None = λ slot has. has
-feeding piece (Some p) = fed_keeps piece p
+pub feeding : (key : ℕ) (piece : List ℕ) (old : Option Peer) → AllGive (λ new. Keeps old new) (for_slot old (λ p. hear key piece p p.stage))
+feeding key piece None = λ slot has. has
+feeding key piece (Some p) = then_give (λ q. Keeps (Some p) (Some q)) (λ new. Keeps (Some p) new) (λ q. Gives (Some q)) (λ q keeps. keeps) (hear key piece p p.stage) (hear_keeps key piece p)
 
 -- one that is closed has no slot
 pub leaving : (key : ℕ) (why : CloseCause) (old : Option Peer) → AllGive (λ new. Keeps None new) (for_slot old (λ p. closing key why p))
@@ -73,6 +95,7 @@ look_keeps key (Some p) = in_stage p.stage
     heard_keeps conn (Refuses refusal) = λ slot has. has
 
     in_stage : (stage : Stage) → AllGive (λ new. Keeps (Some (record p { stage = stage })) new) (and_then (look key (record p { stage = stage }) stage) (λ q. Gives (Some q)))
+    in_stage (Authenticating setting state) = λ slot has. has
     in_stage (Unnamed privileged) = λ slot has. has
     in_stage (Named conn) = heard_keeps conn
     in_stage (Shut conn) = λ slot has. has
@@ -211,9 +234,9 @@ module _ (slot key : ℕ) where
         of_it (Some q) = λ has. false≢true (written_keeps u.peers (suc key) (Some (shut q)) slot has)
 
     welcomed_by : (x y : Option Peer) (o : Outcome) (conn : Conn) → has_slot slot x ≡ false → has_slot slot y ≡ true →
-        AllGive NotBoth (and_then (close_former (record { peers = two key x y; leaves = [] }) conn) (λ t. welcome key m p o conn t))
+        AllGive NotBoth (and_then (close_former (record { peers = two key x y; leaves = []; login = None }) conn) (λ t. welcome key m p o conn t))
     welcomed_by x y o conn isnt is =
-        let s : Standing = record { peers = two key x y; leaves = [] } in
+        let s : Standing = record { peers = two key x y; leaves = []; login = None } in
         elim (cases_eq conn.slot slot) [
           | inl e ↦
               let found : position (has_slot conn.slot) s.peers ≡ Some (suc key) = subst (λ n. position (has_slot n) s.peers ≡ Some (suc key)) (sym e) (second_is_found slot key x y isnt is) in
@@ -226,25 +249,26 @@ module _ (slot key : ℕ) where
               (close_former s conn) (all_give (λ t. Unit {0}) (λ t. tt) (close_former s conn))
         ]
 
-    greeting : (x y : Option Peer) (known : Bool) → has_slot slot x ≡ false → has_slot slot y ≡ true → AllGive NotBoth (greet (record { peers = two key x y; leaves = [] }) key m p known)
+    greeting : (x y : Option Peer) (known : Bool) → has_slot slot x ≡ false → has_slot slot y ≡ true → AllGive NotBoth (greet (record { peers = two key x y; leaves = []; login = None }) key m p known)
     greeting x y known isnt is = by_answer
       where
-        by_reply : (o : Outcome) (reply : Reply) → AllGive NotBoth (greeted_by (record { peers = two key x y; leaves = [] }) key m p o reply)
+        by_reply : (o : Outcome) (reply : Reply) → AllGive NotBoth (greeted_by (record { peers = two key x y; leaves = []; login = None }) key m p o reply)
         by_reply o (Welcome conn) = welcomed_by x y o conn isnt is
-        by_reply o other = turned_away (record { peers = two key x y; leaves = [] })
+        by_reply o other = turned_away (record { peers = two key x y; leaves = []; login = None })
 
-        by_answer : (heard : Heard Outcome) → AllGive NotBoth (greeted (record { peers = two key x y; leaves = [] }) key m p heard)
+        by_answer : (heard : Heard Outcome) → AllGive NotBoth (greeted (record { peers = two key x y; leaves = []; login = None }) key m p heard)
         by_answer (Says o) = by_reply o o.reply
-        by_answer (Refuses refusal) = refused (record { peers = two key x y; leaves = [] }) (error_for refusal)
+        by_answer (Refuses refusal) = refused (record { peers = two key x y; leaves = []; login = None }) (error_for refusal)
 
   module _ (y : Option Peer) (has_second : has_slot slot y ≡ true) where
     abbrev standing_of : Option Peer → Standing
-    standing_of x = record { peers = two key x y; leaves = [] }
+    standing_of x = record { peers = two key x y; leaves = []; login = None }
 
     as_it_was : (x : Option Peer) → has_slot slot x ≡ false → NotBoth (standing_of x)
     as_it_was x isnt = λ first second. false≢true (sym isnt ∙ ap (has_slot slot) (sym (first_of key x y)) ∙ first)
 
     serving : (p : Peer) (m : Message) (rest : List ℕ) (stage : Stage) → has_slot slot (Some (record p { stage = stage })) ≡ false → AllGive NotBoth (serve_at (standing_of (Some (record p { stage = stage }))) key m (record p { stage = stage; unread = rest }) stage)
+    serving p m rest (Authenticating setting state) isnt = as_it_was (Some (record p { stage = Authenticating setting state })) isnt
     serving p m rest (Shut conn) isnt = as_it_was (Some (record p { stage = Shut conn })) isnt
     serving p m rest (Unnamed privileged) isnt =
         let s : Standing = standing_of (Some (record p { stage = Unnamed privileged })) in
@@ -272,6 +296,7 @@ module _ (slot key : ℕ) where
     coming (Some p) isnt = in_stage p.stage isnt
       where
         in_stage : (stage : Stage) → has_slot slot (Some (record p { stage = stage })) ≡ false → AllGive NotBoth (next_at (standing_of (Some (record p { stage = stage }))) key (record p { stage = stage }) stage)
+        in_stage (Authenticating setting state) isnt = as_it_was (Some (record p { stage = Authenticating setting state })) isnt
         in_stage (Unnamed privileged) isnt = reading p (Unnamed privileged) isnt
         in_stage (Named conn) isnt = reading p (Named conn) isnt
         in_stage (Shut conn) isnt = as_it_was (Some (record p { stage = Shut conn })) isnt
@@ -279,8 +304,8 @@ module _ (slot key : ℕ) where
 -- ---- what came
 
 module _ {N G : Type 0} (told : N → History) (registry_of : N → ℕ) (passes : G → GatedCall → G → Type 0) (alone : Bool) (w v : World N G) where
-  pub feed_keeps : (piece : List ℕ) (old new : Option Peer) → Comes told registry_of passes alone (for_slot old (λ p. Gives (fed piece p p.stage))) w new v → Keeps old new
-  feed_keeps piece old new came = given told registry_of passes alone (λ o. Keeps old o) new v (for_slot old (λ p. Gives (fed piece p p.stage))) w (feeding piece old) came
+  pub feed_keeps : (key : ℕ) (piece : List ℕ) (old new : Option Peer) → Comes told registry_of passes alone (for_slot old (λ p. hear key piece p p.stage)) w new v → Keeps old new
+  feed_keeps key piece old new came = given told registry_of passes alone (λ o. Keeps old o) new v (for_slot old (λ p. hear key piece p p.stage)) w (feeding key piece old) came
 
   pub closed_has_none : (key : ℕ) (why : CloseCause) (old new : Option Peer) → Comes told registry_of passes alone (for_slot old (λ p. closing key why p)) w new v → Keeps None new
   closed_has_none key why old new came = given told registry_of passes alone (λ o. Keeps None o) new v (for_slot old (λ p. closing key why p)) w (leaving key why old) came
@@ -305,7 +330,7 @@ pub next_keeps : {N G : Type 0} (told : N → History) (registry_of : N → ℕ)
 next_keeps told registry_of passes alone key old new w v comes slot has =
     let other : Option Peer = Some (record { stage = Named (record { number = 0; slot = slot; router = 0 }); unread = []; serial = 0 }) in
     let is : has_slot slot other ≡ true = eq-eqb slot slot refl in
-    let s : Standing = record { peers = two key old other; leaves = [] } in
+    let s : Standing = record { peers = two key old other; leaves = []; login = None } in
     elim (cases_Bool (has_slot slot old)) [
       | inl had ↦ had
       | inr hadnt ↦

@@ -10,5 +10,6 @@ pub mod Keeping
 pub mod OneEvent
 pub mod Grants
 pub mod Writings
-pub mod Fronts
 pub mod Feeding
+pub mod Speaking
+pub mod Conversations

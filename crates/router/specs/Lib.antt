@@ -2,4 +2,5 @@ pub mod Tables
 pub mod Welcomes
 pub mod Upcoming
 pub mod Indexed
+pub mod Numbers
 pub mod OneEvent

@@ -1,15 +1,17 @@
 //! The engine: what serves the events of a router.
 
-ghost use Rattle.std.specs.Prelude.{◌≡◌, ◌≢◌, ◌↔◌, [], IsTrue, true, false, OnErr, IfOk, position};
+ghost use Rattle.std.specs.Prelude.{◌≡◌, ◌≢◌, ◌↔◌, [], IsTrue, true, false, is_some, OnErr, IfOk, position, count_by};
 ghost use Rattle.std.specs.List.{AllByRecursion};
 ghost use Rattle.router_core.specs.Acts.{Brings};
 ghost use Rattle.router_core.specs.Deeds.{CarriesOwn};
 ghost use Rattle.router_core.specs.Events.{CanHappen, IsFree};
-ghost use Rattle.router_core.specs.Standing.{fresh, has_slot};
+ghost use Rattle.router_core.specs.Standing.{fresh, has_slot, is_unnamed};
 ghost use Rattle.router_core.specs.declared.event.Event.TheVariants.{Opened, Bytes, Next, Mail, Closed, Full, Tick};
+ghost use Rattle.router.specs.Numbers.{number_at};
 ghost use Rattle.router.specs.OneEvent.{IsServedWell};
 ghost use Rattle.router.specs.Upcoming.{HasNoNext};
 
+use crate::login::Login;
 use crate::served::Served;
 use bus_view::BusView;
 use envelopes::Envelope;
@@ -36,12 +38,17 @@ impl<V: BusView, G: Gate> Model for Engine<V, G> {
 }
 
 impl<V: BusView + Drop, G: Gate + Drop> Engine<V, G> {
-    /// An engine without connections. It takes some memory.
-    pub fn new(alloc: Global, view: V, gate: G) -> Result<Engine<V, G>, AllocError>
-        ensures { IfOk result (λ engine. engine ≡ record { standing = fresh; view = V.knows view; gate = gate }) }
+    /// An engine without connections. Connections that come with a challenge are asked who they are, by the login. It takes some memory.
+    pub fn new(
+        alloc: Global,
+        view: V,
+        gate: G,
+        login: Option<Login>,
+    ) -> Result<Engine<V, G>, AllocError>
+        ensures { IfOk result (λ engine. engine ≡ record { standing = fresh login; view = V.knows view; gate = gate }) }
     {
         Ok(Engine {
-            served: Served::new(alloc, view, gate)?,
+            served: Served::new(alloc, view, gate, login)?,
         })
     }
 }
@@ -61,13 +68,24 @@ impl<V: BusView, G: Gate> Engine<V, G> {
         self.served.is_free(key)
     }
 
+    /// Whether connections can be asked who they are: with a login one may come with a challenge.
+    pub fn has_login(&self) -> bool
+        ensures { result ≡ is_some self.now.standing.login }
+    {
+        self.served.has_login()
+    }
+
     /// A connection came, and has this key.
-    fn opened(&mut self, key: usize) -> Result<Vec<Action<V::Note>>, AllocError>
-        requires { CanHappen V.registry_of self.old.view.registry self.old.standing (Opened key) }
-        ensures brings { IfOk result (λ actions. Brings V.told V.registry_of G.passes V.alone self.old (Opened key) actions.items self.new) }
+    fn opened(
+        &mut self,
+        key: usize,
+        challenge: Option<[u8; 16]>,
+    ) -> Result<Vec<Action<V::Note>>, AllocError>
+        requires { CanHappen V.registry_of self.old.view.registry self.old.standing (Opened key challenge) }
+        ensures brings { IfOk result (λ actions. Brings V.told V.registry_of G.passes V.alone self.old (Opened key challenge) actions.items self.new) }
         ensures err { OnErr result (self.new ≡ self.old) }
     {
-        self.served.open(key)?;
+        self.served.open(key, challenge)?;
         Ok(self.served.take_actions())
     }
 
@@ -86,6 +104,20 @@ impl<V: BusView, G: Gate> Engine<V, G> {
         ensures { result ≡ position (has_slot slot) self.now.standing.peers }
     {
         self.served.key_of(slot)
+    }
+
+    /// How many connections have no name yet.
+    pub fn unnamed(&self) -> usize
+        ensures { result ≡ count_by is_unnamed self.now.standing.peers }
+    {
+        self.served.unnamed()
+    }
+
+    /// The number of the connection of a key, once its Hello gave it one. A closed one keeps it until it is gone.
+    pub fn number_of(&self, key: usize) -> Option<u64>
+        ensures { result ≡ number_at self.now.standing key }
+    {
+        self.served.number_of(key)
     }
 
     /// Whether a Leave was refused, and is due at the next tick.
@@ -174,7 +206,7 @@ impl<V: BusView, G: Gate> Engine<V, G> {
         ensures kept { OnErr result (event.new ≡ event.old) }
     {
         match event {
-            Event::Opened { key } => self.opened(*key),
+            Event::Opened { key, challenge } => self.opened(*key, *challenge),
             Event::Bytes { key, piece } => self.bytes(*key, piece),
             Event::Next { key } => self.next(right, *key),
             Event::Mail { slot, envelope } => self.mail(*slot, envelope),

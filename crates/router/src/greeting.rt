@@ -39,6 +39,7 @@ fn has_slot(peer: &Option<Peer>, slot: u16) -> bool
     };
     match peer.stage() {
         Stage::Named(conn) => conn.slot == slot,
+        Stage::Authenticating(_) => false,
         Stage::Unnamed { privileged: _ } => false,
         Stage::Shut(_) => false,
     }
@@ -99,6 +100,7 @@ impl<V: BusView, G: Gate> Served<V, G> {
     /// The connection has its name: the reply comes first, then the signals.
     fn welcome(&mut self, key: usize, hello: &Message, mut peer: Peer, outcome: Outcome, conn: Conn)
         requires room { 1 < self.old.work.room }
+        requires unnamed { IsUnnamed peer.stage }
         requires key { key < length self.old.standing.peers }
         requires vacant { IsVacant conn.slot self.old.standing.peers }
         ensures { Comes V.told V.registry_of G.passes V.alone (welcome key (said hello.now) peer outcome conn self.old.standing) self.old.work.world self.new.standing self.new.work.world }
@@ -151,6 +153,7 @@ impl<V: BusView, G: Gate> Served<V, G> {
         errors: HelloErrors,
     )
         requires room { 2 < self.old.work.room }
+        requires unnamed { IsUnnamed peer.stage }
         requires key { key < length self.old.standing.peers }
         requires written { AreRefusals (said hello.now) (next_serial peer.serial) errors }
         ensures { Comes V.told V.registry_of G.passes V.alone (greeted_by self.old.standing key (said hello.now) peer outcome outcome.reply) self.old.work.world self.new.standing self.new.work.world }

@@ -24,6 +24,7 @@ fn is_addressed(peer: &Option<Peer>, slot: u16, number: u64) -> bool
     };
     match peer.stage() {
         Stage::Named(conn) => conn.slot == slot && conn.number == number,
+        Stage::Authenticating(_) => false,
         Stage::Unnamed { privileged: _ } => false,
         Stage::Shut(_) => false,
     }

@@ -8,9 +8,12 @@ mod engine;
 mod greeting;
 mod inbox;
 mod leaving;
+mod login;
+mod naming;
 mod next;
 mod served;
 mod tick;
 
 pub use engine::Engine;
+pub use login::Login;
 pub use served::Served;

@@ -1,13 +1,16 @@
 //! The connections with what serves them, while an event is served.
 
-ghost use Rattle.std.specs.Prelude.{◌≡◌, ◌↔◌, IsTrue, [], IfOk, OnOk, OnErr};
-ghost use Rattle.router_core.specs.Events.{fed, for_peer, IsFree};
-ghost use Rattle.router_core.specs.Scripts.{Gives, Comes};
-ghost use Rattle.router_core.specs.Standing.{fresh, opened, peer_at};
+ghost use Rattle.std.specs.Prelude.{◌≡◌, ◌↔◌, IsTrue, [], is_some, IfOk, OnOk, OnErr};
+ghost use Rattle.router_core.specs.Events.{hear, for_peer, IsFree};
+ghost use Rattle.router_core.specs.Scripts.{Comes};
+ghost use Rattle.router_core.specs.Standing.{first_stage, fresh, opened, peer_at};
+ghost use Rattle.router_hands.specs.Stages.{stage_of, IsFirst};
 
+use crate::login::Login;
 use bus_view::BusView;
 use router_core::{Action, Gate};
-use router_hands::{Hands, Peer};
+use router_hands::{Hands, Peer, Stage};
+use sasl::Server;
 use std::alloc::{AllocError, Global};
 use std::marker::Model;
 
@@ -25,6 +28,8 @@ pub struct Served<V: BusView, G: Gate> {
     /// Keys of connections that are gone; the last of them is given out first.
     pub(crate) vacated: Vec<usize>,
     pub(crate) leaves: Vec<u64>,
+    /// Who may log in; none where nobody is asked.
+    login: Option<Login>,
 }
 
 impl<V: BusView, G: Gate> Model for Served<V, G> {
@@ -33,7 +38,7 @@ impl<V: BusView, G: Gate> Model for Served<V, G> {
 
     ghost Value = { Table V.Note G };
 
-    ghost view = { λ s. record { standing = record { peers = s.peers.items; leaves = s.leaves.items }; work = s.hands } };
+    ghost view = { λ s. record { standing = record { peers = s.peers.items; leaves = s.leaves.items; login = s.login }; work = s.hands } };
 
     ghost invariant = { λ s. IsIndexed s.peers.items s.places };
 }
@@ -47,8 +52,13 @@ fn forget(vacated: &mut Vec<usize>, key: usize) {
 
 impl<V: BusView + Drop, G: Gate + Drop> Served<V, G> {
     /// No connections.
-    pub fn new(alloc: Global, view: V, gate: G) -> Result<Served<V, G>, AllocError>
-        ensures standing { IfOk result (λ served. served.standing ≡ fresh) }
+    pub fn new(
+        alloc: Global,
+        view: V,
+        gate: G,
+        login: Option<Login>,
+    ) -> Result<Served<V, G>, AllocError>
+        ensures standing { IfOk result (λ served. served.standing ≡ fresh login) }
         ensures world { IfOk result (λ served. served.work.world ≡ record { view = V.knows view; gate = gate; actions = [] }) }
     {
         Ok(Served {
@@ -58,6 +68,7 @@ impl<V: BusView + Drop, G: Gate + Drop> Served<V, G> {
             places: [0; SLOT_COUNT],
             vacated: Vec::new(alloc),
             leaves: Vec::new(alloc),
+            login,
         })
     }
 }
@@ -113,14 +124,46 @@ impl<V: BusView, G: Gate> Served<V, G> {
         self.peers[key].is_none()
     }
 
+    /// Whether connections can be asked who they are.
+    pub fn has_login(&self) -> bool
+        ensures { result ≡ is_some self.now.standing.login }
+    {
+        self.login.is_some()
+    }
+
+    /// How far a connection has come that has sent nothing: with a challenge it is to say who it is.
+    fn first_stage(&self, challenge: Option<[u8; 16]>) -> Result<Stage, AllocError>
+        ensures stage { IfOk result (λ stage. stage_of stage ≡ first_stage self.now.standing.login challenge) }
+        ensures first { IfOk result IsFirst }
+    {
+        let Some(challenge) = challenge else {
+            return Ok(Stage::Unnamed { privileged: true });
+        };
+        let Some(login) = &self.login else {
+            return Ok(Stage::Shut(None));
+        };
+        let server = Server::new(
+            self.alloc,
+            login.guid,
+            login.user.clone()?,
+            login.cookie.again()?,
+            challenge,
+            login.allow_anonymous,
+        );
+        match Box::new(self.alloc, server) {
+            Ok(server) => Ok(Stage::Authenticating(server)),
+            Err(_) => Err(AllocError),
+        }
+    }
+
     /// A connection came, and has this key. Without memory nothing changes.
-    pub fn open(&mut self, key: usize) -> Result<(), AllocError>
+    pub fn open(&mut self, key: usize, challenge: Option<[u8; 16]>) -> Result<(), AllocError>
         requires { IsFree self.old.standing key }
-        ensures ok { OnOk result (self.new.standing ≡ opened self.old.standing key) }
+        ensures ok { OnOk result (self.new.standing ≡ opened self.old.standing key challenge) }
         ensures err { OnErr result (self.new.standing ≡ self.old.standing) }
         ensures work { self.new.work ≡ self.old.work }
     {
-        let peer = Peer::new(self.alloc);
+        let peer = Peer::new(self.alloc, self.first_stage(challenge)?);
         if key == self.peers.len() {
             self.peers.push(Some(peer))?;
             return Ok(());
@@ -133,7 +176,7 @@ impl<V: BusView, G: Gate> Served<V, G> {
     /// Bytes of a connection came. Without memory nothing changes, and they stay where they were.
     #[tactic(auto, using(crate::proofs::Slots::set_beyond, crate::proofs::Slots::set_same, crate::proofs::Slots::none_beyond))]
     pub fn feed(&mut self, key: usize, piece: &mut Vec<u8>) -> Result<(), AllocError>
-        ensures comes { OnOk result (Comes V.told V.registry_of G.passes V.alone (for_peer self.old.standing key (peer_at self.old.standing key) (λ p. Gives (fed piece.old.items p p.stage))) self.old.work.world self.new.standing self.new.work.world) }
+        ensures comes { OnOk result (Comes V.told V.registry_of G.passes V.alone (for_peer self.old.standing key (peer_at self.old.standing key) (λ p. hear key piece.old.items p p.stage)) self.old.work.world self.new.standing self.new.work.world) }
         ensures err { OnErr result (self.new.standing ≡ self.old.standing) }
         ensures world { OnErr result (self.new.work.world ≡ self.old.work.world) }
         ensures kept { OnErr result (piece.new ≡ piece.old) }
@@ -141,6 +184,7 @@ impl<V: BusView, G: Gate> Served<V, G> {
         if key >= self.peers.len() {
             return Ok(());
         }
-        self.hands.feed_slot(&mut self.peers[key], piece)
+        self.hands.reserve(2)?;
+        self.hands.hear_slot(key, &mut self.peers[key], piece)
     }
 }

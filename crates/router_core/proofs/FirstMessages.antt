@@ -1,23 +1,64 @@
 -- Connections before their Hello, and once they were closed.
-use Rattle.std.proofs.Common.{ℕ, Bool, Some, if◌then◌else◌, refl, ap, ◌∙◌, subst}
+use Rattle.std.proofs.Common.{◌≡◌, ℕ, Bool, true, false, Option, Some, List, [], ◌∷◌, ◌++◌, if◌then◌else◌, refl, sym, ap, ◌∙◌, subst}
 use Rattle.seq_bus_core.specs.Histories.{History}
 use Rattle.router_core.specs.Deeds.{GatedCall}
-use Rattle.router_core.specs.Events.{next, next_at, for_peer, fed, closing, greet}
+use Rattle.seq_bus_core.specs.declared.connection.Conn.{Conn}
+use Rattle.sasl.specs.declared.identity.Identity.{Identity}
+use Rattle.sasl.specs.declared.phase.Phase.{Phase}
+use Rattle.sasl.specs.declared.phase.Phase.TheVariants.{WaitingForNul, WaitingForAuth, WaitingForData, WaitingForBegin, Done, Closed}
+use Rattle.sasl.specs.Hearing.{Conversed, conversed}
+use Rattle.router_core.specs.Events.{next, next_at, for_peer, hear, answering, conversed_to, converse_if, is_user, closing, greet}
 use Rattle.router_core.specs.declared.cause.CloseCause.TheVariants.{NotHello}
-use Rattle.router_core.specs.Laws.{ClosedAreNotServed, ClosedTakeNothing, ClosedGetNoMail, UnknownTypesBringNothing, OnlyHelloGreets}
-use Rattle.router_core.specs.Scripts.{Gives, Comes}
-use Rattle.router_core.specs.Standing.{with_peer}
+use Rattle.router_core.specs.Laws.{ClosedAreNotServed, ClosedTakeNothing, ClosedGetNoMail, NobodySpeaksBeforeBegin, OnlyBeginBegins, UnknownTypesBringNothing, OnlyHelloGreets}
+use Rattle.router_core.specs.Scripts.{Gives, and_then, World, Comes}
+use Rattle.router_core.specs.Standing.{Authenticating, Unnamed, Shut, Peer, with_peer}
 
 pub closed_are_not_served : ClosedAreNotServed
 closed_are_not_served s key p is = ap (next s key) is.0 ∙ ap (next_at s key p) is.1.1
 
 pub closed_take_nothing : ClosedTakeNothing
 closed_take_nothing s key piece p is =
-    ap (λ o. for_peer s key o (λ q. Gives (fed piece q q.stage))) is.0
-    ∙ ap (λ stage. Gives (with_peer s key (Some (fed piece p stage)))) is.1.1
+    ap (λ o. for_peer s key o (λ q. hear key piece q q.stage)) is.0
+    ∙ ap (λ stage. and_then (and_then (hear key piece p stage) (λ q. Gives (Some q))) (λ q. Gives (with_peer s key q))) is.1.1
 
 pub closed_get_no_mail : ClosedGetNoMail
 closed_get_no_mail slot number p conn is = rw is refl
+
+pub nobody_speaks_before_begin : NobodySpeaksBeforeBegin
+nobody_speaks_before_begin s key p setting state is = (ap (next s key) is.0 ∙ ap (next_at s key p) is.1, λ slot number. rw is.1 refl)
+
+pub only_begin_begins : {N G : Type 0} (told : N → History) (registry_of : N → ℕ) (passes : G → GatedCall → G → Type 0) (alone : Bool) → OnlyBeginBegins told registry_of passes alone
+only_begin_begins {N = N} {G = G} told registry_of passes alone p q key piece setting state privileged w v comes begun = by_grant comes.0 comes.1
+  where
+    said : Conversed
+    said = conversed setting state [] (p.unread ++ piece)
+
+    HasBegun : Type 0
+    HasBegun = (identity : Identity) × (said.state.phase ≡ Done identity) × (privileged ≡ is_user identity)
+
+    stays_closed : (conn : Option Conn) → q.stage ≡ Shut conn → HasBegun
+    stays_closed conn is = let never : Shut conn ≡ Unnamed privileged = sym is ∙ begun in absurd (cc)
+
+    goes_on : q.stage ≡ Authenticating setting said.state → HasBegun
+    goes_on is = let never : Authenticating setting said.state ≡ Unnamed privileged = sym is ∙ begun in absurd (cc)
+
+    by_phase : (phase : Phase) → said.state.phase ≡ phase → (m : World N G) → Comes told registry_of passes alone (conversed_to key setting said phase p) m q v → HasBegun
+    by_phase (Done identity) is m came =
+        let same : Unnamed (is_user identity) ≡ Unnamed privileged = sym (ap (λ (r : Peer). r.stage) came.0) ∙ begun in
+        (identity, is, cc)
+    by_phase (Closed fault) is m came = stays_closed _ (ap (λ (r : Peer). r.stage) came.2.0)
+    by_phase WaitingForNul is m came = goes_on (ap (λ (r : Peer). r.stage) came.0)
+    by_phase WaitingForAuth is m came = goes_on (ap (λ (r : Peer). r.stage) came.0)
+    by_phase (WaitingForData due) is m came = goes_on (ap (λ (r : Peer). r.stage) came.0)
+    by_phase (WaitingForBegin identity) is m came = goes_on (ap (λ (r : Peer). r.stage) came.0)
+
+    by_sent : (sent : List ℕ) (m : World N G) → Comes told registry_of passes alone (answering key sent (conversed_to key setting said said.state.phase p)) m q v → HasBegun
+    by_sent [] m came = by_phase said.state.phase refl m came
+    by_sent (b ∷ bytes) m came = by_phase said.state.phase refl came.0 came.2
+
+    by_grant : (granted : Bool) → Comes told registry_of passes alone (converse_if key setting said p granted) w q v → HasBegun
+    by_grant true came = by_sent said.sent w came
+    by_grant false came = stays_closed _ (ap (λ (r : Peer). r.stage) came.2.0)
 
 pub unknown_types_bring_nothing : UnknownTypesBringNothing
 unknown_types_bring_nothing m sender unknown = rw unknown refl

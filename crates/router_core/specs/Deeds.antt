@@ -24,7 +24,7 @@ PassesAll passes before [] after = after ≡ before
 PassesAll {G = G} passes before (call ∷ calls) after = (gate : G) × passes before call gate × PassesAll passes gate calls after
 
 pub data Deed : Type 0 where
-  -- a message of another connection is written to the connection with this key
+  -- a message of another connection, or what it is answered while it says who it is, is written to the connection with this key
   Writes : (key : ℕ) → (bytes : List ℕ) → Deed
   -- a message of the bus is written to it
   Sends : (key : ℕ) → Message → Deed

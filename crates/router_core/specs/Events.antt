@@ -1,5 +1,5 @@
 -- What is done at an event. (D-Bus Specification: "Message Bus Messages", "org.freedesktop.DBus.Hello")
-use Rattle.std.specs.Prelude.{◌≡◌, ℕ, ◌≤◌, Bool, true, false, Option, Some, None, option_map, List, [], ◌∷◌, ◌++◌, length, position, if◌then◌else◌}
+use Rattle.std.specs.Prelude.{◌≡◌, ℕ, ◌≤◌, Bool, true, false, Option, Some, None, is_some, option_map, List, [], ◌∷◌, ◌++◌, length, position, if◌then◌else◌}
 use Rattle.seq_bus_core.specs.Histories.{History}
 use Rattle.seq_bus_core.specs.declared.change.Change.TheVariants.{Hello, Leave}
 use Rattle.seq_bus_core.specs.declared.connection.Conn.{Conn}
@@ -9,6 +9,13 @@ use Rattle.seq_bus_core.specs.declared.outcome.Outcome.{Outcome}
 use Rattle.seq_bus_core.specs.declared.outcome.Reply.{Reply}
 use Rattle.seq_bus_core.specs.declared.outcome.Reply.TheVariants.{Welcome}
 use Rattle.seq_bus_core.specs.declared.verdict.Verdict.{Verdict}
+use Rattle.sasl.specs.declared.identity.Identity.{Identity}
+use Rattle.sasl.specs.declared.identity.Identity.TheVariants.{User, Anonymous}
+use Rattle.sasl.specs.declared.fault.AuthenticationFault.TheVariants.{NoMemory as NoMemoryForLines}
+use Rattle.sasl.specs.declared.phase.Phase.{Phase}
+use Rattle.sasl.specs.declared.phase.Phase.TheVariants as phase
+use Rattle.sasl.specs.Settings.{Login, Setting}
+use Rattle.sasl.specs.Hearing.{Conversed, conversed}
 use Rattle.message_core.specs.Messages.{Message}
 use Rattle.message_core.specs.Said.{said as message_said}
 use Rattle.message_relay.specs.FactsOf.{facts_of}
@@ -22,13 +29,14 @@ use Rattle.router_core.specs.declared.event.Event.TheVariants as event
 use Rattle.router_core.specs.Answers.{Heard, Says, Refuses, error_for}
 use Rattle.router_core.specs.Deeds.{Writes, Sends, Closes, IsOwnNote}
 use Rattle.router_core.specs.Fronts.{Front, Waits, Whole, Faulty}
-use Rattle.router_core.specs.Scripts.{Script, Gives, Changing, Routing, Looking, Noting, Fronting, Gating, Doing, Announcing, and_then, putting}
+use Rattle.router_core.specs.Scripts.{Script, Gives, Changing, Routing, Looking, Noting, Fronting, Gating, Wanting, Doing, Announcing, and_then, putting}
 use Rattle.router_core.specs.Serving.{monitors_in, reply_with, serve}
-use Rattle.router_core.specs.Standing.{Stage, Unnamed, Named, Shut, Peer, Standing, peer_at, with_peer, opened, conn_of, next_serial, shut, has_slot, is_conn}
+use Rattle.router_core.specs.Standing.{Stage, Authenticating, Unnamed, Named, Shut, Peer, Standing, peer_at, with_peer, opened, conn_of, next_serial, shut, has_slot, is_conn}
 
 -- what happens, in the terms of the definitions; a note is there by the history that it tells
 pub data Occasion : Type 0 where
-  Opened : (key : ℕ) → Occasion
+  -- with a challenge, if it is to say who it is
+  Opened : (key : ℕ) → (challenge : Option (List ℕ)) → Occasion
   Bytes : (key : ℕ) → (piece : List ℕ) → Occasion
   Next : (key : ℕ) → Occasion
   Mail : (slot number : ℕ) → (note : Option History) → Said → Occasion
@@ -69,9 +77,38 @@ for_slot (Some p) work = and_then (work p) (λ q. Gives (Some q))
 abbrev pub for_peer : Standing → ℕ → Option Peer → (Peer → OfPeer) → Stands
 for_peer s key peer work = and_then (for_slot peer work) (λ q. Gives (with_peer s key q))
 
+-- bytes behind those that it sent; none once it was closed
 abbrev pub fed : List ℕ → Peer → Stage → Peer
 fed piece p (Shut conn) = p
 fed piece p stage = record p { unread = p.unread ++ piece }
+
+-- ## Authentication
+
+-- whoever knows the cookie is the bus's own user
+abbrev pub is_user : Identity → Bool
+is_user User = true
+is_user Anonymous = false
+
+-- what is said in answer is written
+abbrev pub answering : ℕ → List ℕ → OfPeer → OfPeer
+answering key [] s = s
+answering key (b ∷ bytes) s = Doing (Writes key (b ∷ bytes)) s
+
+-- The conversation is done, and the bytes behind it are the first of its messages; or it has failed; or it goes on.
+abbrev pub conversed_to : ℕ → Setting → Conversed → Phase → Peer → OfPeer
+conversed_to key setting said (phase.Done identity) p = Gives (record p { stage = Unnamed (is_user identity); unread = said.left })
+conversed_to key setting said (phase.Closed fault) p = closing key (cause.Unauthenticated fault) p
+conversed_to key setting said going p = Gives (record p { stage = Authenticating setting said.state; unread = said.left })
+
+-- Without memory for its lines the connection is closed.
+abbrev pub converse_if : ℕ → Setting → Conversed → Peer → Bool → OfPeer
+converse_if key setting said p true = answering key said.sent (conversed_to key setting said said.state.phase p)
+converse_if key setting said p false = closing key (cause.Unauthenticated NoMemoryForLines) p
+
+-- Bytes of a connection come. While it says who it is, each line that is whole by them is answered.
+abbrev pub hear : ℕ → List ℕ → Peer → Stage → OfPeer
+hear key piece p (Authenticating setting state) = Wanting (λ granted. converse_if key setting (conversed setting state [] (p.unread ++ piece)) p granted)
+hear key piece p stage = Gives (fed piece p stage)
 
 -- ## Hello
 
@@ -119,6 +156,7 @@ greet s key m p privileged = Gating call.Hello (Changing (Hello privileged) (λ 
 -- ## The next message
 
 abbrev pub serve_at : Standing → ℕ → Message → Peer → Stage → Stands
+serve_at s key m p (Authenticating setting state) = Gives s
 serve_at s key m p (Unnamed privileged) = if is_hello m then greet s key m p privileged else for_peer s key (Some p) (closing key cause.NotHello)
 serve_at s key m p (Named conn) = for_peer s key (Some p) (λ q. and_then (serve m conn) (λ fate. close_if key fate q))
 serve_at s key m p (Shut conn) = Gives s
@@ -129,6 +167,7 @@ read s key p (Faulty fault) = for_peer s key (Some p) (closing key (cause.Faulty
 read s key p (Whole bytes rest) = serve_at s key (message_said bytes) (record p { unread = rest }) p.stage
 
 abbrev pub next_at : Standing → ℕ → Peer → Stage → Stands
+next_at s key p (Authenticating setting state) = Gives s
 next_at s key p (Shut conn) = Gives s
 next_at s key p stage = Fronting p.unread (λ front. read s key p front)
 
@@ -180,6 +219,7 @@ looked key p (Refuses refusal) = Gives p
 -- A connection that has left is closed.
 abbrev pub look : ℕ → Peer → Stage → OfPeer
 look key p (Named conn) = Looking conn.number (λ heard. looked key p heard)
+look key p (Authenticating setting state) = Gives p
 look key p (Unnamed privileged) = Gives p
 look key p (Shut conn) = Gives p
 
@@ -197,8 +237,8 @@ tick s = and_then (leave_all s.leaves (record s { leaves = [] })) look_at_all
 -- ## Events
 
 abbrev pub script : Standing → Occasion → Stands
-script s (Opened key) = Gives (opened s key)
-script s (Bytes key piece) = for_peer s key (peer_at s key) (λ p. Gives (fed piece p p.stage))
+script s (Opened key challenge) = Gives (opened s key challenge)
+script s (Bytes key piece) = for_peer s key (peer_at s key) (λ p. hear key piece p p.stage)
 script s (Next key) = next s key (peer_at s key)
 script s (Mail slot number told said) = noted told (mail_found s said (position (is_conn slot number) s.peers))
 script s (Closed key) = closed s key (peer_at s key)
@@ -207,7 +247,7 @@ script s Tick = tick s
 
 -- the event; `told` says which history a note tells
 abbrev pub occasion_of : {N : Type 0} → (N → History) → Event N → Occasion
-occasion_of told (event.Opened key) = Opened key
+occasion_of told (event.Opened key challenge) = Opened key challenge
 occasion_of told (event.Bytes key piece) = Bytes key piece.items
 occasion_of told (event.Next key) = Next key
 occasion_of told (event.Mail slot envelope) = Mail slot envelope.number (option_map told envelope.note) (said_of envelope.content)
@@ -221,7 +261,12 @@ occasion_of told event.Tick = Tick
 abbrev pub IsFree : Standing → ℕ → Type 0
 IsFree s key = (peer_at s key ≡ None) × (key ≤ length s.peers)
 
+-- Whoever is challenged can log in.
+abbrev pub CanBeAsked : Option Login → (challenge : Option (List ℕ)) → Type 0
+CanBeAsked login None = Unit {0}
+CanBeAsked login (Some challenge) = is_some login ≡ true
+
 abbrev pub CanHappen : {N : Type 0} → (N → ℕ) → ℕ → Standing → Event N → Type 0
-CanHappen registry_of registry s (event.Opened key) = IsFree s key
+CanHappen registry_of registry s (event.Opened key challenge) = IsFree s key × CanBeAsked s.login challenge
 CanHappen registry_of registry s (event.Mail slot envelope) = IsOwnNote registry_of registry envelope.note
 CanHappen registry_of registry s other = Unit {0}

@@ -1,9 +1,14 @@
 -- Laws of what a router does.
-use Rattle.std.specs.Prelude.{◌≡◌, ℕ, Bool, true, false, Option, Some, List, [], ◌∷◌}
+use Rattle.std.specs.Prelude.{◌≡◌, ℕ, Bool, true, false, Option, Some, List, [], ◌∷◌, ◌++◌}
 use Rattle.std.specs.List.{AllByRecursion}
 use Rattle.match_rules.specs.Kinds.{kind_of}
 use Rattle.seq_bus_core.specs.Histories.{History}
 use Rattle.seq_bus_core.specs.declared.connection.Conn.{Conn}
+use Rattle.sasl.specs.declared.identity.Identity.{Identity}
+use Rattle.sasl.specs.declared.phase.Phase.TheVariants.{Done}
+use Rattle.sasl.specs.Settings.{Setting}
+use Rattle.sasl.specs.Conversations.{State as AuthState}
+use Rattle.sasl.specs.Hearing.{conversed}
 use Rattle.message_core.specs.Messages.{Message}
 use Rattle.driver.specs.Calls.{is_hello}
 use Rattle.router_core.specs.declared.cause.CloseCause.TheVariants.{NotHello}
@@ -11,11 +16,11 @@ use Rattle.router_core.specs.declared.action.Action.{Action}
 use Rattle.router_core.specs.declared.event.Event.{Event}
 use Rattle.router_core.specs.Acts.{State, Brings, IsServed, IsServedBy, Exchange, IsGranted}
 use Rattle.router_core.specs.Deeds.{Deed, Closes, GatedCall, IsDoneBy, CarriesOwn}
-use Rattle.router_core.specs.Events.{Occasion, Bytes, Next, script, serve_at}
+use Rattle.router_core.specs.Events.{Occasion, Bytes, Next, hear, is_user, script, serve_at}
 use Rattle.router_core.specs.OneThread.{Readers, Rest, given, rest_after, bus_bytes, AreReadBy, IsRun}
 use Rattle.router_core.specs.Scripts.{Gives, World, having_done, Comes}
 use Rattle.router_core.specs.Serving.{serve, is_unknown, stays_open}
-use Rattle.router_core.specs.Standing.{Unnamed, Shut, Peer, Standing, peer_at, with_peer, shut, is_conn}
+use Rattle.router_core.specs.Standing.{Authenticating, Unnamed, Shut, Peer, Standing, peer_at, with_peer, shut, is_conn}
 
 -- the bus closed the connection of this key, and it is not gone yet
 abbrev pub IsShut : Standing → ℕ → Peer → Type 0
@@ -32,6 +37,21 @@ ClosedTakeNothing = (s : Standing) (key : ℕ) (piece : List ℕ) (p : Peer) →
 -- No mail is written to it.
 abbrev pub ClosedGetNoMail : Type 0
 ClosedGetNoMail = (slot number : ℕ) (p : Peer) (conn : Option Conn) → p.stage ≡ Shut conn → is_conn slot number (Some p) ≡ false
+
+-- the connection of this key says who it is, and has not begun its messages
+abbrev pub HasNotBegun : Standing → ℕ → Peer → Setting → AuthState → Type 0
+HasNotBegun s key p setting state = (peer_at s key ≡ Some p) × (p.stage ≡ Authenticating setting state)
+
+-- Before its BEGIN no message of a connection is served, and no mail is written to it.
+abbrev pub NobodySpeaksBeforeBegin : Type 0
+NobodySpeaksBeforeBegin = (s : Standing) (key : ℕ) (p : Peer) (setting : Setting) (state : AuthState) → HasNotBegun s key p setting state →
+    (script s (Next key) ≡ Gives s) × ((slot number : ℕ) → is_conn slot number (Some p) ≡ false)
+
+-- It goes on to its messages only where its conversation is done, and it is the bus's own user only where it knows the cookie.
+abbrev pub OnlyBeginBegins : {N G : Type 0} → (N → History) → (N → ℕ) → (G → GatedCall → G → Type 0) → Bool → Type 0
+OnlyBeginBegins {N = N} {G = G} told registry_of passes alone = (p q : Peer) (key : ℕ) (piece : List ℕ) (setting : Setting) (state : AuthState) (privileged : Bool) (w v : World N G) →
+    Comes told registry_of passes alone (hear key piece p (Authenticating setting state)) w q v → q.stage ≡ Unnamed privileged →
+    (identity : Identity) × ((conversed setting state [] (p.unread ++ piece)).state.phase ≡ Done identity) × (privileged ≡ is_user identity)
 
 -- A message of a type that the standard does not define brings nothing.
 abbrev pub UnknownTypesBringNothing : Type 0

@@ -7,24 +7,20 @@ use Rattle.seq_bus_core.specs.Tickets.{bus_step}
 use Rattle.message_core.specs.Messages.{Message}
 use Rattle.message_relay.specs.MessageBytes.{message_bytes}
 use Rattle.driver.specs.declared.call.Call.{Call}
-use Rattle.driver.specs.Calls.{Reading, is_call_to_bus, IsCall}
+use Rattle.driver.specs.Calls.{Reading}
 use Rattle.bus_view.specs.Views.{Knowledge, bus_seen, next_entry, having_changed}
 use Rattle.router_core.specs.Acts.{Exchange, Fronted, Called, IsGranted, IsServedBy}
 use Rattle.router_core.specs.Answers.{Says}
 use Rattle.router_core.specs.Deeds.{Deed, Writes, Sends, announced}
 use Rattle.router_core.specs.Events.{Occasion, Opened, script}
-use Rattle.router_core.specs.Fronts.{Front, IsFront}
+use Rattle.router_core.specs.Fronts.{Front}
 use Rattle.router_core.specs.Scripts.{Script, Gives, Changing, Asking, Routing, Looking, Noting, Fronting, Calling, Gating, Wanting, Doing, Announcing}
 use Rattle.router_core.specs.Standing.{Standing}
 
--- What bytes and calls are read as. The bytes determine it, but for which of several faults is told.
+-- what bytes and calls are read as
 pub record Readers : Type 0 where
   pub front : List ℕ → Front
   pub call : Message → Reading Call
-
-pub record ReadWell (readers : Readers) : Type 0 where
-  pub fronts : (bytes : List ℕ) → IsFront bytes (readers.front bytes)
-  pub calls : (m : Message) → is_call_to_bus m ≡ true → IsCall m (readers.call m)
 
 -- all that was read was read so
 abbrev pub AreReadBy : Readers → List Exchange → Type 0
@@ -83,7 +79,7 @@ rest_after readers r (occasion ∷ occasions) = rest_after readers (given reader
 
 -- the keys of the connections that came, the last first
 abbrev pub keys_after : Occasion → List ℕ → List ℕ
-keys_after (Opened key) keys = key ∷ keys
+keys_after (Opened key challenge) keys = key ∷ keys
 keys_after other keys = keys
 
 -- which of all connections that came has the key, from 1; its key was another's before, perhaps

@@ -1,9 +1,13 @@
 -- What a router keeps between events.
 use Rattle.std.specs.Prelude.{ℕ, ◌+◌, Bool, true, false, ◌==◌, ◌&&◌, Option, Some, None, List, [], ◌∷◌, ◌++◌, length, slice_index_or, slice_set, if◌then◌else◌}
 use Rattle.seq_bus_core.specs.declared.connection.Conn.{Conn}
+use Rattle.sasl.specs.Settings.{Login, Setting}
+use Rattle.sasl.specs.Conversations.{State as AuthState, opening as auth_opening}
 
 -- How far a connection has come. It is privileged where it proved to be its user's.
 pub data Stage : Type 0 where
+  -- It says who it is: what the conversation is set up with, and how far it has come. Its unread bytes are a line that has no end yet.
+  Authenticating : Setting → AuthState → Stage
   -- it has no name yet
   Unnamed : (privileged : Bool) → Stage
   Named : Conn → Stage
@@ -17,13 +21,14 @@ pub record Peer : Type 0 where
   pub unread : List ℕ
   pub serial : ℕ
 
--- The connections by their keys, and the numbers of those that left, whose Leave is not made yet.
+-- The connections by their keys; the numbers of those that left, whose Leave is not made yet; and who may log in, if anyone may.
 pub record Standing : Type 0 where
   pub peers : List (Option Peer)
   pub leaves : List ℕ
+  pub login : Option Login
 
-abbrev pub fresh : Standing
-fresh = record { peers = []; leaves = [] }
+abbrev pub fresh : Option Login → Standing
+fresh login = record { peers = []; leaves = []; login = login }
 
 abbrev pub peer_at : Standing → ℕ → Option Peer
 peer_at s key = slice_index_or s.peers key None
@@ -31,15 +36,25 @@ peer_at s key = slice_index_or s.peers key None
 abbrev pub with_peer : Standing → ℕ → Option Peer → Standing
 with_peer s key peer = record s { peers = slice_set s.peers key peer }
 
--- a connection that has sent nothing
-abbrev pub newcomer : Peer
-newcomer = record { stage = Unnamed true; unread = []; serial = 0 }
+-- Whoever is challenged says who it is first. Nobody asks another: it counts as the bus's own user's. No one can answer a challenge where no
+-- one may log in.
+abbrev pub first_stage : Option Login → (challenge : Option (List ℕ)) → Stage
+first_stage login None = Unnamed true
+first_stage None (Some challenge) = Shut None
+first_stage (Some login) (Some challenge) = Authenticating (record { login = login; challenge = challenge }) auth_opening
 
-abbrev pub opened : Standing → ℕ → Standing
-opened s key = if key == length s.peers then record s { peers = s.peers ++ Some newcomer ∷ [] } else with_peer s key (Some newcomer)
+-- a connection that has sent nothing
+abbrev pub newcomer : Stage → Peer
+newcomer stage = record { stage = stage; unread = []; serial = 0 }
+
+abbrev pub opened : Standing → ℕ → (challenge : Option (List ℕ)) → Standing
+opened s key challenge =
+    let new : Option Peer = Some (newcomer (first_stage s.login challenge)) in
+    if key == length s.peers then record s { peers = s.peers ++ new ∷ [] } else with_peer s key new
 
 -- the number and the slot that its Hello gave it
 abbrev pub conn_of : Stage → Option Conn
+conn_of (Authenticating setting state) = None
 conn_of (Unnamed privileged) = None
 conn_of (Named conn) = Some conn
 conn_of (Shut conn) = conn
@@ -52,6 +67,13 @@ next_serial serial = if serial == 4294967295 then 1 else serial + 1
 abbrev pub shut : Peer → Peer
 shut p = record p { stage = Shut (conn_of p.stage); unread = [] }
 
+-- It has begun its messages.
+abbrev pub SpeaksDBus : Stage → Type 0
+SpeaksDBus (Authenticating setting state) = ⊥
+SpeaksDBus (Unnamed privileged) = Unit {0}
+SpeaksDBus (Named conn) = Unit {0}
+SpeaksDBus (Shut conn) = Unit {0}
+
 -- it has a name, and this slot
 abbrev pub has_slot : ℕ → Option Peer → Bool
 has_slot slot None = false
@@ -59,6 +81,7 @@ has_slot slot (Some p) = is_in p.stage
   where
     is_in : Stage → Bool
     is_in (Named conn) = conn.slot == slot
+    is_in (Authenticating setting state) = false
     is_in (Unnamed privileged) = false
     is_in (Shut conn) = false
 
@@ -68,6 +91,7 @@ is_unnamed None = false
 is_unnamed (Some p) = is_without p.stage
   where
     is_without : Stage → Bool
+    is_without (Authenticating setting state) = true
     is_without (Unnamed privileged) = true
     is_without (Named conn) = false
     is_without (Shut conn) = false
@@ -79,5 +103,6 @@ is_conn slot number (Some p) = is_it p.stage
   where
     is_it : Stage → Bool
     is_it (Named conn) = (conn.slot == slot) && (conn.number == number)
+    is_it (Authenticating setting state) = false
     is_it (Unnamed privileged) = false
     is_it (Shut conn) = false

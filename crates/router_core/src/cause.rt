@@ -1,6 +1,7 @@
 //! Why a router closes a connection.
 
 use message_core::FrameFault;
+use sasl::AuthenticationFault;
 use std::fmt;
 
 /// Why a router closes a connection. It is shown as its code: `66`, or that of the fault, as `28` or `25/9`.
@@ -16,6 +17,8 @@ pub enum CloseCause {
     Left,
     /// Its Hello would exceed a limit of the bus.
     LimitsExceeded,
+    /// It did not say who it is.
+    Unauthenticated(AuthenticationFault),
 }
 
 impl fmt::Display for CloseCause {
@@ -26,6 +29,7 @@ impl fmt::Display for CloseCause {
             CloseCause::NotHello => write!(f, "64"),
             CloseCause::Left => write!(f, "66"),
             CloseCause::LimitsExceeded => write!(f, "68"),
+            CloseCause::Unauthenticated(fault) => write!(f, "{}", fault.code()),
         }
     }
 }

@@ -5,18 +5,34 @@ use envelopes::Envelope;
 /// What happens to a router. A key is the place of a connection among those of the router.
 #[derive(Drop)]
 pub enum Event<N: Drop> {
-    /// A connection came, and has this key, which was free. Nobody asks who it is: it counts as the bus's own user's.
-    Opened { key: usize },
+    /// A connection came, and has this key, which was free. With a challenge, sixteen bytes that nobody can guess, it is to say who it is
+    /// before its first message; without one it counts as the bus's own user's.
+    Opened {
+        key: usize,
+        challenge: Option<[u8; 16]>,
+    },
     /// Bytes of a connection came.
-    Bytes { key: usize, piece: Vec<u8> },
+    Bytes {
+        key: usize,
+        piece: Vec<u8>,
+    },
     /// The next whole message of a connection is to be served.
-    Next { key: usize },
+    Next {
+        key: usize,
+    },
     /// An envelope came for the connection in a slot.
-    Mail { slot: u16, envelope: Envelope<N> },
+    Mail {
+        slot: u16,
+        envelope: Envelope<N>,
+    },
     /// A connection is gone, and its key is free.
-    Closed { key: usize },
+    Closed {
+        key: usize,
+    },
     /// The connection of this number, of whatever router, takes no more mail: an envelope for it could not be put.
-    Full { number: u64 },
+    Full {
+        number: u64,
+    },
     /// Time has passed.
     Tick,
 }

@@ -1,7 +1,7 @@
 //! Laws of the definitions.
 
 ghost use Rattle.std.specs.Prelude.{◌≡◌};
-ghost use Rattle.router_core.specs.Laws.{ClosedAreNotServed, ClosedTakeNothing, ClosedGetNoMail, UnknownTypesBringNothing, OnlyHelloGreets, AnswersAreLawful, NotesAreOwn, OneThreadIsAFunction, BytesAreAFunction};
+ghost use Rattle.router_core.specs.Laws.{ClosedAreNotServed, ClosedTakeNothing, ClosedGetNoMail, NobodySpeaksBeforeBegin, OnlyBeginBegins, UnknownTypesBringNothing, OnlyHelloGreets, AnswersAreLawful, NotesAreOwn, OneThreadIsAFunction, BytesAreAFunction};
 ghost use Rattle.router_core.specs.Standing.{next_serial};
 
 use crate::gate::Gate;
@@ -19,6 +19,18 @@ pub fn closed_connections_are_quiet()
     ensures served { ClosedAreNotServed }
     ensures fed { ClosedTakeNothing }
     ensures mail { ClosedGetNoMail }
+{}
+
+/// While a connection says who it is, no message of it is served, and no mail is written to it.
+#[tactic(auto, using(crate::proofs::FirstMessages::nobody_speaks_before_begin))]
+pub fn nobody_speaks_before_begin()
+    ensures { NobodySpeaksBeforeBegin }
+{}
+
+/// A connection that says who it is goes on to its messages only where its conversation is done, and is the bus's own user's only where it
+/// knows the cookie.
+pub fn only_begin_begins<V: BusView, G: Gate>()
+    ensures { OnlyBeginBegins V.told V.registry_of G.passes V.alone }
 {}
 
 /// A message of a type that the standard does not define brings nothing.

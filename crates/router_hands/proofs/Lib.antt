@@ -13,3 +13,6 @@ pub mod Nexts
 pub mod Judging
 pub mod Waiting
 pub mod Unwatched
+pub mod Answering
+pub mod Turning
+pub mod Stages

@@ -5,8 +5,7 @@ use Rattle.std.specs.List.{list_any}
 use Rattle.match_rules.specs.Facts.{Facts}
 use Rattle.match_rules.specs.Rules.{Rule}
 use Rattle.seq_bus_core.specs.BusState.{BusState, Connection, is_monitor, conn_of}
-use Rattle.seq_bus_core.specs.declared.connection.Conn.{Conn}
-use Rattle.seq_bus_core.specs.Recipients.{watches, monitors_shown, recipients, may_send, is_for_bus, destination_head, may_start, is_signal, conns_where}
+use Rattle.seq_bus_core.specs.Recipients.{watches, monitors_shown, recipients, may_send, is_for_bus, destination_head, may_start, is_signal}
 use Rattle.seq_bus_core.specs.declared.verdict.Verdict.{Verdict}
 
 neither : (a b : Bool) → (a || b) ≡ false → (a ≡ false) × (b ≡ false)

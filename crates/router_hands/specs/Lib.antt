@@ -1,6 +1,7 @@
 pub mod Work
 pub mod Hearing
 pub mod Stages
+pub mod Turns
 pub mod Writing
 pub mod Carrying
 pub mod Noting

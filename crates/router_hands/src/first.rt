@@ -1,7 +1,7 @@
 //! The first message of a connection. (D-Bus Specification: "org.freedesktop.DBus.Hello")
 
 ghost use Rattle.std.specs.Prelude.{◌≡◌, ◌<◌, ◌≤◌, ◌+◌, Some, None, IfOk, IfSome, OnOk, OnErr};
-ghost use Rattle.router_core.specs.Standing.{Unnamed};
+ghost use Rattle.router_core.specs.Standing.{Unnamed, SpeaksDBus};
 ghost use Rattle.router_hands.specs.Reading.{HasFront, HasFirst, IsRest, ComesOfNext};
 
 use crate::front::{Front, take_front};
@@ -42,7 +42,9 @@ pub struct Greeting {
 
 impl Peer {
     /// Takes its next message off its bytes; at a fault they are let go. Without memory nothing changes.
+    #[tactic(auto, using(crate::proofs::Stages::messages_unread, crate::proofs::Stages::messages_silent))]
     pub fn take_next(&mut self) -> Result<Front, AllocError>
+        requires { SpeaksDBus self.old.stage }
         ensures front { IfOk result (λ front. HasFront front self.old.unread self.new.unread) }
         ensures rest { OnOk result (IsRest self.old self.new) }
         ensures err { OnErr result (self.new ≡ self.old) }
@@ -51,7 +53,9 @@ impl Peer {
     }
 
     /// Takes its first message off its bytes. Without memory nothing changes.
+    #[tactic(auto, using(crate::proofs::Stages::messages_unread, crate::proofs::Stages::messages_silent))]
     fn take_first(&mut self) -> Result<First, AllocError>
+        requires { SpeaksDBus self.old.stage }
         ensures ok { IfOk result (λ first. HasFirst first self.old self.new) }
         ensures err { OnErr result (self.new ≡ self.old) }
     {

@@ -1,9 +1,9 @@
 //! The Leaves of the numbers of connections that are gone.
 
-ghost use Rattle.std.specs.Prelude.{◌≡◌, ◌<◌, ◌≤◌, ◌+◌, Option, List, length, vec_len, vec_capacity};
+ghost use Rattle.std.specs.Prelude.{◌≡◌, ◌<◌, ◌≤◌, ◌+◌, length, vec_len, vec_capacity};
 ghost use Rattle.router_core.specs.Events.{leave as leaving, leave_of as leaving_of, leave_all as leaving_all};
 ghost use Rattle.router_core.specs.Scripts.{Comes};
-ghost use Rattle.router_core.specs.Standing.{Peer as Standing_peer};
+ghost use Rattle.router_core.specs.Standing.{Standing};
 
 use crate::hands::Hands;
 use crate::room::push_reserved;
@@ -16,7 +16,7 @@ impl<V: BusView, G: Gate> Hands<V, G> {
     pub fn leave(&mut self, right: &V::Right, number: u64, leaves: &mut Vec<u64>)
         requires room { 0 < self.old.room }
         requires spare { vec_len leaves.old < vec_capacity leaves.old }
-        ensures comes { (peers : List (Option Standing_peer)) → Comes V.told V.registry_of G.passes V.alone (leaving (record { peers = peers; leaves = leaves.old.items }) number) self.old.world (record { peers = peers; leaves = leaves.new.items }) self.new.world }
+        ensures comes { (s : Standing) → Comes V.told V.registry_of G.passes V.alone (leaving (record s { leaves = leaves.old.items }) number) self.old.world (record s { leaves = leaves.new.items }) self.new.world }
         ensures room { self.old.room ≤ self.new.room + 1 }
         ensures len { vec_len leaves.new ≤ vec_len leaves.old + 1 }
         ensures capacity { vec_capacity leaves.old ≤ vec_capacity leaves.new }
@@ -31,7 +31,7 @@ impl<V: BusView, G: Gate> Hands<V, G> {
     pub fn leave_of(&mut self, right: &V::Right, conn: Option<Conn>, leaves: &mut Vec<u64>)
         requires room { 0 < self.old.room }
         requires spare { vec_len leaves.old < vec_capacity leaves.old }
-        ensures comes { (peers : List (Option Standing_peer)) → Comes V.told V.registry_of G.passes V.alone (leaving_of (record { peers = peers; leaves = leaves.old.items }) conn) self.old.world (record { peers = peers; leaves = leaves.new.items }) self.new.world }
+        ensures comes { (s : Standing) → Comes V.told V.registry_of G.passes V.alone (leaving_of (record s { leaves = leaves.old.items }) conn) self.old.world (record s { leaves = leaves.new.items }) self.new.world }
     {
         match conn {
             None => {}
@@ -43,7 +43,7 @@ impl<V: BusView, G: Gate> Hands<V, G> {
     pub fn leave_all(&mut self, right: &V::Right, numbers: &[u64], leaves: &mut Vec<u64>)
         requires room { length numbers.now ≤ self.old.room }
         requires spare { vec_len leaves.old + length numbers.now ≤ vec_capacity leaves.old }
-        ensures comes { (peers : List (Option Standing_peer)) → Comes V.told V.registry_of G.passes V.alone (leaving_all numbers.now (record { peers = peers; leaves = leaves.old.items })) self.old.world (record { peers = peers; leaves = leaves.new.items }) self.new.world }
+        ensures comes { (s : Standing) → Comes V.told V.registry_of G.passes V.alone (leaving_all numbers.now (record s { leaves = leaves.old.items })) self.old.world (record s { leaves = leaves.new.items }) self.new.world }
         ensures room { self.old.room ≤ self.new.room + length numbers.now }
     {
         for number in numbers {

@@ -5,6 +5,7 @@
 #![tactic(auto)]
 
 mod closing;
+mod conversing;
 mod first;
 mod front;
 mod hands;

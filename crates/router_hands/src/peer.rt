@@ -4,10 +4,10 @@ ghost use Rattle.std.specs.Prelude.{◌≡◌, ◌<◌, ◌≤◌, ◌+◌, true
 ghost use Rattle.router_core.specs.Events.{closing, fed, look};
 ghost use Rattle.router_core.specs.Fronts.{Waits, IsFront};
 ghost use Rattle.router_core.specs.Scripts.{Comes};
-ghost use Rattle.router_core.specs.Standing.{Named, newcomer, next_serial, conn_of, shut};
+ghost use Rattle.router_core.specs.Standing.{Named, SpeaksDBus, newcomer, next_serial, conn_of, shut};
 ghost use Rattle.router_hands.specs.Hearing.{heard_present};
 ghost use Rattle.router_hands.specs.Quiet.{IsQuiet};
-ghost use Rattle.router_hands.specs.Stages.{stage_of};
+ghost use Rattle.router_hands.specs.Stages.{stage_of, IsFirst};
 
 use crate::hands::Hands;
 use crate::mail::serial_after;
@@ -15,13 +15,16 @@ use bus_view::BusView;
 use message::Framer;
 use message_core::Message;
 use router_core::{CloseCause, Gate};
+use sasl::Server;
 use seq_bus_core::Conn;
 use std::alloc::{AllocError, Global};
 use std::marker::Model;
 
 /// How far a connection has come.
-#[derive(Clone, Copy, Debug)]
+#[derive(Drop)]
 pub enum Stage {
+    /// It says who it is.
+    Authenticating(Box<Server>),
     /// It has no name yet. It is privileged where it proved to be its user's.
     Unnamed { privileged: bool },
     /// Its Hello gave it a number and a slot.
@@ -32,13 +35,14 @@ pub enum Stage {
 
 impl Stage {
     /// What its Hello gave it.
-    pub fn conn(self) -> Option<Conn>
-        ensures { result ≡ conn_of (stage_of self) }
+    pub fn conn(&self) -> Option<Conn>
+        ensures { result ≡ conn_of (stage_of self.now) }
     {
         match self {
+            Stage::Authenticating(_) => None,
             Stage::Unnamed { privileged: _ } => None,
-            Stage::Named(conn) => Some(conn),
-            Stage::Shut(conn) => conn,
+            Stage::Named(conn) => Some(*conn),
+            Stage::Shut(conn) => *conn,
         }
     }
 }
@@ -47,7 +51,7 @@ impl Stage {
 #[derive(Drop)]
 pub struct Peer {
     pub(crate) alloc: Global,
-    stage: Stage,
+    pub(crate) stage: Stage,
     /// A message that was taken off its bytes, and for whose serving there was no memory.
     pub(crate) pending: Option<Message>,
     pub(crate) unread: Framer,
@@ -57,24 +61,26 @@ pub struct Peer {
 impl Model for Peer {
     ghost use Rattle.std.specs.Prelude.{◌≡◌, ◌++◌, None, IfSome};
     ghost use Rattle.router_core.specs.Standing.{Peer as Standing_peer};
-    ghost use Rattle.router_hands.specs.Stages.{stage_of};
+    ghost use Rattle.router_hands.specs.Stages.{stage_of, unread_at, IsSilentAt};
     ghost use Rattle.router_hands.specs.Pending.{IsWithin, pending_bytes};
 
     ghost Value = { Standing_peer };
 
-    ghost view = { λ p. record { stage = stage_of p.stage; unread = pending_bytes p.pending ++ p.unread.bytes; serial = p.serial } };
+    ghost view = { λ p. record { stage = stage_of p.stage; unread = unread_at p.stage (pending_bytes p.pending ++ p.unread.bytes); serial = p.serial } };
 
-    ghost invariant = { λ p. (p.unread.fault ≡ None) × IfSome p.pending IsWithin };
+    ghost invariant = { λ p. (p.unread.fault ≡ None) × IfSome p.pending IsWithin × IsSilentAt p.stage (pending_bytes p.pending ++ p.unread.bytes) };
 }
 
 impl Peer {
-    /// A connection that has sent nothing. Nobody asked who it is: it counts as the bus's own user's.
-    pub fn new(alloc: Global) -> Peer
-        ensures { result ≡ newcomer }
+    /// A connection that has sent nothing.
+    #[tactic(auto, using(crate::proofs::Stages::first_unread, crate::proofs::Stages::nothing_silent))]
+    pub fn new(alloc: Global, stage: Stage) -> Peer
+        requires { IsFirst stage }
+        ensures { result ≡ newcomer (stage_of stage) }
     {
         Peer {
             alloc,
-            stage: Stage::Unnamed { privileged: true },
+            stage,
             pending: None,
             unread: Framer::new(alloc),
             serial: 0,
@@ -82,14 +88,16 @@ impl Peer {
     }
 
     /// How far it has come.
-    pub fn stage(&self) -> Stage
-        ensures { stage_of result ≡ self.now.stage }
+    pub fn stage(&self) -> &Stage
+        ensures { stage_of result.now ≡ self.now.stage }
     {
-        self.stage
+        &self.stage
     }
 
-    /// Takes a piece of its bytes. Once it was closed it takes none. Without memory nothing changes, and the piece stays where it was.
-    pub fn feed(&mut self, piece: &mut Vec<u8>) -> Result<(), AllocError>
+    /// Takes a piece of the bytes of its messages. Once it was closed it takes none. Without memory nothing changes, and the piece stays
+    /// where it was.
+    pub(crate) fn feed(&mut self, piece: &mut Vec<u8>) -> Result<(), AllocError>
+        requires { SpeaksDBus self.old.stage }
         ensures ok { OnOk result (self.new ≡ fed piece.old.items self.old self.old.stage) }
         ensures err { OnErr result (self.new ≡ self.old) }
         ensures kept { OnErr result (piece.new ≡ piece.old) }
@@ -97,6 +105,7 @@ impl Peer {
         match self.stage {
             Stage::Shut(_) => Ok(()),
             Stage::Unnamed { privileged: _ } | Stage::Named(_) => self.unread.feed_owned(piece),
+            Stage::Authenticating(_) => Ok(()),
         }
     }
 
@@ -106,15 +115,16 @@ impl Peer {
         ensures ready { result ≡ true → IsQuiet self.now → ⊥ }
     {
         match self.stage {
-            Stage::Shut(_) => false,
+            Stage::Authenticating(_) | Stage::Shut(_) => false,
             Stage::Unnamed { privileged: _ } => self.has_front(),
             Stage::Named(_) => self.has_front(),
         }
     }
 
     /// Whether a message stands at the front of its bytes, or what is none.
-    #[tactic(auto, using(crate::proofs::Waiting::pending_is_whole))]
+    #[tactic(auto, using(crate::proofs::Waiting::pending_is_whole, crate::proofs::Stages::messages_unread))]
     fn has_front(&self) -> bool
+        requires { SpeaksDBus self.now.stage }
         ensures waits { result ≡ false → IsFront self.now.unread Waits }
         ensures there { result ≡ true → IsFront self.now.unread Waits → ⊥ }
     {
@@ -136,7 +146,9 @@ impl Peer {
     }
 
     /// Its Hello gave it this number and this slot.
+    #[tactic(auto, using(crate::proofs::Stages::messages_unread))]
     pub fn welcome(&mut self, conn: Conn)
+        requires { SpeaksDBus self.old.stage }
         ensures { self.new ≡ record self.old { stage = Named conn } }
     {
         self.stage = Stage::Named(conn);
@@ -183,6 +195,7 @@ impl<V: BusView, G: Gate> Hands<V, G> {
         ensures room { self.old.room ≤ self.new.room + 1 }
     {
         if let Stage::Named(conn) = peer.stage() {
+            let conn = *conn;
             self.look_at(key, peer, conn);
         }
     }

@@ -3,8 +3,8 @@
 ghost use Rattle.std.specs.Prelude.{◌≡◌, ◌<◌, ◌≤◌, ◌+◌, [], length, option_map, OnOk, OnErr};
 ghost use Rattle.envelopes.specs.Contents.{said_of};
 ghost use Rattle.router_core.specs.Deeds.{IsOwnNote};
-ghost use Rattle.router_core.specs.Events.{closing, fed, for_slot, look, look_all as looking_at_all, write as writing};
-ghost use Rattle.router_core.specs.Scripts.{Gives, Comes};
+ghost use Rattle.router_core.specs.Events.{closing, hear, for_slot, look, look_all as looking_at_all, write as writing};
+ghost use Rattle.router_core.specs.Scripts.{Comes};
 ghost use Rattle.router_hands.specs.Noting.{once_noted};
 
 use crate::hands::Hands;
@@ -16,14 +16,21 @@ use std::alloc::{AllocError, Global};
 
 impl<V: BusView, G: Gate> Hands<V, G> {
     /// Takes a piece of the bytes of a connection, if it is there. Without memory nothing changes, and the piece stays where it was.
-    pub fn feed_slot(&self, slot: &mut Option<Peer>, piece: &mut Vec<u8>) -> Result<(), AllocError>
-        ensures ok { OnOk result (Comes V.told V.registry_of G.passes V.alone (for_slot slot.old (λ p. Gives (fed piece.old.items p p.stage))) self.now.world slot.new self.now.world) }
+    pub fn hear_slot(
+        &mut self,
+        key: usize,
+        slot: &mut Option<Peer>,
+        piece: &mut Vec<u8>,
+    ) -> Result<(), AllocError>
+        requires { 1 < self.old.room }
+        ensures comes { OnOk result (Comes V.told V.registry_of G.passes V.alone (for_slot slot.old (λ p. hear key piece.old.items p p.stage)) self.old.world slot.new self.new.world) }
         ensures err { OnErr result (slot.new ≡ slot.old) }
+        ensures world { OnErr result (self.new.world ≡ self.old.world) }
         ensures kept { OnErr result (piece.new ≡ piece.old) }
     {
         match slot {
             None => Ok(()),
-            Some(peer) => peer.feed(piece),
+            Some(peer) => self.hear(key, peer, piece),
         }
     }
 

@@ -6,8 +6,8 @@ use Rattle.router_core.specs.Deeds.{Deed, Closes}
 use Rattle.router_core.specs.Events.{Next, fed}
 use Rattle.router_core.specs.Fronts.{Front, Waits, Whole, Faulty}
 use Rattle.router_core.specs.OneThread.{Readers, Rest, given}
-use Rattle.router_core.specs.Standing.{Peer, Stage, Unnamed, Named, Shut, peer_at}
-use Rattle.router.proofs.Feeding.{TakesBytes, closed_more, end_more, faulty_given, more, more_if, next_given, peer_with_more, rest_more, shut_given}
+use Rattle.router_core.specs.Standing.{Peer, Stage, Authenticating, Unnamed, Named, Shut, peer_at}
+use Rattle.router.proofs.Feeding.{TakesBytes, authenticating_given, closed_more, end_more, faulty_given, more, more_if, next_given, peer_with_more, rest_more, shut_given}
 use Rattle.router_laws.specs.Readings.{with_behind}
 
 module _ (readers : Readers) where
@@ -23,6 +23,7 @@ module _ (readers : Readers) where
       grown stage is takes h = subst (λ (st : Stage). TakesBytes (fed piece p st).stage × ((fed piece p st).unread ≡ p.unread ++ piece)) (sym is) h
 
       by_stage : (stage : Stage) → p.stage ≡ stage → TakesBytes stage → TakesBytes (more piece key p).stage × ((more piece key p).unread ≡ p.unread ++ piece)
+      by_stage (Authenticating setting state) is takes = absurd takes
       by_stage (Unnamed privileged) is takes = grown (Unnamed privileged) is takes (subst (λ (st : Stage). TakesBytes st) (sym is) tt, refl)
       by_stage (Named conn) is takes = grown (Named conn) is takes (subst (λ (st : Stage). TakesBytes st) (sym is) tt, refl)
       by_stage (Shut conn) is takes = absurd takes
@@ -42,6 +43,9 @@ module _ (readers : Readers) where
           ∙ ap (λ (end : List Deed × Rest). end_more piece key end) (sym (faulty_given readers key r p fault here takes front))
 
       by_stage : (stage : Stage) → p.stage ≡ stage → Commutes key piece r
+      by_stage (Authenticating setting state) is =
+          authenticating_given readers key (rest_more piece key r) (more piece key p) setting state there (ap (λ (st : Stage). (fed piece p st).stage) is ∙ is)
+          ∙ ap (λ (end : List Deed × Rest). end_more piece key end) (sym (authenticating_given readers key r p setting state here is))
       by_stage (Unnamed privileged) is = taken (subst (λ (st : Stage). TakesBytes st) (sym is) tt)
       by_stage (Named conn) is = taken (subst (λ (st : Stage). TakesBytes st) (sym is) tt)
       by_stage (Shut conn) is =

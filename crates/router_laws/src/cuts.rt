@@ -1,16 +1,18 @@
 //! How the bytes of a connection are cut.
 
-ghost use Rattle.router_laws.specs.Cuts.{PiecesAreJoined, ShortMessagesWait, WholeMessagesComeFirst};
+ghost use Rattle.router_laws.specs.Cuts.{LinesAreNotServed, PiecesAreJoined, ShortMessagesWait, WholeMessagesComeFirst};
 ghost use Rattle.router_laws.specs.GrantedRuns.{AlikeRunsAgree};
 
 use router_core::Gate;
 
 /// However the bytes of a connection are cut, the same bytes go to each connection, and the same is left: pieces that come
-/// one after the other are the same as all of it at once, serving a connection whose next message is not whole yet does
-/// nothing, and a message that is whole, or at fault, is served in the same way, whatever comes behind it.
+/// one after the other are the same as all of it at once, also where they say who it is; serving a connection whose next
+/// message is not whole yet, or that still says who it is, does nothing; and once it has begun its messages, one that is
+/// whole, or at fault, is served in the same way, whatever comes behind it.
 pub fn cuts_make_no_difference()
     ensures joined { PiecesAreJoined }
     ensures waiting { ShortMessagesWait }
+    ensures lines { LinesAreNotServed }
     ensures whole { WholeMessagesComeFirst }
 {}
 

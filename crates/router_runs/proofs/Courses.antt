@@ -6,17 +6,17 @@ use Rattle.router_core.specs.declared.action.Action.{Action}
 use Rattle.router_core.specs.declared.event.Event.{Event}
 use Rattle.router_core.specs.Acts.{State, Brings}
 use Rattle.router_core.specs.Deeds.{GatedCall}
-use Rattle.router_core.specs.Events.{CanHappen, Occasion, Opened, Bytes, Next, Mail, Closed, Full, Tick}
-use Rattle.router_core.specs.OneThread.{bus_bytes, keys_after, written_to}
+use Rattle.router_core.specs.Events.{Occasion, Opened, Bytes, Next, Mail, Closed, Full, Tick}
+use Rattle.router_core.specs.OneThread.{keys_after, written_to}
+use Rattle.router_core.specs.Standing.{Standing}
 use Rattle.router_core.proofs.Asked.{answers_are_lawful}
 use Rattle.router_runs.specs.declared.fault.RunFault.{RunFault}
-use Rattle.router_runs.specs.declared.fault.RunFault.TheVariants.{KeyTaken, NoMemory}
+use Rattle.router_runs.specs.declared.fault.RunFault.TheVariants.{KeyTaken, NoLogin, NoMemory}
 use Rattle.router.specs.OneEvent.{rest_in}
 use Rattle.router_runs.specs.Turns.{AreServedBy, keys_of, written_by}
-use Rattle.router_runs.specs.Runs.{IsFaultOf, IsRunOf, IsStopped, happening, occasions_of}
+use Rattle.router_runs.specs.Runs.{IsFaultOf, IsRunOf, IsStopped, LacksKey, LacksLogin, happening, occasions_of}
 use Rattle.router_runs.specs.Outputs.{Adds, IsCourse, IsRefused, IsTurn, Output, bytes_by, bytes_by_all, met, no_output}
 use Rattle.router_runs.proofs.Appending.{served_more, keys_more, written_more, shown_more}
-use Rattle.router_runs.proofs.Granting.{written_alone}
 use Rattle.router_runs.proofs.Keeping.{turns_keep}
 use Rattle.router_runs.proofs.Places.{all_places, nothing_yet}
 use Rattle.router_runs.proofs.Writes.{actions_are, bytes_more}
@@ -47,7 +47,7 @@ takes_more {N = N} actions i action first mid last inside is before here =
 -- ## A connection that came
 
 met_keys : (occasion : Occasion) (out : Output) → (met occasion out).keys ≡ keys_after occasion out.keys
-met_keys (Opened key) out = refl
+met_keys (Opened key challenge) out = refl
 met_keys (Bytes key piece) out = refl
 met_keys (Next key) out = refl
 met_keys (Mail slot number told said) out = refl
@@ -56,7 +56,7 @@ met_keys (Full number) out = refl
 met_keys Tick out = refl
 
 met_each : (occasion : Occasion) (out : Output) (k : ℕ) → get_or (met occasion out).written k [] ≡ get_or out.written k []
-met_each (Opened key) out k = nothing_yet out.written k
+met_each (Opened key challenge) out k = nothing_yet out.written k
 met_each (Bytes key piece) out k = refl
 met_each (Next key) out k = refl
 met_each (Mail slot number told said) out k = refl
@@ -65,7 +65,7 @@ met_each (Full number) out k = refl
 met_each Tick out k = refl
 
 met_count : (occasion : Occasion) (out : Output) → length out.written ≡ length out.keys → length (met occasion out).written ≡ length (met occasion out).keys
-met_count (Opened key) out h = length-append out.written ([] ∷ []) ∙ omega (arith, h)
+met_count (Opened key challenge) out h = length-append out.written ([] ∷ []) ∙ omega (arith, h)
 met_count (Bytes key piece) out h = h
 met_count (Next key) out h = h
 met_count (Mail slot number told said) out h = h
@@ -130,22 +130,20 @@ module _ {G : Type 0} (passes : G → GatedCall → G → Type 0) where
         served = c.served;
         shown = c.shown;
         written = all_places sent.written (length (keys_of occasions [])) (λ opening. written_by opening [] occasions c.turns) count c.each;
-        one_thread = λ granted readers read.
-            all_places sent.written (length (keys_of occasions [])) (λ opening. bus_bytes readers opening [] (rest_in before) occasions) count
-            (λ k. c.each k ∙ written_alone readers (k + 1) (rest_in before) (rest_in after) occasions c.turns c.served granted read);
       }
 
-  pub course_stops : (before now : State G) (events : List (Event (Unit {0}))) (index : ℕ) (event : Event (Unit {0})) (sent : Output) →
-      IsCourse passes before (take index events) now sent → slice_get events index ≡ Some event →
-      (CanHappen (λ _. 0) now.view.registry now.standing event → ⊥) → IsStopped (rest_in before) events index
-  course_stops before now events index event sent c reached impossible =
+  pub course_stops : (lacks : Standing → Event (Unit {0}) → Type 0) (before now : State G) (events : List (Event (Unit {0}))) (index : ℕ) (event : Event (Unit {0})) (sent : Output) →
+      IsCourse passes before (take index events) now sent → slice_get events index ≡ Some event → lacks now.standing event → IsStopped lacks (rest_in before) events index
+  course_stops lacks before now events index event sent c reached impossible =
       record { turns = c.turns; now = rest_in now; served = c.served; event = event; reached = reached; impossible = impossible }
 
   -- why an event is not served is why the run ends
   pub course_faults : (before now : State G) (events : List (Event (Unit {0}))) (index : ℕ) (event : Event (Unit {0})) (sent : Output) (fault : RunFault) →
       IsCourse passes before (take index events) now sent → slice_get events index ≡ Some event → IsRefused now index event fault → IsFaultOf (rest_in before) events fault
   course_faults before now events index event sent (KeyTaken at) c reached refused =
-      subst (λ (n : ℕ). IsStopped (rest_in before) events n) (sym refused.0) (course_stops before now events index event sent c reached refused.1)
+      subst (λ (n : ℕ). IsStopped LacksKey (rest_in before) events n) (sym refused.0) (course_stops LacksKey before now events index event sent c reached refused.1)
+  course_faults before now events index event sent (NoLogin at) c reached refused =
+      subst (λ (n : ℕ). IsStopped LacksLogin (rest_in before) events n) (sym refused.0) (course_stops LacksLogin before now events index event sent c reached refused.1)
   course_faults before now events index event sent NoMemory c reached refused = tt
 
   pub course_registry : (before now : State G) (events : List (Event (Unit {0}))) (sent : Output) → IsCourse passes before events now sent → now.view.registry ≡ before.view.registry

@@ -4,5 +4,4 @@ pub mod Granting
 pub mod Places
 pub mod Writes
 pub mod Courses
-pub mod Cutting
 pub mod Counting

@@ -1,4 +1,3 @@
 pub mod Turns
 pub mod Runs
 pub mod Outputs
-pub mod Cuts

@@ -5,11 +5,11 @@ use Rattle.router_core.specs.declared.action.Action.TheVariants.{Write}
 use Rattle.router_core.specs.declared.event.Event.{Event}
 use Rattle.router_core.specs.Acts.{IsServedBy, State, gated_in}
 use Rattle.router_core.specs.Deeds.{GatedCall, PassesAll}
-use Rattle.router_core.specs.Events.{CanHappen, Occasion, Opened}
+use Rattle.router_core.specs.Events.{Occasion, Opened}
 use Rattle.router_core.specs.OneThread.{bytes_if, opening_of, written_to}
 use Rattle.router_runs.specs.declared.fault.RunFault.{RunFault}
-use Rattle.router_runs.specs.declared.fault.RunFault.TheVariants.{KeyTaken, NoMemory}
-use Rattle.router_runs.specs.Runs.{happening, occasions_of}
+use Rattle.router_runs.specs.declared.fault.RunFault.TheVariants.{KeyTaken, NoLogin, NoMemory}
+use Rattle.router_runs.specs.Runs.{LacksKey, LacksLogin, happening, occasions_of}
 use Rattle.router.specs.OneEvent.{rest_in}
 use Rattle.router_runs.specs.Turns.{AreServedBy, Turn, asked_in, keys_of, written_by}
 
@@ -38,7 +38,7 @@ bytes_by_all opening keys (action ∷ actions) = bytes_by opening keys action ++
 
 -- A connection that came has got nothing yet.
 abbrev pub met : Occasion → Output → Output
-met (Opened key) out = record { keys = key ∷ out.keys; written = out.written ++ [] ∷ [] }
+met (Opened key challenge) out = record { keys = key ∷ out.keys; written = out.written ++ [] ∷ [] }
 met other out = out
 
 -- One event is served, and its bytes go to the connections.
@@ -59,5 +59,6 @@ pub record IsCourse {G : Type 0} (passes : G → GatedCall → G → Type 0) (be
 
 -- why the event of this index is not served
 abbrev pub IsRefused : {G : Type 0} → State G → ℕ → Event (Unit {0}) → RunFault → Type 0
-IsRefused now index event (KeyTaken at) = (at ≡ index) × (CanHappen (λ _. 0) now.view.registry now.standing event → ⊥)
+IsRefused now index event (KeyTaken at) = (at ≡ index) × LacksKey now.standing event
+IsRefused now index event (NoLogin at) = (at ≡ index) × LacksLogin now.standing event
 IsRefused now index event NoMemory = Unit {0}

@@ -9,6 +9,9 @@ pub enum RunFault {
     /// A connection comes at the event of this index, and its key is not free.
     #[error("event {0}: the key is not free")]
     KeyTaken(usize),
+    /// A connection that is to say who it is comes at the event of this index, and no one may log in.
+    #[error("event {0}: no one may log in")]
+    NoLogin(usize),
     #[error("out of memory")]
     NoMemory,
 }

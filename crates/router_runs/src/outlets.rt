@@ -57,7 +57,7 @@ impl Outlets {
     pub(crate) fn meet(&mut self, event: &Event<()>) -> Result<(), AllocError>
         ensures { OnOk result (self.new ≡ met (happening event.now) self.old) }
     {
-        if let Event::Opened { key } = event {
+        if let Event::Opened { key, challenge: _ } = event {
             let outlet = Outlet {
                 key: *key,
                 bytes: Vec::new(self.alloc),

@@ -1,6 +1,6 @@
 //! The run of a list of events.
 
-ghost use Rattle.std.specs.Prelude.{◌≡◌, IsTrue, ◌↔◌, map, OnOk, IfOk, IfErr};
+ghost use Rattle.std.specs.Prelude.{◌≡◌, map, OnOk, IfOk, IfErr};
 ghost use Rattle.bus_view.specs.PlainViews.{knowledge_of};
 ghost use Rattle.router_core.specs.Events.{CanHappen};
 ghost use Rattle.router_core.specs.Standing.{fresh};
@@ -9,7 +9,7 @@ ghost use Rattle.router_runs.specs.Runs.{IsFaultOf, IsRunOf, fresh_over, occasio
 
 use crate::fault::RunFault;
 use crate::outlets::Outlets;
-use router::Engine;
+use router::{Engine, Login};
 use router_core::{Event, Gate};
 use seq_bus::SeqBus;
 use std::alloc::{AllocError, Global};
@@ -23,25 +23,38 @@ struct Session<G: Gate> {
 
 impl<G: Gate + Drop> Session<G> {
     /// An engine without connections.
-    fn new(alloc: Global, bus: SeqBus, gate: G) -> Result<Session<G>, AllocError>
-        ensures engine { IfOk result (λ session. session.engine ≡ record { standing = fresh; view = knowledge_of bus; gate = gate }) }
+    fn new(
+        alloc: Global,
+        bus: SeqBus,
+        gate: G,
+        login: Option<Login>,
+    ) -> Result<Session<G>, AllocError>
+        ensures engine { IfOk result (λ session. session.engine ≡ record { standing = fresh login; view = knowledge_of bus; gate = gate }) }
         ensures outlets { IfOk result (λ session. session.outlets ≡ no_output) }
     {
         Ok(Session {
-            engine: Engine::new(alloc, bus, gate)?,
+            engine: Engine::new(alloc, bus, gate, login)?,
             outlets: Outlets::new(alloc),
         })
     }
 
-    /// Whether an event can happen: a connection comes only where its key is free.
-    fn can_happen(&self, event: &Event<()>) -> bool
+    /// Whether the event of this index can happen: a connection comes only where its key is free, and is asked who it is only
+    /// where someone may log in.
+    fn admit(&self, index: usize, event: &Event<()>) -> Result<(), RunFault>
         requires { self.now.engine.view.registry ≡ 0 }
-        ensures { IsTrue result ↔ CanHappen (λ _. 0) self.now.engine.view.registry self.now.engine.standing event.now }
+        ensures happens { OnOk result (CanHappen (λ _. 0) self.now.engine.view.registry self.now.engine.standing event.now) }
+        ensures fault { IfErr result (λ fault. IsRefused self.now.engine index event.now fault) }
     {
-        match event {
-            Event::Opened { key } => self.engine.is_free(*key),
-            _ => true,
+        let Event::Opened { key, challenge } = event else {
+            return Ok(());
+        };
+        if !self.engine.is_free(*key) {
+            return Err(RunFault::KeyTaken(index));
         }
+        if challenge.is_some() && !self.engine.has_login() {
+            return Err(RunFault::NoLogin(index));
+        }
+        Ok(())
     }
 
     /// Serves the event of this index.
@@ -50,9 +63,7 @@ impl<G: Gate + Drop> Session<G> {
         ensures turn { OnOk result (IsTurn G.passes self.old.engine self.old.outlets event self.new.engine self.new.outlets) }
         ensures fault { IfErr result (λ fault. IsRefused self.old.engine index event fault) }
     {
-        if !self.can_happen(&event) {
-            return Err(RunFault::KeyTaken(index));
-        }
+        self.admit(index, &event)?;
         self.outlets.meet(&event)?;
         let mut event = event;
         let actions = self.engine.event(&(), &mut event)?;
@@ -62,20 +73,21 @@ impl<G: Gate + Drop> Session<G> {
 }
 
 /// Serves events in order over a plain bus, from no connection on, and gives the bytes that go to each connection, the
-/// first that came first.
+/// first that came first. Connections that come with a challenge say who they are, by the login.
 ///
-/// However the bytes of the connections are cut, what goes to them is what the bus of one thread gives them, where nothing
-/// is refused for want of memory. It ends early where a connection comes whose key is not free, or without memory.
+/// What goes to them is what the actions of the events write. It ends early where a connection comes whose key is not free,
+/// or that is to say who it is where no one may log in; and without memory.
 pub fn run<G: Gate + Drop>(
     alloc: Global,
     bus: SeqBus,
     gate: G,
+    login: Option<Login>,
     events: Vec<Event<()>>,
 ) -> Result<Vec<Vec<u8>>, RunFault>
-    ensures run { IfOk result (λ all. IsRunOf G.passes gate (fresh_over bus) (occasions_of events.items) (map (λ bytes. bytes.items) all.items)) }
-    ensures fault { IfErr result (λ fault. IsFaultOf (fresh_over bus) events.items fault) }
+    ensures run { IfOk result (λ all. IsRunOf G.passes gate (fresh_over login bus) (occasions_of events.items) (map (λ bytes. bytes.items) all.items)) }
+    ensures fault { IfErr result (λ fault. IsFaultOf (fresh_over login bus) events.items fault) }
 {
-    let mut session = Session::new(alloc, bus, gate)?;
+    let mut session = Session::new(alloc, bus, gate, login)?;
     for (index, event) in events.into_iter().enumerate() {
         session.serve(index, event)?;
     }

@@ -59,9 +59,13 @@ pub fn next_in<V: BusView, G: Gate>(
         return Ok(None);
     };
     match peer.stage() {
-        Stage::Shut(_) => Ok(None),
-        Stage::Unnamed { privileged } => hands.greet_or_close(key, slot, privileged),
+        Stage::Authenticating(_) | Stage::Shut(_) => Ok(None),
+        Stage::Unnamed { privileged } => {
+            let privileged = *privileged;
+            hands.greet_or_close(key, slot, privileged)
+        }
         Stage::Named(conn) => {
+            let conn = *conn;
             serve_next(alloc, hands, right, key, peer, conn)?;
             Ok(None)
         }

@@ -21,7 +21,7 @@ pub(crate) fn run<R: Read, W: Write>(
         return Err(RunFault::Memory);
     };
     let seat = bus.seat();
-    let Ok(mut engine) = Engine::new(alloc, bus, OpenGate) else {
+    let Ok(mut engine) = Engine::new(alloc, bus, OpenGate, None) else {
         return Err(RunFault::Memory);
     };
     run_by(alloc, &mut engine, &(), seat, reader, writer)

@@ -1,4 +1,4 @@
-use Rattle.std.proofs.Common.{◌≡◌, ◌<◌, ◌≤◌, None, true, false, length, get_or, rules, arith, sym, ap, ◌∙◌}
+use Rattle.std.proofs.Common.{◌≡◌, ◌<◌, None, true, false, get_or, rules, arith, sym, ap, ◌∙◌}
 use Rattle.std.proofs.lemmas.List.{get_or_read, get_or_past}
 use Rattle.router_core.specs.Standing.{is_conn}
 use Rattle.router.specs.Indexed.{slot_count}

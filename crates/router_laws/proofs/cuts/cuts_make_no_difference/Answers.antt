@@ -1,5 +1,5 @@
 use Rattle.router_laws.proofs.cuts.cuts_make_no_difference.Goals as goal
-use Rattle.router_laws.proofs.Recutting.{pieces_are_joined, short_messages_wait, whole_messages_come_first}
+use Rattle.router_laws.proofs.Recutting.{lines_are_not_served, pieces_are_joined, short_messages_wait, whole_messages_come_first}
 
 -- src/cuts.rt:11:1
 pub returns-clause-joined : goal.returns-clause-joined
@@ -8,6 +8,10 @@ returns-clause-joined c = pieces_are_joined
 -- src/cuts.rt:11:1
 pub returns-clause-waiting : goal.returns-clause-waiting
 returns-clause-waiting c = short_messages_wait
+
+-- src/cuts.rt:11:1
+pub returns-clause-lines : goal.returns-clause-lines
+returns-clause-lines c = lines_are_not_served
 
 -- src/cuts.rt:11:1
 pub returns-clause-whole : goal.returns-clause-whole

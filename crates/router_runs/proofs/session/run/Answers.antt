@@ -15,18 +15,18 @@ use Rattle.router_runs.proofs.session.run.Goals as goal
 
 pub loop-index-init : goal.loop-index-init
 loop-index-init g c =
-    let start : State g.row.G.Denot = record { standing = fresh; view = knowledge_of c.args.bus; gate = c.args.gate } in
+    let start : State g.row.G.Denot = record { standing = fresh c.args.login; view = knowledge_of c.args.bus; gate = c.args.gate } in
     subst (λ (sent : Output). IsCourse g.G.Gate.passes start [] c.in_ok-session.session.engine sent) (sym c.in_ok-session.ensures.outlets)
     (subst (λ (now : State g.row.G.Denot). IsCourse g.G.Gate.passes start [] now no_output) (sym c.in_ok-session.ensures.engine) (course_begins g.G.Gate.passes start))
 
 pub serve-requires : goal.serve-requires
 serve-requires g c =
-    let start : State g.row.G.Denot = record { standing = fresh; view = knowledge_of c.args.bus; gate = c.args.gate } in
+    let start : State g.row.G.Denot = record { standing = fresh c.args.login; view = knowledge_of c.args.bus; gate = c.args.gate } in
     course_registry g.G.Gate.passes start c.loop-index.session.engine (map (λ turn. turn.1) c.loop-index.yielded) c.loop-index.session.outlets c.loop-index.invariant
 
 pub loop-index-preserved : goal.loop-index-preserved
 loop-index-preserved g c =
-    let start : State g.row.G.Denot = record { standing = fresh; view = knowledge_of c.args.bus; gate = c.args.gate } in
+    let start : State g.row.G.Denot = record { standing = fresh c.args.login; view = knowledge_of c.args.bus; gate = c.args.gate } in
     let before : List (Event (Unit {0})) = map (λ turn. turn.1) c.loop-index.yielded in
     subst (λ (events : List (Event (Unit {0}))). IsCourse g.G.Gate.passes start events c.serve.new.self.engine c.serve.new.self.outlets)
     (sym (map-append (λ turn. turn.1) c.loop-index.yielded ((c.in-Some.index, c.in-Some.event) ∷ [])))
@@ -34,7 +34,7 @@ loop-index-preserved g c =
 
 pub returns-in_err-serve-clause-fault : goal.returns-in_err-serve-clause-fault
 returns-in_err-serve-clause-fault g c =
-    let start : State g.row.G.Denot = record { standing = fresh; view = knowledge_of c.args.bus; gate = c.args.gate } in
+    let start : State g.row.G.Denot = record { standing = fresh c.args.login; view = knowledge_of c.args.bus; gate = c.args.gate } in
     let events : List (Event (Unit {0})) = c.args.events.items in
     let road = YieldsList-from_enumerate {s = c.into_iter-index-iterator.result} (YieldsList-from_vec events (search rules) (search rules)) (search rules) in
     let so_far = YieldsList-so_far road c.loop-index.yielded _ c.loop-index.yielded_by in
@@ -46,12 +46,12 @@ returns-in_err-serve-clause-fault g c =
 
 pub returns-clause-run : goal.returns-clause-run
 returns-clause-run g c =
-    let start : State g.row.G.Denot = record { standing = fresh; view = knowledge_of c.args.bus; gate = c.args.gate } in
+    let start : State g.row.G.Denot = record { standing = fresh c.args.login; view = knowledge_of c.args.bus; gate = c.args.gate } in
     let events : List (Event (Unit {0})) = c.args.events.items in
     let road = YieldsList-from_enumerate {s = c.into_iter-index-iterator.result} (YieldsList-from_vec events (search rules) (search rules)) (search rules) in
     let end = YieldsList-end road c.loop-index.yielded _ c.loop-index.yielded_by c.next.result c.next.new.self c.in-None.is c.next.ensures.steps in
     let all = counted_all events c.loop-index.yielded end.0 in
     let done : List (Event (Unit {0})) = map (λ turn. turn.1) c.loop-index.yielded in
     let ended = course_ends g.G.Gate.passes start c.loop-index.session.engine done c.loop-index.session.outlets c.loop-index.invariant in
-    subst (λ (bytes : List (List ℕ)). IsRunOf g.G.Gate.passes c.args.gate (fresh_over c.args.bus) (occasions_of events) bytes) (sym c.in_ok-into_bytes.ensures)
-    (subst (λ (es : List (Event (Unit {0}))). IsRunOf g.G.Gate.passes c.args.gate (fresh_over c.args.bus) (occasions_of es) c.loop-index.session.outlets.written) all ended)
+    subst (λ (bytes : List (List ℕ)). IsRunOf g.G.Gate.passes c.args.gate (fresh_over c.args.login c.args.bus) (occasions_of events) bytes) (sym c.in_ok-into_bytes.ensures)
+    (subst (λ (es : List (Event (Unit {0}))). IsRunOf g.G.Gate.passes c.args.gate (fresh_over c.args.login c.args.bus) (occasions_of es) c.loop-index.session.outlets.written) all ended)

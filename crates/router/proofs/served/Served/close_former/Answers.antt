@@ -17,7 +17,7 @@ returns-in-Some-clause-comes g c =
     let conn = c.args.conn in
     let test = has_slot conn.slot in
     let key = c.in-Some.key in
-    let s : Standing = record { peers = c.self.inside.peers.items; leaves = c.self.inside.leaves.items } in
+    let s : Standing = record { peers = c.self.inside.peers.items; leaves = c.self.inside.leaves.items; login = c.self.inside.login } in
     let w = c.self.inside.hands.world in
     let v = c.close_left.new.self.world in
     let q = c.close_left.new.slot in

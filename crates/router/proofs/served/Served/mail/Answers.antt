@@ -22,7 +22,7 @@ returns-in-None-clause-comes g c =
     let held = option_map told c.args.envelope.now.note in
     let said = said_of c.args.envelope.now.content in
     let test = is_conn c.args.slot c.args.envelope.now.number in
-    let s : Standing = record { peers = c.self.inside.peers.items; leaves = c.self.inside.leaves.items } in
+    let s : Standing = record { peers = c.self.inside.peers.items; leaves = c.self.inside.leaves.items; login = c.self.inside.login } in
     let m = c.heed.new.self.world in
     let none : position test s.peers ≡ None = sym (c.in-None.ensures ∙ ap (position test) c.deref.ensures.value) in
     let heeds = subst (λ k. IsHeeded alone held k m) c.reserve.ensures.world c.heed.ensures.heeds in
@@ -39,7 +39,7 @@ returns-in-Some-clause-comes g c =
     let said = said_of c.args.envelope.now.content in
     let test = is_conn c.args.slot c.args.envelope.now.number in
     let key = c.in-Some.key in
-    let s : Standing = record { peers = c.self.inside.peers.items; leaves = c.self.inside.leaves.items } in
+    let s : Standing = record { peers = c.self.inside.peers.items; leaves = c.self.inside.leaves.items; login = c.self.inside.login } in
     let w = c.self.inside.hands.world in
     let v = c.bring_to.new.self.world in
     let q = c.bring_to.new.slot in

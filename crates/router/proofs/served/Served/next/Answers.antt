@@ -21,7 +21,7 @@ returns-in-Some-clause-comes g c =
     let passes = g.G.Gate.passes in
     let alone = g.V.BusView.alone in
     let key = c.args.key in
-    let s : Standing = record { peers = c.self.inside.peers.items; leaves = c.self.inside.leaves.items } in
+    let s : Standing = record { peers = c.self.inside.peers.items; leaves = c.self.inside.leaves.items; login = c.self.inside.login } in
     let w = c.self.inside.hands.world in
     let t = c.greet.new.self.standing in
     let v = c.greet.new.self.work.world in

@@ -14,7 +14,7 @@ returns g c =
     let key = c.args.key in
     let p = c.args.peer in
     let q = c.turn_away.new.peer in
-    let s : Standing = record { peers = c.self.inside.peers.items; leaves = c.self.inside.leaves.items } in
+    let s : Standing = record { peers = c.self.inside.peers.items; leaves = c.self.inside.leaves.items; login = c.self.inside.login } in
     let w = c.self.inside.hands.world in
     let v = c.turn_away.new.self.world in
     subst (λ (k : Table g.row.V-Note.Denot g.row.G.Denot). Comes g.V.BusView.told g.V.BusView.registry_of g.G.Gate.passes g.V.BusView.alone (for_peer k.standing key (Some p) (turn_away c.args.key (said c.args.hello.now))) k.work.world (with_peer s key (Some q)) v) c.self.view_is

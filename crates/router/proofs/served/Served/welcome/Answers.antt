@@ -9,8 +9,12 @@ use Rattle.router.specs.Tables.{Table}
 use Rattle.router_hands.proofs.Sequels.{comes_then}
 use Rattle.std.proofs.Common.{set}
 use Rattle.router.specs.Indexed.{IsIndexed, IsVacant}
+use Rattle.router.proofs.Greetings.{speaks}
 use Rattle.router.proofs.Indexing.{index_named}
 use Rattle.router.proofs.served.Served.welcome.Goals as goal
+
+pub welcome-requires : goal.welcome-requires
+welcome-requires g c = speaks c.args.peer.stage c.requires.unnamed
 
 pub returns : goal.returns
 returns g c =
@@ -19,7 +23,7 @@ returns g c =
     let p : Peer = c.args.peer in
     let o = c.args.outcome in
     let conn = c.args.conn in
-    let s : Standing = record { peers = c.self.inside.peers.items; leaves = c.self.inside.leaves.items } in
+    let s : Standing = record { peers = c.self.inside.peers.items; leaves = c.self.inside.leaves.items; login = c.self.inside.login } in
     let named : Peer = record p { stage = Named conn } in
     let w = c.self.inside.hands.world in
     let v = c.announce.new.self.world in

@@ -10,9 +10,9 @@ loop-number-preserved g c =
     record {
       room = omega arith;
       spare = omega arith;
-      comes = λ peers end v later.
-          let before : Standing = record { peers = peers; leaves = c.loop-number.leaves.items } in
-          let after : Standing = record { peers = peers; leaves = c.leave.new.leaves.items } in
-          c.loop-number.invariant.comes peers end v
-          (leaves_more g.V.BusView.told g.V.BusView.registry_of g.G.Gate.passes g.V.BusView.alone c.loop-number.self.world c.leave.new.self.world v numbers c.loop-number.number-index inside before after end (c.leave.ensures.comes peers) later);
+      comes = λ s end v later.
+          let before : Standing = record s { leaves = c.loop-number.leaves.items } in
+          let after : Standing = record s { leaves = c.leave.new.leaves.items } in
+          c.loop-number.invariant.comes s end v
+          (leaves_more g.V.BusView.told g.V.BusView.registry_of g.G.Gate.passes g.V.BusView.alone c.loop-number.self.world c.leave.new.self.world v numbers c.loop-number.number-index inside before after end (c.leave.ensures.comes s) later);
     }

@@ -1,4 +1,4 @@
-use Rattle.std.proofs.Common.{◌≡◌, true, false, List, [], ◌∷◌, refl, subst}
+use Rattle.std.proofs.Common.{◌≡◌, true, false, List, [], refl, subst}
 use Rattle.seq_bus_core.specs.declared.connection.Conn.{Conn}
 use Rattle.envelopes.specs.Contents.{said_of}
 use Rattle.router_core.specs.Scripts.{putting, Comes}

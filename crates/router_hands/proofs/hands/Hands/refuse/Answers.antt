@@ -1,11 +1,11 @@
-use Rattle.std.proofs.Common.{List, [], sym, ap, subst, ◌∙◌}
+use Rattle.std.proofs.Common.{sym, ap, subst, ◌∙◌}
 use Rattle.message_relay.specs.FactsOf.{facts_of}
 use Rattle.envelopes.specs.Contents.{Tells, own_of, own_message}
 use Rattle.seq_bus_core.specs.declared.verdict.Verdict.{Verdict}
 use Rattle.router_core.specs.Answers.{Heard}
 use Rattle.router_core.specs.Deeds.{Sends, all_of}
 use Rattle.router_core.specs.Events.{refuse}
-use Rattle.router_core.specs.Scripts.{World, Does, Routing, Comes, putting}
+use Rattle.router_core.specs.Scripts.{Does, Routing, Comes, putting}
 use Rattle.router_core.specs.Serving.{nothing}
 use Rattle.router_core.specs.Standing.{Peer, next_serial}
 use Rattle.router_hands.specs.Work.{Work}

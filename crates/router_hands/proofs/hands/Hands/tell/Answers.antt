@@ -1,8 +1,8 @@
-use Rattle.std.proofs.Common.{List, [], ◌∷◌, ap, subst, ◌∙◌}
+use Rattle.std.proofs.Common.{List, [], ◌∷◌, subst}
 use Rattle.seq_bus_core.specs.declared.connection.Conn.{Conn}
 use Rattle.envelopes.specs.Contents.{Tells, own_of}
 use Rattle.router_core.specs.Deeds.{all_of}
-use Rattle.router_core.specs.Scripts.{World, putting, Comes}
+use Rattle.router_core.specs.Scripts.{putting, Comes}
 use Rattle.router_core.specs.Serving.{nothing}
 use Rattle.router_hands.specs.Work.{Work}
 use Rattle.router_hands.proofs.hands.Hands.tell.Goals as goal
