@@ -1,0 +1,4 @@
+pub mod Carrying
+pub mod Happening
+pub mod Keeping
+pub mod States

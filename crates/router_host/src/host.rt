@@ -1,0 +1,178 @@
+//! The host of an engine.
+
+ghost use Rattle.std.specs.Prelude.{◌≡◌, IfOk};
+
+use crate::carrier::Carrier;
+use crate::ending::Ended;
+use crate::kept::Kept;
+use crate::opening::{MOST_UNNAMED, OpenFault, Opened, open};
+use crate::post::Post;
+use crate::slots::Slots;
+use crate::socket::Socket;
+use bus_view::BusView;
+use router::Engine;
+use router_core::Gate;
+use std::alloc::{AllocError, Global};
+use std::marker::Model;
+use std::mem;
+
+/// The most bytes that are read from a socket at once.
+const ROOM: usize = 262_144;
+
+/// An engine, the connections that it serves, and the mail of their slots.
+///
+/// Its notes and those of its post are of one registry.
+#[derive(Drop)]
+pub struct Host<V: BusView, G: Gate, P: Post<V>, S: Socket> {
+    pub(crate) alloc: Global,
+    pub(crate) engine: Engine<V, G>,
+    pub(crate) carrier: Carrier<V, P, S>,
+    pub(crate) kept: Option<Kept<V::Note>>,
+    /// What was read last.
+    pub(crate) room: Vec<u8>,
+    pub(crate) ended: Vec<Ended>,
+    /// A connection of these took no more mail, and is to be looked at.
+    pub(crate) looks: bool,
+}
+
+impl<V: BusView, G: Gate, P: Post<V>, S: Socket> Model for Host<V, G, P, S> {
+    ghost use Rattle.std.specs.Prelude.{◌≡◌};
+    ghost use Rattle.router_host.specs.States.{Hosted};
+
+    ghost Value = { Hosted P G };
+
+    ghost use Rattle.router_host.specs.Keeping.{KeepsOwn};
+
+    ghost view = { λ h. record { engine = h.engine; carried = h.carrier } };
+
+    ghost invariant = { λ h. (P.registry h.carrier.post ≡ h.engine.view.registry)
+        × KeepsOwn V.registry_of h.engine.view.registry h.kept };
+}
+
+impl<V: BusView + Drop, G: Gate + Drop, P: Post<V>, S: Socket> Host<V, G, P, S> {
+    /// A host without connections, whose slots are so many from the first.
+    pub fn new(
+        alloc: Global,
+        engine: Engine<V, G>,
+        post: P,
+        first: u16,
+        count: u16,
+    ) -> Result<Self, AllocError>
+        requires { P.registry post ≡ engine.view.registry }
+        ensures engine { IfOk result (λ host. host.engine ≡ engine) }
+        ensures post { IfOk result (λ host. host.carried.post ≡ post) }
+    {
+        let room = Vec::from_elem(alloc, 0u8, ROOM)?;
+        Ok(Host {
+            alloc,
+            engine,
+            carrier: Carrier::new(alloc, post, Slots::new(alloc, first, count)),
+            kept: None,
+            room,
+            ended: Vec::new(alloc),
+            looks: false,
+        })
+    }
+}
+
+impl<V: BusView, G: Gate, P: Post<V>, S: Socket> Host<V, G, P, S> {
+    /// Whether there are as many connections without a name as there may be: one that comes now is refused.
+    pub fn is_crowded(&self) -> bool {
+        self.engine.unnamed() >= MOST_UNNAMED
+    }
+
+    /// The key that the next connection will have.
+    pub fn free_key(&self) -> usize {
+        self.engine.free_key()
+    }
+
+    /// The socket of the connection of a key, if there is one.
+    pub fn socket(&self, key: usize) -> Option<&S> {
+        self.carrier.lines.socket(key)
+    }
+
+    /// What puts for this router and takes for it.
+    pub fn post(&self) -> &P
+        ensures { result.now ≡ self.now.carried.post }
+    {
+        &self.carrier.post
+    }
+
+    /// A connection came, and has the key that was free. With a challenge, sixteen bytes that nobody can guess, it is to say
+    /// who it is.
+    ///
+    /// # Errors
+    ///
+    /// There are 64 connections without a name already, nobody may log in though it is asked to, or there is no memory.
+    pub fn open(
+        &mut self,
+        right: &V::Right,
+        socket: S,
+        challenge: Option<[u8; 16]>,
+    ) -> Result<usize, OpenFault> {
+        let key = self.engine.free_key();
+        let Ok(()) = self.carrier.lines.make_room(key) else {
+            return Err(OpenFault::NoMemory);
+        };
+        match open(&mut self.engine, right, challenge) {
+            Ok(Opened { key, mut actions }) => {
+                self.carrier.lines.open(key, socket);
+                self.carrier.carry_out(right, &mut actions);
+                self.engine.give_back(actions);
+                Ok(key)
+            }
+            Err(fault) => Err(fault),
+        }
+    }
+
+    /// The socket of a connection may be read; where it is closing, the other side sends no more.
+    pub fn readable(&mut self, key: usize, closing: bool)
+        ensures { self.new ≡ self.old }
+    {
+        self.carrier.lines.note_readable(key, closing);
+    }
+
+    /// The socket of a connection takes bytes again.
+    pub fn writable(&mut self, key: usize)
+        ensures engine { self.new.engine ≡ self.old.engine }
+        ensures post { self.new.carried.post ≡ self.old.carried.post }
+    {
+        if let Some(slot) = self.carrier.lines.note_writable(key) {
+            self.carrier.slots.note(slot);
+        }
+    }
+
+    /// Mail may have come for a slot of this router.
+    pub fn mail_came(&mut self, slot: u16)
+        ensures { self.new ≡ self.old }
+    {
+        self.carrier.slots.note_own(slot);
+    }
+
+    /// Another router says that a connection of this one took no more mail.
+    pub fn look_came(&mut self)
+        ensures { self.new ≡ self.old }
+    {
+        self.looks = true;
+    }
+
+    /// Whether something is left for the next turn.
+    pub fn is_busy(&self) -> bool {
+        self.kept.is_some()
+            || !self.carrier.lines.is_quiet()
+            || !self.carrier.slots.is_empty()
+            || !self.carrier.put_out.is_empty()
+    }
+
+    /// Whether a tick is wanted: a connection is to be looked at, or could not leave the bus yet.
+    pub fn wants_tick(&self) -> bool {
+        self.looks || self.engine.ticks()
+    }
+
+    /// The connections that were over since this was asked last; at most 1,024, and none that there was no memory to note.
+    pub fn take_ended(&mut self) -> Vec<Ended>
+        ensures { self.new ≡ self.old }
+    {
+        mem::replace(&mut self.ended, Vec::new(self.alloc))
+    }
+}

@@ -1,0 +1,11 @@
+//! What waits for memory.
+
+use router_core::Event;
+
+/// What is done first in the next turn, since there was no memory for it.
+#[derive(Drop)]
+pub(crate) enum Kept<N: Drop> {
+    Happening(Event<N>),
+    /// So many bytes of a connection are in the room.
+    Piece { key: usize, count: usize },
+}

@@ -1,0 +1,107 @@
+//! Mail in memory.
+
+ghost use Rattle.std.specs.Prelude.{◌≡◌, ◌∷◌, ◌++◌, [], IfErr, OnErr, OnOk};
+
+use crate::post::{Full, Post};
+use crate::put_out::SLOTS;
+use envelopes::Envelope;
+use seq_bus::SeqBus;
+use seq_bus_core::Conn;
+use std::alloc::{AllocError, Global};
+use std::collections::VecDeque;
+use std::marker::Model;
+
+/// How many envelopes wait for a slot at most.
+const MOST: usize = 256;
+
+/// The mail of one slot, the oldest first.
+#[derive(Drop)]
+struct Mail {
+    envelopes: VecDeque<Envelope<()>>,
+}
+
+impl Model for Mail {
+    ghost use Rattle.std.specs.Prelude.{List};
+    ghost use Rattle.envelopes.specs.declared.envelope.Envelope.{Envelope};
+
+    ghost Value = { List (Envelope (Unit {0})) };
+
+    ghost view = { λ m. m.envelopes.items };
+}
+
+impl Mail {
+    fn put(&mut self, envelope: Envelope<()>) -> Result<(), Full<()>>
+        ensures put { OnOk result (self.new ≡ self.old ++ envelope ∷ []) }
+        ensures refused { OnErr result (self.new ≡ self.old) }
+        ensures back { IfErr result (λ full. full.0 ≡ envelope) }
+    {
+        if self.envelopes.len() >= MOST {
+            return Err(Full(envelope));
+        }
+        match self.envelopes.push_back(envelope) {
+            Ok(()) => Ok(()),
+            Err(failed) => Err(Full(failed.value)),
+        }
+    }
+
+    fn take(&mut self) -> Option<Envelope<()>> {
+        self.envelopes.pop_front()
+    }
+}
+
+/// The mail of all slots of a bus of one thread, in memory. Its one router finds its own mail here.
+#[derive(Drop)]
+pub struct LocalPost {
+    mails: Vec<Mail>,
+}
+
+impl Model for LocalPost {
+    ghost use Rattle.std.specs.Prelude.{List};
+    ghost use Rattle.envelopes.specs.declared.envelope.Envelope.{Envelope};
+
+    ghost Value = { List (List (Envelope (Unit {0}))) };
+
+    ghost view = { λ p. p.mails.items };
+}
+
+impl LocalPost {
+    /// No mail.
+    pub fn new(alloc: Global) -> Result<LocalPost, AllocError> {
+        let mut mails = Vec::with_capacity(alloc, SLOTS)?;
+        for _slot in 0..SLOTS {
+            mails.push(Mail {
+                envelopes: VecDeque::new(alloc),
+            })?;
+        }
+        Ok(LocalPost { mails })
+    }
+}
+
+impl Post<SeqBus> for LocalPost {
+    ghost registry = { λ _. 0 };
+
+    ghost puts = { λ _ _ _ _. Unit {0} };
+
+    fn put(&mut self, _right: &(), to: Conn, envelope: Envelope<()>) -> Result<(), Full<()>>
+        ensures refused { OnErr result (self.new ≡ self.old) }
+        ensures back { IfErr result (λ full. full.0 ≡ envelope) }
+    {
+        let slot = usize::from(to.slot);
+        if slot >= self.mails.len() {
+            return Err(Full(envelope));
+        }
+        self.mails[slot].put(envelope)
+    }
+
+    fn take(&mut self, _right: &(), slot: u16) -> Option<Envelope<()>> {
+        let slot = usize::from(slot);
+        if slot >= self.mails.len() {
+            return None;
+        }
+        self.mails[slot].take()
+    }
+
+    fn look(&mut self, _right: &(), _at: Conn) {}
+
+    fn turn_ends(&mut self, _right: &()) {}
+}

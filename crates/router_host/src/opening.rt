@@ -1,0 +1,54 @@
+//! Connections that come.
+
+ghost use Rattle.std.specs.Prelude.{◌≡◌, IfOk, OnErr};
+ghost use Rattle.std.specs.List.{AllByRecursion};
+ghost use Rattle.router_core.specs.Deeds.{CarriesOwn};
+
+use bus_view::BusView;
+use router::Engine;
+use router_core::{Action, Event, Gate};
+use thiserror::Error;
+
+/// The most connections without a name.
+pub(crate) const MOST_UNNAMED: usize = 64;
+
+/// Why a connection that came is not served. Its socket is gone.
+#[derive(Clone, Copy, Debug, PartialEq, Eq, Error)]
+pub enum OpenFault {
+    #[error("too many connections without a name")]
+    TooManyUnnamed,
+    /// It is asked who it is, and nobody may log in.
+    #[error("nobody may log in")]
+    NobodyMayLogIn,
+    #[error("out of memory")]
+    NoMemory,
+}
+
+/// A connection that came. Its engine knows it from now on, by a key that was free.
+pub(crate) struct Opened<N: Drop> {
+    pub(crate) key: usize,
+    pub(crate) actions: Vec<Action<N>>,
+}
+
+/// A connection comes to an engine.
+pub(crate) fn open<V: BusView, G: Gate>(
+    engine: &mut Engine<V, G>,
+    right: &V::Right,
+    challenge: Option<[u8; 16]>,
+) -> Result<Opened<V::Note>, OpenFault>
+    ensures notes { IfOk result (λ opened. AllByRecursion (CarriesOwn V.registry_of engine.old.view.registry) opened.actions.items) }
+    ensures registry { engine.new.view.registry ≡ engine.old.view.registry }
+    ensures err { OnErr result (engine.new ≡ engine.old) }
+{
+    if engine.unnamed() >= MOST_UNNAMED {
+        return Err(OpenFault::TooManyUnnamed);
+    }
+    if challenge.is_some() && !engine.has_login() {
+        return Err(OpenFault::NobodyMayLogIn);
+    }
+    let key = engine.free_key();
+    match engine.event(right, &mut Event::Opened { key, challenge }) {
+        Ok(actions) => Ok(Opened { key, actions }),
+        Err(_) => Err(OpenFault::NoMemory),
+    }
+}

@@ -1,0 +1,15 @@
+//! The socket of a connection.
+
+ghost use Rattle.std.specs.Prelude.{◌≡◌, ◌≤◌, length, IfOk};
+
+use std::io;
+
+/// The socket of a connection, which does not block.
+pub trait Socket: outgoing::Socket + Drop {
+    /// Reads what is there into the room, and tells how many bytes that was; none at the end of the input.
+    ///
+    /// The error is of the kind `WouldBlock` where nothing is there now but may be later.
+    fn read(&mut self, room: &mut [u8]) -> io::Result<usize>
+        ensures bound { IfOk result (λ count. count ≤ length room.old) }
+        ensures room { length room.new ≡ length room.old };
+}

@@ -1,0 +1,280 @@
+//! A turn.
+
+ghost use Rattle.std.specs.Prelude.{◌≡◌, OnOk, OnErr};
+ghost use Rattle.router_core.specs.Events.{CanHappen};
+ghost use Rattle.router_host.specs.Happening.{Happens, IsSlotBlocked};
+ghost use Rattle.router_host.specs.Keeping.{CanWait};
+
+use crate::ending::Ended;
+use crate::hints::Todo;
+use crate::host::Host;
+use crate::kept::Kept;
+use crate::line::Pulled;
+use crate::post::Post;
+use crate::put_out::SLOTS;
+use crate::socket::Socket;
+use bus_view::BusView;
+use router_core::{Event, Gate};
+use std::alloc::AllocError;
+
+/// How many messages of a connection are served in a turn.
+const SHARE: u32 = 64;
+
+/// How many envelopes are taken of a slot in a turn.
+const HANDFUL: u32 = 256;
+
+/// How many connections that are over are noted until they are asked for.
+const MOST_ENDED: usize = 1024;
+
+impl<V: BusView, G: Gate, P: Post<V>, S: Socket> Host<V, G, P, S> {
+    /// Serves what is ready, takes mail, gives each socket what waits for it, and lets go of the connections that are over.
+    ///
+    /// # Errors
+    ///
+    /// There was no memory for something. It is done first in the next turn, which is to come some time later.
+    pub fn turn(&mut self, right: &V::Right) -> Result<(), AllocError> {
+        let served = self.serve_all(right);
+        self.carrier.lines.flush_all();
+        let done = match served {
+            Ok(()) => self.let_go_all(right),
+            Err(AllocError) => Err(AllocError),
+        };
+        if done.is_err() {
+            self.carrier.lines.note_all();
+            self.carrier.slots.note_all();
+        }
+        self.carrier.post.turn_ends(right);
+        done
+    }
+
+    /// Time has passed.
+    ///
+    /// # Errors
+    ///
+    /// There was no memory for it. A tick is wanted still.
+    pub fn tick(&mut self, right: &V::Right) -> Result<(), AllocError> {
+        self.bring(right, &mut Event::Tick)?;
+        self.looks = false;
+        self.carrier.post.turn_ends(right);
+        Ok(())
+    }
+
+    fn serve_all(&mut self, right: &V::Right) -> Result<(), AllocError> {
+        self.serve_kept(right)?;
+        self.serve_ready(right)?;
+        self.take_mail(right)
+    }
+
+    fn let_go_all(&mut self, right: &V::Right) -> Result<(), AllocError> {
+        self.close_over(right)?;
+        self.put_out_all(right)
+    }
+
+    /// Serves an event, and carries out what it brings. Without memory nothing changes, and the event neither.
+    fn bring(&mut self, right: &V::Right, event: &mut Event<V::Note>) -> Result<(), AllocError>
+        requires { CanHappen V.registry_of self.old.engine.view.registry self.old.engine.standing event.old }
+        ensures happens { OnOk result (Happens V.told G.passes V.alone P.puts self.old event.old self.new) }
+        ensures err { OnErr result (self.new ≡ self.old) }
+        ensures handed_back { OnErr result (event.new ≡ event.old) }
+    {
+        let mut actions = self.engine.event(right, event)?;
+        self.carrier.carry_out(right, &mut actions);
+        self.engine.give_back(actions);
+        Ok(())
+    }
+
+    /// Serves an event. What there is no memory for is kept for the next turn.
+    fn serve(&mut self, right: &V::Right, event: Event<V::Note>) -> Result<(), AllocError>
+        requires { CanWait V.registry_of self.old.engine.view.registry event }
+        ensures happens { OnOk result (Happens V.told G.passes V.alone P.puts self.old event self.new) }
+        ensures err { OnErr result (self.new ≡ self.old) }
+    {
+        let mut event = event;
+        match self.bring(right, &mut event) {
+            Ok(()) => Ok(()),
+            Err(AllocError) => {
+                self.kept = Some(Kept::Happening(event));
+                Err(AllocError)
+            }
+        }
+    }
+
+    /// Serves what was kept.
+    fn serve_kept(&mut self, right: &V::Right) -> Result<(), AllocError> {
+        match self.kept.take() {
+            None => Ok(()),
+            Some(Kept::Happening(event)) => self.serve(right, event),
+            Some(Kept::Piece { key, count }) => self.feed(right, key, count),
+        }
+    }
+
+    /// Serves each connection that is ready.
+    fn serve_ready(&mut self, right: &V::Right) -> Result<(), AllocError> {
+        match self.carrier.lines.take_ready() {
+            Todo::All => {
+                for key in 0..self.carrier.lines.len() {
+                    self.serve_line(right, key)?;
+                }
+            }
+            Todo::Keys(keys) => {
+                for key in &keys {
+                    self.serve_line(right, *key)?;
+                }
+                self.carrier.lines.give_back_ready(keys);
+            }
+        }
+        Ok(())
+    }
+
+    /// Serves a connection: its whole messages, up to its share of a turn. Where there is none, it is read first.
+    fn serve_line(&mut self, right: &V::Right, key: usize) -> Result<(), AllocError> {
+        let named = self.engine.number_of(key).is_some();
+        if !self.carrier.lines.begin(key, named) {
+            return Ok(());
+        }
+        if !self.engine.has_next(key) {
+            self.read(right, key)?;
+        }
+        for _ in 0..SHARE {
+            if !self.engine.has_next(key) {
+                break;
+            }
+            self.serve(right, Event::Next { key })?;
+        }
+        let has_more = self.engine.has_next(key);
+        self.carrier.lines.serve_again(key, has_more);
+        Ok(())
+    }
+
+    /// Reads from a connection, once.
+    fn read(&mut self, right: &V::Right, key: usize) -> Result<(), AllocError> {
+        match self.carrier.lines.pull(key, &mut self.room) {
+            Pulled::Bytes(count) => self.feed(right, key, count),
+            Pulled::Nothing => Ok(()),
+            Pulled::Over(cause) => {
+                self.carrier.lines.end(key, cause);
+                Ok(())
+            }
+        }
+    }
+
+    /// The engine is given the first bytes of the room.
+    fn feed(&mut self, right: &V::Right, key: usize, count: usize) -> Result<(), AllocError> {
+        let bytes = self.room.get(..count).unwrap_or(b"");
+        match Vec::from_slice(self.alloc, bytes) {
+            Ok(piece) => self.serve(right, Event::Bytes { key, piece }),
+            Err(AllocError) => {
+                self.kept = Some(Kept::Piece { key, count });
+                Err(AllocError)
+            }
+        }
+    }
+
+    /// Takes the mail that came for the slots of this router.
+    fn take_mail(&mut self, right: &V::Right) -> Result<(), AllocError> {
+        match self.carrier.slots.take() {
+            Todo::All => {
+                let first = self.carrier.slots.first();
+                for i in 0..self.carrier.slots.count() {
+                    self.take_mail_of(right, first.saturating_add(i))?;
+                }
+            }
+            Todo::Keys(slots) => {
+                for slot in &slots {
+                    if let Ok(slot) = u16::try_from(*slot) {
+                        self.take_mail_of(right, slot)?;
+                    }
+                }
+                self.carrier.slots.give_back(slots);
+            }
+        }
+        Ok(())
+    }
+
+    /// Takes the mail of a slot, until there is no more, or its connection has enough. Where its socket takes no more bytes, none is taken.
+    fn take_mail_of(&mut self, right: &V::Right, slot: u16) -> Result<(), AllocError>
+        ensures blocked { IsSlotBlocked self.old slot → self.new ≡ self.old }
+    {
+        self.carrier.slots.look_at(slot);
+        for _ in 0..HANDFUL {
+            if !self.take_one(right, slot)? {
+                return Ok(());
+            }
+        }
+        self.carrier.slots.note(slot);
+        Ok(())
+    }
+
+    /// Takes an envelope of a slot. Tells whether there may be more to be taken now.
+    fn take_one(&mut self, right: &V::Right, slot: u16) -> Result<bool, AllocError>
+        ensures blocked { IsSlotBlocked self.old slot → self.new ≡ self.old }
+    {
+        if let Some(key) = self.engine.key_of(slot) {
+            self.carrier.lines.know_slot(key, slot);
+            if self.carrier.lines.is_blocked(key) {
+                return Ok(false);
+            }
+            if self.carrier.lines.has_enough(key) {
+                self.carrier.slots.note(slot);
+                return Ok(false);
+            }
+        }
+        let Some(envelope) = self.carrier.post.take(right, slot) else {
+            return Ok(false);
+        };
+        self.serve(right, Event::Mail { slot, envelope })?;
+        Ok(true)
+    }
+
+    /// Lets go of the connections that are over.
+    fn close_over(&mut self, right: &V::Right) -> Result<(), AllocError> {
+        match self.carrier.lines.take_over() {
+            Todo::All => {
+                for key in 0..self.carrier.lines.len() {
+                    self.close(right, key)?;
+                }
+            }
+            Todo::Keys(keys) => {
+                for key in &keys {
+                    self.close(right, *key)?;
+                }
+                self.carrier.lines.give_back_over(keys);
+            }
+        }
+        Ok(())
+    }
+
+    /// Lets go of a connection, where it is over.
+    fn close(&mut self, right: &V::Right, key: usize) -> Result<(), AllocError> {
+        let Some(cause) = self.carrier.lines.let_go(key) else {
+            return Ok(());
+        };
+        if self.ended.len() < MOST_ENDED {
+            let number = self.engine.number_of(key);
+            let _unnoted = self.ended.push(Ended { key, number, cause });
+        }
+        self.serve(right, Event::Closed { key })
+    }
+
+    /// Puts out whoever took no more mail. What that announces may put out more.
+    fn put_out_all(&mut self, right: &V::Right) -> Result<(), AllocError> {
+        for _ in 0..SLOTS {
+            let Some(conn) = self.carrier.put_out.take() else {
+                return Ok(());
+            };
+            let full = &mut Event::Full {
+                number: conn.number,
+            };
+            if self.bring(right, full).is_err() {
+                self.carrier.put_out.add(conn);
+                return Err(AllocError);
+            }
+            if self.carrier.slots.contains(conn.slot) {
+                self.looks = true;
+            } else {
+                self.carrier.post.look(right, conn);
+            }
+        }
+        Ok(())
+    }
+}
