@@ -8,7 +8,7 @@ SAMPLE = examples/hello-get-name-owner.stream
 run:
 	@tools/run.sh $(SAMPLE)
 
-# Proves and builds crates/busd/out/busd with all that it stands on; what passes is kept for the gate.
+# Proves and builds crates/busd/out/busd with all that it stands on.
 prove:
 	@tools/prove.sh
 
@@ -29,13 +29,9 @@ try:
 memory:
 	@tools/memory/check.sh
 
-# What the calls take, beside the same in plain Rust, and how many allocations those of an engine make. No part of the
-# gate; needs rustc and cc.
+# What the calls of the byte layer take, beside the same in plain Rust. No part of the gate; needs rustc.
 bench:
 	@$(MAKE) -s -C crates/bench_bytes/rust bench
-	@$(MAKE) -s -C crates/bench_bus/rust bench
-	@cd crates/bench_bus && rt run -- engine --time
-	@tools/memory/count.sh
 
 # The edits that the gate leaves out, of all crates or of one: `make edits CRATE=names`. The prover must refuse each.
 edits:

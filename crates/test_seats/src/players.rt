@@ -1,0 +1,248 @@
+//! Who plays runs over the seats of a registry with two routers.
+
+use crate::desks::serve_both;
+use crate::rows::{Deed, RUNS, Row, count_so, make};
+use desk::Desk;
+use names::{BusName, UniqueName};
+use owner_queues::{Profile, Reply as QueueReply};
+use registry_core::NameEntry;
+use registry_snapshots::{Naming, Seat, Serve, Shared, start};
+use seq_bus_core::{Conn, Reply};
+use std::alloc::Global;
+use std::process::Abort;
+use std::sync::Wait;
+
+/// What is played.
+#[derive(Clone, Copy)]
+enum Play {
+    Rows(&'static [Row]),
+    /// A seat is told of a connection, and tells of another.
+    Notes,
+    /// Each of sixteen connections takes 64 names and then one more, and another connection takes one more.
+    MostNames,
+    /// Two connections take a hundred names, in another order than that of their bytes.
+    NamesInOrder,
+    /// Two desks of the registry.
+    Desks,
+}
+
+#[derive(Drop)]
+struct Player<'a, R> {
+    rt: &'a R,
+    alloc: Global,
+    profile: Profile,
+    play: Play,
+}
+
+impl<'a, R: Wait> Serve for Player<'a, R> {
+    ghost use Rattle.std.specs.Prelude.{[]};
+    ghost use Rattle.seq_bus_core.specs.Tickets.{opening_bus};
+
+    /// Whether all was as it should be.
+    type Out = bool;
+
+    ghost bus = { λ s. opening_bus s.profile 2 [] };
+
+    fn serve<J: Naming + Send + Sync>(self, shared: Shared<J>, mut seats: Vec<Seat<J>>) -> bool {
+        let Player {
+            rt,
+            alloc,
+            profile: _,
+            play,
+        } = self;
+        let (Some(mut second), Some(mut first)) = (seats.pop(), seats.pop()) else {
+            shared.end(rt);
+            return false;
+        };
+        let is_so = match play {
+            Play::Rows(rows) => {
+                count_so(rt, &shared, &mut first, &mut second, rows) == rows.len()
+            }
+            Play::Notes => are_told(rt, &shared, &mut first, &mut second),
+            Play::MostNames => fill(rt, alloc, &shared, &mut first, &mut second) == Some(true),
+            Play::NamesInOrder => list(rt, alloc, &shared, &mut first, &mut second) == Some(true),
+            Play::Desks => {
+                let first = Desk::new(alloc, first, &shared);
+                let second = Desk::new(alloc, second, &shared);
+                let is_so = serve_both(rt, alloc, first, second);
+                shared.end(rt);
+                return is_so && seats.len() == 1;
+            }
+        };
+        shared.end(rt);
+        is_so && first.present(1).is_err() && second.open(|snap| snap.conn(1)).is_err()
+    }
+}
+
+fn numbered(alloc: Global, number: u64) -> Option<String> {
+    format!(in alloc; "com.example.N{number}").ok()
+}
+
+const OWNED: Reply = Reply::OfQueue(QueueReply::PrimaryOwner);
+
+/// The reply to a request of a numbered name.
+fn request<J: Naming, R: Wait>(
+    rt: &R,
+    alloc: Global,
+    shared: &Shared<J>,
+    seat: &mut Seat<J>,
+    other: &mut Seat<J>,
+    connection: u64,
+    number: u64,
+) -> Option<Reply> {
+    let name = numbered(alloc, number)?;
+    let deed = Deed::Request(connection, name.as_str(), 0);
+    Some(make(rt, shared, seat, other, deed)?.reply)
+}
+
+fn fill<J: Naming, R: Wait>(
+    rt: &R,
+    alloc: Global,
+    shared: &Shared<J>,
+    seat: &mut Seat<J>,
+    other: &mut Seat<J>,
+) -> Option<bool> {
+    for connection in 1..=16u64 {
+        make(rt, shared, seat, other, Deed::Hello)?;
+        for place in 0..=64u64 {
+            let number = 100 * connection + place;
+            let reply = request(rt, alloc, shared, seat, other, connection, number)?;
+            let expected = if place < 64 {
+                OWNED
+            } else {
+                Reply::LimitsExceeded
+            };
+            if reply != expected {
+                return Some(false);
+            }
+        }
+    }
+    make(rt, shared, seat, other, Deed::Hello)?;
+    let beyond = request(rt, alloc, shared, seat, other, 17, 0)?;
+    let count = other.open(|snap| snap.names().len()).ok()?;
+    Some(beyond == Reply::LimitsExceeded && count == 1024)
+}
+
+fn list<J: Naming, R: Wait>(
+    rt: &R,
+    alloc: Global,
+    shared: &Shared<J>,
+    seat: &mut Seat<J>,
+    other: &mut Seat<J>,
+) -> Option<bool> {
+    make(rt, shared, seat, other, Deed::Hello)?;
+    make(rt, shared, seat, other, Deed::Hello)?;
+    for place in 0..100u64 {
+        // 37 and 100 have no common divisor, so each name comes once.
+        let number = 100 + place * 37 % 100;
+        request(rt, alloc, shared, seat, other, 1 + place % 2, number)?;
+    }
+    other.open(|snap| are_rising(snap.names())).ok()
+}
+
+/// Whether these are the names of the numbers 100 to 199, in this order.
+fn are_rising(names: &[Box<NameEntry>]) -> bool {
+    names.len() == 100
+        && names
+            .iter()
+            .zip(100..200u64)
+            .all(|(entry, number)| number_of(&entry.name) == Some(number))
+}
+
+fn number_of(name: &BusName) -> Option<u64> {
+    name.as_str()
+        .strip_prefix("com.example.N")?
+        .parse::<u64>()
+        .ok()
+}
+
+/// Whether the connection of a number comes at a seat.
+fn comes<J: Naming, R: Wait>(
+    rt: &R,
+    shared: &Shared<J>,
+    seat: &mut Seat<J>,
+    other: &mut Seat<J>,
+    conn: Conn,
+) -> bool {
+    match make(rt, shared, seat, other, Deed::Hello) {
+        Some(outcome) => outcome.reply == Reply::Welcome(conn),
+        None => false,
+    }
+}
+
+fn are_told<J: Naming, R: Wait>(
+    rt: &R,
+    shared: &Shared<J>,
+    first: &mut Seat<J>,
+    second: &mut Seat<J>,
+) -> bool {
+    let are_numbered = first.number() == 1 && second.number() == 2 && first.note().is_none();
+    let was_watched = second.is_watched();
+    let was_absent = second.present(1).ok() == Some(false);
+    let is_unwatched = !second.is_watched();
+    let conn = Conn {
+        number: 1,
+        slot: 0,
+        router: 1,
+    };
+    let came = comes(rt, shared, first, second, conn);
+    let are_watched = first.is_watched() && second.is_watched();
+    let has_none = second.open(|snap| snap.has_monitors()).ok() == Some(false);
+    let name = BusName::from(UniqueName::of(1));
+    let is_owner = second.open(|snap| snap.owner(&name)).ok() == Some(Some(1));
+    let is_there = second.open(|snap| snap.conn(1)).ok() == Some(Some(conn));
+    let is_alone = second.present(2).ok() == Some(false);
+    let next = Conn {
+        number: 2,
+        slot: 128,
+        router: 2,
+    };
+    are_numbered
+        && was_watched
+        && was_absent
+        && is_unwatched
+        && came
+        && are_watched
+        && has_none
+        && is_owner
+        && is_there
+        && is_alone
+        && comes(rt, shared, second, first, next)
+}
+
+/// A play ends as it should: once more where one allocation failed.
+fn must_play<R: Wait + Abort>(rt: &R, alloc: Global, profile: Profile, play: Play, name: &str) {
+    let mut played = false;
+    for _try in 0..2 {
+        if !played {
+            let player = Player {
+                rt,
+                alloc,
+                profile,
+                play,
+            };
+            let out = start(rt, alloc, &[], 2, profile, player);
+            played = out.ok() == Some(true);
+        }
+    }
+    assert!(rt; played, "{name}");
+}
+
+#[test]
+fn rows_over_two_seats(rt: HostRuntime) {
+    for (name, rows) in RUNS {
+        must_play(&rt, rt.alloc(), Profile::One, Play::Rows(rows), name);
+    }
+}
+
+#[test]
+fn plays_over_two_seats(rt: HostRuntime) {
+    for (name, profile, play) in [
+        ("a note carries a Hello", Profile::Two, Play::Notes),
+        ("most names", Profile::One, Play::MostNames),
+        ("names in order", Profile::One, Play::NamesInOrder),
+        ("two desks", Profile::One, Play::Desks),
+    ] {
+        must_play(&rt, rt.alloc(), profile, play, name);
+    }
+}

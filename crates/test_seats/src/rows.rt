@@ -1,0 +1,424 @@
+//! Runs over the seats of two routers, row by row. Each seat is told what the other has made.
+
+ghost use Rattle.std.specs.Prelude.{IfSome};
+ghost use Rattle.registry.specs.Served.{IsServedChange};
+
+use arrayvec::ArrayVec;
+use match_rules::{Facts, MessageKind, Rule};
+use names::BusName;
+use owner_queues::{QueuedOwner, Reply as QueueReply, RequestFlags};
+use registry_snapshots::{Naming, Seat, Shared};
+use seq_bus_core::{BusSignal, Change, Conn, Outcome, Reply};
+use std::sync::Wait;
+
+/// A change. A connection stands as its number, a name and a rule as their texts, and flags as in a message.
+#[derive(Clone, Copy)]
+pub(crate) enum Deed<'a> {
+    Hello,
+    Leave(u64),
+    Request(u64, &'a str, u32),
+    Release(u64, &'a str),
+    Add(u64, &'a str),
+}
+
+/// A signal of the bus, its name as a text.
+#[derive(Clone, Copy)]
+pub(crate) enum Signal {
+    /// A name has another owner than the first: the second, if any.
+    Passed(&'static str, Option<u64>, Option<u64>),
+    Lost(&'static str, u64),
+    Acquired(&'static str, u64),
+}
+
+/// A signal, and who gets it.
+type Addressed = (Signal, &'static [Conn]);
+
+/// Which of the two routers.
+#[derive(Clone, Copy, PartialEq, Eq)]
+pub(crate) enum Router {
+    First,
+    Second,
+}
+
+/// What is done at a seat, or found there.
+#[derive(Clone, Copy)]
+pub(crate) enum Row {
+    /// A change has this reply and these signals.
+    Makes(Router, Deed<'static>, Reply, &'static [Addressed]),
+    /// These own a name and wait for it.
+    Queue(Router, &'static str, &'static [u64]),
+    /// A message from a connection, perhaps to one of this name, goes to these.
+    Goes(Router, u64, MessageKind, Option<&'static str>, &'static [Conn]),
+}
+
+const FIRST: Conn = Conn {
+    number: 1,
+    slot: 0,
+    router: 1,
+};
+
+const SECOND: Conn = Conn {
+    number: 2,
+    slot: 128,
+    router: 2,
+};
+
+const THIRD: Conn = Conn {
+    number: 3,
+    slot: 1,
+    router: 1,
+};
+
+const NOBODY: &[Conn] = &[];
+
+const OWNED: Reply = Reply::OfQueue(QueueReply::PrimaryOwner);
+
+const WAITS: Reply = Reply::OfQueue(QueueReply::InQueue);
+
+const RELEASED: Reply = Reply::OfQueue(QueueReply::Released);
+
+const A: &str = "com.example.A";
+
+const Z: &str = "com.example.Z";
+
+const LOWER: &str = "com.example.a";
+
+const LAST: &str = "com.example.b";
+
+/// A connection comes.
+const FIRST_COMES: Row = Row::Makes(
+    Router::First,
+    Deed::Hello,
+    Reply::Welcome(FIRST),
+    &[
+        (Signal::Passed(":1.1", None, Some(1)), NOBODY),
+        (Signal::Acquired(":1.1", 1), &[FIRST]),
+    ],
+);
+
+const SECOND_COMES: Row = Row::Makes(
+    Router::Second,
+    Deed::Hello,
+    Reply::Welcome(SECOND),
+    &[
+        (Signal::Passed(":1.2", None, Some(2)), NOBODY),
+        (Signal::Acquired(":1.2", 2), &[SECOND]),
+    ],
+);
+
+const THIRD_COMES: Row = Row::Makes(
+    Router::First,
+    Deed::Hello,
+    Reply::Welcome(THIRD),
+    &[
+        (Signal::Passed(":1.3", None, Some(3)), NOBODY),
+        (Signal::Acquired(":1.3", 3), &[THIRD]),
+    ],
+);
+
+/// What it brings that the first connection takes a free name.
+const FIRST_OWNS_A: &[Addressed] = &[
+    (Signal::Passed(A, None, Some(1)), NOBODY),
+    (Signal::Acquired(A, 1), &[FIRST]),
+];
+
+/// What it brings that the third connection takes the name from the first.
+const THIRD_TAKES_A: &[Addressed] = &[
+    (Signal::Lost(A, 1), &[FIRST]),
+    (Signal::Passed(A, Some(1), Some(3)), NOBODY),
+    (Signal::Acquired(A, 3), &[THIRD]),
+];
+
+pub(crate) const RUNS: [(&str, &[Row]); 4] = [
+    (
+        "an owner is replaced",
+        &[
+            FIRST_COMES,
+            SECOND_COMES,
+            THIRD_COMES,
+            Row::Makes(Router::First, Deed::Request(1, A, 1), OWNED, FIRST_OWNS_A),
+            Row::Makes(Router::Second, Deed::Request(2, A, 0), WAITS, &[]),
+            Row::Makes(Router::First, Deed::Request(3, A, 2), OWNED, THIRD_TAKES_A),
+            Row::Queue(Router::Second, A, &[3, 1, 2]),
+        ],
+    ),
+    (
+        "names are given up",
+        &[
+            FIRST_COMES,
+            SECOND_COMES,
+            THIRD_COMES,
+            Row::Makes(Router::First, Deed::Request(1, A, 5), OWNED, FIRST_OWNS_A),
+            Row::Makes(Router::Second, Deed::Request(2, A, 0), WAITS, &[]),
+            Row::Makes(Router::First, Deed::Request(3, A, 2), OWNED, THIRD_TAKES_A),
+            Row::Queue(Router::Second, A, &[3, 2]),
+            Row::Makes(
+                Router::Second,
+                Deed::Request(2, A, 4),
+                Reply::OfQueue(QueueReply::Exists),
+                &[],
+            ),
+            Row::Queue(Router::First, A, &[3]),
+            Row::Makes(
+                Router::Second,
+                Deed::Release(2, A),
+                Reply::OfQueue(QueueReply::NotOwner),
+                &[],
+            ),
+            Row::Makes(
+                Router::First,
+                Deed::Release(3, A),
+                RELEASED,
+                &[
+                    (Signal::Lost(A, 3), &[THIRD]),
+                    (Signal::Passed(A, Some(3), None), NOBODY),
+                ],
+            ),
+            Row::Makes(
+                Router::First,
+                Deed::Release(3, A),
+                Reply::OfQueue(QueueReply::NonExistent),
+                &[],
+            ),
+        ],
+    ),
+    (
+        "messages follow a name",
+        &[
+            FIRST_COMES,
+            SECOND_COMES,
+            Row::Makes(Router::First, Deed::Request(1, A, 0), OWNED, FIRST_OWNS_A),
+            Row::Goes(
+                Router::Second,
+                2,
+                MessageKind::MethodCall,
+                Some(A),
+                &[FIRST],
+            ),
+            Row::Makes(
+                Router::Second,
+                Deed::Add(2, "sender='com.example.A'"),
+                Reply::Done,
+                &[],
+            ),
+            Row::Goes(Router::Second, 1, MessageKind::Signal, None, &[SECOND]),
+            Row::Makes(
+                Router::First,
+                Deed::Release(1, A),
+                RELEASED,
+                &[
+                    (Signal::Lost(A, 1), &[FIRST]),
+                    (Signal::Passed(A, Some(1), None), NOBODY),
+                ],
+            ),
+            Row::Makes(
+                Router::Second,
+                Deed::Request(2, A, 0),
+                OWNED,
+                &[
+                    (Signal::Passed(A, None, Some(2)), NOBODY),
+                    (Signal::Acquired(A, 2), &[SECOND]),
+                ],
+            ),
+            Row::Goes(Router::First, 1, MessageKind::Signal, None, &[]),
+        ],
+    ),
+    (
+        "successors of one who leaves, by rising bytes of the names",
+        &[
+            FIRST_COMES,
+            SECOND_COMES,
+            THIRD_COMES,
+            Row::Makes(
+                Router::First,
+                Deed::Request(1, LAST, 0),
+                OWNED,
+                &[
+                    (Signal::Passed(LAST, None, Some(1)), NOBODY),
+                    (Signal::Acquired(LAST, 1), &[FIRST]),
+                ],
+            ),
+            Row::Makes(
+                Router::First,
+                Deed::Request(1, Z, 0),
+                OWNED,
+                &[
+                    (Signal::Passed(Z, None, Some(1)), NOBODY),
+                    (Signal::Acquired(Z, 1), &[FIRST]),
+                ],
+            ),
+            Row::Makes(
+                Router::First,
+                Deed::Request(1, LOWER, 0),
+                OWNED,
+                &[
+                    (Signal::Passed(LOWER, None, Some(1)), NOBODY),
+                    (Signal::Acquired(LOWER, 1), &[FIRST]),
+                ],
+            ),
+            Row::Makes(Router::Second, Deed::Request(2, LAST, 0), WAITS, &[]),
+            Row::Makes(Router::First, Deed::Request(3, Z, 0), WAITS, &[]),
+            Row::Makes(Router::Second, Deed::Request(2, LOWER, 0), WAITS, &[]),
+            Row::Makes(
+                Router::First,
+                Deed::Leave(1),
+                Reply::Done,
+                &[
+                    (Signal::Passed(Z, Some(1), Some(3)), NOBODY),
+                    (Signal::Acquired(Z, 3), &[THIRD]),
+                    (Signal::Passed(LOWER, Some(1), Some(2)), NOBODY),
+                    (Signal::Acquired(LOWER, 2), &[SECOND]),
+                    (Signal::Passed(LAST, Some(1), Some(2)), NOBODY),
+                    (Signal::Acquired(LAST, 2), &[SECOND]),
+                    (Signal::Passed(":1.1", Some(1), None), NOBODY),
+                ],
+            ),
+            Row::Queue(Router::Second, Z, &[3]),
+            Row::Queue(Router::Second, LAST, &[2]),
+        ],
+    ),
+];
+
+/// The change that is meant; none where a text is no name or no rule.
+fn change_of(deed: Deed<'_>) -> Option<Change>
+    ensures { IfSome result (λ change. IsServedChange change) }
+{
+    Some(match deed {
+        Deed::Hello => Change::Hello { privileged: false },
+        Deed::Leave(connection) => Change::Leave { connection },
+        Deed::Request(connection, name, bits) => Change::Request {
+            connection,
+            name: BusName::parse(name).ok()?,
+            flags: RequestFlags::from_bits(bits),
+        },
+        Deed::Release(connection, name) => Change::Release {
+            connection,
+            name: BusName::parse(name).ok()?,
+        },
+        Deed::Add(connection, rule) => Change::AddMatch {
+            connection,
+            rule: Rule::parse(rule).ok()?,
+        },
+    })
+}
+
+/// Makes a change, of which another seat is told.
+pub(crate) fn make<J: Naming, R: Wait>(
+    rt: &R,
+    shared: &Shared<J>,
+    maker: &mut Seat<J>,
+    reader: &mut Seat<J>,
+    deed: Deed<'_>,
+) -> Option<Outcome> {
+    let (outcome, note) = maker.change(rt, shared, change_of(deed)?).ok()?;
+    reader.take_note(&note);
+    Some(outcome)
+}
+
+fn is_signal(found: &BusSignal, expected: Signal) -> bool {
+    match (found, expected) {
+        (
+            BusSignal::NameOwnerChanged {
+                name,
+                old_owner,
+                new_owner,
+            },
+            Signal::Passed(text, old, new),
+        ) => name.as_str() == text && *old_owner == old && *new_owner == new,
+        (BusSignal::NameLost { name, owner }, Signal::Lost(text, number))
+        | (BusSignal::NameAcquired { name, owner }, Signal::Acquired(text, number)) => {
+            name.as_str() == text && *owner == number
+        }
+        _ => false,
+    }
+}
+
+/// Whether a change was told this reply and these signals.
+fn is_told(outcome: &Outcome, reply: Reply, expected: &[Addressed]) -> bool {
+    let signals = outcome.signals.as_slice();
+    outcome.reply == reply
+        && signals.len() == expected.len()
+        && signals.iter().zip(expected).all(|(found, (signal, to))| {
+            is_signal(&found.signal, *signal) && found.to.as_slice() == *to
+        })
+}
+
+fn are_places_of(queue: &[QueuedOwner], connections: &[u64]) -> bool {
+    queue
+        .iter()
+        .map(|place| place.connection)
+        .eq(connections.iter().copied())
+}
+
+fn has_queue<J: Naming>(seat: &mut Seat<J>, name: &str, connections: &[u64]) -> bool {
+    let Ok(name) = BusName::parse(name) else {
+        return false;
+    };
+    seat.open(|snap| are_places_of(snap.queue(&name), connections))
+        .ok()
+        == Some(true)
+}
+
+fn goes<J: Naming>(
+    seat: &mut Seat<J>,
+    from: u64,
+    kind: MessageKind,
+    destination: Option<&str>,
+    to: &[Conn],
+) -> bool {
+    let facts = Facts {
+        kind,
+        auto_start: true,
+        sender: 0,
+        path: Some("/com/example"),
+        interface: Some("com.example"),
+        member: Some("Tick"),
+        destination,
+        arguments: ArrayVec::new(),
+    };
+    match seat.route(from, &facts) {
+        Ok(verdict) => verdict.to.as_slice() == to,
+        Err(_) => false,
+    }
+}
+
+/// Whether a seat does, and finds, as the row says; the other seat is told of it.
+fn is_so<J: Naming, R: Wait>(
+    rt: &R,
+    shared: &Shared<J>,
+    seat: &mut Seat<J>,
+    other: &mut Seat<J>,
+    row: &Row,
+) -> bool {
+    match *row {
+        Row::Makes(_, deed, reply, signals) => match make(rt, shared, seat, other, deed) {
+            Some(outcome) => is_told(&outcome, reply, signals),
+            None => false,
+        },
+        Row::Queue(_, name, connections) => has_queue(seat, name, connections),
+        Row::Goes(_, from, kind, destination, to) => goes(seat, from, kind, destination, to),
+    }
+}
+
+/// How many rows are so, from the first on.
+pub(crate) fn count_so<J: Naming, R: Wait>(
+    rt: &R,
+    shared: &Shared<J>,
+    first: &mut Seat<J>,
+    second: &mut Seat<J>,
+    rows: &[Row],
+) -> usize {
+    let mut count = 0usize;
+    for row in rows {
+        let (Row::Makes(router, ..) | Row::Queue(router, ..) | Row::Goes(router, ..)) = *row;
+        let so = match router {
+            Router::First => is_so(rt, shared, first, second, row),
+            Router::Second => is_so(rt, shared, second, first, row),
+        };
+        if !so {
+            return count;
+        }
+        count = count.wrapping_add(1);
+    }
+    count
+}

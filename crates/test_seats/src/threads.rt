@@ -1,0 +1,127 @@
+//! Seats of a registry in threads of their own.
+
+ghost use Rattle.std.specs.Prelude.{◌≡◌, []};
+ghost use Rattle.owner_queues.specs.declared.request.Profile.TheVariants.{One};
+ghost use Rattle.seq_bus_core.specs.Tickets.{opening_bus};
+
+use arrayvec::ArrayVec;
+use match_rules::{Facts, MessageKind};
+use names::UniqueName;
+use owner_queues::Profile;
+use registry_snapshots::{Naming, Opened, Seat, Shared};
+use seq_bus_core::{Change, Outcome, Reply};
+use std::alloc::Global;
+use std::marker::Brand;
+use std::process::Abort;
+use std::sync::Wait;
+use std::thread::{Threads, join};
+
+/// How many Hellos each router makes.
+const HELLOS: u64 = 100;
+
+/// The number of the connection that was made, or 0.
+fn number_of(outcome: &Outcome) -> u64 {
+    match outcome.reply {
+        Reply::Welcome(conn) => conn.number,
+        _ => 0,
+    }
+}
+
+/// What one router did.
+#[derive(Drop)]
+struct Done {
+    /// The numbers of its connections.
+    numbers: Vec<u64>,
+    /// How many calls were refused.
+    refused: u64,
+}
+
+/// What rules see of a call to a name.
+fn call_to(name: &UniqueName) -> Facts<'_> {
+    Facts {
+        kind: MessageKind::MethodCall,
+        auto_start: true,
+        sender: 0,
+        path: None,
+        interface: None,
+        member: None,
+        destination: Some(name.as_str()),
+        arguments: ArrayVec::new(),
+    }
+}
+
+/// Makes a Hello, and routes a call of the new connection to itself: its number, if nothing was refused.
+fn greet<J: Naming, R: Wait>(rt: &R, seat: &mut Seat<J>, shared: &Shared<J>) -> Option<u64> {
+    let change = Change::Hello { privileged: false };
+    let (outcome, _) = seat.change(rt, shared, change).ok()?;
+    let number = number_of(&outcome);
+    let name = UniqueName::of(number);
+    let facts = call_to(&name);
+    let verdict = seat.route(number, &facts).ok()?;
+    match verdict.to.as_slice() {
+        [conn] if conn.number == number => Some(number),
+        _ => None,
+    }
+}
+
+/// Makes Hellos, with a route after each.
+fn hellos<J: Naming, R: Wait>(
+    rt: &R,
+    alloc: Global,
+    shared: &Shared<J>,
+    mut seat: Seat<J>,
+) -> (Seat<J>, Done) {
+    let mut numbers = Vec::new(alloc);
+    let mut refused = 0u64;
+    for _ in 0..HELLOS {
+        let fine = match greet(rt, &mut seat, shared) {
+            Some(number) => numbers.push(number).is_ok(),
+            None => false,
+        };
+        if !fine {
+            refused = refused.wrapping_add(1);
+        }
+    }
+    (seat, Done { numbers, refused })
+}
+
+#[test]
+fn no_refusal(rt: HostRuntime) {
+    two_routers::<Brand, _>(&rt, rt.alloc(), Opened::new());
+}
+
+/// Two routers that serve new connections at the same time.
+fn two_routers<J: Naming + Send + Sync, R: Threads + Wait + Abort + Sync>(
+    rt: &R,
+    alloc: Global,
+    opened: Opened,
+)
+    requires { (opened ≡ J.book) × (J.opening ≡ opening_bus One 2 []) }
+{
+    let (shared, mut seats) = Shared::<J>::new(rt, alloc, opened, &[], 2, Profile::One)
+        .ok()
+        .expect(rt, "there is memory");
+    let second = seats.pop().expect(rt, "there are three seats");
+    let first = seats.pop().expect(rt, "there are three seats");
+    let mut main = seats.pop().expect(rt, "there are three seats");
+    let lent = &shared;
+    let ((first, one), (second, two)) = join(
+        rt,
+        move || hellos(rt, alloc, lent, first),
+        move || hellos(rt, alloc, lent, second),
+    );
+    for seat in [&first, &second] {
+        main.take_note(&seat.note().expect(rt, "it made changes"));
+    }
+    for number in 1..=2 * HELLOS {
+        let is_of_one = one.numbers.contains(&number) != two.numbers.contains(&number);
+        assert!(rt; is_of_one && main.present(number) == Ok(true), "{number}");
+    }
+    let counts = (
+        one.numbers.len() + two.numbers.len(),
+        one.refused,
+        two.refused,
+    );
+    shared.end(rt);
+    assert!(rt; counts == (200, 0, 0) && main.present(1).is_err());
+}
