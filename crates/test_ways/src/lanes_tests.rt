@@ -61,7 +61,7 @@ fn the_257th_comes_back(rt: HostRuntime) -> Result<(), Fail> {
 }
 
 /// How many items each of two lanes puts.
-const MANY: u64 = 1_000_000;
+const MANY: u64 = 5_000_000;
 
 fn put_all<R: Wait>(rt: &R, mut lane: Lane<u64>, mark: u64) {
     for number in 0..MANY {
