@@ -1,6 +1,6 @@
 #!/usr/bin/env bash
 # Proves and builds busd with all that it stands on, side by side, and leaves the program as crates/busd/out/busd.
-# It is a part of the gate's work: what passes is kept on this machine, and the gate takes it over.
+# It is a part of the gate's work: a kit that keeps what passes has the gate take it over.
 set -euo pipefail
 cd "$(dirname "$0")/.."
 
