@@ -13,3 +13,4 @@ pub mod Writings
 pub mod Feeding
 pub mod Speaking
 pub mod Conversations
+pub mod Openings

@@ -54,14 +54,15 @@ impl<V: BusView + Drop, G: Gate + Drop> Engine<V, G> {
 }
 
 impl<V: BusView, G: Gate> Engine<V, G> {
-    /// A key for the next connection: none has it.
+    /// The key of the next connection: the least that none has. A connection that is gone has given its key up, so keys
+    /// stay below the most connections that were there at once.
     pub fn free_key(&self) -> usize
         ensures { IsFree self.now.standing result }
     {
         self.served.free_key()
     }
 
-    /// Whether a key is one for the next connection, as [`free_key`](Engine::free_key) finds one.
+    /// Whether a key is that of the next connection, as [`free_key`](Engine::free_key) tells it.
     pub fn is_free(&self, key: usize) -> bool
         ensures { IsTrue result ↔ IsFree self.now.standing key }
     {

@@ -34,11 +34,9 @@ impl<V: BusView, G: Gate> Served<V, G> {
     {
         self.hands.reserve(1)?;
         self.leaves.reserve(1)?;
-        self.vacated.reserve(1)?;
         let Some(peer) = take_peer(&mut self.peers, key) else {
             return Ok(());
         };
-        let _ = self.vacated.push(key);
         self.hands
             .leave_of(right, peer.stage().conn(), &mut self.leaves);
         Ok(())

@@ -1,7 +1,8 @@
 //! The connections with what serves them, while an event is served.
 
-ghost use Rattle.std.specs.Prelude.{◌≡◌, ◌↔◌, IsTrue, [], is_some, IfOk, OnOk, OnErr};
-ghost use Rattle.router_core.specs.Events.{hear, for_peer, IsFree};
+ghost use Rattle.std.specs.Prelude.{◌≡◌, ◌↔◌, IsTrue, [], is_some, is_none, position, IfOk, OnOk, OnErr};
+ghost use Rattle.std.specs.List.{position_or_len};
+ghost use Rattle.router_core.specs.Events.{hear, for_peer, free_key, IsFree};
 ghost use Rattle.router_core.specs.Scripts.{Comes};
 ghost use Rattle.router_core.specs.Standing.{first_stage, fresh, opened, peer_at};
 ghost use Rattle.router_hands.specs.Stages.{stage_of, IsFirst};
@@ -25,8 +26,6 @@ pub struct Served<V: BusView, G: Gate> {
     pub(crate) peers: Vec<Option<Peer>>,
     /// The key of the connection that has a slot, if there is one.
     pub(crate) places: [usize; SLOT_COUNT],
-    /// Keys of connections that are gone; the last of them is given out first.
-    pub(crate) vacated: Vec<usize>,
     pub(crate) leaves: Vec<u64>,
     /// Who may log in; none where nobody is asked.
     login: Option<Login>,
@@ -43,10 +42,21 @@ impl<V: BusView, G: Gate> Model for Served<V, G> {
     ghost invariant = { λ s. IsIndexed s.peers.items s.places };
 }
 
-/// A key that was given up is in use again.
-fn forget(vacated: &mut Vec<usize>, key: usize) {
-    if vacated.last().copied() == Some(key) {
-        vacated.pop();
+/// The least key that a connection had and that none has now.
+fn first_vacant(peers: &[Option<Peer>]) -> Option<usize>
+    ensures { result ≡ position is_none peers.now }
+{
+    peers.iter().position(|peer| peer.is_none())
+}
+
+/// The least key that no connection has.
+#[tactic(auto, using(crate::proofs::Slots::found_first, crate::proofs::Slots::found_none, crate::proofs::Slots::free_within))]
+fn least_free(peers: &[Option<Peer>]) -> usize
+    ensures { result ≡ position_or_len is_none peers.now }
+{
+    match first_vacant(peers) {
+        Some(key) => key,
+        None => peers.len(),
     }
 }
 
@@ -66,7 +76,6 @@ impl<V: BusView + Drop, G: Gate + Drop> Served<V, G> {
             hands: Hands::new(alloc, view, gate)?,
             peers: Vec::new(alloc),
             places: [0; SLOT_COUNT],
-            vacated: Vec::new(alloc),
             leaves: Vec::new(alloc),
             login,
         })
@@ -100,28 +109,18 @@ impl<V: BusView, G: Gate> Served<V, G> {
         self.hands.give_back(actions);
     }
 
-    /// A key that no connection has: the last that was given up, or the next.
-    #[tactic(auto, using(crate::proofs::Slots::none_beyond))]
+    /// The key of the next connection: the least that none has.
     pub fn free_key(&self) -> usize
-        ensures { IsFree self.now.standing result }
+        ensures { result ≡ free_key self.now.standing }
     {
-        if let Some(key) = self.vacated.last() {
-            if self.is_free(*key) {
-                return *key;
-            }
-        }
-        self.peers.len()
+        least_free(&self.peers)
     }
 
-    /// Whether no connection has a key, and none above it is left out.
-    #[tactic(auto, using(crate::proofs::Slots::none_beyond))]
+    /// Whether the next connection has a key.
     pub fn is_free(&self, key: usize) -> bool
         ensures { IsTrue result ↔ IsFree self.now.standing key }
     {
-        if key >= self.peers.len() {
-            return key == self.peers.len();
-        }
-        self.peers[key].is_none()
+        key == self.free_key()
     }
 
     /// Whether connections can be asked who they are.
@@ -157,6 +156,7 @@ impl<V: BusView, G: Gate> Served<V, G> {
     }
 
     /// A connection came, and has this key. Without memory nothing changes.
+    #[tactic(auto, using(crate::proofs::Slots::free_within))]
     pub fn open(&mut self, key: usize, challenge: Option<[u8; 16]>) -> Result<(), AllocError>
         requires { IsFree self.old.standing key }
         ensures ok { OnOk result (self.new.standing ≡ opened self.old.standing key challenge) }
@@ -169,7 +169,6 @@ impl<V: BusView, G: Gate> Served<V, G> {
             return Ok(());
         }
         self.peers[key] = Some(peer);
-        forget(&mut self.vacated, key);
         Ok(())
     }
 

@@ -3,3 +3,4 @@ pub mod Asked
 pub mod Registries
 pub mod Functions
 pub mod FirstMessages
+pub mod Keys

@@ -1,5 +1,6 @@
 -- What is done at an event. (D-Bus Specification: "Message Bus Messages", "org.freedesktop.DBus.Hello")
-use Rattle.std.specs.Prelude.{◌≡◌, ℕ, ◌≤◌, Bool, true, false, Option, Some, None, is_some, option_map, List, [], ◌∷◌, ◌++◌, length, position, if◌then◌else◌}
+use Rattle.std.specs.Prelude.{◌≡◌, ℕ, Bool, true, false, Option, Some, None, is_some, is_none, option_map, List, [], ◌∷◌, ◌++◌, length, position, if◌then◌else◌}
+use Rattle.std.specs.List.{position_or_len}
 use Rattle.seq_bus_core.specs.Histories.{History}
 use Rattle.seq_bus_core.specs.declared.change.Change.TheVariants.{Hello, Leave}
 use Rattle.seq_bus_core.specs.declared.connection.Conn.{Conn}
@@ -257,9 +258,12 @@ occasion_of told event.Tick = Tick
 
 -- ## What can happen
 
--- no connection has the key, and none above it is left out
+-- The key of the next connection is the least that none has: that of one that is gone, before one behind all.
+abbrev pub free_key : Standing → ℕ
+free_key s = position_or_len is_none s.peers
+
 abbrev pub IsFree : Standing → ℕ → Type 0
-IsFree s key = (peer_at s key ≡ None) × (key ≤ length s.peers)
+IsFree s key = key ≡ free_key s
 
 -- Whoever is challenged can log in.
 abbrev pub CanBeAsked : Option Login → (challenge : Option (List ℕ)) → Type 0

@@ -1,5 +1,5 @@
 -- Laws of what a router does.
-use Rattle.std.specs.Prelude.{◌≡◌, ℕ, Bool, true, false, Option, Some, List, [], ◌∷◌, ◌++◌}
+use Rattle.std.specs.Prelude.{◌≡◌, ℕ, ◌<◌, Bool, true, false, Option, Some, is_some, List, [], ◌∷◌, ◌++◌, length, count_by}
 use Rattle.std.specs.List.{AllByRecursion}
 use Rattle.match_rules.specs.Kinds.{kind_of}
 use Rattle.seq_bus_core.specs.Histories.{History}
@@ -16,11 +16,11 @@ use Rattle.router_core.specs.declared.action.Action.{Action}
 use Rattle.router_core.specs.declared.event.Event.{Event}
 use Rattle.router_core.specs.Acts.{State, Brings, IsServed, IsServedBy, Exchange, IsGranted}
 use Rattle.router_core.specs.Deeds.{Deed, Closes, GatedCall, IsDoneBy, CarriesOwn}
-use Rattle.router_core.specs.Events.{Occasion, Bytes, Next, hear, is_user, script, serve_at}
+use Rattle.router_core.specs.Events.{Occasion, Bytes, Next, IsFree, hear, is_user, script, serve_at}
 use Rattle.router_core.specs.OneThread.{Readers, Rest, given, rest_after, bus_bytes, AreReadBy, IsRun}
 use Rattle.router_core.specs.Scripts.{Gives, World, having_done, Comes}
 use Rattle.router_core.specs.Serving.{serve, is_unknown, stays_open}
-use Rattle.router_core.specs.Standing.{Authenticating, Unnamed, Shut, Peer, Standing, peer_at, with_peer, shut, is_conn}
+use Rattle.router_core.specs.Standing.{Authenticating, Unnamed, Shut, Peer, Standing, peer_at, with_peer, opened, shut, is_conn}
 
 -- the bus closed the connection of this key, and it is not gone yet
 abbrev pub IsShut : Standing → ℕ → Peer → Type 0
@@ -62,6 +62,11 @@ abbrev pub OnlyHelloGreets : {N G : Type 0} → (N → History) → (N → ℕ) 
 OnlyHelloGreets {N = N} {G = G} told registry_of passes alone = (s t : Standing) (key : ℕ) (m : Message) (p : Peer) (privileged : Bool) (w v : World N G) →
     is_hello m ≡ false → Comes told registry_of passes alone (serve_at s key m p (Unnamed privileged)) w t v →
     (t ≡ with_peer s key (Some (shut p))) × ((action : Action N) × IsDoneBy action (Closes key NotHello) × (v ≡ having_done w (action ∷ [])))
+
+-- The table of connections grows only where each of its keys has its connection, and then each has.
+abbrev pub OnlyFullTablesGrow : Type 0
+OnlyFullTablesGrow = (s : Standing) (key : ℕ) (challenge : Option (List ℕ)) → IsFree s key → length s.peers < length (opened s key challenge).peers →
+    count_by is_some (opened s key challenge).peers ≡ length (opened s key challenge).peers
 
 -- What an event brings it brings for some answers that the bus may give, one after the other, and the gate is shown the calls among
 -- them, each once.

@@ -1,7 +1,7 @@
 //! Laws of the definitions.
 
 ghost use Rattle.std.specs.Prelude.{◌≡◌};
-ghost use Rattle.router_core.specs.Laws.{ClosedAreNotServed, ClosedTakeNothing, ClosedGetNoMail, NobodySpeaksBeforeBegin, OnlyBeginBegins, UnknownTypesBringNothing, OnlyHelloGreets, AnswersAreLawful, NotesAreOwn, OneThreadIsAFunction, BytesAreAFunction};
+ghost use Rattle.router_core.specs.Laws.{ClosedAreNotServed, ClosedTakeNothing, ClosedGetNoMail, NobodySpeaksBeforeBegin, OnlyBeginBegins, UnknownTypesBringNothing, OnlyHelloGreets, OnlyFullTablesGrow, AnswersAreLawful, NotesAreOwn, OneThreadIsAFunction, BytesAreAFunction};
 ghost use Rattle.router_core.specs.Standing.{next_serial};
 
 use crate::gate::Gate;
@@ -43,6 +43,13 @@ pub fn unknown_types_bring_nothing()
 #[tactic(auto, using(crate::proofs::FirstMessages::only_hello_greets))]
 pub fn only_hello_greets<V: BusView, G: Gate>()
     ensures { OnlyHelloGreets V.told V.registry_of G.passes V.alone }
+{}
+
+/// A connection gets the least key that none has. So the table of connections is never longer than the most that were
+/// there at once, and a key is free as soon as its connection is gone.
+#[tactic(auto, using(crate::proofs::Keys::only_full_tables_grow))]
+pub fn only_full_tables_grow()
+    ensures { OnlyFullTablesGrow }
 {}
 
 /// What an event brings is what it brings for some answers that the bus may give.

@@ -39,7 +39,7 @@ pub record IsRunOf {G : Type 0} (passes : G → GatedCall → G → Type 0) (gat
   pub shown : PassesAll passes gate (gated_in before.view.seat (asked_in turns)) left
   pub written : bytes ≡ for_each occasions (λ opening. written_by opening [] occasions turns)
 
--- A connection comes, and its key is not free.
+-- A connection comes, and its key is not the least that none has.
 abbrev pub LacksKey : Standing → Event (Unit {0}) → Type 0
 LacksKey s (event.Opened key challenge) = IsFree s key → ⊥
 LacksKey s other = ⊥

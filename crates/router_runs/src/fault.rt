@@ -6,7 +6,7 @@ use thiserror::Error;
 /// Why a run ends before its events do.
 #[derive(Clone, Copy, Debug, PartialEq, Eq, Error)]
 pub enum RunFault {
-    /// A connection comes at the event of this index, and its key is not free.
+    /// A connection comes at the event of this index, and its key is not the least that none has.
     #[error("event {0}: the key is not free")]
     KeyTaken(usize),
     /// A connection that is to say who it is comes at the event of this index, and no one may log in.
