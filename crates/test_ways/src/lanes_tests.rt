@@ -1,6 +1,10 @@
 //! What comes out of a queue is what was put into it.
 
+ghost use Rattle.std.specs.Prelude.{◌≡◌, ◌∷◌, ◌≤◌, [], IfOk, IfSome};
+ghost use Rattle.lanes.specs.Lanes.{lane_end};
+
 use lanes::{Full, Lane, Tap, open_lanes};
+use std::alloc::{AllocError, Global};
 use std::sync::Wait;
 use std::test::*;
 use std::thread;
@@ -57,6 +61,40 @@ fn the_257th_comes_back(rt: HostRuntime) -> Result<(), Fail> {
         (put(&rt, &mut other, 255, 8).is_ok(), tap.take(&rt)),
         (true, Some(8))
     );
+    Ok(())
+}
+
+// The lane and the tap of a queue of its own.
+fn one_way(alloc: Global) -> Result<Option<(Lane<u64>, Tap<u64>)>, AllocError>
+    ensures { IfOk result (λ way. IfSome way (λ w. (w.0 ≡ lane_end 0 w.1 ∷ []) × (w.1.hand.to ≤ w.1.hand.from))) }
+{
+    let (mut lanes, mut groups) = open_lanes::<u64>(alloc, 1, 1, 1)?;
+    let Some(lane) = lanes.pop() else {
+        return Ok(None);
+    };
+    let Some(mut taps) = groups.pop() else {
+        return Ok(None);
+    };
+    match taps.pop() {
+        Some(tap) => Ok(Some((lane, tap))),
+        None => Ok(None),
+    }
+}
+
+#[test]
+fn what_was_taken_begins_what_was_put(rt: HostRuntime) -> Result<(), Fail> {
+    let Some((mut lane, mut tap)) = one_way(rt.alloc())? else {
+        return Err(Fail::new("there is a lane and a tap"));
+    };
+    let Ok(()) = lane.put(&rt, 0, 5) else {
+        return Err(Fail::new("the queue is empty"));
+    };
+    let Some(taken) = tap.take(&rt) else {
+        return Err(Fail::new("the queue has an item"));
+    };
+    lane.compare(0, &mut tap);
+    let again = (put(&rt, &mut lane, 0, 6).is_ok(), tap.take(&rt));
+    assert_eq!(rt; (taken, again), (5, (true, Some(6))));
     Ok(())
 }
 
