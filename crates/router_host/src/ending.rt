@@ -10,6 +10,8 @@ pub enum EndCause {
     Closed(CloseCause),
     /// Its input came to an end.
     EndOfInput,
+    /// The other side closed its socket while there was something to be read or written.
+    HungUp,
     /// Its socket could not be read.
     Unreadable,
     /// Its socket could not be written.
@@ -23,6 +25,7 @@ impl fmt::Display for EndCause {
         match self {
             EndCause::Closed(cause) => write!(f, "closed: {cause}"),
             EndCause::EndOfInput => write!(f, "end of input"),
+            EndCause::HungUp => write!(f, "hung up"),
             EndCause::Unreadable => write!(f, "device: input"),
             EndCause::Unwritable => write!(f, "device: output"),
             EndCause::NoMemory => write!(f, "memory"),

@@ -50,6 +50,14 @@ impl<S: Socket> Model for Line<S> {
     ghost view = { λ l. record { waits = l.out; blocked = l.blocked; broken = l.broken; ended = l.ended } };
 }
 
+/// Why a connection is over whose socket failed so, where the other side did not hang up.
+fn end_by(kind: ErrorKind, failed: EndCause) -> EndCause {
+    match kind {
+        ErrorKind::BrokenPipe | ErrorKind::ConnectionReset => EndCause::HungUp,
+        _ => failed,
+    }
+}
+
 /// What a read came to.
 pub(crate) enum Pulled {
     Bytes(usize),
@@ -182,7 +190,7 @@ impl<S: Socket> Line<S> {
                     Pulled::Nothing
                 }
                 ErrorKind::Interrupted => Pulled::Nothing,
-                _ => Pulled::Over(EndCause::Unreadable),
+                kind => Pulled::Over(end_by(kind, EndCause::Unreadable)),
             },
         }
     }
@@ -221,9 +229,9 @@ impl<S: Socket> Line<S> {
         match self.out.flush(&mut self.socket) {
             Ok(Flushed::All) => self.waiting = 0,
             Ok(Flushed::Waits) => self.blocked = true,
-            Err(_failed) => {
+            Err(error) => {
                 self.broken = true;
-                self.end(EndCause::Unwritable);
+                self.end(end_by(error.kind(), EndCause::Unwritable));
             }
         }
     }
