@@ -1,0 +1,217 @@
+//! What the threads of a bus share, besides its registry and its outboxes.
+
+use crate::fault::Fault;
+use crossbeam_queue::ArrayQueue;
+use std::alloc::{AllocError, Global};
+use std::sync::Wait;
+use std::sync::atomic::{AtomicBool, Ordering};
+
+/// How many places for connections a bus has.
+pub(crate) const PLACES: usize = 256;
+
+/// Ends the wait of one thread.
+pub trait Wake {
+    /// The thread's wait ends, or its next one at once. Where the system refuses that, nothing happens.
+    fn wake(&self);
+}
+
+/// What other threads may tell a router.
+#[derive(Drop)]
+struct RouterState<W: Wake + Drop> {
+    waker: W,
+    /// It waits, or is about to: whoever has something for it wakes it.
+    sleeps: AtomicBool,
+    /// A connection of it was full for another router.
+    looks: AtomicBool,
+    /// A connection came for it.
+    comes: AtomicBool,
+    /// Something was brought to it: whoever ends a turn wakes it.
+    owed: AtomicBool,
+}
+
+impl<W: Wake + Drop> RouterState<W> {
+    fn wake(&self) {
+        if self.sleeps.swap(false, Ordering::SeqCst) {
+            self.waker.wake();
+        }
+    }
+}
+
+// A flag that is raised already is not written: others may be reading it.
+fn raise(flag: &AtomicBool) {
+    if !flag.load(Ordering::SeqCst) {
+        flag.store(true, Ordering::SeqCst);
+    }
+}
+
+// Whether a flag was raised. It no longer is.
+fn lower(flag: &AtomicBool) -> bool {
+    flag.load(Ordering::SeqCst) && flag.swap(false, Ordering::SeqCst)
+}
+
+/// What the threads of a bus share, besides its registry and its outboxes: how to wake each, which places have mail, and
+/// whether they are to end.
+#[derive(Drop)]
+pub struct Coordinator<W: Wake + Drop> {
+    states: Vec<RouterState<W>>,
+    /// By slots: there is mail from another router.
+    mail: Vec<AtomicBool>,
+    main: W,
+    stops: AtomicBool,
+    faults: ArrayQueue<Fault>,
+}
+
+impl<W: Wake + Drop> Coordinator<W> {
+    /// The coordinator of as many routers as there are wakers, and of the main thread, whose waker is `main`.
+    pub fn new(alloc: Global, wakers: Vec<W>, main: W) -> Result<Coordinator<W>, AllocError> {
+        let mut states = Vec::with_capacity(alloc, wakers.len())?;
+        for waker in wakers {
+            states.push(RouterState {
+                waker,
+                sleeps: AtomicBool::new(false),
+                looks: AtomicBool::new(false),
+                comes: AtomicBool::new(false),
+                owed: AtomicBool::new(false),
+            })?;
+        }
+        let mut mail = Vec::with_capacity(alloc, PLACES)?;
+        for _slot in 0..PLACES {
+            mail.push(AtomicBool::new(false))?;
+        }
+        Ok(Coordinator {
+            states,
+            mail,
+            main,
+            stops: AtomicBool::new(false),
+            faults: ArrayQueue::new(alloc, 16)?,
+        })
+    }
+
+    /// How many routers there are.
+    pub fn routers(&self) -> usize {
+        self.states.len()
+    }
+
+    /// How many connections each router has places for.
+    pub fn places(&self) -> usize {
+        PLACES / self.states.len().max(1)
+    }
+
+    /// The router of a place, counted from 0.
+    pub(crate) fn router_of(&self, slot: usize) -> usize {
+        slot / self.places().max(1)
+    }
+
+    /// There is mail for a place of another router, which is to be woken at the end of the turn.
+    pub(crate) fn tell_of_mail(&self, slot: usize) {
+        if let Some(flag) = self.mail.get(slot) {
+            raise(flag);
+        }
+        if let Some(state) = self.states.get(self.router_of(slot)) {
+            raise(&state.owed);
+        }
+    }
+
+    /// Whether there is mail for this place. It is asked for once.
+    pub(crate) fn takes_mail(&self, slot: usize) -> bool {
+        match self.mail.get(slot) {
+            Some(flag) => lower(flag),
+            None => false,
+        }
+    }
+
+    /// A connection came for a router, which is to be woken.
+    pub fn tell_of_connection(&self, router: usize) {
+        if let Some(state) = self.states.get(router) {
+            raise(&state.comes);
+            raise(&state.owed);
+        }
+    }
+
+    /// Connections that came for a router up to now are looked for.
+    pub(crate) fn looks_for_connections(&self, router: usize) {
+        if let Some(state) = self.states.get(router) {
+            state.comes.store(false, Ordering::SeqCst);
+        }
+    }
+
+    /// A connection of this router was full.
+    pub(crate) fn ask_to_look(&self, router: usize) {
+        if let Some(state) = self.states.get(router) {
+            raise(&state.looks);
+            raise(&state.owed);
+        }
+    }
+
+    /// Whether a connection of this router was full for another. It is asked for once.
+    pub(crate) fn takes_look(&self, router: usize) -> bool {
+        match self.states.get(router) {
+            Some(state) => lower(&state.looks),
+            None => false,
+        }
+    }
+
+    /// Whether there is mail for a router.
+    fn has_mail(&self, router: usize) -> bool {
+        let first = router.saturating_mul(self.places());
+        for slot in first..first.saturating_add(self.places()) {
+            if let Some(flag) = self.mail.get(slot) {
+                if flag.load(Ordering::SeqCst) {
+                    return true;
+                }
+            }
+        }
+        false
+    }
+
+    /// A router is about to wait. It is not to, where something came for it meanwhile.
+    pub(crate) fn falls_asleep(&self, router: usize) -> bool {
+        let Some(state) = self.states.get(router) else {
+            return false;
+        };
+        state.sleeps.store(true, Ordering::SeqCst);
+        let is_awaited = state.looks.load(Ordering::SeqCst) || state.comes.load(Ordering::SeqCst);
+        !(is_awaited || self.is_over() || self.has_mail(router))
+    }
+
+    /// A router waits no more.
+    pub(crate) fn wakes_up(&self, router: usize) {
+        if let Some(state) = self.states.get(router) {
+            state.sleeps.store(false, Ordering::SeqCst);
+        }
+    }
+
+    /// Wakes the routers that something was brought to, if they sleep.
+    pub fn wake_owed(&self) {
+        for state in &self.states {
+            if lower(&state.owed) {
+                state.wake();
+            }
+        }
+    }
+
+    /// Whether all are to end.
+    pub fn is_over(&self) -> bool {
+        self.stops.load(Ordering::SeqCst)
+    }
+
+    /// All threads are to end after their turn.
+    pub fn stop(&self) {
+        self.stops.store(true, Ordering::SeqCst);
+        self.main.wake();
+        for state in &self.states {
+            state.waker.wake();
+        }
+    }
+
+    /// A thread can't go on, and all are to end.
+    pub fn fail<R: Wait>(&self, rt: &R, fault: Fault) {
+        let _ = self.faults.push(rt, fault);
+        self.stop();
+    }
+
+    /// The fault that came first, of those that are not told yet.
+    pub fn fault<R: Wait>(&self, rt: &R) -> Option<Fault> {
+        self.faults.pop(rt)
+    }
+}

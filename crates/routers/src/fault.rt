@@ -1,0 +1,16 @@
+//! Why the routers of a bus end.
+
+use thiserror::Error;
+
+/// Why the routers of a bus end.
+#[derive(Clone, Copy, Debug, PartialEq, Eq, Error)]
+pub enum Fault {
+    /// The system tells no more what sockets are ready for.
+    #[error("device: poll")]
+    Poll,
+    /// The system gives no more random bytes.
+    #[error("device: random")]
+    Random,
+    #[error("memory")]
+    Memory,
+}

@@ -1,0 +1,153 @@
+//! One router, as long as it serves.
+
+use crate::coordinator::{Coordinator, Wake};
+use crate::fault::Fault;
+use crate::source::{Source, SourceEvent, Timeout};
+use bus_view::BusView;
+use router_core::Gate;
+use router_host::{Host, Post, Socket};
+use std::sync::Wait;
+
+/// A router: a host, and where it hears of what happens.
+#[derive(Drop)]
+pub struct Router<'a, V: BusView, G: Gate, P: Post<V>, S: Socket, E: Source<S>, W: Wake + Drop> {
+    me: usize,
+    coordinator: &'a Coordinator<W>,
+    host: Host<V, G, P, S>,
+    source: E,
+    /// There was no memory for something in the last turn.
+    is_short_of_memory: bool,
+}
+
+impl<
+    'a,
+    V: BusView + Drop,
+    G: Gate + Drop,
+    P: Post<V>,
+    S: Socket,
+    E: Source<S> + Drop,
+    W: Wake + Drop,
+> Router<'a, V, G, P, S, E, W> {
+    /// Serves until all are to end, or nothing happens any more.
+    ///
+    /// # Errors
+    ///
+    /// Its source fails.
+    pub fn run<R: Wait>(mut self, rt: &R, right: &V::Right) -> Result<(), Fault> {
+        for _ in rt.forever() {
+            self.rest()?;
+            if self.coordinator.is_over() || self.take_events(rt, right) {
+                return Ok(());
+            }
+            self.turn(right);
+        }
+        unreachable!()
+    }
+}
+
+impl<'a, V: BusView, G: Gate, P: Post<V>, S: Socket, E: Source<S>, W: Wake + Drop> Router<
+    'a,
+    V,
+    G,
+    P,
+    S,
+    E,
+    W,
+> {
+    /// Router `me` of the coordinator.
+    pub fn new(
+        me: usize,
+        coordinator: &'a Coordinator<W>,
+        host: Host<V, G, P, S>,
+        source: E,
+    ) -> Router<'a, V, G, P, S, E, W> {
+        Router {
+            me,
+            coordinator,
+            host,
+            source,
+            is_short_of_memory: false,
+        }
+    }
+
+    /// Waits for what happens next, unless there is something to do.
+    fn rest(&mut self) -> Result<(), Fault> {
+        let timeout = self.timeout();
+        if timeout == Timeout::Zero {
+            return self.source.wait(Timeout::Zero);
+        }
+        let may_sleep = self.coordinator.falls_asleep(self.me);
+        let waited = self
+            .source
+            .wait(if may_sleep { timeout } else { Timeout::Zero });
+        self.coordinator.wakes_up(self.me);
+        waited
+    }
+
+    fn timeout(&self) -> Timeout {
+        if self.is_short_of_memory {
+            return Timeout::Short;
+        }
+        if self.host.is_busy() {
+            return Timeout::Zero;
+        }
+        if self.host.wants_tick() {
+            return Timeout::Short;
+        }
+        Timeout::Never
+    }
+
+    /// Tells the host what happened, and whether nothing happens any more.
+    fn take_events<R: Wait>(&mut self, rt: &R, right: &V::Right) -> bool {
+        self.coordinator.looks_for_connections(self.me);
+        for _ in rt.forever() {
+            match self.source.next(rt) {
+                None => return false,
+                Some(SourceEvent::Accepted { socket, challenge }) => self.open(
+                    right, socket, challenge,
+                ),
+                Some(SourceEvent::Readable { key, closing }) => self.host.readable(key, closing),
+                Some(SourceEvent::Writable { key }) => self.host.writable(key),
+                Some(SourceEvent::Ended) => return true,
+            }
+        }
+        unreachable!()
+    }
+
+    /// A connection came. It is dropped where there is no room for it.
+    fn open(&mut self, right: &V::Right, mut socket: S, challenge: Option<[u8; 16]>) {
+        if self.source.watch(self.host.free_key(), &mut socket) {
+            let _refused = self.host.open(right, socket, challenge);
+        }
+    }
+
+    /// Does what there is to do.
+    fn turn(&mut self, right: &V::Right) {
+        self.take_flags();
+        let ticked = match self.host.wants_tick() {
+            true => self.host.tick(right),
+            false => Ok(()),
+        };
+        let turned = self.host.turn(right);
+        self.is_short_of_memory = ticked.is_err() || turned.is_err();
+        for ended in self.host.take_ended() {
+            self.source.tell(ended);
+        }
+    }
+
+    /// Tells the host what other routers brought.
+    fn take_flags(&mut self) {
+        let places = self.coordinator.places();
+        let first = self.me.saturating_mul(places);
+        for slot in first..first.saturating_add(places) {
+            if self.coordinator.takes_mail(slot) {
+                if let Ok(slot) = u16::try_from(slot) {
+                    self.host.mail_came(slot);
+                }
+            }
+        }
+        if self.coordinator.takes_look(self.me) {
+            self.host.look_came();
+        }
+    }
+}

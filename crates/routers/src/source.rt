@@ -1,0 +1,52 @@
+//! What happens to a router.
+
+use crate::fault::Fault;
+use router_host::{Ended, Socket};
+use std::sync::Wait;
+
+/// How long a router waits for what happens next.
+#[derive(Clone, Copy, Debug, PartialEq, Eq)]
+pub enum Timeout {
+    /// Not at all: it has something to do.
+    Zero,
+    /// A tenth of a second: something is to be tried again.
+    Short,
+    /// Until something happens.
+    Never,
+}
+
+/// What happens to a router.
+#[derive(Drop)]
+pub enum SourceEvent<S: Drop> {
+    /// A connection came, which is to say who it is if there is a challenge: sixteen bytes that nobody can guess.
+    Accepted {
+        socket: S,
+        challenge: Option<[u8; 16]>,
+    },
+    /// The socket of this key may be read; where it is closing, the other side sends no more.
+    Readable {
+        key: usize,
+        closing: bool,
+    },
+    /// The socket of this key takes bytes again.
+    Writable {
+        key: usize,
+    },
+    /// Nothing happens any more.
+    Ended,
+}
+
+/// Where a router hears of what happens to its connections, which are read from and written to sockets of type `S`.
+pub trait Source<S: Socket> {
+    /// Waits for what happens next, no longer than this.
+    fn wait(&mut self, timeout: Timeout) -> Result<(), Fault>;
+
+    /// What happened since, one after another.
+    fn next<R: Wait>(&mut self, rt: &R) -> Option<SourceEvent<S>>;
+
+    /// From now on it is told what happens to this socket, under its key. It is false where the system refuses that.
+    fn watch(&mut self, key: usize, socket: &mut S) -> bool;
+
+    /// A connection is over.
+    fn tell(&mut self, ended: Ended);
+}

@@ -1,0 +1,194 @@
+//! A thread for each router.
+
+ghost use denote.Param.Send.{IsSend};
+
+use crate::coordinator::{Coordinator, Wake};
+use crate::fault::Fault;
+use crate::post::LanePost;
+use crate::router_loop::Router;
+use crate::source::Source;
+use desk::Desk;
+use outbox::{EnvelopeOf, Lane, Tap};
+use registry_snapshots::{Naming, Seat, Shared};
+use router::{Engine, Login};
+use router_core::Gate;
+use router_host::{Host, Socket};
+use std::alloc::{AllocError, Global};
+use std::marker::PhantomData;
+use std::sync::Wait;
+use std::thread;
+use std::thread::{Scope, Threads};
+
+/// What a router begins with.
+#[derive(Drop)]
+pub struct RouterSetup<J: Naming, E, G: Gate> {
+    pub seat: Seat<J>,
+    pub lane: Lane<EnvelopeOf<J>>,
+    /// The outboxes of its places.
+    pub taps: Vec<Tap<EnvelopeOf<J>>>,
+    /// Where it hears of what happens.
+    pub source: E,
+    pub gate: G,
+    pub login: Option<Login>,
+}
+
+/// What the thread that started the routers does meanwhile: in a daemon it accepts connections.
+pub trait MainTask {
+    /// Works until all are to end, or there is no more to do.
+    fn run<R: Wait>(&mut self, rt: &R) -> Result<(), Fault>;
+}
+
+fn no_memory(_refused: AllocError) -> Fault {
+    Fault::Memory
+}
+
+/// Serves as one router.
+fn serve_as_router<
+    J: Naming,
+    S: Socket,
+    E: Source<S> + Drop,
+    G: Gate + Drop,
+    W: Wake + Drop,
+    R: Wait,
+>(
+    rt: &R,
+    alloc: Global,
+    me: usize,
+    shared: &Shared<J>,
+    coordinator: &Coordinator<W>,
+    setup: RouterSetup<J, E, G>,
+) -> Result<(), Fault> {
+    let RouterSetup {
+        seat,
+        lane,
+        taps,
+        source,
+        gate,
+        login,
+    } = setup;
+    let view: Desk<'_, J, R> = Desk::new(alloc, seat, shared);
+    let Ok(engine) = Engine::new(alloc, view, gate, login) else {
+        return Err(Fault::Memory);
+    };
+    let post = LanePost::new(me, lane, taps, coordinator);
+    let places = coordinator.places();
+    let first = u16::try_from(me.saturating_mul(places)).unwrap_or(u16::MAX);
+    let count = u16::try_from(places).unwrap_or(0);
+    let made: Result<Host<_, _, _, S>, AllocError> = Host::new(alloc, engine, post, first, count);
+    let Ok(host) = made else {
+        return Err(Fault::Memory);
+    };
+    let router = Router::new(me, coordinator, host, source);
+    router.run(rt, rt)
+}
+
+/// What one thread does.
+trait Task {
+    fn run<R: Wait>(self, rt: &R);
+}
+
+/// The task to serve as a router.
+#[derive(Drop)]
+struct RouterTask<'a, J: Naming, S: Socket, E, G: Gate, W: Wake + Drop> {
+    alloc: Global,
+    me: usize,
+    shared: &'a Shared<J>,
+    coordinator: &'a Coordinator<W>,
+    setup: RouterSetup<J, E, G>,
+    socket: PhantomData<S>,
+}
+
+impl<'a, J: Naming, S: Socket, E: Source<S> + Drop, G: Gate + Drop, W: Wake + Drop> Task
+    for RouterTask<'a, J, S, E, G, W> {
+    /// Serves as a router, and tells the coordinator where it can't go on.
+    fn run<R: Wait>(self, rt: &R) {
+        let RouterTask {
+            alloc,
+            me,
+            shared,
+            coordinator,
+            setup,
+            socket: _,
+        } = self;
+        let served = serve_as_router::<J, S, E, G, W, R>(rt, alloc, me, shared, coordinator, setup);
+        if let Err(fault) = served {
+            coordinator.fail(rt, fault);
+        }
+    }
+}
+
+/// Starts a thread, if there can be one more.
+fn start<'s, E: 's, T: Task + Send + Drop + 's, R: Wait + Sync + 's>(
+    scope: &Scope<'s, E>,
+    rt: &'s R,
+    task: T,
+) -> bool {
+    scope.spawn(move || task.run(rt)).is_ok()
+}
+
+/// Runs each task in a thread of its own, and the main task in this one, until all have ended.
+fn run_all<T: Task + Send + Drop, W: Wake + Drop, M: MainTask, R: Threads + Wait + Sync>(
+    rt: &R,
+    coordinator: &Coordinator<W>,
+    tasks: Vec<T>,
+    main: &mut M,
+) {
+    thread::scope(
+        thread::scope_env(),
+        rt,
+        move |scope|
+            requires { IsSend T.row }
+        {
+            for task in tasks {
+                if !start(scope, rt, task) {
+                    coordinator.fail(rt, Fault::Memory);
+                }
+            }
+            if let Err(fault) = main.run(rt) {
+                coordinator.fail(rt, fault);
+            }
+        },
+    );
+}
+
+/// Runs a router for each setup in a thread of its own, and the main task in this one, until all have ended.
+///
+/// # Errors
+///
+/// The fault that came first: then all end.
+pub fn serve<
+    J: Naming + Send + Sync,
+    S: Socket + Send,
+    E: Source<S> + Send + Drop,
+    G: Gate + Send + Drop,
+    W: Wake + Sync + Drop,
+    M: MainTask,
+    R: Threads + Wait + Sync,
+>(
+    rt: &R,
+    alloc: Global,
+    shared: &Shared<J>,
+    coordinator: &Coordinator<W>,
+    setups: Vec<RouterSetup<J, E, G>>,
+    main: &mut M,
+) -> Result<(), Fault> {
+    let mut tasks = Vec::with_capacity(alloc, setups.len()).map_err(no_memory)?;
+    for (me, setup) in setups.into_iter().enumerate() {
+        let task: RouterTask<'_, J, S, E, G, W> = RouterTask {
+            alloc,
+            me,
+            shared,
+            coordinator,
+            setup,
+            socket: PhantomData,
+        };
+        if tasks.push(task).is_err() {
+            return Err(Fault::Memory);
+        }
+    }
+    run_all(rt, coordinator, tasks, main);
+    match coordinator.fault(rt) {
+        Some(fault) => Err(fault),
+        None => Ok(()),
+    }
+}
