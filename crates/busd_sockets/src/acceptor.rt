@@ -1,0 +1,132 @@
+//! The thread that accepts connections.
+
+use crate::new_connection::{NewConnection, NewConnections};
+use crate::waker::PollWaker;
+use mio::net::{UnixListener, UnixStream};
+use mio::{Events, Interest, Poll, Token};
+use routers::{Coordinator, Fault, MainTask};
+use std::alloc::Global;
+use std::io;
+use std::io::{ErrorKind, Read};
+use std::sync::Wait;
+use std::time::Duration;
+
+/// The token of the listener.
+const LISTENER: Token = Token(0);
+
+/// How long is waited where connections can't be accepted, in milliseconds.
+const LATER: u64 = 100;
+
+/// Who is told that connections can't be accepted.
+pub trait AcceptLog {
+    fn tell(&mut self, error: &io::Error);
+}
+
+/// How accepting came to its end for now.
+#[derive(Clone, Copy, PartialEq, Eq)]
+enum Accepted {
+    /// No connection waits.
+    All,
+    /// It fails now, as where there are too many open files. Nothing tells when it no longer does.
+    Later,
+}
+
+/// Accepts connections and hands them to the routers in turn. What doesn't fit into a router's queue is closed.
+#[derive(Drop)]
+pub struct Acceptor<'a, F: Read + Drop, L: AcceptLog + Drop> {
+    poll: Poll,
+    events: Events,
+    listener: UnixListener,
+    /// Random bytes.
+    random: F,
+    coordinator: &'a Coordinator<PollWaker>,
+    /// By routers.
+    new_connections: &'a [NewConnections],
+    /// The router whose turn it is.
+    next: usize,
+    log: L,
+}
+
+impl<'a, F: Read + Drop, L: AcceptLog + Drop> Acceptor<'a, F, L> {
+    /// Accepts the connections of this listener for the routers of the coordinator, whose main waker wakes this poll.
+    pub fn new(
+        alloc: Global,
+        poll: Poll,
+        mut listener: UnixListener,
+        random: F,
+        coordinator: &'a Coordinator<PollWaker>,
+        new_connections: &'a [NewConnections],
+        log: L,
+    ) -> io::Result<Acceptor<'a, F, L>> {
+        let events = Events::with_capacity(alloc, 8)?;
+        poll.registry()
+            .register(&mut listener, LISTENER, Interest::READABLE)?;
+        Ok(Acceptor {
+            poll,
+            events,
+            listener,
+            random,
+            coordinator,
+            new_connections,
+            next: 0,
+            log,
+        })
+    }
+
+    /// Accepts what waits, and wakes the routers.
+    fn accept_all<R: Wait>(&mut self, rt: &R) -> Result<Accepted, Fault> {
+        let mut accepted = Accepted::All;
+        for _ in rt.forever() {
+            match self.listener.accept() {
+                Ok((stream, _address)) => self.hand_over(rt, stream)?,
+                Err(error) => match error.kind() {
+                    ErrorKind::WouldBlock => break,
+                    ErrorKind::Interrupted | ErrorKind::ConnectionAborted => {}
+                    _ => {
+                        self.log.tell(&error);
+                        accepted = Accepted::Later;
+                        break;
+                    }
+                },
+            }
+        }
+        self.coordinator.wake_owed();
+        Ok(accepted)
+    }
+
+    /// Hands a connection to the router whose turn it is, or closes it where that one's queue is full.
+    fn hand_over<R: Wait>(&mut self, rt: &R, stream: UnixStream) -> Result<(), Fault> {
+        let mut challenge = [0; 16];
+        if self.random.read_exact(&mut challenge).is_err() {
+            return Err(Fault::Random);
+        }
+        if self.next >= self.new_connections.len() {
+            self.next = 0;
+        }
+        if let Some(new_connections) = self.new_connections.get(self.next) {
+            let _closed = new_connections.push(rt, NewConnection { stream, challenge });
+            self.coordinator.tell_of_connection(self.next);
+        }
+        self.next = self.next.saturating_add(1);
+        Ok(())
+    }
+}
+
+impl<'a, F: Read + Drop, L: AcceptLog + Drop> MainTask for Acceptor<'a, F, L> {
+    fn run<R: Wait>(&mut self, rt: &R) -> Result<(), Fault> {
+        let mut timeout = None;
+        for _ in rt.forever() {
+            if self.poll.poll(&mut self.events, timeout).is_err() {
+                return Err(Fault::Poll);
+            }
+            if self.coordinator.is_over() {
+                return Ok(());
+            }
+            timeout = match self.accept_all(rt)? {
+                Accepted::All => None,
+                Accepted::Later => Some(Duration::from_millis(LATER)),
+            };
+        }
+        unreachable!()
+    }
+}

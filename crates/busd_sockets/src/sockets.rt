@@ -1,0 +1,145 @@
+//! What happens to the sockets of a router.
+
+use crate::client_socket::ClientSocket;
+use crate::new_connection::{NewConnection, NewConnections};
+use crate::waker::WAKER;
+use mio::event::Event;
+use mio::{Events, Interest, Poll, Token};
+use router_host::Ended;
+use routers::{Fault, Source, SourceEvent, Timeout};
+use std::alloc::{AllocError, Global};
+use std::sync::Wait;
+use std::time::Duration;
+
+/// How many events are told at once.
+const EVENTS: usize = 256;
+
+/// How long a short timeout is, in milliseconds.
+const SHORT: u64 = 100;
+
+/// Who writes down which connections ended.
+pub trait EndLog {
+    fn note(&mut self, ended: Ended);
+}
+
+/// What became of a socket, as far as it is not told yet.
+#[derive(Clone, Copy)]
+struct Change {
+    key: usize,
+    readable: bool,
+    closing: bool,
+    writable: bool,
+}
+
+impl Change {
+    fn of(event: &Event) -> Change {
+        let fails = event.is_error();
+        Change {
+            key: event.token().0,
+            readable: event.is_readable() || event.is_read_closed() || fails,
+            closing: event.is_read_closed() || fails,
+            writable: event.is_writable() || fails,
+        }
+    }
+}
+
+/// What happens to the sockets of a router, as the system tells it, and the connections that come to the router.
+#[derive(Drop)]
+pub struct Sockets<'a, L: EndLog + Drop> {
+    poll: Poll,
+    events: Events,
+    new_connections: &'a NewConnections,
+    /// What is not told yet, the last first.
+    changes: Vec<Change>,
+    log: L,
+}
+
+impl<'a, L: EndLog + Drop> Sockets<'a, L> {
+    /// The sockets that this poll tells of. Its waker is used where connections come.
+    pub fn new(
+        alloc: Global,
+        poll: Poll,
+        new_connections: &'a NewConnections,
+        log: L,
+    ) -> Result<Sockets<'a, L>, AllocError> {
+        Ok(Sockets {
+            poll,
+            events: Events::with_capacity(alloc, EVENTS)?,
+            new_connections,
+            changes: Vec::with_capacity(alloc, EVENTS)?,
+            log,
+        })
+    }
+
+    /// Takes over what the poll told. There is room for it.
+    fn note_changes(&mut self) -> Result<(), Fault> {
+        self.changes.clear();
+        for event in self.events.iter() {
+            if event.token() != WAKER && self.changes.push(Change::of(event)).is_err() {
+                return Err(Fault::Memory);
+            }
+        }
+        self.changes.reverse();
+        Ok(())
+    }
+
+    /// What the last change tells first. The change goes once it has told all.
+    fn told(&mut self) -> Option<SourceEvent<ClientSocket>> {
+        let Change {
+            key,
+            readable,
+            closing,
+            writable,
+        } = self.changes.pop()?;
+        if readable && writable {
+            let rest = Change {
+                key,
+                readable: false,
+                closing: false,
+                writable,
+            };
+            let _has_room = self.changes.push(rest);
+        }
+        match readable {
+            true => Some(SourceEvent::Readable { key, closing }),
+            false => Some(SourceEvent::Writable { key }),
+        }
+    }
+}
+
+impl<'a, L: EndLog + Drop> Source<ClientSocket> for Sockets<'a, L> {
+    fn wait(&mut self, timeout: Timeout) -> Result<(), Fault> {
+        let most = match timeout {
+            Timeout::Zero => Some(Duration::from_millis(0)),
+            Timeout::Short => Some(Duration::from_millis(SHORT)),
+            Timeout::Never => None,
+        };
+        if self.poll.poll(&mut self.events, most).is_err() {
+            return Err(Fault::Poll);
+        }
+        self.note_changes()
+    }
+
+    fn next<R: Wait>(&mut self, rt: &R) -> Option<SourceEvent<ClientSocket>> {
+        if let Some(event) = self.told() {
+            return Some(event);
+        }
+        let NewConnection { stream, challenge } = self.new_connections.pop(rt)?;
+        Some(SourceEvent::Accepted {
+            socket: ClientSocket { stream },
+            challenge: Some(challenge),
+        })
+    }
+
+    fn watch(&mut self, key: usize, socket: &mut ClientSocket) -> bool {
+        let interest = Interest::READABLE | Interest::WRITABLE;
+        let registry = self.poll.registry();
+        registry
+            .register(&mut socket.stream, Token(key), interest)
+            .is_ok()
+    }
+
+    fn tell(&mut self, ended: Ended) {
+        self.log.note(ended);
+    }
+}
