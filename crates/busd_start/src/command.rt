@@ -1,0 +1,92 @@
+//! The command line of `busd serve`.
+
+use clap::builder::ValueParser;
+use clap::{Arg, ArgAction, Command};
+use std::alloc::{AllocError, Global};
+
+/// What stands behind the options in the help of `busd serve`.
+const NOTES: &str = "All options with a value are needed; the others are off unless given.
+
+Example:
+  busd serve --address \"$XDG_RUNTIME_DIR/bus.sock\" --routers 2 \\
+    --services /usr/share/dbus-1/services --user \"$(id -u)\" \\
+    --keyring \"$HOME/.dbus-keyrings/org_freedesktop_general\" --print-address
+  DBUS_SESSION_BUS_ADDRESS=unix:path=$XDG_RUNTIME_DIR/bus.sock dbus-send ..
+
+Each line of the keyring is `ID TIME COOKIE`: a number, the time in seconds
+since 1970, and a secret; the last is used. Clients look for its ID in the file
+of the example, and most take no line that is older than seven minutes.
+busd-run-session writes such a line, and runs a command with a bus of its own.
+
+A socket's file that is there already is not replaced: remove it where no other
+bus uses it.
+
+Exit status:
+  2  the command line is wrong
+  4  a file, a socket or another device of the system fails
+  5  there is no memory";
+
+fn value<'a>(alloc: Global, name: &'a str, shown: &'a str, help: &'a str) -> Arg<'a> {
+    Arg::new(alloc, name)
+        .long(name)
+        .value_name(shown)
+        .required(true)
+        .action(ArgAction::Set)
+        .help(help)
+}
+
+fn flag<'a>(alloc: Global, name: &'a str, help: &'a str) -> Arg<'a> {
+    Arg::new(alloc, name)
+        .long(name)
+        .action(ArgAction::SetTrue)
+        .help(help)
+}
+
+/// The subcommand `serve`, whose matches [`Options::of`](crate::Options::of) reads.
+pub fn serve_command<'a>(alloc: Global) -> Result<Command<'a>, AllocError> {
+    let routers = value(
+        alloc,
+        "routers",
+        "N",
+        "Threads that serve connections, 1 to 8",
+    )
+    .value_parser(ValueParser::unsigned(1, 8));
+    Command::new(alloc, "serve")
+        .about("Serves the clients that connect to a socket, until it is stopped")
+        .after_help(NOTES)
+        .arg(value(
+            alloc,
+            "address",
+            "PATH",
+            "Path of the socket, which is made",
+        ))?
+        .arg(routers)?
+        .arg(value(alloc, "services", "DIR", "Folder of the services' files"))?
+        .arg(value(
+            alloc,
+            "keyring",
+            "FILE",
+            "File of the cookies; its last line is used",
+        ))?
+        .arg(value(
+            alloc,
+            "user",
+            "NAME",
+            "Who clients say that they are; most tell their user's number",
+        ))?
+        .arg(flag(
+            alloc,
+            "anonymous",
+            "Lets clients in that do not say who they are",
+        ))?
+        .arg(flag(
+            alloc,
+            "print-address",
+            "Prints the address once clients can connect",
+        ))?
+        .arg(flag(
+            alloc,
+            "verbose",
+            "Tells of each connection that ends by a fault",
+        ))
+}

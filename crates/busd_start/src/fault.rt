@@ -1,0 +1,76 @@
+//! Why a bus isn't served, or is served no more.
+
+ghost use Rattle.std.specs.Prelude.{◌≡◌};
+
+use sasl::KeyringCode;
+use std::alloc::AllocError;
+use std::fmt;
+use thiserror::Error;
+
+/// What the system gave no more.
+#[derive(Clone, Copy, Debug, PartialEq, Eq)]
+pub enum Device {
+    /// A file, or the files of a folder.
+    Input,
+    /// Standard output.
+    Output,
+    /// Random bytes.
+    Random,
+    /// The socket that clients connect to.
+    Listen,
+    /// Word of what the sockets are ready for.
+    Poll,
+}
+
+impl fmt::Display for Device {
+    fn fmt<W: fmt::Write>(&self, f: &mut fmt::Formatter<W>) -> fmt::Result {
+        f.write_str(match self {
+            Device::Input => "input",
+            Device::Output => "output",
+            Device::Random => "random",
+            Device::Listen => "listen",
+            Device::Poll => "poll",
+        })
+    }
+}
+
+/// Why a bus isn't served, or is served no more.
+#[derive(Clone, Copy, Debug, PartialEq, Eq, Error)]
+pub enum ServeFault {
+    /// The path of the socket has other bytes than those that stand for themselves in an address, or too many or none.
+    #[error("address")]
+    Address,
+    /// The keyring has no cookie.
+    #[error("keyring: {0}")]
+    Keyring(KeyringCode),
+    #[error("device: {0}")]
+    Device(Device),
+    #[error("memory")]
+    Memory,
+}
+
+impl ServeFault {
+    ghost use Rattle.busd_start.specs.Statuses.{serve_status};
+
+    /// The exit status of a program that ends so.
+    pub fn status(self) -> u8
+        ensures { result ≡ serve_status self }
+    {
+        match self {
+            ServeFault::Address => 2,
+            ServeFault::Keyring(_) | ServeFault::Device(_) => 4,
+            ServeFault::Memory => 5,
+        }
+    }
+}
+
+impl From<AllocError> for ServeFault {
+    ghost use Rattle.std.specs.Prelude.{◌≡◌};
+    ghost use Rattle.busd_start.specs.declared.fault.ServeFault.TheVariants.{Memory};
+
+    ghost from_gives = { λ _ e. e ≡ Memory };
+
+    fn from(_e: AllocError) -> ServeFault {
+        ServeFault::Memory
+    }
+}

@@ -1,0 +1,83 @@
+//! What is read before the bus listens.
+
+use crate::fault::{Device, ServeFault};
+use sasl::{Cookie, KeyringFault, read_keyring};
+use std::alloc::Global;
+use std::fs::File;
+use std::io::Read;
+use std::rt::Files;
+use std::{fs, io};
+
+/// Tells want of memory from what else a device may refuse.
+pub(crate) fn device(error: io::Error, device: Device) -> ServeFault {
+    if error.kind() == io::ErrorKind::OutOfMemory {
+        return ServeFault::Memory;
+    }
+    ServeFault::Device(device)
+}
+
+/// The cookie of a keyring's bytes.
+fn cookie_of(alloc: Global, bytes: &[u8]) -> Result<Cookie, ServeFault> {
+    match read_keyring(alloc, bytes) {
+        Ok(cookie) => Ok(cookie),
+        Err(KeyringFault::NoMemory) => Err(ServeFault::Memory),
+        Err(fault) => Err(ServeFault::Keyring(fault.code())),
+    }
+}
+
+/// The cookie of the keyring in this file: that of its last line.
+///
+/// # Errors
+///
+/// `Device(Input)` where the file can't be read, `Keyring` where one of its lines isn't that of a cookie or there is none.
+pub fn read_cookie<R: Files + AllocGlobal>(rt: &R, path: &str) -> Result<Cookie, ServeFault> {
+    match fs::read(rt, path) {
+        Ok(bytes) => cookie_of(rt.alloc(), bytes.as_slice()),
+        Err(error) => Err(device(error, Device::Input)),
+    }
+}
+
+fn count_files<R: Files + AllocGlobal + Clone + Drop>(rt: &R, path: &str) -> io::Result<usize> {
+    let mut count = 0usize;
+    for entry in fs::read_dir(rt, path)? {
+        let entry = entry?;
+        if entry.file_name().ends_with(".service") {
+            count = count.saturating_add(1);
+        }
+    }
+    Ok(count)
+}
+
+/// How many files of services a folder has. They are not read yet: no service is started.
+///
+/// # Errors
+///
+/// `Device(Input)` where the folder can't be read.
+pub fn look_for_services<R: Files + AllocGlobal + Clone + Drop>(
+    rt: &R,
+    path: &str,
+) -> Result<usize, ServeFault> {
+    count_files(rt, path).map_err(|error| device(error, Device::Input))
+}
+
+/// Opens the system's source of random bytes.
+///
+/// # Errors
+///
+/// `Device(Random)` where there is none.
+pub fn open_random<R: Files>(rt: &R) -> Result<R::File, ServeFault> {
+    File::open(rt, "/dev/urandom").map_err(|error| device(error, Device::Random))
+}
+
+/// 16 random bytes of this source.
+///
+/// # Errors
+///
+/// `Device(Random)` where it gives none.
+pub fn random_bytes<F: Read>(source: &mut F) -> Result<[u8; 16], ServeFault> {
+    let mut bytes = [0; 16];
+    match source.read_exact(&mut bytes) {
+        Ok(()) => Ok(bytes),
+        Err(error) => Err(device(error, Device::Random)),
+    }
+}
