@@ -1,4 +1,4 @@
-//! The message bus as a program: `busd run` serves the message stream on standard input.
+//! The message bus as a program: `busd serve` serves the clients of a socket, `busd run` the message stream on standard input.
 #![tactic(auto)]
 
 ghost use Rattle.std.specs.Prelude.{◌≡◌, ◌⊎◌, []};
@@ -11,8 +11,12 @@ ghost use Rattle.busd_core.specs.declared.fault.RunFault.TheVariants.{Output};
 ghost use Rattle.std.specs.IoError.{error_kind};
 ghost use Rattle.busd.specs.Statuses.{refusal_status, unread_status};
 
+mod daemon;
+
+use crate::daemon::serve_clients;
 use bus_view::BusView;
 use busd_core::{RunFault, run};
+use busd_start::serve_command;
 use clap::error::ErrorKind;
 use clap::{Command, Error};
 use desk::Desk;
@@ -27,14 +31,45 @@ use std::rt::Env;
 use std::sync::Wait;
 use std::{env, io};
 
+/// What stands behind the commands in the help.
+const NOTES: &str = "Example, a bus for one command (busd-run-session starts busd):
+  busd-run-session dbus-send --session --print-reply \\
+    --dest=org.freedesktop.DBus / org.freedesktop.DBus.ListNames
+
+Exit status:
+  0  the input came to its end, or help was asked for
+  2  the command line is wrong
+  3  `busd run`: the bus closed the connection
+  4  a file, a socket or another device of the system fails
+  5  there is no memory";
+
+/// What stands behind the help of `busd run`.
+const RUN_NOTES: &str =
+    "The stream is what a client sends behind its authentication; its first message
+is Hello. What the bus sends to that client is written to standard output.
+
+Example, where messages.stream has such messages:
+  busd run < messages.stream > replies.stream
+
+Exit status:
+  0  the input came to its end
+  2  the command line is wrong
+  3  the bus closed the connection: `busd: closed: CODE` on standard error
+  4  standard input or output fails
+  5  there is no memory";
+
 fn command_line<'a>(alloc: Global) -> Result<Command<'a>, AllocError> {
-    let stream = Command::new(alloc, "run").about(
-        "Serves one message stream, from standard input to standard output, without authentication",
-    );
+    let stream = Command::new(alloc, "run")
+        .about(
+            "Serves one message stream, from standard input to standard output, without authentication",
+        )
+        .after_help(RUN_NOTES);
     Command::new(alloc, "busd")
         .about("A D-Bus message bus")
         .version("0.1.0")
+        .after_help(NOTES)
         .subcommand_required(true)
+        .subcommand(serve_command(alloc)?)?
         .subcommand(stream)
 }
 
@@ -130,7 +165,10 @@ fn main(rt: HostRuntime) -> ExitCode {
         return fail(&rt, RunFault::Memory);
     };
     match command.try_get_matches_from(words.as_slice()) {
-        Ok(_) => serve(&rt),
+        Ok(found) => match found.subcommand_matches("serve") {
+            Some(asked) => serve_clients(&rt, asked),
+            None => serve(&rt),
+        },
         Err(error) => refuse(&rt, &error),
     }
 }

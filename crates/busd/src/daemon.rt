@@ -1,0 +1,47 @@
+//! `busd serve`: the bus of a socket.
+
+use busd_serve::{Bus, BusAddress};
+use busd_start::{Device, Options, ServeFault};
+use clap::ArgMatches;
+use std::io;
+use std::io::Write;
+use std::net::Net;
+use std::process::ExitCode;
+use std::rt::{Clock, Files};
+use std::sync::Wait;
+use std::thread::Threads;
+
+/// Tells where the bus is reached.
+fn print_address<R: Print>(rt: &R, address: BusAddress<'_>) -> Result<(), ServeFault> {
+    let mut output = io::writer(rt);
+    let printed = writeln!(output, "{address}").and_then(|_| output.flush());
+    printed.map_err(|_error| ServeFault::Device(Device::Output))
+}
+
+/// Serves what the matches of the command line ask for.
+///
+/// # Errors
+///
+/// What is wrong at the start, the first of: the command line, what [`Bus::open`] tells, standard output; and later what the
+/// system gave no more.
+fn serve_bus<
+    R: Threads + Wait + Net + Files + Print + Eprint + Clock + AllocGlobal + Sync + Clone + Drop,
+>(rt: &R, found: &ArgMatches<'_>) -> Result<(), ServeFault> {
+    let options = Options::of(found)?;
+    let (bus, listening) = Bus::open(rt, options)?;
+    if options.prints_address {
+        print_address(rt, bus.address())?;
+    }
+    bus.serve(rt, listening)
+}
+
+/// Serves the clients of a socket, and tells why it ends.
+pub(crate) fn serve_clients<
+    R: Threads + Wait + Net + Files + Print + Eprint + Clock + AllocGlobal + Sync + Clone + Drop,
+>(rt: &R, found: &ArgMatches<'_>) -> ExitCode {
+    let Err(fault) = serve_bus(rt, found) else {
+        return ExitCode::SUCCESS;
+    };
+    let _ = eprintln!(rt; "busd: {fault}");
+    ExitCode::from(fault.status())
+}

@@ -1,0 +1,131 @@
+//! A bus that clients can connect to.
+
+use crate::fault::poll_fault;
+use crate::login::LoginSettings;
+use crate::polls::{RouterPolls, open_polls};
+use crate::serving::begin;
+use busd_sockets::{NewConnections, PollWaker};
+use busd_start::{
+    Device, Options, ServeFault, SocketPath, look_for_services, open_random, random_bytes,
+    read_cookie,
+};
+use mio::Poll;
+use mio::net::UnixListener;
+use routers::Coordinator;
+use std::fmt;
+use std::net::Net;
+use std::rt::{Clock, Files};
+use std::sync::Wait;
+use std::thread::Threads;
+
+/// A bus that clients can connect to. Any thread may stop it.
+#[derive(Drop)]
+pub struct Bus<'a> {
+    pub(crate) options: Options<'a>,
+    pub(crate) login: LoginSettings<'a>,
+    pub(crate) coordinator: Coordinator<PollWaker>,
+    /// By routers.
+    pub(crate) new_connections: Vec<NewConnections>,
+}
+
+/// What the threads of a bus will work with, made when it is opened.
+#[derive(Drop)]
+pub struct Listening<F: Drop> {
+    pub(crate) listener: UnixListener,
+    /// Random bytes.
+    pub(crate) random: F,
+    /// The poll of the thread that accepts.
+    pub(crate) poll: Poll,
+    /// By routers.
+    pub(crate) router_polls: Vec<Poll>,
+}
+
+/// Where a bus is reached, and its guid. (D-Bus Specification: "Server Addresses".)
+///
+/// It is shown as clients are told it: `unix:path=/run/user/1000/bus.sock,guid=` and 32 digits.
+#[derive(Clone, Copy)]
+pub struct BusAddress<'a> {
+    path: SocketPath<'a>,
+    guid: [u8; 16],
+}
+
+impl fmt::Display for BusAddress<'_> {
+    fn fmt<W: fmt::Write>(&self, f: &mut fmt::Formatter<W>) -> fmt::Result {
+        let guid = u128::from_be_bytes(self.guid);
+        write!(f, "{},guid={guid:032x}", self.path)
+    }
+}
+
+impl<'a> Bus<'a> {
+    /// Reads what the options name and makes the socket. From then on clients can connect; they are served once
+    /// [`Bus::serve`] runs.
+    ///
+    /// # Errors
+    ///
+    /// What is wrong at the start, the first of: the keyring, the services, random bytes, the socket, the polls.
+    pub fn open<R: Net + Files + AllocGlobal + Clone + Drop>(
+        rt: &R,
+        options: Options<'a>,
+    ) -> Result<(Bus<'a>, Listening<R::File>), ServeFault> {
+        let alloc = rt.alloc();
+        let cookie = read_cookie(rt, options.keyring)?;
+        look_for_services(rt, options.services)?;
+        let mut random = open_random(rt)?;
+        let guid = random_bytes(&mut random)?;
+        let Ok(listener) = UnixListener::bind(rt, options.path.as_str()) else {
+            return Err(ServeFault::Device(Device::Listen));
+        };
+        let RouterPolls {
+            polls,
+            wakers,
+            new_connections,
+        } = open_polls(rt, alloc, options.routers)?;
+        let poll = Poll::new(rt).map_err(poll_fault)?;
+        let waker = PollWaker::new(&poll).map_err(poll_fault)?;
+        let bus = Bus {
+            login: LoginSettings {
+                guid,
+                user: options.user,
+                cookie,
+                allow_anonymous: options.allow_anonymous,
+            },
+            options,
+            coordinator: Coordinator::new(alloc, wakers, waker)?,
+            new_connections,
+        };
+        let listening = Listening {
+            listener,
+            random,
+            poll,
+            router_polls: polls,
+        };
+        Ok((bus, listening))
+    }
+
+    /// Where clients connect.
+    pub fn address(&self) -> BusAddress<'a> {
+        BusAddress {
+            path: self.options.path,
+            guid: self.login.guid,
+        }
+    }
+
+    /// Serves the clients that connect, until the bus is stopped: each router in a thread of its own, and this one accepts.
+    /// What is told of connections, where the options want that, goes to standard error.
+    ///
+    /// # Errors
+    ///
+    /// What the system gave no more: memory, word of the sockets, or random bytes. Then all connections are closed.
+    pub fn serve<R: Threads + Wait + Net + Files + Eprint + Clock + AllocGlobal + Sync>(
+        &self,
+        rt: &R,
+        listening: Listening<R::File>,
+    ) -> Result<(), ServeFault> {
+        begin(rt, self, listening)
+    }
+
+    /// The bus is to end: its threads do so after their turn, and [`Bus::serve`] returns.
+    pub fn stop(&self) {
+        self.coordinator.stop();
+    }
+}

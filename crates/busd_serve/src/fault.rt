@@ -1,0 +1,22 @@
+//! Faults of a bus in the words of `busd serve`.
+
+use busd_start::{Device, ServeFault};
+use routers::Fault;
+use std::io;
+
+/// The fault of a poll.
+pub(crate) fn poll_fault(error: io::Error) -> ServeFault {
+    if error.kind() == io::ErrorKind::OutOfMemory {
+        return ServeFault::Memory;
+    }
+    ServeFault::Device(Device::Poll)
+}
+
+/// The fault of routers.
+pub(crate) fn fault_of(fault: Fault) -> ServeFault {
+    match fault {
+        Fault::Poll => ServeFault::Device(Device::Poll),
+        Fault::Random => ServeFault::Device(Device::Random),
+        Fault::Memory => ServeFault::Memory,
+    }
+}

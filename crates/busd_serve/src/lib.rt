@@ -1,0 +1,12 @@
+//! A bus over a Unix socket, as `busd serve` runs it: [`Bus::open`] makes the socket, and [`Bus::serve`] serves its clients,
+//! each router in a thread of its own, until the bus is told to stop or the system gives no more.
+#![tactic(auto)]
+
+mod bus;
+mod fault;
+mod logging;
+mod login;
+mod polls;
+mod serving;
+
+pub use bus::{Bus, BusAddress, Listening};

@@ -1,0 +1,100 @@
+//! What `busd serve --verbose` writes to standard error.
+
+use busd_sockets::{AcceptLog, EndLog};
+use router_core::CloseCause;
+use router_host::{EndCause, Ended};
+use std::rt::Clock;
+use std::time::{Duration, Instant};
+use std::{fmt, io};
+
+/// What is told of a connection that was closed with a fault.
+#[derive(Drop)]
+struct Notice(Ended);
+
+/// A cause in words.
+fn in_words(cause: CloseCause) -> &'static str {
+    match cause {
+        CloseCause::Faulty(_) => "it sent what is no message",
+        CloseCause::TooLong => "its message would be too long with its name",
+        CloseCause::NotHello => "it didn't begin with Hello",
+        CloseCause::Left => "it didn't read its messages",
+        CloseCause::LimitsExceeded => "the bus is full",
+        CloseCause::Unauthenticated(_) => "it didn't say who it is",
+    }
+}
+
+impl fmt::Display for Notice {
+    fn fmt<W: fmt::Write>(&self, f: &mut fmt::Formatter<W>) -> fmt::Result {
+        match self.0.number {
+            Some(number) => write!(f, "busd: :1.{number}: {}", self.0.cause)?,
+            None => write!(f, "busd: {}", self.0.cause)?,
+        }
+        match self.0.cause {
+            EndCause::Closed(cause) => write!(f, ": {}", in_words(cause)),
+            _ => Ok(()),
+        }
+    }
+}
+
+/// Writes of connections that were closed with a fault, where that is wanted.
+#[derive(Drop)]
+pub(crate) struct Log<'a, R: Eprint> {
+    rt: &'a R,
+    is_wanted: bool,
+}
+
+impl<'a, R: Eprint> Log<'a, R> {
+    pub(crate) fn new(rt: &'a R, is_wanted: bool) -> Log<'a, R> {
+        Log { rt, is_wanted }
+    }
+}
+
+impl<R: Eprint> EndLog for Log<'_, R> {
+    fn note(&mut self, ended: Ended) {
+        let is_fault = !matches!(ended.cause, EndCause::EndOfInput | EndCause::HungUp);
+        if self.is_wanted && is_fault {
+            let _unwritten = eprintln!(self.rt; "{}", Notice(ended));
+        }
+    }
+}
+
+/// How often it is told at most that connections can't be accepted, in seconds.
+const SELDOM: u64 = 1;
+
+/// Writes why connections can't be accepted, where that is wanted, once a second at most.
+#[derive(Drop)]
+pub(crate) struct AcceptErrors<'a, R: Eprint + Clock> {
+    rt: &'a R,
+    is_wanted: bool,
+    last: Option<Instant>,
+}
+
+impl<'a, R: Eprint + Clock> AcceptErrors<'a, R> {
+    pub(crate) fn new(rt: &'a R, is_wanted: bool) -> AcceptErrors<'a, R> {
+        AcceptErrors {
+            rt,
+            is_wanted,
+            last: None,
+        }
+    }
+
+    /// Whether the last one is long ago.
+    fn is_due(&self, now: Instant) -> bool {
+        match self.last {
+            Some(last) => now.duration_since(last) >= Duration::from_secs(SELDOM),
+            None => true,
+        }
+    }
+}
+
+impl<R: Eprint + Clock> AcceptLog for AcceptErrors<'_, R> {
+    fn tell(&mut self, error: &io::Error) {
+        let Ok(now) = Instant::now(self.rt) else {
+            return;
+        };
+        if self.is_wanted && self.is_due(now) {
+            self.last = Some(now);
+            let _unwritten = eprintln!(self.rt; "busd: accept: {error}");
+        }
+    }
+}
