@@ -1,16 +1,29 @@
 # Bizsorke: a D-Bus message bus whose every function is proved. Each line here is for a person; CONTRIBUTING.md says more.
 
 SAMPLE = examples/hello-get-name-owner.stream
+PREFIX = /usr/local
 
-.PHONY: run prove test check try bench memory edits sizes
+.PHONY: run serve prove install dist test check try bench load memory edits sizes
 
 # The main job: the sample stream through `busd run`, the replies shown as bytes and text.
 run:
 	@tools/run.sh $(SAMPLE)
 
+# The daemon on a socket of its own, with a fresh cookie; it tells what clients need, and Ctrl-C ends it.
+serve:
+	@tools/serve.sh
+
 # Proves and builds crates/busd/out/busd with all that it stands on.
 prove:
 	@tools/prove.sh
+
+# Puts the program that `make prove` has built under PREFIX, with its pages and completions; DESTDIR is put before it.
+install:
+	@tools/install.sh "$(DESTDIR)$(PREFIX)"
+
+# The same as an archive for machines without the toolchain; tells which libraries of the system the program needs.
+dist:
+	@tools/dist.sh
 
 # The gate: every proof, the edits that must fail, the tests, the programs as two compilers build them, and each
 # allocation of two of them refused in turn.
@@ -36,6 +49,11 @@ bench:
 # The edits that the gate leaves out, of all crates or of one: `make edits CRATE=names`. The prover must refuse each.
 edits:
 	@tools/edits.sh $(CRATE)
+
+# Messages a second and processor time a message of busd beside dbus-daemon and dbus-broker, where these are installed.
+# No part of the gate; needs cc and three minutes.
+load:
+	@tools/load/compare.sh
 
 # Writes the table of docs/GATE.md: the sizes of the crates and what stands on each.
 sizes:

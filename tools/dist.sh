@@ -1,0 +1,22 @@
+#!/usr/bin/env bash
+# Packs busd for machines without the toolchain: an archive with the stripped program and all that `make install` puts
+# beside it, and tells which libraries of the system the program needs.
+set -euo pipefail
+cd "$(dirname "$0")/.."
+
+room=$(mktemp -d)
+trap 'rm -rf "$room"' EXIT
+
+version=$(sed -n 's/.*"busd \([0-9.]*\)".*/\1/p' docs/man/busd.1)
+name=busd-$version-$(uname -s | tr '[:upper:]' '[:lower:]')-$(uname -m)
+tools/install.sh "$room/$name"
+strip "$room/$name/bin/busd"
+packed=crates/busd/out/$name.tar.gz
+mkdir -p "$(dirname "$packed")"
+time=${SOURCE_DATE_EPOCH:-$(git log -1 --format=%ct 2> /dev/null || date +%s)}
+tar -C "$room" --sort=name --owner=0 --group=0 --numeric-owner --mtime="@$time" -cf - "$name" |
+    gzip -9n > "$packed"
+echo "$packed: $(wc -c < "$packed") bytes; the program needs"
+ldd "$room/$name/bin/busd" | sed 's/ (0x[0-9a-f]*)$//' || true
+library=$(readelf -V "$room/$name/bin/busd" | grep -o 'GLIBC_[0-9.]*' | sort -uV | tail -n 1 || true)
+echo "and of the C library at least ${library#GLIBC_}"
