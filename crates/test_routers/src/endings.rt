@@ -1,0 +1,55 @@
+//! How a bus ends.
+
+use crate::playing::play;
+use crate::scenario::{ClientMessage, Condition, Scenario, Step};
+use routers::Fault;
+use std::test::Fail;
+
+/// The first router fails, and then, as it is to end, the second one too.
+const FAILING: Scenario = Scenario {
+    rooms: &[1_000_000],
+    steps: [
+        &[
+            Step::Connects(0),
+            Step::Sends(0, ClientMessage::Hello),
+            Step::Awaits(Condition::Received(0, 2)),
+            Step::Fails(Fault::Memory),
+        ],
+        &[Step::Awaits(Condition::IsWoken), Step::Fails(Fault::Random)],
+    ],
+    stops: &[Condition::Received(0, 3)],
+    holds: false,
+};
+
+/// The main thread stops both routers.
+const STOPPED: Scenario = Scenario {
+    rooms: &[1_000_000],
+    steps: [
+        &[],
+        &[Step::Connects(0), Step::Sends(0, ClientMessage::Hello)],
+    ],
+    stops: &[Condition::Received(0, 2)],
+    holds: false,
+};
+
+const GREETED: &str = "client 0
+1 reply 1 :1.1
+2 org.freedesktop.DBus NameAcquired :1.1
+";
+
+#[test]
+fn the_first_fault_ends_all(rt: HostRuntime) -> Result<(), Fail> {
+    let told = play(&rt, rt.alloc(), &FAILING)?;
+    assert!(rt;
+        told.strip_prefix(GREETED) == Some("fault: memory\n"),
+        "{told}"
+    );
+    Ok(())
+}
+
+#[test]
+fn a_bus_is_stopped(rt: HostRuntime) -> Result<(), Fail> {
+    let told = play(&rt, rt.alloc(), &STOPPED)?;
+    assert_eq!(rt; told.as_str(), GREETED);
+    Ok(())
+}

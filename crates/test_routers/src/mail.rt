@@ -1,0 +1,276 @@
+//! What comes from the clients of one router to those of another.
+
+use crate::playing::play;
+use crate::scenario::{ClientMessage, Condition, Scenario, Step};
+use std::alloc::AllocError;
+use std::test::Fail;
+use test_support::messages::{ACQUIRED, WELCOME};
+
+/// Room for whatever comes.
+const ROOM: usize = 1_000_000;
+
+/// Room for what the first client of a bus is greeted with.
+const GREETING: usize = WELCOME.len() + ACQUIRED.len();
+
+/// A client that does not read leaves while mail waits for it, and another takes its place.
+const NEWCOMER: Scenario = Scenario {
+    rooms: &[GREETING, ROOM, ROOM],
+    steps: [
+        &[
+            Step::Connects(0),
+            Step::Sends(0, ClientMessage::Hello),
+            Step::Awaits(Condition::Received(1, 3)),
+            Step::HangsUp(0),
+            Step::Awaits(Condition::Over(1)),
+            Step::Connects(2),
+            Step::Sends(2, ClientMessage::Hello),
+            Step::Awaits(Condition::Received(2, 3)),
+            Step::Ends,
+        ],
+        &[
+            Step::Awaits(Condition::Received(0, 2)),
+            Step::Connects(1),
+            Step::Sends(1, ClientMessage::Hello),
+            Step::Sends(1, ClientMessage::Ticks(Some(":1.1"), 1)),
+            Step::Awaits(Condition::IsBlocked(0)),
+            Step::Sends(1, ClientMessage::Ticks(Some(":1.1"), 1)),
+            Step::Sends(1, ClientMessage::GetNameOwner(":1.1")),
+            Step::Awaits(Condition::Received(2, 2)),
+            Step::Sends(1, ClientMessage::Ticks(Some(":1.3"), 1)),
+            Step::Awaits(Condition::Received(2, 3)),
+            Step::Ends,
+        ],
+    ],
+    stops: &[],
+    holds: false,
+};
+
+const NEWCOMER_TOLD: &str = "client 0
+1 reply 1 :1.1
+2 org.freedesktop.DBus NameAcquired :1.1
+client 1
+1 reply 1 :1.2
+2 org.freedesktop.DBus NameAcquired :1.2
+3 reply 4 :1.1
+client 2
+1 reply 1 :1.3
+2 org.freedesktop.DBus NameAcquired :1.3
+5 :1.2 Ticked
+over: end of input
+";
+
+/// A call goes to a name that a client of the other router has just become the owner of.
+const OWNER: Scenario = Scenario {
+    rooms: &[ROOM, ROOM],
+    steps: [
+        &[
+            Step::Connects(0),
+            Step::Sends(0, ClientMessage::Hello),
+            Step::Awaits(Condition::Received(1, 3)),
+            Step::Sends(0, ClientMessage::RequestName("com.example.A")),
+            Step::Awaits(Condition::Received(0, 5)),
+            Step::Ends,
+        ],
+        &[
+            Step::Awaits(Condition::Received(0, 2)),
+            Step::Connects(1),
+            Step::Sends(1, ClientMessage::Hello),
+            Step::Sends(1, ClientMessage::AddMatch("member='NameOwnerChanged'")),
+            Step::Awaits(Condition::Received(1, 4)),
+            Step::Sends(1, ClientMessage::Wind("com.example.A")),
+            Step::Awaits(Condition::Received(0, 5)),
+            Step::Ends,
+        ],
+    ],
+    stops: &[],
+    holds: false,
+};
+
+const OWNER_TOLD: &str = "client 0
+1 reply 1 :1.1
+2 org.freedesktop.DBus NameAcquired :1.1
+3 org.freedesktop.DBus NameAcquired com.example.A
+4 reply 2
+3 :1.2 Wind
+client 1
+1 reply 1 :1.2
+2 org.freedesktop.DBus NameAcquired :1.2
+3 reply 2
+4 org.freedesktop.DBus NameOwnerChanged com.example.A  :1.1
+";
+
+/// 256 envelopes wait for a client that does not read. The next is one too many: the client is put out, and others are told.
+const SLOW: Scenario = Scenario {
+    rooms: &[GREETING, ROOM, ROOM],
+    steps: [
+        &[
+            Step::Connects(0),
+            Step::Sends(0, ClientMessage::Hello),
+            Step::Awaits(Condition::Received(1, 3)),
+            Step::Connects(2),
+            Step::Sends(2, ClientMessage::Hello),
+            Step::Sends(2, ClientMessage::AddMatch("arg0=':1.1'")),
+            Step::Awaits(Condition::Received(2, 5)),
+            Step::Awaits(Condition::Over(1)),
+            Step::Ends,
+        ],
+        &[
+            Step::Awaits(Condition::Received(0, 2)),
+            Step::Connects(1),
+            Step::Sends(1, ClientMessage::Hello),
+            Step::Sends(1, ClientMessage::AddMatch("arg0=':1.1'")),
+            Step::Awaits(Condition::Received(2, 3)),
+            Step::Sends(1, ClientMessage::Ticks(Some(":1.1"), 1)),
+            Step::Awaits(Condition::IsBlocked(0)),
+            Step::Sends(1, ClientMessage::Ticks(Some(":1.1"), 256)),
+            Step::Sends(1, ClientMessage::GetNameOwner(":1.1")),
+            Step::Awaits(Condition::Received(1, 4)),
+            Step::Sends(1, ClientMessage::Ticks(Some(":1.1"), 1)),
+            Step::Awaits(Condition::Received(1, 5)),
+            Step::Sends(1, ClientMessage::Ticks(Some(":1.3"), 1)),
+            Step::Awaits(Condition::Received(2, 5)),
+            Step::Ends,
+        ],
+    ],
+    stops: &[],
+    holds: false,
+};
+
+const SLOW_TOLD: &str = "client 0
+1 reply 1 :1.1
+2 org.freedesktop.DBus NameAcquired :1.1
+client 1
+1 reply 1 :1.2
+2 org.freedesktop.DBus NameAcquired :1.2
+3 reply 2
+4 reply 260 :1.1
+5 org.freedesktop.DBus NameOwnerChanged :1.1 :1.1 
+client 2
+1 reply 1 :1.3
+2 org.freedesktop.DBus NameAcquired :1.3
+3 reply 2
+4 org.freedesktop.DBus NameOwnerChanged :1.1 :1.1 
+262 :1.2 Ticked
+over: closed: 66
+";
+
+#[test]
+fn mail_goes_to_whom_it_is_for(rt: HostRuntime) -> Result<(), Fail> {
+    for (scenario, expected) in [
+        (NEWCOMER, NEWCOMER_TOLD),
+        (OWNER, OWNER_TOLD),
+        (SLOW, SLOW_TOLD),
+    ] {
+        let told = play(&rt, rt.alloc(), &scenario)?;
+        assert_eq!(rt; told.as_str(), expected);
+    }
+    Ok(())
+}
+
+const HEARS: ClientMessage = ClientMessage::AddMatch("interface='com.example.Clock'");
+
+/// Three clients of one router listen to a client of the other.
+const LISTENING: Scenario = Scenario {
+    rooms: &[ROOM, ROOM, ROOM, ROOM],
+    steps: [
+        &[
+            Step::Awaits(Condition::Received(3, 3)),
+            Step::Connects(0),
+            Step::Sends(0, ClientMessage::Hello),
+            Step::Sends(0, ClientMessage::Ticks(None, 100)),
+            Step::Awaits(Condition::Received(1, 103)),
+            Step::Awaits(Condition::Received(2, 103)),
+            Step::Awaits(Condition::Received(3, 103)),
+            Step::Ends,
+        ],
+        &[
+            Step::Connects(1),
+            Step::Sends(1, ClientMessage::Hello),
+            Step::Sends(1, HEARS),
+            Step::Awaits(Condition::Received(1, 3)),
+            Step::Connects(2),
+            Step::Sends(2, ClientMessage::Hello),
+            Step::Sends(2, HEARS),
+            Step::Awaits(Condition::Received(2, 3)),
+            Step::Connects(3),
+            Step::Sends(3, ClientMessage::Hello),
+            Step::Sends(3, HEARS),
+            Step::Awaits(Condition::Received(1, 103)),
+            Step::Awaits(Condition::Received(2, 103)),
+            Step::Awaits(Condition::Received(3, 103)),
+            Step::Ends,
+        ],
+    ],
+    stops: &[],
+    holds: false,
+};
+
+/// Adds the lines of signals of this sender, whose serials follow one another.
+fn add_ticks(lines: &mut String, sender: &str, first: u32, count: u32) -> Result<(), AllocError> {
+    for number in 0..count {
+        writeln!(lines, "{} {sender} Ticked", first.saturating_add(number))?;
+    }
+    Ok(())
+}
+
+#[test]
+fn signals_come_to_all_in_order(rt: HostRuntime) -> Result<(), Fail> {
+    let told = play(&rt, rt.alloc(), &LISTENING)?;
+    let mut expected = String::new(rt.alloc());
+    writeln!(expected, "client 0\n1 reply 1 :1.4")?;
+    writeln!(expected, "2 org.freedesktop.DBus NameAcquired :1.4")?;
+    for listener in 1..=3 {
+        writeln!(expected, "client {listener}\n1 reply 1 :1.{listener}")?;
+        writeln!(
+            expected,
+            "2 org.freedesktop.DBus NameAcquired :1.{listener}\n3 reply 2"
+        )?;
+        add_ticks(&mut expected, ":1.4", 2, 100)?;
+    }
+    assert_eq!(rt; told.as_str(), expected.as_str());
+    Ok(())
+}
+
+/// 256 envelopes wait for a client that does not read, until it does.
+const RESUMED: Scenario = Scenario {
+    rooms: &[GREETING, ROOM],
+    steps: [
+        &[
+            Step::Connects(0),
+            Step::Sends(0, ClientMessage::Hello),
+            Step::Awaits(Condition::Received(1, 3)),
+            Step::TakesAll(0),
+            Step::Awaits(Condition::Received(0, 259)),
+            Step::Ends,
+        ],
+        &[
+            Step::Awaits(Condition::Received(0, 2)),
+            Step::Connects(1),
+            Step::Sends(1, ClientMessage::Hello),
+            Step::Sends(1, ClientMessage::Ticks(Some(":1.1"), 1)),
+            Step::Awaits(Condition::IsBlocked(0)),
+            Step::Sends(1, ClientMessage::Ticks(Some(":1.1"), 256)),
+            Step::Sends(1, ClientMessage::GetNameOwner(":1.1")),
+            Step::Awaits(Condition::Received(0, 259)),
+            Step::Ends,
+        ],
+    ],
+    stops: &[],
+    holds: false,
+};
+
+#[test]
+fn who_reads_again_gets_all(rt: HostRuntime) -> Result<(), Fail> {
+    let told = play(&rt, rt.alloc(), &RESUMED)?;
+    let mut expected = String::new(rt.alloc());
+    writeln!(expected, "client 0\n1 reply 1 :1.1")?;
+    writeln!(expected, "2 org.freedesktop.DBus NameAcquired :1.1")?;
+    add_ticks(&mut expected, ":1.2", 2, 257)?;
+    writeln!(expected, "client 1\n1 reply 1 :1.2")?;
+    writeln!(
+        expected,
+        "2 org.freedesktop.DBus NameAcquired :1.2\n3 reply 259 :1.1"
+    )?;
+    assert_eq!(rt; told.as_str(), expected.as_str());
+    Ok(())
+}

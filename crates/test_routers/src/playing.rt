@@ -1,0 +1,134 @@
+//! Two routers that follow a scenario.
+
+ghost use Rattle.std.specs.Prelude.{◌≡◌, []};
+ghost use Rattle.owner_queues.specs.declared.request.Profile.TheVariants.{Two};
+ghost use Rattle.seq_bus_core.specs.Tickets.{opening_bus};
+
+use crate::gate::HoldingGate;
+use crate::progress::{FlagWaker, MAIN, Progress};
+use crate::scenario::Scenario;
+use crate::source::ScenarioSource;
+use crate::stopper::Stopper;
+use outbox::Outboxes;
+use owner_queues::Profile;
+use registry_snapshots::{Naming, Opened, Seat, Shared};
+use routers::{Coordinator, Fault, RouterSetup, serve};
+use std::alloc::{AllocError, Global};
+use std::marker::Brand;
+use std::rt::Clock;
+use std::sync::Wait;
+use std::test::Fail;
+use std::thread::Threads;
+
+/// Runs a scenario: what each client was written, why connections are over, and the fault that the bus ended with.
+pub(crate) fn play<R: Threads + Wait + Clock + Sync>(
+    rt: &R,
+    alloc: Global,
+    scenario: &Scenario,
+) -> Result<String, Fail> {
+    open::<Brand, R>(rt, alloc, Opened::new(), scenario)
+}
+
+/// Opens the registry that the routers share.
+fn open<J: Naming + Send + Sync, R: Threads + Wait + Clock + Sync>(
+    rt: &R,
+    alloc: Global,
+    opened: Opened,
+    scenario: &Scenario,
+) -> Result<String, Fail>
+    requires { (opened ≡ J.book) × (J.opening ≡ opening_bus Two 2 []) }
+{
+    let Ok((shared, seats)) = Shared::<J>::new(rt, alloc, opened, &[], 2, Profile::Two) else {
+        return Err(Fail::from("no registry"));
+    };
+    let told = serve_over(rt, alloc, &shared, seats, scenario);
+    shared.end(rt);
+    told
+}
+
+/// Serves over the registry.
+fn serve_over<J: Naming + Send + Sync, R: Threads + Wait + Clock + Sync>(
+    rt: &R,
+    alloc: Global,
+    shared: &Shared<J>,
+    seats: Vec<Seat<J>>,
+    scenario: &Scenario,
+) -> Result<String, Fail>
+    requires { J.opening ≡ opening_bus Two 2 [] }
+{
+    let progress = Progress::new(alloc, scenario.rooms)?;
+    let fault = follow(rt, alloc, shared, seats, &progress, scenario)?;
+    let mut told = String::new(alloc);
+    progress.tell(rt, &mut told)?;
+    if let Some(fault) = fault {
+        writeln!(told, "fault: {fault}")?;
+    }
+    Ok(told)
+}
+
+/// Runs both routers and the main task, until all have ended: the fault that came first.
+fn follow<'a, J: Naming + Send + Sync, R: Threads + Wait + Clock + Sync>(
+    rt: &'a R,
+    alloc: Global,
+    shared: &Shared<J>,
+    seats: Vec<Seat<J>>,
+    progress: &'a Progress,
+    scenario: &Scenario,
+) -> Result<Option<Fault>, Fail>
+    requires { J.opening ≡ opening_bus Two 2 [] }
+{
+    let coordinator = coordinator_of(alloc, progress)?;
+    let setups = setups_of(rt, alloc, shared, seats, progress, scenario)?;
+    let mut stopper = Stopper {
+        clock: rt,
+        progress,
+        coordinator: &coordinator,
+        stops: scenario.stops,
+    };
+    Ok(serve(rt, alloc, shared, &coordinator, setups, &mut stopper).err())
+}
+
+/// What both routers and the main thread are woken by.
+fn coordinator_of(
+    alloc: Global,
+    progress: &Progress,
+) -> Result<Coordinator<FlagWaker<'_>>, AllocError> {
+    let mut wakers = Vec::with_capacity(alloc, 2)?;
+    for router in 0..2 {
+        wakers.push(progress.waker(router))?;
+    }
+    Coordinator::new(alloc, wakers, progress.waker(MAIN))
+}
+
+/// What the routers begin with.
+type Setups<'a, J, R> = Vec<RouterSetup<J, ScenarioSource<'a, R>, HoldingGate<'a, R>>>;
+
+/// What both routers begin with.
+fn setups_of<'a, J: Naming, R: Wait + Clock>(
+    rt: &'a R,
+    alloc: Global,
+    shared: &Shared<J>,
+    mut seats: Vec<Seat<J>>,
+    progress: &'a Progress,
+    scenario: &Scenario,
+) -> Result<Setups<'a, J, R>, Fail>
+    requires { J.opening ≡ opening_bus Two 2 [] }
+{
+    let (mut lanes, mut taps) = Outboxes::new(alloc, shared, 2)?;
+    let mut setups = Vec::new(alloc);
+    for (me, steps) in [(1, scenario.steps[1]), (0, scenario.steps[0])] {
+        let (Some(seat), Some(lane), Some(taps)) = (seats.pop(), lanes.pop(), taps.pop()) else {
+            return Err(Fail::from("no seat"));
+        };
+        setups.push(RouterSetup {
+            seat,
+            lane,
+            taps,
+            source: ScenarioSource::new(rt, progress, me, steps),
+            gate: HoldingGate::new(rt, progress, scenario.holds),
+            login: None,
+        })?;
+    }
+    setups.reverse();
+    Ok(setups)
+}
