@@ -1,6 +1,6 @@
 #!/usr/bin/env bash
-# The gate: `rt ci`, and then each allocation of two of the programs that it built refused in turn.
-# It is red where an edit is not well formed, too. Its last line is the count of `rt ci` with these two programs in it.
+# The gate: `rt ci`, then each allocation of two of the programs that it built refused in turn, and the daemon started as
+# its users do. It is red where an edit is not well formed, too. Its last line is the count of `rt ci` with these three.
 set -uo pipefail
 cd "$(dirname "$0")/.."
 
@@ -23,6 +23,13 @@ if [ "$failed" = 0 ]; then
         echo "there is no C compiler here: no allocation was refused"
     elif tools/memory/check.sh; then
         passed=$((passed + 2))
+    else
+        failed=1
+    fi
+fi
+if [ "$failed" = 0 ]; then
+    if tools/serve/check.sh; then
+        passed=$((passed + 1))
     else
         failed=1
     fi

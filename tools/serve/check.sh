@@ -1,0 +1,268 @@
+#!/usr/bin/env bash
+# Starts busd as its users do, and stops where it answers otherwise than it should: each fault at the start, the help, a
+# daemon that is told to end and one that nobody calls, and sessions of a command. BUSD names another program.
+set -euo pipefail
+cd "$(dirname "$0")/../.."
+BUSD=$(realpath "${BUSD:-crates/busd/out/busd}")
+export BUSD
+session=$PWD/tools/busd-run-session
+room=$(TMPDIR=/tmp mktemp -d)
+bus=
+trap '[ -z "$bus" ] || kill "$bus"; rm -rf "$room"' EXIT
+cd "$room"
+
+mkdir services home session
+: > empty
+printf '5 1700000000 c0ffee\n' > keyring
+printf '5 1700000000 c0ffee\n5 1700000000\n' > bad_line
+: > taken
+tried=0
+
+# run ARGUMENT..: what busd writes and its status; a daemon that should not have started is stopped.
+run() {
+    status=0
+    timeout 20 "$BUSD" "$@" > out 2> err < /dev/null || status=$?
+    tried=$((tried + 1))
+}
+
+wrong() {
+    echo "busd $*: status $status"
+    cat out err
+    exit 1
+}
+
+# fault STATUS TEXT ARGUMENT..: busd writes this text alone, to standard error, and ends with this status.
+fault() {
+    local wanted=$1 text=$2
+    shift 2
+    run "$@"
+    [ "$status" = "$wanted" ] && [ ! -s out ] && [ "$(< err)" = "$text" ] || wrong "$@"
+}
+
+# A start that nothing is wrong with, but for the options that are given; a later one takes the place of an earlier.
+declare -A wanted
+start() {
+    wanted=([address]=bus [routers]=2 [services]=services [keyring]=keyring [user]=1000)
+    others=()
+    while [ "$#" -gt 0 ]; do
+        case $1 in
+            *=*) wanted[${1%%=*}]=${1#*=} ;;
+            *) others+=("$1") ;;
+        esac
+        shift
+    done
+    words=(serve)
+    for name in address routers services keyring user; do
+        words+=("--$name" "${wanted[$name]}")
+    done
+    words+=("${others[@]}")
+}
+
+# refused STATUS TEXT OPTION..: a start with these options is refused so.
+refused() {
+    local wanted_status=$1 text=$2
+    shift 2
+    start "$@"
+    fault "$wanted_status" "$text" "${words[@]}"
+}
+
+more=$'\n\nFor more information, try \'--help\'.'
+usage='Usage: busd serve --address <PATH> --routers <N> --services <DIR> --keyring <FILE> --user <NAME>'
+name_of_107=$(printf 'a%.0s' {1..107})
+
+command_lines() {
+    fault 2 "error: 'busd' requires a subcommand but one was not provided
+  [subcommands: serve, run, help]
+
+Usage: busd <COMMAND>$more"
+    fault 2 "error: unrecognized subcommand 'listen'
+
+Usage: busd <COMMAND>$more" listen
+    fault 2 "error: the following required arguments were not provided:
+  --address <PATH>
+  --routers <N>
+  --services <DIR>
+  --keyring <FILE>
+  --user <NAME>
+
+$usage$more" serve
+    fault 2 "error: the following required arguments were not provided:
+  --keyring <FILE>
+
+$usage$more" serve --address bus --routers 1 --services services --user 1000
+    fault 2 "error: a value is required for '--user <NAME>' but none was supplied$more" \
+        serve --address bus --routers 1 --services services --keyring keyring --user
+    refused 2 "error: invalid value '0' for '--routers <N>': 0 is not in 1..=8$more" routers=0
+    refused 2 "error: invalid value '9' for '--routers <N>': 9 is not in 1..=8$more" routers=9
+    refused 2 "error: invalid value 'two' for '--routers <N>': invalid digit found in string$more" routers=two
+    refused 2 'error: an argument is no UTF-8' address=$'\xff'
+    fault 2 'error: an argument is no UTF-8' $'\xff'
+    for path in '' "b$name_of_107" 'the bus' 'bus,guid' 'bus%20' 'bus:1' 'büs' '~/bus'; do
+        refused 2 'busd: address' address="$path"
+    done
+}
+
+files() {
+    refused 4 'busd: device: input' keyring=none
+    refused 4 'busd: device: input' keyring=services
+    refused 4 'busd: keyring: 36' keyring=empty
+    refused 4 'busd: keyring: 37/2' keyring=bad_line
+    refused 4 'busd: device: input' services=none
+    refused 4 'busd: device: input' services=keyring
+    refused 4 'busd: device: listen' address=taken
+    refused 4 'busd: device: listen' address=services
+    refused 4 'busd: device: listen' address=none/bus
+    # Nobody is refused a file as root is not.
+    if [ "$(id -u)" != 0 ]; then
+        cp keyring closed
+        mkdir closed_folder
+        chmod 000 closed closed_folder
+        refused 4 'busd: device: input' keyring=closed
+        refused 4 'busd: device: input' services=closed_folder
+        refused 4 'busd: device: listen' address=closed_folder/bus
+        chmod 700 closed_folder
+    fi
+    [ ! -e bus ] || wrong "made a socket though it did not start"
+}
+
+# The first of several faults is told.
+order() {
+    refused 2 "error: invalid value '9' for '--routers <N>': 9 is not in 1..=8$more" routers=9 address='the bus'
+    refused 2 'busd: address' address='the bus' keyring=empty
+    refused 4 'busd: keyring: 36' keyring=empty services=none
+    refused 4 'busd: device: input' services=none address=taken
+    refused 4 'busd: keyring: 36' keyring=empty address=taken
+}
+
+full_device() {
+    if [ ! -e /dev/full ]; then
+        echo "there is no /dev/full here: no full standard output was tried"
+        return
+    fi
+    start --print-address
+    status=0
+    timeout 20 "$BUSD" "${words[@]}" > /dev/full 2> err < /dev/null || status=$?
+    [ "$status" = 4 ] && [ "$(< err)" = 'busd: device: output' ] || wrong "${words[@]}"
+    rm bus
+    status=0
+    "$BUSD" --help > /dev/full 2> err || status=$?
+    [ "$status" = 4 ] || wrong --help
+}
+
+# told ARGUMENT..: it is told on standard output, with status 0
+told() {
+    run "$@"
+    [ "$status" = 0 ] && [ -s out ] && [ ! -s err ] || wrong "$@"
+}
+
+help() {
+    for words in --help -h help 'serve --help' 'serve -h' 'help serve' 'run --help' 'help run'; do
+        told $words
+        grep -q '^Usage: busd' out && grep -q '^Example' out || wrong "$words"
+    done
+    for words in --version -V; do
+        told $words
+        grep -qx 'busd [0-9]*\.[0-9]*\.[0-9]*' out || wrong "$words"
+    done
+    status=0
+    "$session" --help > out 2> err || status=$?
+    [ "$status" = 0 ] && grep -q '^Usage: busd-run-session' out && grep -q '^Example' out && [ ! -s err ] ||
+        wrong "in a session: --help"
+    [ "$("$session" --version)" = "$("$BUSD" --version)" ] || wrong "in a session: --version"
+}
+
+# begin OPTION..: starts a daemon, and waits until clients can connect
+begin() {
+    start --print-address "$@"
+    mkfifo ready
+    "$BUSD" "${words[@]}" > ready 2> said < /dev/null &
+    bus=$!
+    IFS= read -r -t 20 address < ready || wrong "${words[@]}"
+    rm ready
+    [[ $address =~ ^unix:path=${wanted[address]},guid=[0-9a-f]{32}$ ]] && [ -S "${wanted[address]}" ] ||
+        wrong "tells the address $address"
+}
+
+# A signal ends it at once, without a word.
+finish() {
+    status=0
+    kill "$bus"
+    wait "$bus" || status=$?
+    bus=
+    [ "$status" = 143 ] && [ ! -s said ] || wrong "told to end: $(< said)"
+    rm "${wanted[address]}"
+}
+
+# waits CONDITION..: it holds within ten seconds
+waits() {
+    for _ in {1..100}; do
+        "$@" && return
+        sleep 0.1
+    done
+    return 1
+}
+
+has_threads() {
+    [ "$(ls "/proc/$bus/task" | wc -l)" = "$1" ]
+}
+
+# How often threads of the daemon have waited.
+waited() {
+    cat /proc/"$bus"/task/*/status | awk '/^voluntary_ctxt_switches/ { n += $2 } END { print n }'
+}
+
+sleeps_two_seconds() {
+    local before
+    before=$(waited)
+    sleep 2
+    [ "$(waited)" = "$before" ]
+}
+
+# A daemon that nobody calls sleeps, and is small.
+idle() {
+    if [ ! -r /proc/self/task ]; then
+        echo "there is no /proc here: how still and how small an idle daemon is was not tried"
+        return
+    fi
+    waits has_threads 9 || wrong "has $(ls "/proc/$bus/task" | wc -l) threads for 8 routers"
+    sleeps_two_seconds || sleeps_two_seconds || sleeps_two_seconds || wrong "wakes though nobody calls"
+    size=$(awk '/^VmRSS/ { print $2 }' "/proc/$bus/status")
+    [ "$size" -lt 65536 ] || wrong "has $size KiB"
+}
+
+daemons() {
+    begin address="$name_of_107" routers=1
+    refused 4 'busd: device: listen' address="$name_of_107"
+    finish
+    begin routers=8
+    idle
+    finish
+}
+
+# session STATUS ARGUMENT..: a session ends so, and leaves nothing
+session() {
+    local wanted=$1
+    shift
+    status=0
+    HOME=$room/home XDG_RUNTIME_DIR=$room/session timeout 20 "$session" "$@" > out 2> err < /dev/null || status=$?
+    [ "$status" = "$wanted" ] && [ -z "$(find home session -mindepth 1)" ] || wrong "in a session: $*"
+}
+
+sessions() {
+    session 7 sh -c 'echo "$DBUS_SESSION_BUS_ADDRESS"; exit 7'
+    grep -q "^unix:path=$room/session/busd-" out && [ ! -s err ] || wrong "in a session"
+    session 127 -- none-such
+    session 125 --routers=9 true
+    session 125 --router 1 true
+    session 125
+    session 143 sh -c 'kill "$PPID"; exec sleep 20'
+}
+
+command_lines
+files
+order
+full_device
+help
+daemons
+sessions
+echo "busd serve: $tried runs tried, each answered as it should be"
