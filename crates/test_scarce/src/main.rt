@@ -1,7 +1,7 @@
 //! What calls answer where memory is refused.
 //!
-//! The program reads and writes bodies and messages, lets a client in, opens a plain bus and a registry of two routers, and makes the same changes on
-//! both. It says of each whether the calls answered as they should: with what was wanted; or that memory ran out, all as it was
+//! The program reads and writes bodies and messages, lets a client in, opens a plain bus and a registry of two routers with
+//! its outboxes, makes the same changes on both buses, and serves clients as the host of a router. It says of each whether the calls answered as they should: with what was wanted; or that memory ran out, all as it was
 //! before, and with what was wanted once they are made again. It prints the same whichever one allocation is refused: `make memory`
 //! refuses each in turn.
 #![tactic(auto)]
@@ -9,9 +9,11 @@
 mod authentication;
 mod changes;
 mod codec;
+mod hosts;
 mod messages;
 mod plain;
 mod seats;
+mod ways;
 
 use marshal::Order;
 use std::io;
@@ -76,6 +78,10 @@ fn main(rt: HostRuntime) -> io::Result<()> {
     println!(rt; "plain bus: {plain}")?;
     let seats = told(seats::are_answered(&rt, rt.alloc()).unwrap_or(false));
     println!(rt; "seats: {seats}")?;
+    let ways = told(ways::are_opened(&rt, rt.alloc()).unwrap_or(false));
+    println!(rt; "outboxes: {ways}")?;
     let let_in = told(authentication::is_let_in(rt.alloc()));
-    println!(rt; "authentication: {let_in}")
+    println!(rt; "authentication: {let_in}")?;
+    let served = told(hosts::are_served(rt.alloc()));
+    println!(rt; "host: {served}")
 }

@@ -1,0 +1,83 @@
+//! The outboxes of a registry of two routers.
+
+use desk::Note;
+use envelopes::{Content, Envelope, SharedBytes};
+use outbox::{EnvelopeOf, Lane, Outboxes, Tap};
+use owner_queues::Profile;
+use registry_snapshots::{Naming, Seat, Serve, Shared, StartFault, start};
+use std::alloc::{AllocError, Global};
+use std::sync::{Arc, Wait};
+
+/// The last place of the second router.
+const LAST: usize = 255;
+
+/// Whether outboxes are opened, and bring an envelope from a seat to a place, as they should.
+pub fn are_opened<R: Wait>(rt: &R, alloc: Global) -> Option<bool> {
+    let served = start(rt, alloc, &[], 2, Profile::One, Ways { rt, alloc });
+    if let Err(StartFault::NoMemory) = served {
+        start(rt, alloc, &[], 2, Profile::One, Ways { rt, alloc }).ok()?
+    } else {
+        served.ok()?
+    }
+}
+
+/// Opens outboxes, once more where there was no memory.
+#[derive(Drop)]
+struct Ways<'a, R> {
+    rt: &'a R,
+    alloc: Global,
+}
+
+impl<'a, R: Wait> Serve for Ways<'a, R> {
+    ghost use Rattle.std.specs.Prelude.{[]};
+    ghost use Rattle.owner_queues.specs.declared.request.Profile.TheVariants.{One};
+    ghost use Rattle.seq_bus_core.specs.Tickets.{opening_bus};
+
+    type Out = Option<bool>;
+
+    ghost bus = { λ s. opening_bus One 2 [] };
+
+    fn serve<J: Naming + Send + Sync>(
+        self,
+        shared: Shared<J>,
+        seats: Vec<Seat<J>>,
+    ) -> Option<bool> {
+        let made = match Outboxes::new(self.alloc, &shared, 2) {
+            Ok(made) => Ok(made),
+            Err(AllocError) => Outboxes::new(self.alloc, &shared, 2),
+        };
+        shared.end(self.rt);
+        let (lanes, taps) = made.ok()?;
+        let counts = (seats.len(), lanes.len(), taps.len());
+        Some(counts == (3, 3, 2) && brings(self.rt, self.alloc, lanes, taps)?)
+    }
+}
+
+/// An envelope of a relayed message without bytes.
+fn letter<J: Naming>(alloc: Global, number: u64) -> Result<Envelope<Note<J>>, AllocError> {
+    Ok(Envelope {
+        number,
+        note: None,
+        content: Content::Relayed(SharedBytes::new(Arc::new(alloc, Vec::new(alloc))?)),
+    })
+}
+
+/// Whether what the last lane puts for the last place is what its tap takes.
+fn brings<J: Naming, R: Wait>(
+    rt: &R,
+    alloc: Global,
+    mut lanes: Vec<Lane<EnvelopeOf<J>>>,
+    mut taps: Vec<Vec<Tap<EnvelopeOf<J>>>>,
+) -> Option<bool> {
+    let mut lane = lanes.pop()?;
+    let mut tap = taps.pop()?.pop()?;
+    let letter = match letter::<J>(alloc, 7) {
+        Ok(letter) => letter,
+        Err(AllocError) => letter::<J>(alloc, 7).ok()?,
+    };
+    if LAST >= lane.slots() || lane.put(rt, LAST, letter).is_err() {
+        return None;
+    }
+    let first = tap.take(rt)?.number;
+    Some(first == 7 && tap.take(rt).is_none())
+}
