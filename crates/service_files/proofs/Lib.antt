@@ -1,0 +1,5 @@
+mod Cutting
+mod CommandWords
+mod FileLines
+mod LineTexts
+mod Describing
