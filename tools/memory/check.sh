@@ -30,6 +30,12 @@ printf 'l\3\1\1\22\0\0\0\1\0\0\0_\0\0\0\4\1s\0#\0\0\0org.freedesktop.DBus.Error.
     printf 'l\3\1\1\22\0\0\0\3\0\0\0o\0\0\0\4\1s\0#\0\0\0org.freedesktop.DBus.Error.NoMemory\0\0\0\0\0\5\1u\0\2\0\0\0\6\1s\0\4\0\0\0:1.1\0\0\0\0\7\1s\0\24\0\0\0org.freedesktop.DBus\0\0\0\0\10\1g\0\1s\0\0\15\0\0\0Out of memory\0'
 } > "$room/no_owner"
 
+# counted: how many allocations the program made that was run last; it makes some.
+counted() {
+    count=$(cat "$room/count")
+    [[ $count =~ ^[1-9][0-9]*$ ]] || wrong
+}
+
 said() {
     [ "$status" = "$1" ] && cmp -s "$room/out" "$2" && [ "$(cat "$room/err")" = "$3" ]
 }
@@ -41,7 +47,7 @@ run_busd() {
 number=0
 run_busd 0
 said 0 "$crates/busd/stdout" "" || wrong
-count=$(cat "$room/count")
+counted
 for number in $(seq "$count"); do
     run_busd "$number"
     said 0 "$crates/busd/stdout" "" || said 0 "$room/no_owner" "" ||
@@ -56,7 +62,7 @@ same() {
     number=0
     with 0 "$crates/$1/out/$1"
     said 0 "$crates/$1/stdout" "" || wrong
-    count=$(cat "$room/count")
+    counted
     for number in $(seq "$count"); do
         with "$number" "$crates/$1/out/$1"
         said 0 "$crates/$1/stdout" "" || wrong
