@@ -5,3 +5,4 @@ pub mod Values
 pub mod Spelling
 pub mod TextFaults
 pub mod Reading
+pub mod Laws

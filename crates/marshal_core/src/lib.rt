@@ -8,6 +8,7 @@
 mod conversions;
 mod data_type;
 mod fault;
+pub mod laws;
 mod order;
 mod parsing;
 mod printing;
