@@ -18,6 +18,7 @@ use crate::decoding::{ENTRY_ALIGNMENT, MAX_ARRAY_LENGTH, MAX_CONTAINER_DEPTH, ST
 use crate::fixed::gap;
 use crate::text::any_zero;
 use crate::type_text::{type_code, type_codes, value_code, value_codes};
+use byteorder::{BigEndian, ByteOrder, LittleEndian};
 use marshal_core::{BasicType, BasicValue, DataType, MarshalFault, Order, Signature, Value};
 use names::ObjectPath;
 use std::alloc::{AllocError, Global};
@@ -38,10 +39,12 @@ fn number16(order: Order, at: usize, number: u16, output: &mut Vec<u8>) -> Resul
     ensures { Gives (λ _. output.new.items) result (Ok (output.old.items ++ number_spelling order w16 (at + length output.old.items) number)) }
 {
     padding(2, at, output)?;
+    let mut two = [0; 2];
     match order {
-        Order::Little => output.extend_from_slice(&number.to_le_bytes())?,
-        Order::Big => output.extend_from_slice(&number.to_be_bytes())?,
+        Order::Little => LittleEndian::write_u16(&mut two, number),
+        Order::Big => BigEndian::write_u16(&mut two, number),
     }
+    output.extend_from_slice(&two)?;
     Ok(())
 }
 
@@ -50,10 +53,12 @@ fn number32(order: Order, at: usize, number: u32, output: &mut Vec<u8>) -> Resul
     ensures { Gives (λ _. output.new.items) result (Ok (output.old.items ++ number_spelling order w32 (at + length output.old.items) number)) }
 {
     padding(4, at, output)?;
+    let mut four = [0; 4];
     match order {
-        Order::Little => output.extend_from_slice(&number.to_le_bytes())?,
-        Order::Big => output.extend_from_slice(&number.to_be_bytes())?,
+        Order::Little => LittleEndian::write_u32(&mut four, number),
+        Order::Big => BigEndian::write_u32(&mut four, number),
     }
+    output.extend_from_slice(&four)?;
     Ok(())
 }
 
@@ -62,10 +67,12 @@ fn number64(order: Order, at: usize, number: u64, output: &mut Vec<u8>) -> Resul
     ensures { Gives (λ _. output.new.items) result (Ok (output.old.items ++ number_spelling order w64 (at + length output.old.items) number)) }
 {
     padding(8, at, output)?;
+    let mut eight = [0; 8];
     match order {
-        Order::Little => output.extend_from_slice(&number.to_le_bytes())?,
-        Order::Big => output.extend_from_slice(&number.to_be_bytes())?,
+        Order::Little => LittleEndian::write_u64(&mut eight, number),
+        Order::Big => BigEndian::write_u64(&mut eight, number),
     }
+    output.extend_from_slice(&eight)?;
     Ok(())
 }
 

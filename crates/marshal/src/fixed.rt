@@ -9,6 +9,7 @@ ghost use Rattle.marshal_core.specs.Spelling.{pad_len};
 ghost use Rattle.marshal_core.specs.Faults.{Tells};
 ghost use Rattle.marshal_core.specs.Reading.{boolean_at, byte_at, fixed_at, number_at, padding_at, zeros_at};
 
+use byteorder::{BigEndian, ByteOrder, LittleEndian};
 use marshal_core::{MarshalFault, Order};
 
 #[tactic(auto, unfolding(marshal_core::specs::Reading::zeros_at))]
@@ -92,10 +93,9 @@ pub fn number16(
     ensures shorter { IfOk result (λ x. length x.2.now < length bytes.now) }
 {
     let (front, at, rest) = fixed(2, short, at, bytes)?;
-    let two = [front[0], front[1]];
     match order {
-        Order::Little => Ok((u16::from_le_bytes(two), at, rest)),
-        Order::Big => Ok((u16::from_be_bytes(two), at, rest)),
+        Order::Little => Ok((LittleEndian::read_u16(front), at, rest)),
+        Order::Big => Ok((BigEndian::read_u16(front), at, rest)),
     }
 }
 
@@ -112,10 +112,9 @@ pub fn number32(
     ensures shorter { IfOk result (λ x. length x.2.now < length bytes.now) }
 {
     let (front, at, rest) = fixed(4, short, at, bytes)?;
-    let four = [front[0], front[1], front[2], front[3]];
     match order {
-        Order::Little => Ok((u32::from_le_bytes(four), at, rest)),
-        Order::Big => Ok((u32::from_be_bytes(four), at, rest)),
+        Order::Little => Ok((LittleEndian::read_u32(front), at, rest)),
+        Order::Big => Ok((BigEndian::read_u32(front), at, rest)),
     }
 }
 
@@ -131,10 +130,10 @@ pub fn number64(
     ensures place { IfOk result (λ x. x.1 + length x.2.now ≡ at + length bytes.now) }
     ensures shorter { IfOk result (λ x. length x.2.now < length bytes.now) }
 {
-    let (eight, at, rest) = eight_bytes(short, at, bytes)?;
+    let (front, at, rest) = fixed(8, short, at, bytes)?;
     match order {
-        Order::Little => Ok((u64::from_le_bytes(eight), at, rest)),
-        Order::Big => Ok((u64::from_be_bytes(eight), at, rest)),
+        Order::Little => Ok((LittleEndian::read_u64(front), at, rest)),
+        Order::Big => Ok((BigEndian::read_u64(front), at, rest)),
     }
 }
 

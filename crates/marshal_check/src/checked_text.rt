@@ -5,6 +5,7 @@ ghost use Rattle.std.specs.Int.{w32};
 ghost use Rattle.marshal_core.specs.declared.fault.MarshalFault.TheVariants.{Truncated};
 ghost use Rattle.marshal_core.specs.Reading.{number as number_in, string_at};
 
+use byteorder::{BigEndian, ByteOrder, LittleEndian};
 use marshal_core::Order;
 
 /// The number in four bytes.
@@ -12,10 +13,9 @@ fn number(order: Order, four: &[u8]) -> u32
     requires { length four.now ≡ 4 }
     ensures { result ≡ number_in order w32 four.now }
 {
-    let four = [four[0], four[1], four[2], four[3]];
     match order {
-        Order::Little => u32::from_le_bytes(four),
-        Order::Big => u32::from_be_bytes(four),
+        Order::Little => LittleEndian::read_u32(four),
+        Order::Big => BigEndian::read_u32(four),
     }
 }
 
