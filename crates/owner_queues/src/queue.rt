@@ -100,8 +100,8 @@ impl Queue {
         !self.places.is_full() || self.contains(connection)
     }
 
-    /// A connection requests the name.
-    pub fn request(&mut self, profile: Profile, connection: u64, flags: RequestFlags) -> Reply
+    /// A connection requests the name. The profile says where it waits if it would replace the owner and can't.
+    pub fn request(&mut self, connection: u64, flags: RequestFlags, profile: Profile) -> Reply
         requires { HasRoom connection self.old }
         ensures queue { self.new ≡ (requested profile connection flags self.old).0 }
         ensures reply { result ≡ (requested profile connection flags self.old).1 }
