@@ -64,6 +64,7 @@ starts_of_others s h c =
     (λ r g. record {
       given = g.given;
       unowned = each_without (λ n. text_eq n.name r.name ≡ false) (λ n. text_eq n.name r.name ≡ false) c (λ n differ _ _ _. differ) s.names g.unowned;
+      waited = g.waited;
       tickets_given = g.tickets_given;
       tickets_rise = g.tickets_rise;
     }) s.starts h.starts_running
@@ -148,6 +149,7 @@ after_request s h c name flags client free =
             unowned =
                 each_with_queue (λ n. text_eq n.name r.name ≡ false) name queue s.names g.unowned
                 (each_kept (λ n. text_eq n.name r.name ≡ false) name queue (λ _ _ _. text_eq-swapped r.name name (not-true (text_eq r.name name) keeps)));
+            waited = g.waited;
             tickets_given = g.tickets_given;
             tickets_rise = g.tickets_rise;
           }) s.starts h.starts_running;
@@ -186,6 +188,7 @@ after_release s h c name free =
             unowned =
                 each_with_queue (λ n. text_eq n.name r.name ≡ false) name queue s.names g.unowned
                 (each_kept (λ n. text_eq n.name r.name ≡ false) name queue (λ owner waiting e. released_unowned s.names c name r.name g.unowned owner waiting e));
+            waited = g.waited;
             tickets_given = g.tickets_given;
             tickets_rise = g.tickets_rise;
           }) s.starts h.starts_running;
@@ -263,10 +266,11 @@ first_ticket s h name unowned none =
           (λ r g. record {
             given = omega (arith, g.given);
             unowned = g.unowned;
+            waited = g.waited;
             tickets_given = each_weaker (λ t. t < s.next_ticket) (λ t. t < s.next_ticket + 1) (λ t lower. omega arith) r.tickets g.tickets_given;
             tickets_rise = g.tickets_rise;
           }) s.starts h.starts_running)
-          (record { given = omega arith; unowned = unowned; tickets_given = (omega arith, tt); tickets_rise = (tt, tt) });
+          (record { given = omega arith; unowned = unowned; waited = λ e. cc e; tickets_given = (omega arith, tt); tickets_rise = (tt, tt) });
       starts_rise =
           pairs_push (λ a b. a.number < b.number) s.starts new h.starts_rise (each_weaker (IsRunning s.names s.next_start s.next_ticket) (λ r. r.number < s.next_start) (λ r g. g.given) s.starts h.starts_running);
       start_names_differ = pairs_push (λ a b. text_eq a.name b.name ≡ false) s.starts new h.start_names_differ (find_none (λ r. text_eq r.name name) s.starts none);
@@ -280,6 +284,10 @@ first_ticket s h name unowned none =
 waiting_keeps : (P : Text → ℕ → Type 0) (name : Text) (ticket : ℕ) (r : RunningStart) → P r.name r.number → P (waiting_if name ticket r).name (waiting_if name ticket r).number
 waiting_keeps P name ticket r h = cond_both (text_eq r.name name) (record r { tickets = r.tickets ++ ticket ∷ [] }) r (λ q. P q.name q.number) (λ _. h) (λ _. h)
 
+one_more_waits : (tickets : List ℕ) (ticket : ℕ) → tickets ++ ticket ∷ [] ≢ []
+one_more_waits [] ticket e = cc e
+one_more_waits (t ∷ ts) ticket e = cc e
+
 still_running : (s : BusState) (name : Text) (r : RunningStart) → IsRunning s.names s.next_start s.next_ticket r → IsRunning s.names s.next_start (s.next_ticket + 1) (waiting_if name s.next_ticket r)
 still_running s name r g =
     let given : Each (λ t. t < s.next_ticket + 1) r.tickets = each_weaker (λ t. t < s.next_ticket) (λ t. t < s.next_ticket + 1) (λ t lower. omega arith) r.tickets g.tickets_given in
@@ -287,10 +295,11 @@ still_running s name r g =
     (λ _. record {
       given = g.given;
       unowned = g.unowned;
+      waited = one_more_waits r.tickets s.next_ticket;
       tickets_given = each_push (λ t. t < s.next_ticket + 1) r.tickets s.next_ticket given (omega arith);
       tickets_rise = pairs_push (λ t u. t < u) r.tickets s.next_ticket g.tickets_rise g.tickets_given;
     })
-    (λ _. record { given = g.given; unowned = g.unowned; tickets_given = given; tickets_rise = g.tickets_rise })
+    (λ _. record { given = g.given; unowned = g.unowned; waited = g.waited; tickets_given = given; tickets_rise = g.tickets_rise })
 
 later_ticket : (s : BusState) → IsConsistent s → (name : Text) → IsConsistent (record s { starts = map (waiting_if name s.next_ticket) s.starts; next_ticket = s.next_ticket + 1 })
 later_ticket s h name =

@@ -7,7 +7,10 @@ pub mod NumberLaws
 pub mod OwnedLemmas
 pub mod ConsistencyLaws
 pub mod HistoryLaws
+pub mod Extending
+pub mod ChangeLaws
 pub mod RecipientLaws
+pub mod InsertedConns
 pub mod MonitorLaws
 pub mod Counts
 pub mod LimitLaws

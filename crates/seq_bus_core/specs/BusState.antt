@@ -9,6 +9,7 @@ use Rattle.match_rules.specs.Rules.{Rule}
 use Rattle.owner_queues.specs.Queues.{Queue, queue_head, is_in}
 use Rattle.owner_queues.specs.declared.request.Profile.{Profile}
 use Rattle.seq_bus_core.specs.declared.connection.Conn.{Conn}
+use Rattle.seq_bus_core.specs.declared.limits.TheConstants.{MAX_CONNECTIONS, MAX_NAMES, MAX_QUEUED, MAX_NAMES_OF_ONE, MAX_RULES, MAX_RULES_OF_ONE, MAX_TICKETS, MAX_NUMBER}
 
 -- a connection; a monitor has the rules by which it is shown messages
 pub record Connection : Type 0 where
@@ -105,33 +106,33 @@ start_of s name = find (λ r. text_eq r.name name) s.starts
 -- ## Limits
 
 abbrev pub max_connections : ℕ
-max_connections = 256
+max_connections = MAX_CONNECTIONS
 
 -- well-known names that have an owner
 abbrev pub max_names : ℕ
-max_names = 1024
+max_names = MAX_NAMES
 
 -- places in all queues, those of the owners included
 abbrev pub max_queued : ℕ
-max_queued = 4096
+max_queued = MAX_QUEUED
 
 -- names that one connection owns or waits for
 abbrev pub max_names_of_one : ℕ
-max_names_of_one = 64
+max_names_of_one = MAX_NAMES_OF_ONE
 
 -- rules that were added, those of monitors not counted
 abbrev pub max_rules : ℕ
-max_rules = 4096
+max_rules = MAX_RULES
 
 abbrev pub max_rules_of_one : ℕ
-max_rules_of_one = 256
+max_rules_of_one = MAX_RULES_OF_ONE
 
 abbrev pub max_tickets : ℕ
-max_tickets = 512
+max_tickets = MAX_TICKETS
 
 -- the last number that a connection, a ticket or a start can have
 abbrev pub max_number : ℕ
-max_number = 9223372036854775808
+max_number = MAX_NUMBER
 
 abbrev pub queued_in : List OwnedName → ℕ
 queued_in names = sum_by (λ n. length n.queue) names

@@ -23,10 +23,11 @@ pub record IsOwned (connections : List Connection) (n : OwnedName) : Type 0 wher
   pub once : IsQueue n.queue
   pub clients : list_all (λ q. is_client connections q.connection) n.queue ≡ true
 
--- a start was numbered, its name has no owner, and its tickets rise
+-- a start was numbered, its name has no owner, and tickets wait for it, which rise
 pub record IsRunning (names : List OwnedName) (next_start next_ticket : ℕ) (r : RunningStart) : Type 0 where
   pub given : r.number < next_start
   pub unowned : Each (λ n. text_eq n.name r.name ≡ false) names
+  pub waited : r.tickets ≢ []
   pub tickets_given : Each (λ t. t < next_ticket) r.tickets
   pub tickets_rise : Pairwise (λ t u. t < u) r.tickets
 

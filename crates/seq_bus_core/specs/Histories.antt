@@ -1,11 +1,13 @@
 -- Histories of a bus: the changes that were made, in order.
-use Rattle.std.specs.Prelude.{◌≡◌, ℕ, ◌+◌, ◌≤◌, Bool, true, false, ◌&&◌, ◌||◌, ◌==◌, List, [], ◌∷◌, ◌++◌, length, map, filter, if◌then◌else◌}
+use Rattle.std.specs.Prelude.{◌≡◌, ℕ, ◌+◌, ◌≤◌, Bool, true, false, ◌&&◌, ◌||◌, ◌==◌, ltb, Option, Some, None, List, [], ◌∷◌, ◌++◌, length, map, filter, if◌then◌else◌}
 use Rattle.std.specs.List.{range_with_len, AllByRecursion, IsDistinct}
 use Rattle.names.specs.Texts.{Text, text_eq, text_lt}
 use Rattle.owner_queues.specs.declared.request.Profile.{Profile}
 use Rattle.seq_bus_core.specs.BusState.{BusState}
 use Rattle.seq_bus_core.specs.Steps.{is_reserved, step}
+use Rattle.seq_bus_core.specs.declared.change.Change.{Change}
 use Rattle.seq_bus_core.specs.declared.entry.Entry.{Entry}
+use Rattle.seq_bus_core.specs.declared.limits.TheConstants.{MAX_ROUTERS, MAX_SERVICES}
 
 abbrev pub History : Type 0
 History = List Entry
@@ -22,10 +24,10 @@ sorted [] = []
 sorted (n ∷ names) = inserted n (sorted names)
 
 abbrev pub max_routers : ℕ
-max_routers = 8
+max_routers = MAX_ROUTERS
 
 abbrev pub max_services : ℕ
-max_services = 256
+max_services = MAX_SERVICES
 
 -- what a bus can be opened with: its services are well-known names other than the bus's own, none of them twice
 pub record CanOpen (routers : ℕ) (services : List Text) : Type 0 where
@@ -82,3 +84,16 @@ abbrev pub ends_publication : History → Bool
 ends_publication [] = true
 ends_publication (e ∷ []) = e.left == 0
 ends_publication (e ∷ next ∷ history) = ends_publication (next ∷ history)
+
+-- the history has of a seat's changes just the first `made`, each once and in order
+abbrev pub HasJust : ℕ → ℕ → History → Type 0
+HasJust seat made history = numbers_of seat history ≡ range_with_len 1 made
+
+-- the entry of a change that is a publication of its own
+abbrev pub entry_alone : ℕ → ℕ → Change → Entry
+entry_alone seat number change = record { seat = seat; number = number; change = change; left = 0 }
+
+-- of what is held and what is told, the longer
+abbrev pub longer : Option History → History → History
+longer None told = told
+longer (Some held) told = if ltb (length held) (length told) then told else held

@@ -1,5 +1,5 @@
 -- What holds of every bus, whatever is asked of it.
-use Rattle.std.specs.Prelude.{◌≡◌, ℕ, ◌≤◌, ◌<◌, true, false, List, Bool, ◌==◌, map}
+use Rattle.std.specs.Prelude.{◌≡◌, ℕ, ◌+◌, ◌≤◌, ◌<◌, true, false, List, ◌++◌, Bool, ◌==◌, map, length}
 use Rattle.std.specs.List.{AllByRecursion as Each, IsDistinct, list_any}
 use Rattle.names.specs.Texts.{Text, text_eq, text_lt}
 use Rattle.match_rules.specs.Facts.{Facts}
@@ -7,7 +7,8 @@ use Rattle.owner_queues.specs.declared.request.Profile.{Profile}
 use Rattle.seq_bus_core.specs.BusState.{BusState}
 use Rattle.seq_bus_core.specs.Steps.{step, addressed, is_among}
 use Rattle.seq_bus_core.specs.Recipients.{recipients}
-use Rattle.seq_bus_core.specs.Histories.{History, sorted, opening, after, IsLegal, Begins, ends_publication}
+use Rattle.seq_bus_core.specs.Histories.{History, sorted, opening, after, numbers_of, IsLegal, HasJust, Begins, ends_publication}
+use Rattle.seq_bus_core.specs.Batches.{entries_of}
 use Rattle.seq_bus_core.specs.Tickets.{WholeBus, opening_bus, bus_step, bus_after}
 use Rattle.seq_bus_core.specs.Consistency.{Pairwise, IsConsistent, IsWithinLimits}
 use Rattle.seq_bus_core.specs.declared.change.Change.{Change}
@@ -49,6 +50,11 @@ NumbersOnlyRise = (s : BusState) (seat : ℕ) (change : Change) → GivesOn s (s
 -- What begins a legal history and does not end within a publication is legal.
 abbrev pub BeginningsAreLegal : Type 0
 BeginningsAreLegal = (front history : History) → Begins front history → ends_publication front ≡ true → IsLegal history → IsLegal front
+
+-- A legal history stays legal where a batch is published after it: changes of one seat, which go on with its numbers.
+abbrev pub BatchesAreLegal : Type 0
+BatchesAreLegal = (history : History) (seat : ℕ) (changes : List Change) → IsLegal history → let made = length (numbers_of seat history) in
+    IsLegal (history ++ entries_of seat (made + 1) changes) × HasJust seat (made + length changes) (history ++ entries_of seat (made + 1) changes)
 
 -- each by a number above those before it, and so each once
 abbrev pub Rise : List Conn → Type 0

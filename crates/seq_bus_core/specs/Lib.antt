@@ -4,6 +4,10 @@ pub mod Steps
 pub mod Answers
 pub mod Histories
 pub mod Tickets
+pub mod Batches
+pub mod Changes
+pub mod Served
+pub mod TicketRooms
+pub mod HandedOut
 pub mod Consistency
-pub mod Errors
 pub mod Laws

@@ -1,6 +1,6 @@
 -- Who gets a message, and which monitors are shown it.
 -- (D-Bus Specification: "Message Bus Message Routing", "Eavesdropping", "org.freedesktop.DBus.Monitoring.BecomeMonitor".)
-use Rattle.std.specs.Prelude.{ℕ, Bool, true, false, ◌&&◌, ◌||◌, not, ◌==◌, Option, is_some, option_and_then, List, [], ◌∷◌, map, filter, if◌then◌else◌}
+use Rattle.std.specs.Prelude.{ℕ, nat_lt, Bool, true, false, ◌&&◌, ◌||◌, not, ◌==◌, Option, is_some, option_and_then, List, [], ◌∷◌, map, filter, if◌then◌else◌}
 use Rattle.std.specs.List.{list_any}
 use Rattle.std.specs.Option.{option_map_or}
 use Rattle.names.specs.BusName.{is_bus}
@@ -11,6 +11,8 @@ use Rattle.match_rules.specs.Fitting.{fits}
 use Rattle.match_rules.specs.Rules.{Rule}
 use Rattle.seq_bus_core.specs.BusState.{BusState, Connection, is_monitor, conn_of, is_client, head_of, is_service}
 use Rattle.seq_bus_core.specs.declared.connection.Conn.{Conn}
+use Rattle.seq_bus_core.specs.declared.signal.AddressedSignal.{AddressedSignal}
+use Rattle.seq_bus_core.specs.declared.signal.BusSignal.{BusSignal}
 use Rattle.seq_bus_core.specs.declared.verdict.VerdictKind.{VerdictKind}
 use Rattle.seq_bus_core.specs.declared.verdict.VerdictKind.TheVariants.{Plain, Bus, Start, Nobody, Absent}
 use Rattle.seq_bus_core.specs.declared.verdict.Verdict.{Verdict}
@@ -36,6 +38,15 @@ conns_where s test = map conn_of (filter test s.connections)
 -- the connection of a number, if it is there
 abbrev pub conn_at : BusState → Option ℕ → List Conn
 conn_at s number = conns_where s (λ c. option_map_or (λ n. c.number == n) number false)
+
+-- a signal of the bus that goes to these connections and is shown to these monitors
+abbrev pub addressed_to : BusSignal → List Conn → List Conn → AddressedSignal
+addressed_to signal to monitors = record { signal = signal; to = to; monitors = monitors }
+
+-- the connections with one more, which stands before the first with a higher number
+abbrev pub inserted_conn : Conn → List Conn → List Conn
+inserted_conn conn [] = conn ∷ []
+inserted_conn conn (c ∷ conns) = if nat_lt conn.number c.number then conn ∷ c ∷ conns else c ∷ inserted_conn conn conns
 
 -- A monitor is shown what one of its rules fits, or everything where it has no rules.
 abbrev pub watches : BusState → Facts → Connection → Bool

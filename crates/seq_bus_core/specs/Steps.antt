@@ -39,12 +39,16 @@ Stepped = BusState × NumberedOutcome
 abbrev pub owner_text : Option ℕ → Text
 owner_text owner = option_map_or unique_text owner []
 
+-- the object that the bus itself is
+abbrev pub bus_path : Text
+bus_path = codes "/org/freedesktop/DBus"
+
 abbrev pub signal_facts : Text → Option ℕ → List Text → Facts
 signal_facts member to arguments = record {
   kind = Signal;
   auto_start = true;
   sender = bus_number;
-  path = Some (codes "/org/freedesktop/DBus");
+  path = Some bus_path;
   interface = Some (codes "org.freedesktop.DBus");
   member = Some member;
   destination = option_map unique_text to;

@@ -1,6 +1,6 @@
 //! Changes of the bus.
 
-use crate::{MonitorRules, Relayed};
+use crate::{MonitorRules, SharedBytes};
 use match_rules::Rule;
 use names::BusName;
 use owner_queues::RequestFlags;
@@ -73,7 +73,7 @@ pub enum Change {
         connection: u64,
         name: BusName,
         call: Call,
-        message: Relayed,
+        message: SharedBytes,
     },
     /// The program of a start ended.
     ChildEnded {

@@ -1,6 +1,7 @@
 //! The laws of the bus. Each function does nothing: what it ensures is the law.
 
-ghost use Rattle.seq_bus_core.specs.Laws.{BeginningsAreLegal, BusesAreConsistent, BusesAreWhole, BusesAreWithinLimits, NobodyGetsAMessageTwice, NumbersOnlyRise, RecipientsAreNamedOnce, ServicesRise, SettledTicketsAreTold, SignalsGoToEachOnce, StepsKeepConsistency, StepsKeepLimits};
+ghost use Rattle.seq_bus_core.specs.Changes.{StepsSeeNoMore};
+ghost use Rattle.seq_bus_core.specs.Laws.{BatchesAreLegal, BeginningsAreLegal, BusesAreConsistent, BusesAreWhole, BusesAreWithinLimits, NobodyGetsAMessageTwice, NumbersOnlyRise, RecipientsAreNamedOnce, ServicesRise, SettledTicketsAreTold, SignalsGoToEachOnce, StepsKeepConsistency, StepsKeepLimits};
 
 /// A change leaves a consistent state consistent.
 pub fn steps_keep_consistency()
@@ -20,6 +21,16 @@ pub fn numbers_only_rise()
 /// What begins a legal history and does not end within a publication is legal.
 pub fn beginnings_are_legal()
     ensures { BeginningsAreLegal }
+{}
+
+/// A publication of several changes of a seat, which goes on with the seat's numbers, leaves a legal history legal.
+pub fn batches_are_legal()
+    ensures { BatchesAreLegal }
+{}
+
+/// A step does not look at what a ticket carries.
+pub fn steps_see_no_more()
+    ensures { StepsSeeNoMore }
 {}
 
 /// The recipients of a message and the monitors that are shown it are each named once, by rising number.

@@ -3,23 +3,26 @@
 //! The definitions stand in `specs/`, in the terms of the D-Bus Specification; the types here are what they speak of.
 //! [`Change`] and [`Query`] are what is asked of a bus, [`Outcome`] and [`Verdict`] what it answers, and an
 //! [`Entry`] is one line of its history. [`ErrorKind`] names the errors of the bus.
-//! The laws of the definitions stand in [`laws`].
+//! The laws of the definitions stand in [`laws`], the limits of a bus in [`limits`].
 #![tactic(auto)]
 
+mod addressees;
 mod change;
 mod connection;
 mod entry;
 mod error_kind;
 pub mod laws;
+pub mod limits;
 mod monitor_rules;
 mod outcome;
 mod query;
 mod recipients;
-mod relayed;
+mod shared;
 mod signal;
 mod ticket;
 mod verdict;
 
+pub use addressees::Addressees;
 pub use change::{Call, Change, Ending};
 pub use connection::Conn;
 pub use entry::Entry;
@@ -28,7 +31,7 @@ pub use monitor_rules::MonitorRules;
 pub use outcome::{NumberedOutcome, Outcome, Reply};
 pub use query::Query;
 pub use recipients::Recipients;
-pub use relayed::Relayed;
-pub use signal::{AddressedSignal, BusSignal, Signals};
-pub use ticket::{Fate, SettledNumber, SettledTicket, Ticket, TicketNumbers, Tickets};
+pub use shared::{SharedBytes, SharedSignal};
+pub use signal::{AddressedSignal, BusSignal, Signals, bus_path};
+pub use ticket::{Fate, SettledNumber, SettledTicket, Ticket, TicketNumbers, TicketRoom, Tickets};
 pub use verdict::{Verdict, VerdictKind};

@@ -1,7 +1,8 @@
 //! The rules of a monitor.
 
-ghost use Rattle.std.specs.Prelude.{◌≡◌, ◌<◌, ◌↔◌, [], ◌∷◌, ◌++◌, length, IsTrue, OnOk, OnErr};
+ghost use Rattle.std.specs.Prelude.{◌≡◌, ◌<◌, ◌↔◌, [], ◌∷◌, ◌++◌, length, IsTrue, IfOk, OnOk, OnErr};
 
+use crate::limits::MAX_RULES_OF_MONITOR;
 use match_rules::Rule;
 use std::alloc::{AllocError, Global};
 use std::marker::Model;
@@ -15,17 +16,18 @@ pub struct MonitorRules {
 impl Model for MonitorRules {
     ghost use Rattle.std.specs.Prelude.{◌≤◌, List, vec_len};
     ghost use Rattle.match_rules.specs.Rules.{Rule as Entries};
+    ghost use Rattle.seq_bus_core.specs.declared.limits.TheConstants.{MAX_RULES_OF_MONITOR};
 
     ghost Value = { List Entries };
 
     ghost view = { λ r. r.rules.items };
 
-    ghost invariant = { λ r. vec_len r.rules ≤ 64 };
+    ghost invariant = { λ r. vec_len r.rules ≤ MAX_RULES_OF_MONITOR };
 }
 
 impl MonitorRules {
     /// The most rules of one monitor.
-    pub const MAX: usize = 64;
+    pub const MAX: usize = MAX_RULES_OF_MONITOR;
 
     /// No rules.
     pub fn new(alloc: Global) -> Self
@@ -51,6 +53,14 @@ impl MonitorRules {
     {
         self.rules.push(rule)?;
         Ok(())
+    }
+
+    /// The same rules once more. It takes memory.
+    pub fn copy(&self, alloc: Global) -> Result<MonitorRules, AllocError>
+        ensures { IfOk result (λ rules. rules ≡ self.now) }
+    {
+        let rules = Vec::from_slice(alloc, self.rules.as_slice())?;
+        Ok(MonitorRules { rules })
     }
 
     /// The rules, in order.

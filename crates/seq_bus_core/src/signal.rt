@@ -1,11 +1,14 @@
 //! The signals of the bus.
 
-ghost use Rattle.std.specs.Prelude.{◌≡◌, [], ◌∷◌, ◌++◌, OnOk, OnErr};
+ghost use Rattle.std.specs.Prelude.{◌≡◌, [], ◌∷◌, ◌++◌, IfOk, OnOk, OnErr};
+ghost use Rattle.seq_bus_core.specs.Recipients.{addressed_to};
+ghost use Rattle.seq_bus_core.specs.Steps.{bus_path};
 
-use crate::Recipients;
+use crate::{Addressees, Conn, SharedSignal};
 use names::BusName;
 use std::alloc::{AllocError, Global};
 use std::marker::Model;
+use std::vec;
 
 /// A signal of the bus itself. Connections are named by their numbers.
 /// (D-Bus Specification: "Message Bus Messages".)
@@ -29,14 +32,40 @@ pub enum BusSignal {
     },
 }
 
-/// A signal of the bus, and who gets it.
+/// The path of the object that the bus itself is, from which its signals come.
+/// (D-Bus Specification: "Message Bus Messages".)
+pub fn bus_path() -> &'static str
+    ensures { result.now ≡ bus_path }
+{
+    "/org/freedesktop/DBus"
+}
+
+/// A signal of the bus, and who gets it. It is small enough to be moved.
 #[derive(Debug, Drop)]
 pub struct AddressedSignal {
-    pub signal: BusSignal,
+    pub signal: SharedSignal,
     /// Its recipients, by rising number.
-    pub to: Recipients,
+    pub to: Addressees,
     /// The monitors that are shown it, by rising number. None of them is a recipient.
-    pub monitors: Recipients,
+    pub monitors: Addressees,
+}
+
+impl AddressedSignal {
+    /// A signal that goes to these connections and is shown to these monitors. It takes memory.
+    pub fn new(
+        alloc: Global,
+        signal: BusSignal,
+        to: &[Conn],
+        monitors: &[Conn],
+    ) -> Result<AddressedSignal, AllocError>
+        ensures { IfOk result (λ a. a ≡ addressed_to signal to.now monitors.now) }
+    {
+        Ok(AddressedSignal {
+            signal: SharedSignal::new(alloc, signal)?,
+            to: Addressees::of(alloc, to)?,
+            monitors: Addressees::of(alloc, monitors)?,
+        })
+    }
 }
 
 /// The signals of a change, in order.
@@ -78,5 +107,20 @@ impl Signals {
         ensures { result.now ≡ self.now }
     {
         self.signals.as_slice()
+    }
+}
+
+impl IntoIterator for Signals {
+    ghost use Rattle.seq_bus_core.specs.HandedOut.{IsHandedOut};
+
+    type Item = AddressedSignal;
+
+    type IntoIter = vec::IntoIter<AddressedSignal>;
+
+    ghost into_iter_gives = { IsHandedOut };
+
+    /// The signals themselves, in order. It takes no memory.
+    fn into_iter(self) -> vec::IntoIter<AddressedSignal> {
+        self.signals.into_iter()
     }
 }

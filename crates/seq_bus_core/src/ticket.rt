@@ -1,10 +1,11 @@
 //! Calls that wait for a name to get an owner.
 
-ghost use Rattle.std.specs.Prelude.{◌≡◌, [], ◌∷◌, ◌++◌, OnOk, OnErr};
+ghost use Rattle.std.specs.Prelude.{◌≡◌, ◌<◌, ◌≤◌, [], ◌∷◌, ◌++◌, length, IfOk, OnOk, OnErr};
 
-use crate::{Call, Conn, Relayed};
+use crate::{Call, Conn, SharedBytes};
 use std::alloc::{AllocError, Global};
 use std::marker::Model;
+use std::vec;
 
 /// A call that waits for a name to get an owner.
 #[derive(Debug, Drop)]
@@ -15,7 +16,7 @@ pub struct Ticket {
     pub caller: Conn,
     pub call: Call,
     /// The call itself, where it is to be delivered to the name; none where it is StartServiceByName.
-    pub message: Option<Relayed>,
+    pub message: Option<SharedBytes>,
 }
 
 /// What became of a ticket.
@@ -73,6 +74,64 @@ impl Tickets {
         ensures { result.now ≡ self.now }
     {
         self.tickets.as_slice()
+    }
+}
+
+impl IntoIterator for Tickets {
+    ghost use Rattle.seq_bus_core.specs.HandedOut.{IsHandedOut};
+
+    type Item = SettledTicket;
+
+    type IntoIter = vec::IntoIter<SettledTicket>;
+
+    ghost into_iter_gives = { IsHandedOut };
+
+    /// The tickets themselves, in order. It takes no memory.
+    fn into_iter(self) -> vec::IntoIter<SettledTicket> {
+        self.tickets.into_iter()
+    }
+}
+
+/// Room for the tickets that a change settles, made before it is known which they are.
+#[derive(Drop)]
+pub struct TicketRoom {
+    tickets: Vec<SettledTicket>,
+}
+
+impl Model for TicketRoom {
+    ghost use Rattle.std.specs.Prelude.{vec_capacity};
+    ghost use Rattle.seq_bus_core.specs.TicketRooms.{TicketRoom as Filled};
+
+    ghost Value = { Filled };
+
+    ghost view = { λ r. record { tickets = r.tickets.items; room = vec_capacity r.tickets } };
+}
+
+impl TicketRoom {
+    /// Room for so many tickets, none of which is there yet. It takes memory.
+    pub fn new(alloc: Global, room: usize) -> Result<TicketRoom, AllocError>
+        ensures { IfOk result (λ made. (made.tickets ≡ []) × (room ≤ made.room)) }
+    {
+        let tickets = Vec::with_capacity(alloc, room)?;
+        Ok(TicketRoom { tickets })
+    }
+
+    /// One more ticket, behind the others. It takes no memory.
+    pub fn push(&mut self, ticket: SettledTicket)
+        requires { length self.old.tickets < self.old.room }
+        ensures tickets { self.new.tickets ≡ self.old.tickets ++ ticket ∷ [] }
+        ensures room { self.new.room ≡ self.old.room }
+    {
+        self.tickets.push_reserved(ticket);
+    }
+
+    /// The tickets that are there.
+    pub fn into_tickets(self) -> Tickets
+        ensures { result ≡ self.tickets }
+    {
+        Tickets {
+            tickets: self.tickets,
+        }
     }
 }
 

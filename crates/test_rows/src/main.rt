@@ -1,5 +1,6 @@
-//! Worked runs of a message bus, computed from the definitions of `seq_bus_core`. Each function of a run does nothing: what it
-//! ensures is the run. The program goes through them, and pushes once what takes memory.
+//! Worked runs of a message bus, computed from the definitions of `seq_bus_core`. Each function of a run does nothing:
+//! what it ensures is the run. The program goes through them, makes one by calls, and makes once each what takes
+//! memory.
 #![tactic(auto)]
 
 mod limits;
@@ -9,7 +10,9 @@ mod queues;
 mod routers;
 mod routing;
 mod services;
+mod waiting;
 
+use owner_queues::Profile;
 use std::io;
 
 fn go_through() {
@@ -38,8 +41,9 @@ fn go_through() {
 fn main(rt: HostRuntime) -> io::Result<()> {
     go_through();
     let alloc = rt.alloc();
-    println!(rt; "signals: {}", pushing::signals(alloc)?)?;
-    println!(rt; "tickets: {:?}", pushing::tickets(alloc)?)?;
-    let (name, text) = pushing::exec_failed();
-    println!(rt; "{name}: {text}")
+    println!(rt; "profile one: {:?}", waiting::replacers(Profile::One))?;
+    println!(rt; "profile two: {:?}", waiting::replacers(Profile::Two))?;
+    println!(rt; "signals: {:?}", pushing::signals(alloc)?)?;
+    println!(rt; "recipients rise: {}", pushing::recipients())?;
+    println!(rt; "tickets: {:?}", pushing::tickets(alloc)?)
 }

@@ -2,46 +2,62 @@
 
 use names::{BusName, UniqueName};
 use seq_bus_core::{
-    AddressedSignal, BusSignal, Call, Conn, ErrorKind, Fate, Outcome, Recipients, Relayed, Reply,
-    SettledNumber, SettledTicket, Signals, Ticket, TicketNumbers, Tickets,
+    AddressedSignal, BusSignal, Call, Conn, Fate, Outcome, Recipients, Reply, SettledNumber,
+    SettledTicket, SharedBytes, Signals, Ticket, TicketNumbers, TicketRoom,
 };
 use std::alloc::{AllocError, Global};
 use std::sync::Arc;
 
-fn acquired(owner: u64) -> AddressedSignal {
-    let name = BusName::from(UniqueName::of(owner));
-    let mut to = Recipients::new();
-    to.push(Conn {
-        number: owner,
+fn at(number: u64) -> Conn {
+    Conn {
+        number,
         slot: 0,
         router: 1,
-    });
-    AddressedSignal {
-        signal: BusSignal::NameAcquired { name, owner },
-        to,
-        monitors: Recipients::new(),
     }
 }
 
-/// How many of three signals to one recipient each are there.
-pub fn signals(alloc: Global) -> Result<usize, AllocError> {
+fn acquired(alloc: Global, owner: u64) -> Result<AddressedSignal, AllocError> {
+    let name = BusName::from(UniqueName::of(owner));
+    let signal = BusSignal::NameAcquired { name, owner };
+    AddressedSignal::new(alloc, signal, &[at(owner)], &[])
+}
+
+/// How many of three signals to one recipient each are there, first where they stand, then handed out.
+pub fn signals(alloc: Global) -> Result<(usize, usize), AllocError> {
     let mut signals = Signals::new(alloc);
     for owner in 1..4 {
-        signals.push(acquired(owner))?;
+        signals.push(acquired(alloc, owner)?)?;
     }
     let to_one = signals
         .as_slice()
         .iter()
         .filter(|signal| signal.to.as_slice().len() == 1);
-    Ok(to_one.count())
+    let standing = to_one.count();
+    let handed_out = signals
+        .into_iter()
+        .filter(|signal| signal.to.as_slice().len() == 1);
+    Ok((standing, handed_out.count()))
 }
 
-/// How many bytes the message of a ticket has, how many tickets an outcome has, and how many numbers of tickets there are.
+/// Whether connections that are put at their places, one by one, stand by rising number.
+pub fn recipients() -> bool {
+    let mut recipients = Recipients::new();
+    recipients.insert(at(5));
+    recipients.insert(at(1));
+    recipients.insert(at(3));
+    recipients.contains(3)
+        && !recipients.contains(2)
+        && recipients.as_slice() == [at(1), at(3), at(5)].as_slice()
+}
+
+/// How many bytes the message of a ticket has, how many tickets an outcome has, and how many numbers of tickets there
+/// are.
 pub fn tickets(alloc: Global) -> Result<(usize, usize, usize), AllocError> {
-    let message = Relayed::new(Arc::new(alloc, vec![in alloc; 108, 1, 0, 1]?)?);
-    let length = message.bytes().len();
+    let message = SharedBytes::new(Arc::new(alloc, vec![in alloc; 108, 1, 0, 1]?)?);
+    let length = message.as_slice().len();
     let mut outcome = Outcome::new(alloc, Reply::Done);
-    outcome.tickets.push(SettledTicket {
+    let mut room = TicketRoom::new(alloc, 1)?;
+    room.push(SettledTicket {
         fate: Fate::Served,
         ticket: Ticket {
             number: 1,
@@ -50,9 +66,10 @@ pub fn tickets(alloc: Global) -> Result<(usize, usize, usize), AllocError> {
                 serial: 7,
                 flags: 0,
             },
-            message: Some(message),
+            message: Some(message.again()?),
         },
-    })?;
+    });
+    outcome.tickets = room.into_tickets();
     let mut numbers = TicketNumbers::new(alloc);
     numbers.push(SettledNumber {
         fate: Fate::Failed,
@@ -63,10 +80,4 @@ pub fn tickets(alloc: Global) -> Result<(usize, usize, usize), AllocError> {
         outcome.tickets.as_slice().len(),
         numbers.as_slice().len(),
     ))
-}
-
-/// The name and the text of an error.
-pub fn exec_failed() -> (&'static str, &'static str) {
-    let error = ErrorKind::ExecFailed;
-    (error.name(), error.text())
 }
