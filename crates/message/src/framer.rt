@@ -8,7 +8,7 @@ ghost use Rattle.message_core.specs.Said.{said};
 ghost use Rattle.message_core.specs.Streams.{IsStream, BeginsNoMessage};
 ghost use Rattle.message.specs.Framing.{Unread, IsWaiting, IsFound, IsTaken, IsJudged, IsNoFront, FaultIs};
 
-use message_core::{FIXED_LENGTH, FrameFault, MESSAGE_LIMIT, Message, announced_length};
+use message_core::{FIXED_LENGTH, FrameFault, MAXIMUM_LENGTH, Message, announced_length};
 use std::alloc::{AllocError, Global};
 use std::marker::Model;
 
@@ -34,15 +34,15 @@ impl Model for Framer {
 
 /// The length of the message that the bytes begin with, if it is there as a whole.
 fn whole_length(bytes: &[u8]) -> Result<Option<usize>, FrameFault>
-    ensures some { IfOk result (λ found. IfSome found (λ n. IsFound MESSAGE_LIMIT n bytes.now)) }
-    ensures none { IfOk result (λ found. IfNone found (IsWaiting MESSAGE_LIMIT bytes.now)) }
-    ensures fault { IfErr result (λ f. (FIXED_LENGTH ≤ length bytes.now) × (announced MESSAGE_LIMIT bytes.now ≡ Err f)) }
+    ensures some { IfOk result (λ found. IfSome found (λ n. IsFound MAXIMUM_LENGTH n bytes.now)) }
+    ensures none { IfOk result (λ found. IfNone found (IsWaiting MAXIMUM_LENGTH bytes.now)) }
+    ensures fault { IfErr result (λ f. (FIXED_LENGTH ≤ length bytes.now) × (announced MAXIMUM_LENGTH bytes.now ≡ Err f)) }
     ensures memory { IfErr result (λ f. f ≢ NoMemory) }
 {
     if bytes.len() < FIXED_LENGTH {
         return Ok(None);
     }
-    let length = announced_length(MESSAGE_LIMIT, bytes)?;
+    let length = announced_length(MAXIMUM_LENGTH, bytes)?;
     if bytes.len() < length {
         return Ok(None);
     }
@@ -51,8 +51,8 @@ fn whole_length(bytes: &[u8]) -> Result<Option<usize>, FrameFault>
 
 /// Whether the bytes don't announce a message yet, or fewer are there than they announce.
 fn is_short(bytes: &[u8]) -> bool
-    ensures short { result ≡ true → IsWaiting MESSAGE_LIMIT bytes.now }
-    ensures whole { result ≡ false → IsWaiting MESSAGE_LIMIT bytes.now → ⊥ }
+    ensures short { result ≡ true → IsWaiting MAXIMUM_LENGTH bytes.now }
+    ensures whole { result ≡ false → IsWaiting MAXIMUM_LENGTH bytes.now → ⊥ }
 {
     matches!(whole_length(bytes), Ok(None))
 }
@@ -112,8 +112,8 @@ impl Framer {
 
     /// Whether bytes are missing: then [`next`](Framer::next) answers `None`, and else a message or a fault.
     pub fn is_waiting(&self) -> bool
-        ensures waiting { result ≡ true → (self.now.fault ≡ None) × IsWaiting MESSAGE_LIMIT self.now.bytes }
-        ensures ready { result ≡ false → self.now.fault ≡ None → IsWaiting MESSAGE_LIMIT self.now.bytes → ⊥ }
+        ensures waiting { result ≡ true → (self.now.fault ≡ None) × IsWaiting MAXIMUM_LENGTH self.now.bytes }
+        ensures ready { result ≡ false → self.now.fault ≡ None → IsWaiting MAXIMUM_LENGTH self.now.bytes → ⊥ }
     {
         self.fault.is_none() && is_short(&self.buffer[self.from..])
     }
@@ -121,10 +121,10 @@ impl Framer {
     /// The next whole message; `None` where bytes are missing. The first fault is answered for good,
     /// want of memory changes nothing.
     pub fn next(&mut self) -> Result<Option<Message>, FrameFault>
-        ensures some { IfOk result (λ found. IfSome found (λ message. IsTaken MESSAGE_LIMIT message self.old self.new)) }
-        ensures none { IfOk result (λ found. IfNone found ((self.old.fault ≡ None) × IsWaiting MESSAGE_LIMIT self.old.bytes × (self.new ≡ self.old))) }
-        ensures fault { IfErr result (λ f. FaultIs MESSAGE_LIMIT f self.old self.new) }
-        ensures no_message { IfErr result (λ f. f ≢ NoMemory → IsNoFront MESSAGE_LIMIT self.old) }
+        ensures some { IfOk result (λ found. IfSome found (λ message. IsTaken MAXIMUM_LENGTH message self.old self.new)) }
+        ensures none { IfOk result (λ found. IfNone found ((self.old.fault ≡ None) × IsWaiting MAXIMUM_LENGTH self.old.bytes × (self.new ≡ self.old))) }
+        ensures fault { IfErr result (λ f. FaultIs MAXIMUM_LENGTH f self.old self.new) }
+        ensures no_message { IfErr result (λ f. f ≢ NoMemory → IsNoFront MAXIMUM_LENGTH self.old) }
     {
         if let Some(fault) = self.fault {
             return Err(fault);
@@ -152,11 +152,11 @@ impl Framer {
     /// Takes a message of `size` bytes off the front. Where it is all that is there, it gets the buffer, and nothing is copied.
     fn take_front(&mut self, size: usize) -> Result<Message, FrameFault>
         requires fine { self.old.fault ≡ None }
-        requires found { IsFound MESSAGE_LIMIT size self.old.bytes }
-        ensures taken { IfOk result (λ message. IsTaken MESSAGE_LIMIT message self.old self.new) }
+        requires found { IsFound MAXIMUM_LENGTH size self.old.bytes }
+        ensures taken { IfOk result (λ message. IsTaken MAXIMUM_LENGTH message self.old self.new) }
         ensures refused { OnErr result (self.new ≡ self.old) }
-        ensures fault { IfErr result (λ f. f ≢ NoMemory → IsJudged MESSAGE_LIMIT f self.old.bytes) }
-        ensures no_message { IfErr result (λ f. f ≢ NoMemory → BeginsNoMessage MESSAGE_LIMIT self.old.bytes) }
+        ensures fault { IfErr result (λ f. f ≢ NoMemory → IsJudged MAXIMUM_LENGTH f self.old.bytes) }
+        ensures no_message { IfErr result (λ f. f ≢ NoMemory → BeginsNoMessage MAXIMUM_LENGTH self.old.bytes) }
     {
         if self.from == 0 && size == self.buffer.len() {
             return Message::take(self.alloc, &mut self.buffer);

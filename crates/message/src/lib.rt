@@ -1,14 +1,24 @@
-//! Messages out of a stream and into one.
+//! Messages out of a stream, and messages that the bus relays: a checked message written again with its sender's name,
+//! and what rules and routing look at in it.
 //!
-//! What a message is stands in `message_core`; `specs/Framing` says what a `Framer` holds and when it
-//! waits, after "Message Protocol" of the D-Bus Specification.
+//! What a message is stands in `message_core`. `specs/Framing` says what a `Framer` holds and when it waits, and the
+//! others which bytes a message is written as and what setting its sender is, after "Message Protocol", "Message Format"
+//! and "Header Fields" of the D-Bus Specification.
 #![tactic(auto)]
 
+mod fault;
 mod framer;
+mod layout;
+mod message_facts;
+mod parts;
+mod putting;
+mod relaying;
 
+pub use fault::RelayFault;
 pub use framer::{Framer, one_stream};
 pub use message_core::{
     ALLOW_INTERACTIVE_AUTHORIZATION, FaultCode, FrameFault, Header, HeaderField, MAXIMUM_LENGTH,
-    MESSAGE_LIMIT, Message, NO_AUTO_START, NO_REPLY_EXPECTED,
+    Message, NO_AUTO_START, NO_REPLY_EXPECTED,
 };
-pub use message_relay::{RelayFault, facts, relayed_length, with_sender, write};
+pub use message_facts::{facts, put_arguments};
+pub use relaying::{relayed_length, with_sender, write};

@@ -96,13 +96,6 @@ again_in limit order bytes n le old a =
     rw (not_zero_is (get_or bytes 1 0) a.kind, a.version, not_zero_is (number order serial_place bytes) a.serial, le-ltb max_fields_length (number order fields_place bytes) a.fields, le-ltb limit (whole_length order bytes) (omega (arith, a.length)))
     (ap (λ (k : ℕ). good k) (sym a.length))
 
-pub announced_wider : (old limit : ℕ) (bytes : List ℕ) (n : ℕ) → old ≤ limit → announced old bytes ≡ Ok n → announced limit bytes ≡ Ok n
-unfolding announced
-announced_wider old limit bytes n le e = at (order_of bytes) (announced_facts old bytes n e) where
-  at : (order : Order) → IsAnnounced old order bytes n → announced limit bytes ≡ Ok n
-  at Little a = rw a.first (again_in limit Little bytes n (omega (arith, a.within)) old a)
-  at Big a = rw a.first (again_in limit Big bytes n (omega (arith, a.within)) old a)
-
 -- what is announced follows from these facts
 pub announced_from : (limit : ℕ) (bytes : List ℕ) (n : ℕ) → IsAnnounced limit (order_of bytes) bytes n → announced limit bytes ≡ Ok n
 unfolding announced

@@ -3,6 +3,7 @@ pub mod Announced
 pub mod Arguments
 pub mod Contents
 pub mod FieldReading
+pub mod InOrder
 pub mod Lending
 pub mod NameTexts
 pub mod NamesInFields

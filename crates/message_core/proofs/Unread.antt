@@ -23,7 +23,7 @@ use Rattle.message_core.specs.Kinds.{code_of}
 use Rattle.message_core.specs.HeaderFields.{Field, field_type, field_value, IsValueOf, value_of, by_code}
 use Rattle.message_core.specs.BasicFields.{basic_field, BeginsNoBasic}
 use Rattle.message_core.specs.Said.{field_in}
-use Rattle.message_core.specs.Places.{part, SpellField, field_depth, all_zero, code_at, BeginsNoField, IsRead, HaveFields, FaultyFields, IsFieldFault, IsUnread, IsTwice, has_code}
+use Rattle.message_core.specs.Places.{part, SpellField, field_depth, all_zero, code_at, BeginsNoField, IsRead, AreSpelled, HaveFields, HaveInOrder, FaultyFields, IsFieldFault, IsUnread, IsTwice, has_code}
 use Rattle.message_core.proofs.Shape.{spelled_basic, code_first, wrapped, field_parts, field_part_types}
 use Rattle.message_core.proofs.FieldReading.{part_join, length_part, take_part, wrapped_types}
 use Rattle.message_core.proofs.Sorting.{value_by_code, is_placed}
@@ -192,31 +192,42 @@ there : (o : Option Val) → is_some o ≡ true → o ≡ None → ⊥
 there (Some v) h e = cc
 there None h e = cc
 
+twice_sent : (order : Order) (bytes : List ℕ) (at end : ℕ) (sent : List Field) (p : FieldPlace) (k : HeaderField) → fixed_length ≤ at → at < end → end ≤ length bytes → AreSpelled order bytes at sent → IsRead order bytes at end p
+    → p.code ≡ code_at at (part at end bytes) → p.code ≡ code_of k → is_some (value_of k sent) ≡ true → FaultyFields order bytes end p.code
+twice_sent order bytes at end sent p k begins before ends spelled r told coded known =
+    let whole : part at end bytes ≡ part at p.to bytes ++ part p.to end bytes = part_join bytes at p.to end (omega (arith, r.after)) r.within in
+    record {
+      at = at;
+      sent = sent;
+      within = (begins, before);
+      before = spelled;
+      none = λ f front more e is may.
+          let same = one_field order at r.field f (part at p.to bytes) front (part p.to end bytes) more r.spelled is (sym whole ∙ e) in
+          there (value_of k sent) known (may.1 k (ap (λ (x : Field). x.code) (sym same.1) ∙ sym r.placed.code ∙ coded));
+      told = told;
+    }
+
 pub twice : (order : Order) (bytes : List ℕ) (at end : ℕ) (ps : List FieldPlace) (p : FieldPlace) (k : HeaderField) → fixed_length ≤ at → at < end → end ≤ length bytes → (h : HaveFields order bytes at ps) → IsRead order bytes at end p
     → p.code ≡ code_at at (part at end bytes) → p.code ≡ code_of k → has_code p.code ps ≡ true → FaultyFields order bytes end p.code
 twice order bytes at end ps p k begins before ends h r told coded has =
     let known : is_some (value_of k h.sent) ≡ true = ap is_some (sym (value_by_code k h.sent)) ∙ is_placed order bytes k ps (by_code h.sent) h.placed ∙ ap (λ (c : ℕ). has_code c ps) (sym coded) ∙ has in
-    let whole : part at end bytes ≡ part at p.to bytes ++ part p.to end bytes = part_join bytes at p.to end (omega (arith, r.after)) r.within in
-    record {
-      at = at;
-      sent = h.sent;
-      within = (begins, before);
-      before = h.spelled;
-      none = λ f front more e spelled may.
-          let same = one_field order at r.field f (part at p.to bytes) front (part p.to end bytes) more r.spelled spelled (sym whole ∙ e) in
-          there (value_of k h.sent) known (may.1 k (ap (λ (x : Field). x.code) (sym same.1) ∙ sym r.placed.code ∙ coded));
-      told = told;
-    }
+    twice_sent order bytes at end h.sent p k begins before ends h.spelled r told coded known
+
+twice_in_order : (order : Order) (bytes : List ℕ) (at end : ℕ) (ps : List FieldPlace) (p : FieldPlace) (k : HeaderField) → fixed_length ≤ at → at < end → end ≤ length bytes → (h : HaveInOrder order bytes at ps) → IsRead order bytes at end p
+    → p.code ≡ code_at at (part at end bytes) → p.code ≡ code_of k → has_code p.code ps ≡ true → FaultyFields order bytes end p.code
+twice_in_order order bytes at end ps p k begins before ends h r told coded has =
+    let known : is_some (value_of k h.sent) ≡ true = is_placed order bytes k ps h.sent h.placed ∙ ap (λ (c : ℕ). has_code c ps) (sym coded) ∙ has in
+    twice_sent order bytes at end h.sent p k begins before ends h.spelled r told coded known
 
 -- no field begins
-pub unread : (order : Order) (bytes : List ℕ) (at end code : ℕ) (ps : List FieldPlace) → fixed_length ≤ at → at < end → HaveFields order bytes at ps → code ≡ code_at at (part at end bytes) → BeginsNoField order at (part at end bytes)
+unread_sent : (order : Order) (bytes : List ℕ) (at end code : ℕ) (sent : List Field) → fixed_length ≤ at → at < end → AreSpelled order bytes at sent → code ≡ code_at at (part at end bytes) → BeginsNoField order at (part at end bytes)
     → FaultyFields order bytes end code
-unread order bytes at end code ps begins before h told none = record {
+unread_sent order bytes at end code sent begins before spelled told none = record {
   at = at;
-  sent = h.sent;
+  sent = sent;
   within = (begins, before);
-  before = h.spelled;
-  none = λ f front more e spelled may. none f front more e spelled may.0;
+  before = spelled;
+  none = λ f front more e is may. none f front more e is may.0;
   told = told;
 }
 
@@ -242,12 +253,24 @@ zero_behind order bytes at from end e inside ends first =
 
 -- ---- the fault of the field array
 
+sent_unread_fault : (order : Order) (bytes : List ℕ) (at end : ℕ) (sent : List Field) (f : FrameFault) → fixed_length ≤ at → at < end → AreSpelled order bytes at sent → IsUnread order bytes at end f → IsFieldFault order bytes end f
+sent_unread_fault order bytes at end sent (fault.Field code) begins before h u = unread_sent order bytes at end code sent begins before h u.0 u.1
+sent_unread_fault order bytes at end sent f begins before h u = absurd u
+
 pub unread_fault : (order : Order) (bytes : List ℕ) (at end : ℕ) (ps : List FieldPlace) (f : FrameFault) → fixed_length ≤ at → at < end → HaveFields order bytes at ps → IsUnread order bytes at end f → IsFieldFault order bytes end f
-unread_fault order bytes at end ps (fault.Field code) begins before h u = unread order bytes at end code ps begins before h u.0 u.1
-unread_fault order bytes at end ps f begins before h u = absurd u
+unread_fault order bytes at end ps f begins before h u = sent_unread_fault order bytes at end h.sent f begins before h.spelled u
+
+pub unread_in_order : (order : Order) (bytes : List ℕ) (at end : ℕ) (ps : List FieldPlace) (f : FrameFault) → fixed_length ≤ at → at < end → HaveInOrder order bytes at ps → IsUnread order bytes at end f → IsFieldFault order bytes end f
+unread_in_order order bytes at end ps f begins before h u = sent_unread_fault order bytes at end h.sent f begins before h.spelled u
 
 pub twice_fault : (order : Order) (bytes : List ℕ) (at end : ℕ) (ps : List FieldPlace) (p : FieldPlace) (f : FrameFault) → fixed_length ≤ at → at < end → end ≤ length bytes → HaveFields order bytes at ps → IsRead order bytes at end p
     → p.code ≡ code_at at (part at end bytes) → IsTwice ps p.code f → IsFieldFault order bytes end f
 twice_fault order bytes at end ps p (fault.Field code) begins before ends h r told t =
     subst (FaultyFields order bytes end) (sym t.0) (twice order bytes at end ps p t.1 begins before ends h r told t.2 t.3)
 twice_fault order bytes at end ps p f begins before ends h r told t = absurd t
+
+pub twice_in_order_fault : (order : Order) (bytes : List ℕ) (at end : ℕ) (ps : List FieldPlace) (p : FieldPlace) (f : FrameFault) → fixed_length ≤ at → at < end → end ≤ length bytes → HaveInOrder order bytes at ps → IsRead order bytes at end p
+    → p.code ≡ code_at at (part at end bytes) → IsTwice ps p.code f → IsFieldFault order bytes end f
+twice_in_order_fault order bytes at end ps p (fault.Field code) begins before ends h r told t =
+    subst (FaultyFields order bytes end) (sym t.0) (twice_in_order order bytes at end ps p t.1 begins before ends h r told t.2 t.3)
+twice_in_order_fault order bytes at end ps p f begins before ends h r told t = absurd t

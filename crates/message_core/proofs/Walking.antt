@@ -22,7 +22,7 @@ elements_last order at (g ∷ gs) f a b h k =
     let place : at + length a ≡ at + length h.0 + length h.1 = omega (arith, ap length h.4, length-append h.0 h.1) in
     (h.0, h.1 ++ b, h.2, elements_last order (at + length h.0) gs f h.1 b h.3 (subst (λ (n : ℕ). SpellField order n f b) place k), ap (λ (x : List ℕ). x ++ b) h.4 ∙ append_assoc h.0 h.1 b)
 
-fields_last : (before fs : List Field) (f : Field) → AreFields before fs → MayFollow (before ++ fs) f → AreFields before (fs ++ f ∷ [])
+pub fields_last : (before fs : List Field) (f : Field) → AreFields before fs → MayFollow (before ++ fs) f → AreFields before (fs ++ f ∷ [])
 fields_last before [] f h k = (subst (λ (x : List Field). MayFollow x f) (append-nil before) k, tt)
 fields_last before (g ∷ gs) f h k = (h.0, fields_last (before ++ g ∷ []) gs f h.1 (subst (λ (x : List Field). MayFollow x f) (sym (append_assoc before (g ∷ []) gs)) k))
 

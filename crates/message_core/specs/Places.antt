@@ -1,5 +1,5 @@
 -- Where the fields of a header stand in a message's bytes.
-use Rattle.std.specs.Prelude.{◌≡◌, ℕ, ◌-◌, ◌%◌, ◌<◌, ◌≤◌, List, [], ◌∷◌, ◌++◌, length, map, take, drop, slice_index, Bool, true, false, ◌&&◌, ◌||◌, nat_lt, suc, ◌==◌, if◌then◌else◌}
+use Rattle.std.specs.Prelude.{◌≡◌, ℕ, ◌-◌, ◌%◌, ◌<◌, ◌≤◌, List, [], ◌∷◌, ◌++◌, length, map, take, drop, slice_index, Bool, true, false, ◌&&◌, ◌||◌, nat_lt, zero, suc, ◌==◌, if◌then◌else◌}
 use Rattle.marshal_core.specs.declared.order.Order.{Order}
 use Rattle.marshal_core.specs.Values.{Val, values}
 use Rattle.marshal_core.specs.Spelling.{pad_len, max_container_depth, SpellValue, SpellElements}
@@ -113,6 +113,28 @@ pub record HaveFields (order : Order) (bytes : List ℕ) (to : ℕ) (places : Li
   pub sent : List Field
   pub spelled : AreSpelled order bytes to sent
   pub placed : ArePlaced order bytes places (by_code sent)
+
+-- each of the places is that of a code below this one
+abbrev pub AreBelow : ℕ → List FieldPlace → Type 0
+AreBelow code [] = Unit {0}
+AreBelow code (p ∷ ps) = (p.code < code) × AreBelow code ps
+
+-- The bytes from the first field to a place spell fields, which stand at these places in their order.
+pub record HaveInOrder (order : Order) (bytes : List ℕ) (to : ℕ) (places : List FieldPlace) : Type 0 where
+  pub sent : List Field
+  pub spelled : AreSpelled order bytes to sent
+  pub placed : ArePlaced order bytes places sent
+  pub coded : AreBelow 256 places
+
+-- the places of a code
+abbrev pub of_code : ℕ → List FieldPlace → List FieldPlace
+of_code code [] = []
+of_code code (p ∷ ps) = if p.code == code then p ∷ of_code code ps else of_code code ps
+
+-- the places of so many codes from one on, by rising code, equal codes in their order
+abbrev pub of_codes : ℕ → ℕ → List FieldPlace → List FieldPlace
+of_codes zero code ps = []
+of_codes (suc n) code ps = of_code code ps ++ of_codes n (suc code) ps
 
 -- A place is added: the field may follow the others, and stands among them by its code.
 abbrev pub IsAdded : Order → List ℕ → List Field → Field → List FieldPlace → Type 0

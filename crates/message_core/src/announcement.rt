@@ -10,9 +10,6 @@ use marshal_core::Order;
 /// The bytes before the elements of the field array.
 pub const FIXED_LENGTH: usize = 16;
 
-/// The longest message that the bus reads, in bytes.
-pub const MESSAGE_LIMIT: usize = 1_048_576;
-
 /// The longest message that there is, in bytes ("Message Format" of the D-Bus Specification).
 pub const MAXIMUM_LENGTH: usize = 134_217_728;
 

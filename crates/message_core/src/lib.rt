@@ -7,17 +7,19 @@
 mod announcement;
 mod basic_field;
 mod fault;
+mod field_order;
 mod field_place;
 mod header;
 mod header_field;
 mod header_fields;
+pub mod in_room;
 mod message;
 mod own_message;
 mod printing;
 mod reading;
 mod writing;
 
-pub use announcement::{FIXED_LENGTH, MAXIMUM_LENGTH, MESSAGE_LIMIT, announced_length};
+pub use announcement::{FIXED_LENGTH, MAXIMUM_LENGTH, announced_length};
 pub use fault::{FaultCode, FrameFault};
 pub use field_place::FieldPlace;
 pub use header::{ALLOW_INTERACTIVE_AUTHORIZATION, Header, NO_AUTO_START, NO_REPLY_EXPECTED};

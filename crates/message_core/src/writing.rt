@@ -17,6 +17,7 @@ ghost use Rattle.message_core.specs.Kinds.{code_of};
 use crate::fault::FrameFault;
 use crate::header::Header;
 use crate::header_field::HeaderField;
+use crate::in_room;
 use marshal_core::Order;
 use names::{BusName, ErrorName, Interface, Member, ObjectPath};
 use std::alloc::{AllocError, Global};
@@ -67,28 +68,29 @@ impl Name for BusName {
 fn put_number(output: &mut Vec<u8>, order: Order, number: u32) -> Result<(), AllocError>
     ensures { OnOk result (output.new.items ≡ output.old.items ++ number_bytes order w32 number) }
 {
-    match order {
-        Order::Little => output.extend_from_slice(&number.to_le_bytes()),
-        Order::Big => output.extend_from_slice(&number.to_be_bytes()),
-    }
+    output.reserve(4)?;
+    in_room::put_number(output, order, number);
+    Ok(())
 }
 
 /// Puts the padding to the next multiple of eight.
 fn put_padding(output: &mut Vec<u8>) -> Result<(), AllocError>
     ensures { OnOk result (output.new.items ≡ output.old.items ++ pads 8 (length output.old.items)) }
 {
-    let zeros = [0u8; 8];
-    let gap = (8 - output.len() % 8) % 8;
-    output.extend_from_slice(&zeros[..gap])
+    output.reserve(8)?;
+    let at = output.len();
+    in_room::put_padding(output, at);
+    Ok(())
 }
 
 /// Puts what comes before the value of a field of a basic type: the padding, its code, its signature.
 fn put_start(output: &mut Vec<u8>, field: HeaderField, letter: u8) -> Result<(), AllocError>
     ensures { OnOk result (output.new.items ≡ output.old.items ++ (pads 8 (length output.old.items) ++ (code_of field ∷ 1 ∷ letter ∷ 0 ∷ []))) }
 {
-    put_padding(output)?;
-    let start = [field.code(), 1, letter, 0];
-    output.extend_from_slice(&start)
+    output.reserve(12)?;
+    let at = output.len();
+    in_room::put_start(output, at, field, letter);
+    Ok(())
 }
 
 /// Puts a field of a text.
@@ -107,10 +109,10 @@ fn put_text(
     let Ok(length) = u32::try_from(text.len()) else {
         return Err(FrameFault::TooLong);
     };
-    put_start(output, field, letter)?;
-    put_number(output, order, length)?;
-    output.extend_from_slice(text.as_bytes())?;
-    output.push(0)?;
+    output.reserve(17 + length as usize)?;
+    let at = output.len();
+    in_room::put_start(output, at, field, letter);
+    in_room::put_string(output, order, text);
     Ok(())
 }
 

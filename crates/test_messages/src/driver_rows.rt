@@ -1,8 +1,8 @@
 //! Rows of calls to the bus, and of its replies and signals.
 
 use driver::{
-    Call, DriverFault, ReplyBody, ReplyTo, expects_reply, is_call_to_bus, is_hello, read_call,
-    write_error, write_reply, write_signal,
+    Call, DriverFault, ReplyBody, ReplyTo, error_name, expects_reply, is_call_to_bus, is_hello,
+    read_call, write_error, write_reply, write_signal,
 };
 use marshal::Order;
 use match_rules::MessageKind;
@@ -64,7 +64,7 @@ fn read(reading: &Result<Call, DriverFault>) -> &'static str {
         Ok(Call::RemoveMatch { .. }) => "RemoveMatch",
         Ok(Call::StartServiceByName { .. }) => "StartServiceByName",
         Ok(Call::BecomeMonitor { .. }) => "BecomeMonitor",
-        Err(fault) => fault.error().name(),
+        Err(fault) => error_name(fault.error()),
     }
 }
 

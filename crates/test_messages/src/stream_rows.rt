@@ -1,14 +1,15 @@
 //! Rows of streams that come in pieces.
 
-use message::{FrameFault, Framer};
+use message::{FrameFault, Framer, Message, with_sender};
+use names::UniqueName;
 use std::alloc::{AllocError, Global};
 use test_support::Row;
 use test_support::messages::HELLO;
 
 /// `stream | BYTES | CUT`: the lengths of the messages where the bytes come in two owned pieces, and whether these are the bytes.
 /// `pieces`: whether the message comes with its last byte, where each is a piece. `cuts`: whether it comes wherever it is cut, and
-/// whether, with any one byte 0 or 255, it is told to be the same wherever it is cut. `long | LENGTH | BYTES`: the lengths of a body
-/// and of a message of bytes and then 7s. `byte | PLACE | BYTE`: the fault where one byte is another, and whether it is told again.
+/// whether, with any one byte 0 or 255, it is told to be the same wherever it is cut. `long | LENGTH | BYTES | BYTE | BYTES`: the lengths of
+/// a body and of a message with one byte again and again between others, whether these are its bytes, and what relaying it says. `byte | PLACE | BYTE`: the fault where one byte is another, and whether it is told again.
 pub fn stream(alloc: Global, row: &Row<'_>, bytes: &[u8]) -> Result<String, FrameFault> {
     match row.text(0) {
         "stream" => owned(alloc, bytes, row.number(2) as usize),
@@ -135,9 +136,19 @@ fn cuts(alloc: Global, bytes: &[u8]) -> Result<String, FrameFault> {
     Ok(text)
 }
 
-fn long(alloc: Global, row: &Row<'_>) -> Result<String, FrameFault> {
+/// Bytes of a length: those of a column, then one again and again, then those of the last column.
+fn filled(alloc: Global, row: &Row<'_>) -> Result<Vec<u8>, AllocError> {
     let mut bytes = row.bytes(alloc, 2)?;
-    bytes.resize(row.number(1) as usize, 7)?;
+    let between = row.bytes(alloc, 3)?;
+    let behind = row.bytes(alloc, 4)?;
+    let end = (row.number(1) as usize).saturating_sub(behind.len());
+    bytes.resize(end, between.first().copied().unwrap_or(0))?;
+    bytes.extend_from_slice(&behind)?;
+    Ok(bytes)
+}
+
+fn long(alloc: Global, row: &Row<'_>) -> Result<String, FrameFault> {
+    let bytes = filled(alloc, row)?;
     let mut framer = Framer::new(alloc);
     for piece in bytes.chunks(65_536) {
         if framer.next()?.is_some() {
@@ -148,8 +159,21 @@ fn long(alloc: Global, row: &Row<'_>) -> Result<String, FrameFault> {
     match framer.next()? {
         Some(message) => {
             let is_same = message.as_bytes() == bytes.as_slice();
-            Ok(format!(in alloc; "{} {} {is_same}", message.body().len(), bytes.len())?)
+            let relayed = relayed(alloc, &message)?;
+            Ok(format!(in alloc;
+                "{} {} {is_same} {relayed}",
+                message.body().len(),
+                bytes.len()
+            )?)
         }
         None => Ok(String::from_str(alloc, "no message")?),
+    }
+}
+
+fn relayed(alloc: Global, message: &Message) -> Result<String, AllocError> {
+    let mut output = Vec::new(alloc);
+    match with_sender(message, &UniqueName::of(1), &mut output) {
+        Ok(()) => format!(in alloc; "{}", output.len()),
+        Err(fault) => format!(in alloc; "{}: {fault}", fault.code()),
     }
 }

@@ -1,0 +1,62 @@
+//! What rules and routing look at in a message.
+
+ghost use Rattle.std.specs.Prelude.{◌≡◌, [], map};
+ghost use Rattle.marshal_check.specs.ArgumentViews.{seen};
+ghost use Rattle.match_rules.specs.FactsView.{argument_of};
+ghost use Rattle.message_core.specs.Said.{said};
+ghost use Rattle.message.specs.FactsOf.{as_argument, facts_of, first_arguments};
+
+use crate::parts::parts_of;
+use arrayvec::ArrayVec;
+use marshal_check::{Argument as Read, CheckedArguments, Types};
+use match_rules::{Argument, Facts};
+use message_core::{Message, NO_AUTO_START};
+
+/// An argument as rules look at it.
+fn as_fact(argument: Read<'_>) -> Argument<'_>
+    ensures { argument_of result ≡ as_argument (seen argument.entry) }
+{
+    match argument {
+        Read::String(text) => Argument::String(text),
+        Read::ObjectPath(text) => Argument::ObjectPath(text),
+        Read::Other => Argument::Other,
+    }
+}
+
+/// Puts the first 64 arguments of a message, as match rules look at them.
+#[inline(never)]
+pub fn put_arguments<'a>(message: &'a Message, first: &mut ArrayVec<Argument<'a>, 64>)
+    requires { first.old.items ≡ [] }
+    ensures { map argument_of first.new.items ≡ first_arguments (said message.now) }
+{
+    let parts = parts_of(message);
+    let types = Types {
+        text: message.signature(),
+    };
+    for argument in CheckedArguments::new(parts.order, 0, types, parts.body) {
+        if first.is_full() {
+            return;
+        }
+        first.push(as_fact(argument));
+    }
+}
+
+/// What match rules and routing look at in a message, lent out of it ("Match Rules" of the D-Bus
+/// Specification). The sender is 0, the bus's number: who sent a message is not told by it. They are 1,700 bytes: who is in a hurry
+/// makes them where they stay, with [`put_arguments`].
+pub fn facts(message: &Message) -> Facts<'_>
+    ensures { result ≡ facts_of (said message.now) }
+{
+    let mut facts = Facts {
+        kind: message.kind(),
+        auto_start: message.flags() & NO_AUTO_START == 0,
+        sender: 0,
+        path: message.path(),
+        interface: message.interface(),
+        member: message.member(),
+        destination: message.destination(),
+        arguments: ArrayVec::new(),
+    };
+    put_arguments(message, &mut facts.arguments);
+    facts
+}

@@ -1,0 +1,37 @@
+//! Putting header fields of a message that is written again, where there is room for them.
+
+ghost use Rattle.std.specs.Prelude.{◌≡◌, ◌+◌, ◌++◌, ◌^◌, ◌<◌, ◌≤◌, length, vec_capacity};
+ghost use Rattle.marshal_core.specs.Spelling.{pad_len, pads};
+ghost use Rattle.message.specs.Layout.{AreWithin, fields_end as end_of, copied, sender_bytes};
+
+use crate::layout::behind;
+use marshal_core::Order;
+use message_core::in_room::{put, put_padding, put_start, put_string};
+use message_core::{FieldPlace, HeaderField};
+
+/// Puts the fields at these places of a message one after the other, the first from a place on.
+pub fn put_fields(output: &mut Vec<u8>, bytes: &[u8], fields: &[FieldPlace], at: usize)
+    requires within { AreWithin (length bytes.now) fields.now }
+    requires small { end_of at fields.now < 2 ^ 63 }
+    requires room { length output.old.items + end_of at fields.now ≤ vec_capacity output.old + at }
+    ensures items { output.new.items ≡ output.old.items ++ copied bytes.now at fields.now }
+    ensures capacity { vec_capacity output.old ≤ vec_capacity output.new }
+{
+    let mut end = at;
+    for field in fields {
+        put_padding(output, end);
+        put(output, &bytes[field.from..field.to]);
+        end = behind(end, field.to - field.from);
+    }
+}
+
+/// Puts SENDER of a name, from a place on.
+pub fn put_sender(output: &mut Vec<u8>, order: Order, name: &str, at: usize)
+    requires short { length name.now ≤ 255 }
+    requires room { length output.old.items + (pad_len 8 at + (9 + length name.now)) ≤ vec_capacity output.old }
+    ensures items { output.new.items ≡ output.old.items ++ (pads 8 at ++ sender_bytes order name.now) }
+    ensures capacity { vec_capacity output.old ≤ vec_capacity output.new }
+{
+    put_start(output, at, HeaderField::Sender, b's');
+    put_string(output, order, name);
+}

@@ -1,6 +1,0 @@
-use Rattle.std.proofs.Common.{◌≡◌, ◌+◌, drop}
-use Rattle.message_relay.specs.Layout.{count_below as below}
-use Rattle.message_relay.proofs.layout.count_below.Given as goal
-
-abbrev pub invariant-loop-place : goal.invariant-loop-place
-invariant-loop-place l = record { index : l.index ≡ l.place-index; rest : l.index + below l.code (drop l.place-index l.places) ≡ below l.code l.places }

@@ -1,6 +1,0 @@
-pub mod FaultCodes
-pub mod MessageBytes
-pub mod Senders
-pub mod Layout
-pub mod Parts
-pub mod FactsOf
