@@ -3,7 +3,7 @@ use Rattle.std.proofs.Common.{◌≡◌, ◌≤◌, false, length, refl, subst, 
 use Rattle.std.specs.Prelude.{IsUtf8}
 use Rattle.names.specs.Texts.{Text}
 use Rattle.marshal_core.specs.Spelling.{IsString, has_zero}
-use Rattle.seq_bus_core.specs.Errors.{error_name, error_text}
+use Rattle.driver.specs.Errors.{error_name, error_text}
 use Rattle.seq_bus_core.specs.declared.error_kind.ErrorKind.{ErrorKind}
 use Rattle.seq_bus_core.specs.declared.error_kind.ErrorKind.TheVariants.{Failed, NoMemory, LimitsExceeded, AccessDenied, InvalidArgs, UnknownMethod, UnknownInterface, ServiceUnknown, NameHasNoOwner, MatchRuleInvalid, MatchRuleNotFound, TimedOut, ExecFailed, ChildExited, ChildSignaled}
 use Rattle.names.specs.ErrorName.{IsErrorName}

@@ -7,7 +7,7 @@ use Rattle.marshal_core.specs.Signatures.{IsSignature}
 use Rattle.marshal_core.specs.Types.{Tys}
 use Rattle.marshal_core.specs.Values.{a_string, a_uint32, an_object_path}
 use Rattle.match_rules.specs.declared.kind.MessageKind.TheVariants as kind
-use Rattle.seq_bus_core.specs.Errors.{error_name}
+use Rattle.driver.specs.Errors.{error_name}
 use Rattle.seq_bus_core.specs.declared.error_kind.ErrorKind.{ErrorKind}
 use Rattle.seq_bus_core.specs.declared.signal.BusSignal.{BusSignal}
 use Rattle.seq_bus_core.specs.declared.signal.BusSignal.TheVariants.{NameOwnerChanged, NameLost, NameAcquired}

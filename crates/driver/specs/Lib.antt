@@ -1,3 +1,4 @@
+pub mod Errors
 pub mod Methods
 pub mod Arguments
 pub mod Calls

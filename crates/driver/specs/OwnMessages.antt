@@ -10,7 +10,7 @@ use Rattle.marshal_core.specs.Values.{a_string, a_uint32, a_basic, Vals, no_valu
 use Rattle.marshal_core.specs.Spelling.{Spells}
 use Rattle.match_rules.specs.declared.kind.MessageKind.{MessageKind}
 use Rattle.match_rules.specs.declared.kind.MessageKind.TheVariants as kind
-use Rattle.seq_bus_core.specs.Errors.{error_name, error_text}
+use Rattle.driver.specs.Errors.{error_name, error_text}
 use Rattle.seq_bus_core.specs.declared.error_kind.ErrorKind.{ErrorKind}
 use Rattle.seq_bus_core.specs.declared.signal.BusSignal.{BusSignal}
 use Rattle.seq_bus_core.specs.declared.signal.BusSignal.TheVariants.{NameOwnerChanged, NameLost, NameAcquired}

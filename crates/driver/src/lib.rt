@@ -8,6 +8,7 @@
 
 mod arguments;
 mod call;
+mod error_words;
 mod fault;
 mod fields;
 mod held_rule;
@@ -18,6 +19,7 @@ mod signal;
 mod strings;
 
 pub use call::{Call, expects_reply, is_call_to_bus, is_hello, read_call};
+pub use error_words::{error_name, error_text};
 pub use fault::DriverFault;
 pub use held_rule::HeldRule;
 pub use reply::{ReplyBody, ReplyTo, write_error, write_reply};

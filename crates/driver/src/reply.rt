@@ -10,6 +10,7 @@ ghost use Rattle.marshal_core.specs.declared.order.Order.TheVariants.{Little};
 ghost use Rattle.message_core.specs.Headers.{message_of};
 ghost use Rattle.driver.specs.OwnMessages.{error_message, number_types, number_values, of_strings, reply_header, IsReplyBody, Writes};
 
+use crate::error_words::{error_name, error_text};
 use crate::fields::{ROOM, put_end, put_reply_serial, put_string};
 use crate::layout::lay_out;
 use crate::strings;
@@ -57,16 +58,10 @@ fn put_reply(
     ensures ok { (types : Tys) (values : Vals) → signature.now ≡ signature_text types → Spells Little 0 types values body.now → OnOk result (Writes out.old.items out.new.items (message_of (reply_header serial to) types values)) }
     ensures err { OnErr result (out.new.items ≡ out.old.items) }
 {
-    let mut fields = ArrayVec::<u8, ROOM>::new();
+    let mut fields = Vec::with_capacity(*out.allocator(), ROOM)?;
     put_reply_serial(&mut fields, to.call);
     put_end(&mut fields, to.caller, signature);
-    lay_out(
-        MessageKind::MethodReturn,
-        serial,
-        fields.as_slice(),
-        body,
-        out,
-    )
+    lay_out(MessageKind::MethodReturn, serial, &fields, body, out)
 }
 
 /// Appends a reply with a number.
@@ -140,17 +135,11 @@ pub fn write_error(
     ensures ok { OnOk result (Writes out.old.items out.new.items (error_message serial to error)) }
     ensures err { OnErr result (out.new.items ≡ out.old.items) }
 {
-    let mut fields = ArrayVec::<u8, ROOM>::new();
-    put_string(&mut fields, HeaderField::ErrorName, error.name());
+    let mut fields = Vec::with_capacity(*out.allocator(), ROOM)?;
+    put_string(&mut fields, HeaderField::ErrorName, error_name(error));
     put_reply_serial(&mut fields, to.call);
     put_end(&mut fields, to.caller, "s");
     let mut text = ArrayVec::<u8, { strings::ROOM }>::new();
-    strings::put_string(&mut text, error.text());
-    lay_out(
-        MessageKind::Error,
-        serial,
-        fields.as_slice(),
-        text.as_slice(),
-        out,
-    )
+    strings::put_string(&mut text, error_text(error));
+    lay_out(MessageKind::Error, serial, &fields, text.as_slice(), out)
 }

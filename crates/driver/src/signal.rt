@@ -80,18 +80,12 @@ pub fn write_signal(serial: u32, signal: &BusSignal, out: &mut Vec<u8>) -> Resul
     ensures ok { OnOk result (Writes out.old.items out.new.items (signal_message serial signal.now)) }
     ensures err { OnErr result (out.new.items ≡ out.old.items) }
 {
-    let mut fields = ArrayVec::<u8, ROOM>::new();
+    let mut fields = Vec::with_capacity(*out.allocator(), ROOM)?;
     put_path(&mut fields);
     put_string(&mut fields, HeaderField::Interface, BUS);
     put_string(&mut fields, HeaderField::Member, member_of(signal));
     put_end(&mut fields, destination_of(signal), signature_of(signal));
     let mut body = ArrayVec::<u8, { strings::ROOM }>::new();
     put_body(&mut body, signal);
-    lay_out(
-        MessageKind::Signal,
-        serial,
-        fields.as_slice(),
-        body.as_slice(),
-        out,
-    )
+    lay_out(MessageKind::Signal, serial, &fields, body.as_slice(), out)
 }

@@ -12,6 +12,6 @@ returns-clause-put c = λ sent h.
     let old : List ℕ = c.args.fields.now.items in
     let start : List ℕ = 5 ∷ 1 ∷ 117 ∷ 0 ∷ [] in
     let word : List ℕ = number_bytes Little w32 c.args.serial in
-    one_more Little sent field.ReplySerial (a_uint32 c.args.serial) old c.put_number.new.fields.items (omega arith) h
-    (text_bytes old (pads 8 (length old)) start word c.put_number.new.fields.items
-    (c.put_number.ensures ∙ ap (λ (x : List ℕ). x ++ word) c.put_start.ensures ∙ append_assoc old (pads 8 (length old) ++ start) word))
+    one_more Little sent field.ReplySerial (a_uint32 c.args.serial) old c.put_number.new.output.items (omega arith) h
+    (text_bytes old (pads 8 (length old)) start word c.put_number.new.output.items
+    (c.put_number.ensures.items ∙ ap (λ (x : List ℕ). x ++ word) c.put_start.ensures.put ∙ append_assoc old (pads 8 (length old) ++ start) word))

@@ -1,4 +1,4 @@
-use Rattle.std.proofs.Common.{◌≡◌, sym, ap, ◌∙◌, ◌++◌, append_assoc, List, ℕ, length, [], ◌∷◌}
+use Rattle.std.proofs.Common.{◌≡◌, sym, ap, ◌∙◌, ◌++◌, List, ℕ, length, [], ◌∷◌}
 use Rattle.marshal_core.specs.declared.order.Order.TheVariants.{Little}
 use Rattle.marshal_core.specs.Spelling.{pads}
 use Rattle.marshal_core.proofs.Results.{eqb-yes}
@@ -15,7 +15,7 @@ returns-clause-put c = λ types sent e valid h.
     let text : List ℕ = c.args.signature.now in
     let old : List ℕ = c.args.fields.now.items in
     let start : List ℕ = 8 ∷ 1 ∷ 103 ∷ 0 ∷ [] in
-    let before : c.push.new.self.items ≡ (old ++ (pads 8 (length old) ++ start)) ++ length text ∷ [] = c.push.ensures.items ∙ ap (λ (x : List ℕ). x ++ length text ∷ []) c.put_start.ensures in
-    let put : c.put_ended.new.fields.items ≡ (((old ++ (pads 8 (length old) ++ start)) ++ length text ∷ []) ++ text) ++ 0 ∷ [] =
-    c.put_ended.ensures ∙ sym (append_assoc c.push.new.self.items text (0 ∷ [])) ∙ ap (λ (x : List ℕ). (x ++ text) ++ 0 ∷ []) before in
-    one_signature Little types sent text old c.put_ended.new.fields.items (not_zero (length text) (sym c.is_empty.ensures ∙ c.if-is_empty.false)) e valid h put
+    let before : c.put.new.output.items ≡ (old ++ (pads 8 (length old) ++ start)) ++ length text ∷ [] = c.put.ensures.items ∙ ap (λ (x : List ℕ). x ++ length text ∷ []) c.put_start.ensures.put in
+    let put : c.put-3.new.output.items ≡ (((old ++ (pads 8 (length old) ++ start)) ++ length text ∷ []) ++ text) ++ 0 ∷ [] =
+    c.put-3.ensures.items ∙ ap (λ (x : List ℕ). x ++ 0 ∷ []) (c.put-2.ensures.items ∙ ap (λ (x : List ℕ). c.put.new.output.items ++ x) c.as_bytes.ensures.value ∙ ap (λ (x : List ℕ). x ++ text) before) in
+    one_signature Little types sent text old c.put-3.new.output.items (not_zero (length text) (sym c.is_empty.ensures ∙ c.if-is_empty.false)) e valid h put

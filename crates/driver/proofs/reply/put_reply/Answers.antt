@@ -1,4 +1,4 @@
-use Rattle.std.proofs.Common.{subst, sym, refl, List, ℕ, [], ◌∷◌}
+use Rattle.std.proofs.Common.{◌≤◌, length, subst, sym, refl, List, ℕ, [], ◌∷◌}
 use Rattle.marshal_core.specs.declared.order.Order.TheVariants.{Little}
 use Rattle.marshal_core.specs.Values.{a_uint32}
 use Rattle.match_rules.specs.declared.kind.MessageKind.TheVariants as kind
@@ -13,12 +13,12 @@ use Rattle.driver.proofs.reply.put_reply.Goals as goal
 
 pub returns-clause-ok : goal.returns-clause-ok
 returns-clause-ok c = λ types values e spelled.
-    let array : List ℕ = c.as_slice.result.now in
+    let array : List ℕ = c.deref.result.now in
     let body : List ℕ = c.args.body.now in
     let written : AreWritten Little (reply_fields c.args.to types) array =
-    subst (AreWritten Little (reply_fields c.args.to types)) (sym c.as_slice.ensures.value)
-    (c.put_end.ensures.put types (known_field field.ReplySerial (a_uint32 c.args.to.call) ∷ []) e spelled.0 (c.put_reply_serial.ensures.put [] c.new-fields.ensures)) in
+    subst (AreWritten Little (reply_fields c.args.to types)) (sym c.deref.ensures.value)
+    (c.put_end.ensures.put types (known_field field.ReplySerial (a_uint32 c.args.to.call) ∷ []) e spelled.0 (c.put_reply_serial.ensures.put [] c.in_ok-fields.ensures.items)) in
     writes c.lay_out.result c.args.out.now.items c.lay_out.new.out.items body (own_bytes (kind_number kind.MethodReturn) c.args.serial array body) (message_of (reply_header c.args.serial c.args.to) types values)
     c.lay_out.ensures.ok c.lay_out.ensures.fits
     (λ fits. is_written kind.MethodReturn c.args.serial (reply_fields c.args.to types) types values array body (own_bytes (kind_number kind.MethodReturn) c.args.serial array body)
-    (reply_sound c.args.serial c.args.to types (c.requires.serial, c.ranges.serial.fits) c.requires.call c.put_end.ensures.named) c.as_slice.ensures.fits fits written spelled refl)
+    (reply_sound c.args.serial c.args.to types (c.requires.serial, c.ranges.serial.fits) c.requires.call c.put_end.ensures.named) (subst (λ (x : List ℕ). length x ≤ 512) (sym c.deref.ensures.value) c.put_end.ensures.fits) fits written spelled refl)
