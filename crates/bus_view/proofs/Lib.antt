@@ -1,1 +1,2 @@
-pub mod PlainLemmas
+pub mod BodyLemmas
+pub mod OpeningLemmas

@@ -1,2 +1,3 @@
 pub mod Views
-pub mod PlainViews
+pub mod Bodies
+pub mod Refusals

@@ -1,7 +1,6 @@
 -- What a view of a bus knows, and what a change, a read and a note do to it.
-use Rattle.std.specs.Prelude.{◌≡◌, ℕ, ◌+◌, ltb, if◌then◌else◌, Bool, true, false, Option, Some, None, [], ◌∷◌, ◌++◌, length}
-use Rattle.std.specs.List.{range_with_len}
-use Rattle.seq_bus_core.specs.Histories.{History, IsLegal, Begins, numbers_of}
+use Rattle.std.specs.Prelude.{◌≡◌, ◌⊎◌, ℕ, ◌+◌, Bool, true, false, Option, Some, [], ◌∷◌, ◌++◌}
+use Rattle.seq_bus_core.specs.Histories.{History, IsLegal, Begins, HasJust, entry_alone, longer}
 use Rattle.seq_bus_core.specs.Tickets.{WholeBus, bus_step, bus_after}
 use Rattle.seq_bus_core.specs.declared.change.Change.{Change}
 use Rattle.seq_bus_core.specs.declared.entry.Entry.{Entry}
@@ -26,13 +25,9 @@ pub record Reaches (alone : Bool) (seen point : History) : Type 0 where
   pub begun : Begins seen point
   pub same : alone ≡ true → point ≡ seen
 
--- the history has of a seat's changes just the first `made`, each once and in order
-abbrev pub HasJust : ℕ → ℕ → History → Type 0
-HasJust seat made history = numbers_of seat history ≡ range_with_len 1 made
-
 -- the entry of the next change, which is a publication of its own
 abbrev pub next_entry : Knowledge → Change → Entry
-next_entry k change = record { seat = k.seat; number = k.made + 1; change = change; left = 0 }
+next_entry k change = entry_alone k.seat (k.made + 1) change
 
 -- once this history was seen, to which a change of one's own was added, and which a note tells
 abbrev pub having_changed : Knowledge → History → Knowledge
@@ -56,20 +51,17 @@ pub record IsRead (alone : Bool) (old new : Knowledge) : Type 0 where
   pub legal : IsLegal new.seen
   pub own : HasJust new.seat new.made new.seen
 
--- of what is held and what is told, the longer
-abbrev pub longer : Option History → History → History
-longer None told = told
-longer (Some held) told = if ltb (length held) (length told) then told else held
-
--- A note was taken: what it tells was seen. Where nobody else makes changes, a note tells nothing.
+-- A note was taken: what it tells was seen, which is then what was seen before, or just what it tells. Where nobody else makes
+-- changes, a note tells nothing.
 pub record IsNoted (alone : Bool) (old : Knowledge) (told : History) (new : Knowledge) : Type 0 where
   pub reached : Reaches alone old.seen new.seen
   pub learned : alone ≡ false → Begins told new.seen
+  pub one : alone ≡ false → (new.seen ≡ old.seen) ⊎ (new.seen ≡ told)
+  pub legal : alone ≡ false → IsLegal new.seen
   pub held : alone ≡ false → new.held ≡ Some (longer old.held told)
   pub kept : new ≡ record old { seen = new.seen; held = new.held }
   pub nothing : alone ≡ true → new ≡ old
 
--- A read that was not answered. It may have reached a later point all the same.
-pub record IsUnread (alone : Bool) (old new : Knowledge) : Type 0 where
-  pub reached : Reaches alone old.seen new.seen
-  pub kept : new ≡ record old { seen = new.seen }
+-- A query that was not answered: nothing was read, or it was read and nothing more was done.
+abbrev pub IsUnread : Bool → Knowledge → Knowledge → Type 0
+IsUnread alone old new = (new ≡ old) ⊎ IsRead alone old new

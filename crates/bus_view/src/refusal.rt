@@ -1,5 +1,8 @@
 //! What is refused.
 
+ghost use Rattle.std.specs.Prelude.{◌≡◌};
+ghost use Rattle.bus_view.specs.Refusals.{cause_code};
+
 use seq_bus_core::Change;
 use thiserror::Error;
 
@@ -17,6 +20,20 @@ pub enum Cause {
     /// The bus has ended.
     #[error("the bus has ended")]
     Gone,
+}
+
+impl Cause {
+    /// The number of the cause: 60 to 63, in the order above.
+    pub fn code(self) -> u8
+        ensures { result ≡ cause_code self }
+    {
+        match self {
+            Cause::NoMemory => 60,
+            Cause::ForeignSeat => 61,
+            Cause::HistoryFull => 62,
+            Cause::Gone => 63,
+        }
+    }
 }
 
 /// A change that was not made, and why.

@@ -1,21 +1,22 @@
 //! The view of a bus.
 
-ghost use Rattle.std.specs.Prelude.{◌≡◌, true, false, [], Some, is_some, option_map, IfOk, IfErr, IfSome, OnOk, OnErr};
+ghost use Rattle.std.specs.Prelude.{◌≡◌, true, false, [], Some};
+ghost use Rattle.std.specs.Prelude.{is_some, option_map, IfOk, IfErr, IfSome, OnOk, OnErr};
 ghost use Rattle.seq_bus_core.specs.Answers.{answer};
 ghost use Rattle.std.specs.List.{list_any};
 ghost use Rattle.seq_bus_core.specs.BusState.{connection_of, is_monitor};
 ghost use Rattle.seq_bus_core.specs.Histories.{History};
 ghost use Rattle.seq_bus_core.specs.Recipients.{recipients};
-ghost use Rattle.seq_bus.specs.Bodies.{Answers};
-ghost use Rattle.seq_bus.specs.Served.{IsServedChange};
-ghost use Rattle.seq_bus.specs.declared.answer.AskFault.TheVariants.{Gone as AskGone};
+ghost use Rattle.bus_view.specs.Bodies.{Answers};
+ghost use Rattle.seq_bus_core.specs.Served.{IsServedChange};
+ghost use Rattle.bus_view.specs.declared.answer.AskFault.TheVariants.{Gone as AskGone, NoMemory as AskNoMemory};
 ghost use Rattle.bus_view.specs.Views.{Knowledge, bus_seen, IsChanged, IsRead, IsUnread, IsNoted};
 ghost use Rattle.bus_view.specs.declared.refusal.Cause.TheVariants.{NoMemory};
 
 use crate::again::Again;
+use crate::answer::{AskFault, Asked};
 use crate::refusal::{Gone, Refused};
 use match_rules::Facts;
-use seq_bus::{AskFault, Asked};
 use seq_bus_core::{Change, Outcome, Query, Verdict};
 
 /// A bus, as one of those sees it that make changes of it.
@@ -52,28 +53,39 @@ pub trait BusView {
         change: Change,
     ) -> Result<(Outcome, Self::Note), Refused>
         requires { IsServedChange change }
-        ensures made { IfOk result (λ r. IsChanged alone (knows self.old) change r.0 (knows self.new)) }
+        ensures made { IfOk result (λ r.
+            IsChanged alone (knows self.old) change r.0 (knows self.new)) }
         ensures settled { IfOk result (λ r. r.0.tickets ≡ []) }
         ensures note { IfOk result (λ r. registry_of r.1 ≡ (knows self.new).registry) }
-        ensures told { alone ≡ false → IfOk result (λ r. told r.1 ≡ (knows self.new).seen) }
+        ensures told { alone ≡ false →
+            IfOk result (λ r. told r.1 ≡ (knows self.new).seen) }
         ensures handed_back { IfErr result (λ refused. refused.change ≡ change) }
         ensures cause { alone ≡ true → IfErr result (λ refused. refused.cause ≡ NoMemory) }
         ensures unchanged { OnErr result (knows self.new ≡ knows self.old) };
 
     /// Answers a query: appends the body of the reply, in little-endian order as from offset 0 on, or says that the name
     /// has no owner. After a fault nothing is appended.
+    ///
+    /// It makes no change, whatever it says. For want of memory it may have read the bus all the same; where the bus has
+    /// ended, nothing was read.
     fn ask(&mut self, query: &Query, body: &mut Vec<u8>) -> Result<Asked, AskFault>
-        ensures answered { IfOk result (λ asked. Answers asked (answer (bus_seen (knows self.new)).state query.now) body.old.items body.new.items) }
+        ensures answered { IfOk result (λ asked.
+            Answers asked (answer (bus_seen (knows self.new)).state query.now)
+            body.old.items body.new.items) }
         ensures read { OnOk result (IsRead alone (knows self.old) (knows self.new)) }
         ensures unanswered { OnErr result (body.new.items ≡ body.old.items) }
         ensures unread { OnErr result (IsUnread alone (knows self.old) (knows self.new)) }
+        ensures read_no_less { IfErr result (λ fault. fault ≡ AskNoMemory →
+            IsRead alone (knows self.old) (knows self.new)) }
+        ensures gone { IfErr result (λ fault. fault ≡ AskGone → knows self.new ≡ knows self.old) }
         ensures there { alone ≡ true → IfErr result (λ fault. fault ≡ AskGone → ⊥) };
 
     /// Where a message from a connection goes, and which monitors are shown it. 0 is the bus. It takes no memory.
     ///
     /// The sender that the facts name is not looked at.
     fn route(&mut self, from: u64, facts: &Facts<'_>) -> Result<Verdict, Gone>
-        ensures verdict { IfOk result (λ verdict. verdict ≡ recipients (bus_seen (knows self.new)).state from facts.now) }
+        ensures verdict { IfOk result (λ verdict.
+            verdict ≡ recipients (bus_seen (knows self.new)).state from facts.now) }
         ensures read { OnOk result (IsRead alone (knows self.old) (knows self.new)) }
         ensures gone { OnErr result (knows self.new ≡ knows self.old) }
         ensures there { alone ≡ true → OnErr result ⊥ };
@@ -81,7 +93,8 @@ pub trait BusView {
     /// The same as `route`, told where there is room for it: a verdict is large, and is not moved. Where the bus does not
     /// say, it stays as it is.
     fn route_into(&mut self, from: u64, facts: &Facts<'_>, found: &mut Verdict) -> Result<(), Gone>
-        ensures verdict { OnOk result (found.new ≡ recipients (bus_seen (knows self.new)).state from facts.now) }
+        ensures verdict { OnOk result
+            (found.new ≡ recipients (bus_seen (knows self.new)).state from facts.now) }
         ensures read { OnOk result (IsRead alone (knows self.old) (knows self.new)) }
         ensures gone { OnErr result (knows self.new ≡ knows self.old) }
         ensures untold { OnErr result (found.new ≡ found.old) }
@@ -89,16 +102,18 @@ pub trait BusView {
 
     /// Whether there is a connection of this number. It takes no memory.
     fn present(&mut self, number: u64) -> Result<bool, Gone>
-        ensures present { IfOk result (λ present. present ≡ is_some (connection_of (bus_seen (knows self.new)).state number)) }
+        ensures present { IfOk result (λ present.
+            present ≡ is_some (connection_of (bus_seen (knows self.new)).state number)) }
         ensures read { OnOk result (IsRead alone (knows self.old) (knows self.new)) }
         ensures gone { OnErr result (knows self.new ≡ knows self.old) }
         ensures there { alone ≡ true → OnErr result ⊥ };
 
-    /// Whether a monitor may be shown messages, as far as this one has seen. Where not, the bus had none when it was read last, which
-    /// was at the end of what was seen. It reads nothing, and takes no memory.
+    /// Whether a monitor may be shown messages, as far as this one has seen. Where not, the bus had none when it was read
+    /// last, which was at the end of what was seen. It reads nothing, and takes no memory.
     fn is_watched(&self) -> bool
         ensures read { result ≡ false → IsRead alone (knows self.now) (knows self.now) }
-        ensures none { result ≡ false → list_any is_monitor (bus_seen (knows self.now)).state.connections ≡ false };
+        ensures none { result ≡ false →
+            list_any is_monitor (bus_seen (knows self.now)).state.connections ≡ false };
 
     /// Takes in what another view of the same bus told: from now on this one sees no less. It takes no memory.
     fn take_note(&mut self, note: &Self::Note)
@@ -109,7 +124,8 @@ pub trait BusView {
     fn note(&self) -> Option<Self::Note>
         ensures some { is_some result ≡ is_some (knows self.now).held }
         ensures own { IfSome result (λ note. registry_of note ≡ (knows self.now).registry) }
-        ensures told { alone ≡ false → option_map told result ≡ (knows self.now).held };
+        ensures told { alone ≡ false →
+            option_map told result ≡ (knows self.now).held };
 
     /// The number of its seat.
     fn seat(&self) -> u8

@@ -1,12 +1,14 @@
 -- What every step keeps of the registry's tables.
-use Rattle.std.proofs.Common.{◌≡◌, ℕ, ◌<◌, ◌≤◌, ◌+◌, ◌^◌, ◌&&◌, if◌then◌else◌, Bool, true, false, Option, List, [], ◌∷◌, ◌++◌, filter, map, get_or, length, remove, vec_capacity, refl, ap, ◌∙◌, subst, arith}
+use Rattle.std.proofs.Common.{◌≡◌, ℕ, ◌<◌, ◌≤◌, ◌+◌, ◌^◌, ◌&&◌, if◌then◌else◌, Bool, true, false, Option, List, [], ◌∷◌, ◌++◌, filter, map, get_or, length, remove, vec_capacity, refl, ap, sym, ◌∙◌, subst, arith}
 use Rattle.std.proofs.lemmas.List.Sums.{sum_by-append, sum_by-cons, sum_by-remove}
 use Rattle.match_rules.specs.Facts.{Facts}
 use Rattle.match_rules.specs.Fitting.{Heads}
 use Rattle.std.specs.List.{AllByRecursion as Each, list_any}
 use Rattle.std.proofs.lemmas.List.{length-map}
 use mir.Val.{bool_byte}
-use Rattle.seq_bus_core.specs.BusState.{AddedRule, is_monitor, max_connections, max_rules}
+use Rattle.names.specs.Texts.{Text}
+use Rattle.seq_bus_core.specs.Histories.{max_services}
+use Rattle.seq_bus_core.specs.BusState.{AddedRule, BusState, is_monitor, max_connections, max_rules}
 use Rattle.seq_bus_core.specs.Consistency.{IsGiven, IsConsistent, IsWithinLimits}
 use Rattle.seq_bus_core.specs.Steps.{step}
 use Rattle.seq_bus_core.specs.declared.change.Change.{Change}
@@ -18,6 +20,7 @@ use Rattle.registry_core.specs.Listening.{connection_of_member, member_watches, 
 use Rattle.registry_core.specs.declared.member.Member.{Member}
 use Rattle.registry_core.proofs.Members.{rising_of}
 use Rattle.registry.specs.declared.registry.Registry.TheInside.{Inside}
+use Rattle.registry.proofs.Openings.{services_stay}
 use Rattle.registry.specs.Tables.{state_of, monitors_among, IsKept}
 
 -- tables that stand for the state after a step
@@ -28,6 +31,7 @@ kept r next h seat change is routers members_room rules_room monitors = record {
   few_routers = rw routers h.few_routers;
   consistent = subst IsConsistent is (steps_keep_consistency (state_of r) seat change h.consistent);
   within_limits = subst IsWithinLimits is (steps_keep_limits (state_of r) seat change h.consistent h.within_limits);
+  few_services = subst (λ (t : BusState). length t.services ≤ max_services) is (subst (λ (services : List Text). length services ≤ max_services) (sym (services_stay (state_of r) seat change)) h.few_services);
   members_room = members_room;
   rules_room = rules_room;
   monitors = monitors;

@@ -1,8 +1,11 @@
+pub mod Openings
+pub mod Idle
 pub mod Lists
 pub mod Slots
 pub mod Kept
 pub mod HeadLemmas
 pub mod QueueLemmas
+pub mod Listing
 pub mod ListeningLemmas
 pub mod HelloLemmas
 pub mod MatchLemmas

@@ -136,7 +136,7 @@ at_most_one n (o ∷ os) h = by_test (o.connection == n) refl (at_most_one n os 
     by_test false e rest = omega (arith, rest)
 
 -- no more clients stand in a queue than there are connections
-places : (cs : List Connection) (queue : Queue) → IsQueue queue → list_all (λ q. is_client cs q.connection) queue ≡ true → length queue ≤ length cs
+pub places : (cs : List Connection) (queue : Queue) → IsQueue queue → list_all (λ q. is_client cs q.connection) queue ≡ true → length queue ≤ length cs
 places [] [] once clients = omega arith
 places [] (q ∷ qs) once clients = absurd (true≢false (sym clients))
 places (c ∷ cs) queue once clients =

@@ -1,8 +1,10 @@
 pub mod Acts
 pub mod Hellos
+pub mod Idle
+pub mod NamesListed
 pub mod Matches
+pub mod Openings
 pub mod OwnerSignals
 pub mod PreparedChanges
 pub mod Requests
-pub mod Served
 pub mod Tables

@@ -9,14 +9,12 @@ ghost use Rattle.registry.specs.PreparedChanges.{prepared_on};
 
 use crate::owners::Joined;
 use crate::prepared::{Act, Prepared, replied};
-use crate::registry::{MAX_CONNECTIONS, Registry};
+use crate::registry::Registry;
 use names::{BusName, UniqueName};
 use registry_core::Member;
+use seq_bus_core::limits::{MAX_CONNECTIONS, MAX_NUMBER};
 use seq_bus_core::{Conn, NumberedOutcome, Reply};
 use std::alloc::{AllocError, Global};
-
-/// The last number that a connection can have.
-const MAX_NUMBER: u64 = 1 << 63;
 
 impl Registry {
     pub(crate) fn prepare_hello(
@@ -53,10 +51,10 @@ impl Registry {
             privileged,
         };
         let mut outcome = replied(alloc, Reply::Welcome(conn));
-        outcome.signals.push(self.announced(&joined, None, name, None, Some(conn.number)))?;
-        outcome
-            .signals
-            .push(self.acquired(&joined, None, name, conn))?;
+        let announced = self.announced(alloc, &joined, None, name, None, Some(conn.number))?;
+        outcome.signals.push(announced)?;
+        let acquired = self.acquired(alloc, &joined, None, name, conn)?;
+        outcome.signals.push(acquired)?;
         Ok(outcome)
     }
 

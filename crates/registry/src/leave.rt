@@ -71,27 +71,37 @@ impl Registry {
         if !self.is_client(connection) {
             return Ok(outcome);
         }
-        self.tell_of_leave(connection, &mut outcome.signals)?;
+        self.tell_of_leave(alloc, connection, &mut outcome.signals)?;
         Ok(outcome)
     }
 
     /// The signals of a connection that leaves: those of the names that it owns, and of its unique name.
-    fn tell_of_leave(&self, connection: u64, signals: &mut Signals) -> Result<(), AllocError>
+    fn tell_of_leave(
+        &self,
+        alloc: Global,
+        connection: u64,
+        signals: &mut Signals,
+    ) -> Result<(), AllocError>
         requires { signals.old ≡ [] }
         ensures { OnOk result (signals.new ≡ signals_left self.now connection) }
     {
-        self.tell_of_names(connection, signals)?;
+        self.tell_of_names(alloc, connection, signals)?;
         let left = Left {
             registry: self,
             leaver: connection,
         };
         let name = BusName::from(UniqueName::of(connection));
-        signals.push(self.announced(&left, Some(connection), name, Some(connection), None))
+        signals.push(self.announced(alloc, &left, Some(connection), name, Some(connection), None)?)
     }
 
     /// The signals of the names that a connection which leaves owns. No other name is looked at than those that it owns or
     /// waits for.
-    fn tell_of_names(&self, connection: u64, signals: &mut Signals) -> Result<(), AllocError>
+    fn tell_of_names(
+        &self,
+        alloc: Global,
+        connection: u64,
+        signals: &mut Signals,
+    ) -> Result<(), AllocError>
         requires { signals.old ≡ [] }
         ensures { OnOk result (signals.new ≡ flat_map (name_left self.now connection) self.now.names) }
     {
@@ -101,7 +111,7 @@ impl Registry {
         };
         for n in 0..self.names.count_of(connection) {
             let place = self.names.place_of_nth(connection, n);
-            left.tell_of_name(&self.names.as_slice()[place], signals)?;
+            left.tell_of_name(alloc, &self.names.as_slice()[place], signals)?;
         }
         Ok(())
     }
@@ -162,7 +172,12 @@ impl Registry {
 
 impl<'a> Left<'a> {
     /// The signals of a name, where the connection that leaves owns it.
-    fn tell_of_name(&self, entry: &NameEntry, signals: &mut Signals) -> Result<(), AllocError>
+    fn tell_of_name(
+        &self,
+        alloc: Global,
+        entry: &NameEntry,
+        signals: &mut Signals,
+    ) -> Result<(), AllocError>
         ensures { OnOk result (signals.new ≡ signals.old ++ name_left self.now.registry.now self.now.leaver (owned_name entry.now)) }
     {
         let leaver = Some(self.leaver);
@@ -172,10 +187,10 @@ impl<'a> Left<'a> {
         let owner = next_owner(&entry.queue, self.leaver);
         signals.push(
             self.registry
-                .announced(self, leaver, entry.name, leaver, owner),
+                .announced(alloc, self, leaver, entry.name, leaver, owner)?,
         )?;
         self.registry
-            .push_acquired(self, leaver, entry.name, owner, signals)
+            .push_acquired(alloc, self, leaver, entry.name, owner, signals)
     }
 }
 

@@ -7,16 +7,17 @@
 #![tactic(auto)]
 
 mod hello;
-pub mod laws;
 mod leave;
+mod listed;
 mod matches;
 mod owners;
 mod prepared;
+mod queries;
 mod registry;
 mod requests;
 mod routing;
 mod services;
 mod signals;
 
-pub use prepared::Prepared;
+pub use prepared::{Prepared, without_tickets};
 pub use registry::Registry;

@@ -7,13 +7,11 @@ ghost use Rattle.registry.specs.Matches.{reply_to_add, reply_to_remove};
 ghost use Rattle.registry.specs.PreparedChanges.{prepared_on};
 
 use crate::prepared::{Act, Prepared, replied};
-use crate::registry::{MAX_RULES, Registry};
+use crate::registry::Registry;
 use match_rules::Rule;
 use seq_bus_core::Reply;
+use seq_bus_core::limits::{MAX_RULES, MAX_RULES_OF_ONE};
 use std::alloc::Global;
-
-/// The most rules that one connection has added.
-const MAX_RULES_OF_ONE: usize = 256;
 
 impl Registry {
     pub(crate) fn prepare_add_match(

@@ -1,16 +1,16 @@
 //! The registry.
 
-ghost use Rattle.std.specs.Prelude.{◌≡◌, IfOk, List, is_some, map, option_map};
+ghost use Rattle.std.specs.Prelude.{◌≡◌, ◌≤◌, IfOk, List, length, is_some, map, option_map};
 ghost use Rattle.std.specs.List.{list_any};
 ghost use Rattle.seq_bus_core.specs.BusState.{AddedRule, connection_of, conn_of, head_of, is_client, is_monitor, queue_of};
 ghost use Rattle.seq_bus_core.specs.Consistency.{IsConsistent, IsWithinLimits};
-ghost use Rattle.seq_bus_core.specs.Histories.{CanOpen, opening};
+ghost use Rattle.seq_bus_core.specs.Histories.{CanOpen, max_services, opening};
 ghost use Rattle.seq_bus_core.specs.Steps.{step};
 ghost use Rattle.registry_core.specs.Listening.{connection_of_member};
 ghost use Rattle.registry_core.specs.NameTables.{owned_name};
 ghost use Rattle.registry_core.specs.RulesOf.{rules_by, rules_left};
 ghost use Rattle.registry.specs.PreparedChanges.{prepared_on};
-ghost use Rattle.registry.specs.Served.{IsServedChange};
+ghost use Rattle.seq_bus_core.specs.Served.{IsServedChange};
 
 use crate::prepared::{Act, Prepared};
 use crate::services::sorted;
@@ -18,18 +18,13 @@ use match_rules::Owners;
 use names::{BusName, WellKnown};
 use owner_queues::{Profile, QueuedOwner};
 use registry_core::{Member, NameEntry, NameTable, RuleTable, RulesOf, find_place};
+use seq_bus_core::limits::{MAX_CONNECTIONS, MAX_RULES, MAX_RULES_OF_MONITOR};
 use seq_bus_core::{Change, Conn};
 use std::alloc::{AllocError, Global};
 use std::marker::Model;
 
-/// The most connections of a bus.
-pub(crate) const MAX_CONNECTIONS: usize = 256;
-
-/// The most rules that connections have added.
-pub(crate) const MAX_RULES: usize = 4096;
-
 /// The most rules of all monitors: as many for each connection as a monitor may have.
-const MAX_MONITOR_RULES: usize = MAX_CONNECTIONS * 64;
+const MAX_MONITOR_RULES: usize = MAX_CONNECTIONS * MAX_RULES_OF_MONITOR;
 
 /// The state of a message bus, in tables whose room is made when the bus is opened.
 ///
@@ -217,7 +212,8 @@ impl Registry {
 
     /// The names that programs can be started for, by rising bytes.
     pub fn services(&self) -> &[WellKnown]
-        ensures { result.now ≡ self.now.services }
+        ensures value { result.now ≡ self.now.services }
+        ensures few { length result.now ≤ max_services }
     {
         self.services.as_slice()
     }

@@ -104,7 +104,7 @@ impl Registry {
             return Err(Reply::InvalidName);
         }
         let mut queue = self.queue_of(name);
-        let reply = queue.request(self.profile, connection, flags);
+        let reply = queue.request(connection, flags, self.profile);
         if self.names.would_fit(name.as_str(), &queue, connection) {
             Ok(QueueChange { queue, reply })
         } else {
@@ -150,7 +150,7 @@ impl Registry {
         match change {
             Ok(change) => {
                 let mut outcome = replied(alloc, Reply::OfQueue(change.reply));
-                self.tell_owners(*name, &change.queue, &mut outcome.signals)?;
+                self.tell_owners(alloc, *name, &change.queue, &mut outcome.signals)?;
                 Ok(outcome)
             }
             Err(reply) => Ok(replied(alloc, *reply)),
@@ -160,6 +160,7 @@ impl Registry {
     /// The signals of a name that has another queue.
     fn tell_owners(
         &self,
+        alloc: Global,
         name: BusName,
         queue: &Queue,
         signals: &mut Signals,
@@ -177,9 +178,9 @@ impl Registry {
             name,
             queue,
         };
-        self.push_lost(&owners, name, old_owner, signals)?;
-        signals.push(self.announced(&owners, None, name, old_owner, new_owner))?;
-        self.push_acquired(&owners, None, name, new_owner, signals)
+        self.push_lost(alloc, &owners, name, old_owner, signals)?;
+        signals.push(self.announced(alloc, &owners, None, name, old_owner, new_owner)?)?;
+        self.push_acquired(alloc, &owners, None, name, new_owner, signals)
     }
 }
 

@@ -1,6 +1,6 @@
 //! The signals that a change sends.
 
-ghost use Rattle.std.specs.Prelude.{◌≡◌, ◌&&◌, ◌++◌, [], None, OnOk};
+ghost use Rattle.std.specs.Prelude.{◌≡◌, ◌&&◌, ◌++◌, [], None, IfOk, OnOk};
 ghost use Rattle.registry_core.specs.Signals.{announced_to, told_to};
 ghost use Rattle.registry_core.specs.Listening.{conns_that, stays, wants_by, watches_by};
 ghost use Rattle.seq_bus_core.specs.declared.signal.BusSignal.TheVariants.{NameOwnerChanged, NameLost, NameAcquired};
@@ -12,67 +12,77 @@ use names::{BusName, UniqueName};
 use registry_core::listening::{add_monitors_shown, add_those_that_want};
 use registry_core::signals::{owner_changed, owner_name, owner_text, owner_told};
 use seq_bus_core::{AddressedSignal, BusSignal, Conn, Recipients, Signals};
-use std::alloc::AllocError;
+use std::alloc::{AllocError, Global};
 
 impl Registry {
     /// The signal NameOwnerChanged to all that want it, where names are owned as these owners say. A connection that
     /// leaves does not get it.
     pub(crate) fn announced<O: Owners>(
         &self,
+        alloc: Global,
         owners: &O,
         leaver: Option<u64>,
         name: BusName,
         old_owner: Option<u64>,
         new_owner: Option<u64>,
-    ) -> AddressedSignal
-        ensures { result ≡ announced_to (O.heads owners.now) leaver self.now (NameOwnerChanged name old_owner new_owner) }
+    ) -> Result<AddressedSignal, AllocError>
+        ensures { IfOk result (λ signal. signal ≡ announced_to (O.heads owners.now) leaver
+            self.now (NameOwnerChanged name old_owner new_owner)) }
     {
         let old_name = owner_name(old_owner);
         let new_name = owner_name(new_owner);
         let facts = owner_changed(name.as_str(), owner_text(&old_name), owner_text(&new_name));
-        let mut addressed = unheard(BusSignal::NameOwnerChanged {
+        let signal = BusSignal::NameOwnerChanged {
             name,
             old_owner,
             new_owner,
-        });
-        self.add_those_that_want(&facts, owners, leaver, &mut addressed.to);
-        self.add_monitors_shown(&facts, owners, leaver, &mut addressed.monitors);
-        addressed
+        };
+        let mut to = Recipients::new();
+        self.add_those_that_want(&facts, owners, leaver, &mut to);
+        let mut monitors = Recipients::new();
+        self.add_monitors_shown(&facts, owners, leaver, &mut monitors);
+        let told = AddressedSignal::new(alloc, signal, to.as_slice(), monitors.as_slice())?;
+        Ok(told)
     }
 
     /// The signal NameAcquired to a connection.
     pub(crate) fn acquired<O: Owners>(
         &self,
+        alloc: Global,
         owners: &O,
         leaver: Option<u64>,
         name: BusName,
         conn: Conn,
-    ) -> AddressedSignal
-        ensures { result ≡ told_to (O.heads owners.now) leaver self.now conn (NameAcquired name conn.number) }
+    ) -> Result<AddressedSignal, AllocError>
+        ensures { IfOk result (λ signal. signal ≡
+            told_to (O.heads owners.now) leaver self.now conn (NameAcquired name conn.number)) }
     {
         let owner = UniqueName::of(conn.number);
         let facts = owner_told("NameAcquired", name.as_str(), owner.as_str());
-        let mut addressed = unheard(BusSignal::NameAcquired {
+        let signal = BusSignal::NameAcquired {
             name,
             owner: conn.number,
-        });
-        addressed.to.push(conn);
-        self.add_monitors_shown(&facts, owners, leaver, &mut addressed.monitors);
-        addressed
+        };
+        let mut monitors = Recipients::new();
+        self.add_monitors_shown(&facts, owners, leaver, &mut monitors);
+        let told = AddressedSignal::new(alloc, signal, &[conn], monitors.as_slice())?;
+        Ok(told)
     }
 
     /// The signal NameLost to an owner of a name, if it had one.
     pub(crate) fn push_lost<O: Owners>(
         &self,
+        alloc: Global,
         owners: &O,
         name: BusName,
         owner: Option<u64>,
         signals: &mut Signals,
     ) -> Result<(), AllocError>
-        ensures { OnOk result (signals.new ≡ signals.old ++ lost_by (O.heads owners.now) self.now name owner) }
+        ensures { OnOk result (signals.new ≡
+            signals.old ++ lost_by (O.heads owners.now) self.now name owner) }
     {
         match owner {
-            Some(owner) => signals.push(self.lost(owners, name, owner)),
+            Some(owner) => signals.push(self.lost(alloc, owners, name, owner)?),
             None => Ok(()),
         }
     }
@@ -80,48 +90,65 @@ impl Registry {
     /// The signal NameAcquired to an owner of a name, if it has one.
     pub(crate) fn push_acquired<O: Owners>(
         &self,
+        alloc: Global,
         owners: &O,
         leaver: Option<u64>,
         name: BusName,
         owner: Option<u64>,
         signals: &mut Signals,
     ) -> Result<(), AllocError>
-        ensures { OnOk result (signals.new ≡ signals.old ++ acquired_by (O.heads owners.now) leaver self.now name owner) }
+        ensures { OnOk result (signals.new ≡
+            signals.old ++ acquired_by (O.heads owners.now) leaver self.now name owner) }
     {
         match owner {
-            Some(owner) => signals.push(self.acquired_by(owners, leaver, name, owner)),
+            Some(owner) => signals.push(self.acquired_by(alloc, owners, leaver, name, owner)?),
             None => Ok(()),
         }
     }
 
     /// The signal NameLost to the owner of a name.
-    fn lost<O: Owners>(&self, owners: &O, name: BusName, owner: u64) -> AddressedSignal
-        ensures { result ≡ told_owner (O.heads owners.now) None self.now owner (NameLost name owner) }
+    fn lost<O: Owners>(
+        &self,
+        alloc: Global,
+        owners: &O,
+        name: BusName,
+        owner: u64,
+    ) -> Result<AddressedSignal, AllocError>
+        ensures { IfOk result (λ signal. signal ≡
+            told_owner (O.heads owners.now) None self.now owner (NameLost name owner)) }
     {
         let owner_name = UniqueName::of(owner);
         let facts = owner_told("NameLost", name.as_str(), owner_name.as_str());
-        let mut addressed = unheard(BusSignal::NameLost { name, owner });
-        self.add_conn(owner, &mut addressed.to);
-        self.add_monitors_shown(&facts, owners, None, &mut addressed.monitors);
-        addressed
+        let signal = BusSignal::NameLost { name, owner };
+        let mut to = Recipients::new();
+        self.add_conn(owner, &mut to);
+        let mut monitors = Recipients::new();
+        self.add_monitors_shown(&facts, owners, None, &mut monitors);
+        let told = AddressedSignal::new(alloc, signal, to.as_slice(), monitors.as_slice())?;
+        Ok(told)
     }
 
     /// The signal NameAcquired to the owner of a name.
     fn acquired_by<O: Owners>(
         &self,
+        alloc: Global,
         owners: &O,
         leaver: Option<u64>,
         name: BusName,
         owner: u64,
-    ) -> AddressedSignal
-        ensures { result ≡ told_owner (O.heads owners.now) leaver self.now owner (NameAcquired name owner) }
+    ) -> Result<AddressedSignal, AllocError>
+        ensures { IfOk result (λ signal. signal ≡
+            told_owner (O.heads owners.now) leaver self.now owner (NameAcquired name owner)) }
     {
         let owner_name = UniqueName::of(owner);
         let facts = owner_told("NameAcquired", name.as_str(), owner_name.as_str());
-        let mut addressed = unheard(BusSignal::NameAcquired { name, owner });
-        self.add_conn(owner, &mut addressed.to);
-        self.add_monitors_shown(&facts, owners, leaver, &mut addressed.monitors);
-        addressed
+        let signal = BusSignal::NameAcquired { name, owner };
+        let mut to = Recipients::new();
+        self.add_conn(owner, &mut to);
+        let mut monitors = Recipients::new();
+        self.add_monitors_shown(&facts, owners, leaver, &mut monitors);
+        let told = AddressedSignal::new(alloc, signal, to.as_slice(), monitors.as_slice())?;
+        Ok(told)
     }
 
     /// Adds the connections that want a message, where names are owned as these owners say.
@@ -168,16 +195,5 @@ impl Registry {
             leaver,
             shown,
         );
-    }
-}
-
-/// A signal that nobody gets.
-fn unheard(signal: BusSignal) -> AddressedSignal
-    ensures { result ≡ record { signal = signal; to = []; monitors = [] } }
-{
-    AddressedSignal {
-        signal,
-        to: Recipients::new(),
-        monitors: Recipients::new(),
     }
 }

@@ -16,6 +16,6 @@ mod rule_table;
 pub mod signals;
 
 pub use member::{Member, find_place, number_of};
-pub use name_table::{MAX_NAMES, MAX_QUEUED, NameEntry, NameTable};
+pub use name_table::{NameEntry, NameTable};
 pub use rule_entries::RuleEntry;
 pub use rule_table::{RuleTable, RulesOf};

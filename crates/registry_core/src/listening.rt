@@ -10,9 +10,7 @@ use crate::member::{Member, find_place};
 use crate::rule_entries::RuleEntry;
 use match_rules::{Facts, Owners};
 use seq_bus_core::Recipients;
-
-/// The most connections of a bus.
-pub const MAX_CONNECTIONS: usize = 256;
+use seq_bus_core::limits::MAX_CONNECTIONS;
 
 /// Adds the connections, by rising number, that are no monitors and have added a rule that fits the message. A connection
 /// that leaves is not among them.

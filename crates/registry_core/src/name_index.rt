@@ -5,9 +5,9 @@ ghost use Rattle.std.specs.List.{AllByRecursion, position};
 ghost use Rattle.owner_queues.specs.Queues.{is_in};
 ghost use Rattle.registry_core.specs.NameIndexes.{held, ids_of, name_at, comes_before, AreSorted, ByConnection};
 
-use crate::name_table::{MAX_NAMES, MAX_QUEUED};
 use names::BusName;
 use owner_queues::{Queue, QueuedOwner};
+use seq_bus_core::limits::{MAX_NAMES, MAX_QUEUED};
 use std::alloc::{AllocError, Global};
 use std::marker::Model;
 

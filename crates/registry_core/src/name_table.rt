@@ -11,17 +11,9 @@ ghost use Rattle.registry_core.specs.NameTables.{owned_name, NamesRise, SearchGi
 use crate::name_index::NameIndex;
 use names::BusName;
 use owner_queues::Queue;
+use seq_bus_core::limits::{MAX_NAMES, MAX_NAMES_OF_ONE, MAX_QUEUED};
 use std::alloc::{AllocError, Global};
 use std::marker::Model;
-
-/// The most well-known names that have an owner.
-pub const MAX_NAMES: usize = 1024;
-
-/// The most places in all queues, those of the owners included.
-pub const MAX_QUEUED: usize = 4096;
-
-/// The most names that one connection owns or waits for.
-pub const MAX_NAMES_OF_ONE: usize = 64;
 
 /// A well-known name that has an owner, and its queue.
 #[derive(Drop)]

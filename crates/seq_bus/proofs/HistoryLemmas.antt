@@ -1,81 +1,52 @@
 -- The history of a bus with one seat.
-use Rattle.std.proofs.Common.{◌≡◌, ℕ, zero, suc, ◌+◌, ◌≤◌, ◌==◌, ◌||◌, Bool, true, false, not, cond, Option, Some, None, option_map, if◌then◌else◌, List, [], ◌∷◌, ◌++◌, length, map, filter, refl, sym, ap, ◌∙◌, arith, subst}
+use Rattle.std.proofs.Common.{◌≡◌, ℕ, ◌+◌, ◌==◌, true, false, Bool, cond, List, [], ◌∷◌, ◌++◌, length, map, filter, refl, sym, ap, ◌∙◌, arith, subst, suc}
 use Rattle.std.specs.List.{range_with_len, AllByRecursion}
 use Rattle.std.proofs.Common.{length-append}
-use Rattle.std.proofs.lemmas.List.{map-append, length-map}
-use Rattle.names.specs.Texts.{Text}
-use Rattle.names.specs.BusName.{bus_text, is_bus, is_unique}
-use Rattle.names.specs.UniqueName.{unique_text}
-use Rattle.owner_queues.specs.Queues.{Queue}
-use Rattle.owner_queues.specs.declared.owner.QueuedOwner.{QueuedOwner}
-use Rattle.owner_queues.specs.declared.request.Profile.{Profile}
-use Rattle.seq_bus_core.specs.Answers.{names_there, owner_name, queued_names, queue_names}
-use Rattle.seq_bus_core.specs.Consistency.{IsWithinLimits}
-use Rattle.seq_bus_core.specs.Histories.{History, CanOpen, IsLegal, numbers_of, has_whole_publications}
-use Rattle.seq_bus_core.specs.Tickets.{WholeBus, opening_bus, bus_step, bus_after}
-use Rattle.seq_bus_core.specs.declared.entry.Entry.{Entry}
-use Rattle.seq_bus.specs.PlainBus.{AreOwnEntries, opened_as}
-use Rattle.seq_bus_core.specs.Steps.{step}
-use Rattle.seq_bus_core.proofs.StepCases.{step_cases}
-use Rattle.seq_bus_core.proofs.TicketLaws.{buses_are_whole, steps_keep_whole}
-use Rattle.seq_bus_core.proofs.LimitLaws.{buses_are_within_limits, steps_keep_limits}
-use Rattle.seq_bus_state.specs.Steps.{IsSound, IsStepped}
-use Rattle.seq_bus_state.proofs.Rooms.{few_in_queue}
-use Rattle.seq_bus_core.specs.BusState.{BusState, Connection, OwnedName, is_monitor, queue_of}
+use Rattle.std.proofs.lemmas.List.{map-append}
+use Rattle.seq_bus_core.specs.BusState.{BusState}
+use Rattle.seq_bus_core.specs.Changes.{as_seen}
+use Rattle.seq_bus_core.specs.Histories.{History, IsLegal, numbers_of, has_whole_publications}
+use Rattle.seq_bus_core.specs.Served.{IsServedChange}
+use Rattle.seq_bus_core.specs.Steps.{Stepped, step}
+use Rattle.seq_bus_core.specs.Tickets.{WholeBus, bus_step, bus_after}
 use Rattle.seq_bus_core.specs.declared.change.Change.{Change}
-use Rattle.seq_bus_core.specs.declared.outcome.Outcome.{Outcome}
+use Rattle.seq_bus_core.specs.declared.entry.Entry.{Entry}
+use Rattle.seq_bus_core.proofs.ChangeLaws.{steps_see_no_more}
+use Rattle.seq_bus_core.proofs.Extending.{after_more, range_more}
+use Rattle.registry.specs.Idle.{IsIdle, without_tickets}
+use Rattle.registry.proofs.Idle.{idle_step}
+use Rattle.registry.proofs.Openings.{opened_still}
+use Rattle.seq_bus.specs.PlainBus.{AreOwnEntries, opened_as}
 
-pub after_one : (b : WholeBus) (history : History) (e : Entry) → bus_after b (history ++ e ∷ []) ≡ (bus_step (bus_after b history) e.seat e.change).0
-after_one b [] e = refl
-after_one b (x ∷ history) e = after_one (bus_step b x.seat x.change).0 history e
+-- ## A change that was absorbed
 
--- a change does not touch what a bus was opened with
-pub opened_still : (s : BusState) (seat : ℕ) (change : Change) → opened_as (step s seat change).0 ≡ opened_as s
-opened_still s seat change =
-    step_cases s (λ t. opened_as t ≡ opened_as s)
-    (record {
-      same = refl;
-      hello = λ _ _ _ _ _. refl;
-      leave = λ _. refl;
-      request = λ _ _ _ _ _ _. refl;
-      release = λ _ _ _. refl;
-      add_match = λ _ _ _ _. refl;
-      remove_match = λ _. refl;
-      monitor = λ _ _. refl;
-      first_ticket = λ _ _ _ _. refl;
-      later_ticket = λ _ _. refl;
-      failed = λ _. refl;
-    }) seat change
+-- the state after it
+pub absorbed : (s t : BusState) (change : Change) → t ≡ (step s 1 (as_seen change)).0 → t ≡ (step s 1 change).0
+absorbed s t change is = is ∙ ap (λ (r : Stepped). r.0) (steps_see_no_more s 1 change)
 
-pub opened_by : (b t : WholeBus) (change : Change) (outcome : Outcome) → IsStepped b t change outcome → opened_as t.state ≡ opened_as b.state
-opened_by b t change outcome stepped = ap (λ (r : WholeBus × Outcome). opened_as r.0.state) (sym stepped) ∙ opened_still b.state 1 change
+-- the bus after it
+pub whole_after : (s t : BusState) (change : Change) → IsIdle (without_tickets s) → IsServedChange change → t ≡ (step s 1 (as_seen change)).0 → (bus_step (without_tickets s) 1 change).0 ≡ without_tickets t
+whole_after s t change idle served is =
+    let same = absorbed s t change is in
+    let waits = (idle_step (without_tickets s) 1 change idle served).nobody_waits in
+    λ i. record { state = sym same i; waiting = waits i }
 
--- the history after a change that was made
-pub step_made : (b t : WholeBus) (history : History) (number : ℕ) (change : Change) (outcome : Outcome) →
-    bus_after (opened_as b.state) history ≡ b → IsStepped b t change outcome →
-    bus_after (opened_as t.state) (history ++ record { seat = 1; number = number; change = change; left = 0 } ∷ []) ≡ t
-step_made b t history number change outcome now stepped =
+pub idle_after : (s t : BusState) (change : Change) → IsIdle (without_tickets s) → IsServedChange change → t ≡ (step s 1 (as_seen change)).0 → IsIdle (without_tickets t)
+idle_after s t change idle served is = subst IsIdle (whole_after s t change idle served is) (idle_step (without_tickets s) 1 change idle served)
+
+pub opened_after : (s t : BusState) (change : Change) → t ≡ (step s 1 (as_seen change)).0 → opened_as t ≡ opened_as s
+opened_after s t change is = ap opened_as is ∙ ap without_tickets (opened_still s 1 (as_seen change))
+
+-- the history with it
+pub change_made : (s t : BusState) (history : History) (number : ℕ) (change : Change) →
+    bus_after (opened_as s) history ≡ without_tickets s → IsIdle (without_tickets s) → IsServedChange change → t ≡ (step s 1 (as_seen change)).0 →
+    bus_after (opened_as t) (history ++ record { seat = 1; number = number; change = change; left = 0 } ∷ []) ≡ without_tickets t
+change_made s t history number change now idle served is =
     let e : Entry = record { seat = 1; number = number; change = change; left = 0 } in
-    let opened : opened_as t.state ≡ opened_as b.state = ap (λ (r : WholeBus × Outcome). opened_as r.0.state) (sym stepped) ∙ opened_still b.state 1 change in
-    ap (λ (w : WholeBus). bus_after w (history ++ e ∷ [])) opened ∙ after_one (opened_as b.state) history e
-    ∙ ap (λ (w : WholeBus). (bus_step w 1 change).0) now ∙ ap (λ (r : WholeBus × Outcome). r.0) stepped
+    ap (λ (w : WholeBus). bus_after w (history ++ e ∷ [])) (opened_after s t change is) ∙ after_more (opened_as s) history (e ∷ [])
+    ∙ ap (λ (w : WholeBus). (bus_step w 1 change).0) now ∙ whole_after s t change idle served is
 
-pub step_sound : (b t : WholeBus) (change : Change) (outcome : Outcome) → IsSound b → IsStepped b t change outcome → IsSound t
-step_sound b t change outcome sound stepped =
-    let after : (bus_step b 1 change).0 ≡ t = ap (λ (r : WholeBus × Outcome). r.0) stepped in
-    let routers : (step b.state 1 change).0.routers ≡ b.state.routers = ap (λ (w : WholeBus). w.state.routers) (opened_still b.state 1 change) in
-    subst IsSound after (record {
-      whole = steps_keep_whole b sound.whole 1 change;
-      within = steps_keep_limits b.state 1 change sound.whole.consistent sound.within;
-      routed = rw routers sound.routed;
-    })
-
-range_more : (a n : ℕ) → range_with_len a (n + 1) ≡ range_with_len a n ++ (a + n) ∷ []
-range_more a zero = let same : a ≡ a + 0 = omega arith in ap (λ k. k ∷ []) same
-range_more a (suc n) =
-    let more : suc n + 1 ≡ suc (n + 1) = omega arith in
-    let last : a + 1 + n ≡ a + suc n = omega arith in
-    ap (range_with_len a) more ∙ ap (λ rest. a ∷ rest) (range_more (a + 1) n ∙ ap (λ k. range_with_len (a + 1) n ++ k ∷ []) last)
+-- ## Entries of one seat
 
 all_more : (P : Entry → Type 0) (history : History) (e : Entry) → AllByRecursion P history → P e → AllByRecursion P (history ++ e ∷ [])
 all_more P [] e all h = (h, tt)
@@ -87,7 +58,7 @@ own_more history e own seat number left =
     record {
       seats = all_more (λ x. x.seat ≡ 1) history e own.seats seat;
       numbers = map-append (λ (x : Entry). x.number) history (e ∷ []) ∙ ap (λ front. front ++ e.number ∷ []) own.numbers
-          ∙ ap (λ n. range_with_len 1 (length history) ++ n ∷ []) place ∙ sym (range_more 1 (length history))
+          ∙ ap (λ n. range_with_len 1 (length history) ++ n ∷ []) place ∙ sym (range_more 1 (length history) 1)
           ∙ ap (range_with_len 1) (sym (length-append history (e ∷ [])));
       alone = all_more (λ x. x.left ≡ 0) history e own.alone left;
     }
@@ -121,53 +92,3 @@ own_legal history own = record {
     by_test seat false e =
         let none : numbers_of seat history ≡ [] = ap (map (λ (x : Entry). x.number)) (of_seat seat false history e own.seats) in
         none ∙ ap (λ (numbers : List ℕ). range_with_len 1 (length numbers)) (sym none)
-
--- a bus that was just opened
-pub opening_sound : (profile : Profile) (routers : ℕ) (services : List Text) → CanOpen routers services → IsSound (opening_bus profile routers services)
-opening_sound profile routers services can = record {
-  whole = buses_are_whole profile routers services [];
-  within = buses_are_within_limits profile routers services [];
-  routed = can.routed;
-}
-
--- ## Lists of names
-
-few_filter : {X : Type 0} (test : X → Bool) (xs : List X) → length (filter test xs) ≤ length xs
-few_filter test [] = omega arith
-few_filter test (x ∷ xs) = by_test (test x) (few_filter test xs)
-  where
-    by_test : (b : Bool) → length (filter test xs) ≤ length xs → length (cond b (x ∷ filter test xs) (filter test xs)) ≤ suc (length xs)
-    by_test true few = omega (arith, few)
-    by_test false few = omega (arith, few)
-
-pub few_there : (s : BusState) → IsWithinLimits s → length (bus_text ∷ names_there s) ≤ 2048
-few_there s within =
-    let clients : List Connection = filter (λ c. not (is_monitor c)) s.connections in
-    let unique : Connection → Text = λ c. unique_text c.number in
-    let named : OwnedName → Text = λ n. n.name in
-    let whole : length (map unique clients ++ map named s.names) ≡ length (map unique clients) + length (map named s.names) = length-append (map unique clients) (map named s.names) in
-    let front : length (map unique clients) ≡ length clients = length-map clients unique in
-    let back : length (map named s.names) ≡ length s.names = length-map s.names named in
-    let few : length clients ≤ length s.connections = few_filter (λ (c : Connection). not (is_monitor c)) s.connections in
-    omega (arith, whole, front, back, few, within.connections, within.names)
-
-pub few_names : (b : WholeBus) → IsSound b → length (bus_text ∷ names_there b.state) ≤ 2048
-few_names b sound = few_there b.state sound.within
-
-few_by : (b : Bool) (o : Option Text) (q : Queue) (items : List Text) → length q ≤ 256 → ◌≡◌ {A = Option (List Text)} (Some items) (if b then option_map (λ owner. owner ∷ []) o else queued_names q) → length items ≤ 2048
-few_by true None q items h e = cc
-few_by true (Some t) q items h e =
-    let is : items ≡ t ∷ [] = cc in
-    let one = ap (λ (ts : List Text). length ts) is in
-    omega (arith, one)
-few_by false o [] items h e = cc
-few_by false o (p ∷ ps) items h e =
-    let name : QueuedOwner → Text = λ place. unique_text place.connection in
-    let is : items ≡ map name (p ∷ ps) = cc in
-    let size = ap (λ (ts : List Text). length ts) is in
-    let count : length (map name (p ∷ ps)) ≡ length (p ∷ ps) = length-map (p ∷ ps) name in
-    omega (arith, size, count, h)
-
-pub few_owners : (b : WholeBus) (name : Text) (items : List Text) → IsSound b → ◌≡◌ {A = Option (List Text)} (Some items) (queue_names b.state name) → length items ≤ 2048
-few_owners b name items sound e =
-    few_by (is_bus name || is_unique name) (owner_name b.state name) (queue_of b.state.names name) items (few_in_queue b.state name sound.whole.consistent sound.within) e

@@ -1,3 +1,2 @@
-pub mod BodyLemmas
 pub mod HistoryLemmas
-pub mod OpeningLemmas
+pub mod PlainLemmas

@@ -1,4 +1,2 @@
-pub mod Bodies
 pub mod PlainBus
-pub mod Refusals
-pub mod Served
+pub mod PlainViews

@@ -3,11 +3,13 @@ use Rattle.std.specs.Prelude.{◌≡◌, ◌+◌, [], ◌∷◌, ◌++◌, lengt
 use Rattle.std.specs.List.{range_with_len, AllByRecursion}
 use Rattle.seq_bus.specs.declared.TheConstants.{SEAT}
 use Rattle.seq_bus_core.specs.BusState.{BusState}
-use Rattle.seq_bus_core.specs.Histories.{History}
+use Rattle.seq_bus_core.specs.Histories.{History, entry_alone}
 use Rattle.seq_bus_core.specs.Tickets.{WholeBus, bus_step, bus_after}
 use Rattle.seq_bus_core.specs.declared.change.Change.{Change}
 use Rattle.seq_bus_core.specs.declared.entry.Entry.{Entry}
 use Rattle.seq_bus_core.specs.declared.outcome.Outcome.{Outcome}
+use Rattle.registry.specs.Idle.{without_tickets}
+use Rattle.registry.specs.Openings.{as_opened}
 
 pub record PlainBus : Type 0 where
   pub opening : WholeBus
@@ -19,20 +21,16 @@ bus_now bus = bus_after bus.opening bus.seen
 
 -- the entry of the next change: its one seat makes them all, each a publication of its own
 abbrev pub next_entry : PlainBus → Change → Entry
-next_entry bus change = record { seat = SEAT; number = length bus.seen + 1; change = change; left = 0 }
+next_entry bus change = entry_alone SEAT (length bus.seen + 1) change
 
 -- A change was made: it was told what the step of the bus says, and stands in the history.
 pub record IsMade (before after : PlainBus) (change : Change) (outcome : Outcome) : Type 0 where
   pub told : outcome ≡ (bus_step (bus_now before) SEAT change).1
   pub published : after ≡ record before { seen = before.seen ++ next_entry before change ∷ [] }
 
--- a bus without tickets that wait
-abbrev pub without_tickets : BusState → WholeBus
-without_tickets s = record { state = s; waiting = [] }
-
 -- the bus as it was opened: with its profile, its routers and its services, and nothing else
 abbrev pub opened_as : BusState → WholeBus
-opened_as s = without_tickets (record s { connections = []; names = []; rules = []; starts = []; next_number = 1; next_ticket = 1; next_start = 1 })
+opened_as s = without_tickets (as_opened s)
 
 -- the entries of a bus with one seat, each a publication of its own
 pub record AreOwnEntries (history : History) : Type 0 where

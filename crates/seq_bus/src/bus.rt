@@ -5,22 +5,20 @@ ghost use Rattle.seq_bus_core.specs.BusState.{connection_of};
 ghost use Rattle.seq_bus_core.specs.Answers.{answer};
 ghost use Rattle.seq_bus_core.specs.Recipients.{recipients};
 ghost use Rattle.seq_bus_core.specs.Histories.{CanOpen, IsLegal};
+ghost use Rattle.seq_bus_core.specs.Served.{IsServedChange};
 ghost use Rattle.seq_bus_core.specs.Tickets.{opening_bus};
-ghost use Rattle.seq_bus.specs.Bodies.{Answers};
+ghost use Rattle.bus_view.specs.Bodies.{Answers};
+ghost use Rattle.bus_view.specs.declared.refusal.Cause.TheVariants.{NoMemory};
+ghost use Rattle.bus_view.specs.declared.answer.AskFault.TheVariants.{NoMemory as AskNoMemory};
 ghost use Rattle.seq_bus.specs.PlainBus.{bus_now, IsMade};
-ghost use Rattle.seq_bus.specs.Served.{IsServedChange};
-ghost use Rattle.seq_bus.specs.declared.refusal.Cause.TheVariants.{NoMemory};
-ghost use Rattle.seq_bus.specs.declared.answer.AskFault.TheVariants.{NoMemory as AskNoMemory};
 
 use crate::SEAT;
-use crate::answer::{AskFault, Asked};
-use crate::bodies::{append_names, append_owner, append_whether};
-use crate::refusal::Refused;
+use bus_view::{AskFault, Asked, Cause, Refused};
 use match_rules::Facts;
 use names::WellKnown;
 use owner_queues::Profile;
+use registry::{Registry, without_tickets};
 use seq_bus_core::{Change, Entry, Outcome, Query, Verdict};
-use seq_bus_state::State;
 use std::alloc::{AllocError, Global};
 use std::marker::Model;
 
@@ -31,30 +29,30 @@ use std::marker::Model;
 #[derive(Drop)]
 pub struct SeqBus {
     alloc: Global,
-    state: State,
+    registry: Registry,
     seen: Vec<Entry>,
 }
 
 impl Model for SeqBus {
     ghost use Rattle.std.specs.Prelude.{◌≡◌};
-    ghost use Rattle.std.specs.Prelude.{◌≤◌, length};
-    ghost use Rattle.seq_bus_core.specs.Histories.{max_services};
     ghost use Rattle.seq_bus_core.specs.Tickets.{bus_after};
+    ghost use Rattle.registry.specs.Idle.{IsIdle, without_tickets};
     ghost use Rattle.seq_bus.specs.PlainBus.{PlainBus, opened_as, AreOwnEntries};
-    ghost use Rattle.seq_bus_state.specs.Steps.{IsSound};
 
     ghost Value = { PlainBus };
 
-    ghost view = { λ b. record { opening = opened_as b.state.state; seen = b.seen.items } };
+    ghost view = { λ b. record { opening = opened_as b.registry; seen = b.seen.items } };
 
-    ghost invariant = { λ b. (bus_after (opened_as b.state.state) b.seen.items ≡ b.state) × AreOwnEntries b.seen.items × IsSound b.state × (length b.state.state.services ≤ max_services) };
+    ghost invariant = { λ b.
+        (bus_after (opened_as b.registry) b.seen.items ≡ without_tickets b.registry)
+        × AreOwnEntries b.seen.items × IsIdle (without_tickets b.registry) };
 }
 
 impl SeqBus {
     /// A bus with these services and so many routers, on which nothing has happened.
     ///
     /// The services are names that programs can be started for. Whether the bus can be opened with them is said by
-    /// [`can_open`](crate::can_open).
+    /// [`can_open`](bus_view::can_open).
     pub fn new(
         alloc: Global,
         services: &[WellKnown],
@@ -62,12 +60,13 @@ impl SeqBus {
         profile: Profile,
     ) -> Result<SeqBus, AllocError>
         requires { CanOpen routers services.now }
-        ensures { IfOk result (λ bus. bus ≡ record { opening = opening_bus profile routers services.now; seen = [] }) }
+        ensures { IfOk result (λ bus.
+            bus ≡ record { opening = opening_bus profile routers services.now; seen = [] }) }
     {
-        let state = State::new(alloc, services, routers, profile)?;
+        let registry = Registry::new(alloc, services, routers, profile)?;
         Ok(SeqBus {
             alloc,
-            state,
+            registry,
             seen: Vec::new(alloc),
         })
     }
@@ -80,51 +79,41 @@ impl SeqBus {
         requires { IsServedChange change }
         ensures made { IfOk result (λ outcome. IsMade self.old self.new change outcome) }
         ensures settled { IfOk result (λ outcome. outcome.tickets ≡ []) }
-        ensures handed_back { IfErr result (λ refused. refused ≡ record { change = change; cause = NoMemory }) }
+        ensures handed_back { IfErr result (λ refused.
+            refused ≡ record { change = change; cause = NoMemory }) }
         ensures unchanged { OnErr result (self.new ≡ self.old) }
     {
         if self.seen.reserve(1).is_err() {
-            return Err(Refused::no_memory(change));
+            return Err(without_memory(change));
         }
-        match self.state.step(&change) {
-            Ok(outcome) => {
-                let number = self.seen.len() as u64 + 1;
-                self.seen
-                    .push(Entry {
-                        seat: SEAT,
-                        number,
-                        change,
-                        left: 0,
-                    })
-                    .unwrap();
-                Ok(outcome)
-            }
-            Err(_) => Err(Refused::no_memory(change)),
-        }
+        let Ok(mut prepared) = self.registry.prepare(self.alloc, SEAT, &change) else {
+            return Err(without_memory(change));
+        };
+        let told = prepared.take_outcome(self.alloc);
+        self.registry.absorb(&prepared);
+        let number = self.seen.len() as u64 + 1;
+        self.seen
+            .push(Entry {
+                seat: SEAT,
+                number,
+                change,
+                left: 0,
+            })
+            .unwrap();
+        Ok(without_tickets(self.alloc, told))
     }
 
     /// Answers a query: appends the body of the reply, in little-endian order as from offset 0 on, or says that the
     /// name has no owner. After a fault nothing is appended.
     pub fn ask(&mut self, query: &Query, body: &mut Vec<u8>) -> Result<Asked, AskFault>
-        ensures answered { IfOk result (λ asked. Answers asked (answer (bus_now self.old).state query.now) body.old.items body.new.items) }
+        ensures answered { IfOk result (λ asked.
+            Answers asked (answer (bus_now self.old).state query.now)
+            body.old.items body.new.items) }
         ensures fault { IfErr result (λ fault. fault ≡ AskNoMemory) }
         ensures unanswered { OnErr result (body.new.items ≡ body.old.items) }
         ensures unchanged { self.new ≡ self.old }
     {
-        match query {
-            Query::GetNameOwner(name) => append_owner(body, self.state.owner_name(name)),
-            Query::NameHasOwner(name) => {
-                append_whether(body, self.state.owner_name(name).is_some())
-            }
-            Query::ListNames => append_names(self.alloc, body, &self.state.list_names()?),
-            Query::ListActivatableNames => {
-                append_names(self.alloc, body, &self.state.list_activatable_names()?)
-            }
-            Query::ListQueuedOwners(name) => match self.state.list_queued_owners(name)? {
-                Some(names) => append_names(self.alloc, body, &names),
-                None => Ok(Asked::NameHasNoOwner),
-            },
-        }
+        self.registry.ask(query, body)
     }
 
     /// Where a message from a connection goes, and which monitors are shown it. 0 is the bus.
@@ -133,7 +122,14 @@ impl SeqBus {
     pub fn route(&self, from: u64, facts: &Facts<'_>) -> Verdict
         ensures { result ≡ recipients (bus_now self.now).state from facts.now }
     {
-        self.state.route(from, facts)
+        self.registry.route(from, facts)
+    }
+
+    /// The same as `route`, told where there is room for it: a verdict is large, and is not moved.
+    pub fn route_into(&self, from: u64, facts: &Facts<'_>, told: &mut Verdict)
+        ensures { told.new ≡ recipients (bus_now self.now).state from facts.now }
+    {
+        self.registry.route_into(from, facts, told);
     }
 
     /// The changes that were made, in order. They are a legal history.
@@ -148,7 +144,7 @@ impl SeqBus {
     pub fn present(&self, number: u64) -> bool
         ensures { result ≡ is_some (connection_of (bus_now self.now).state number) }
     {
-        self.state.has(number)
+        self.registry.present(number)
     }
 
     /// The number of the bus's one seat.
@@ -156,5 +152,15 @@ impl SeqBus {
         ensures { result ≡ SEAT }
     {
         SEAT
+    }
+}
+
+/// A change that is handed back for want of memory.
+fn without_memory(change: Change) -> Refused
+    ensures { result ≡ record { change = change; cause = NoMemory } }
+{
+    Refused {
+        change,
+        cause: Cause::NoMemory,
     }
 }

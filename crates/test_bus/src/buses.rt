@@ -1,15 +1,14 @@
 //! Buses that rows are played on: a plain bus, its view, and a registry.
 
 ghost use Rattle.std.specs.Prelude.{IfSome};
-ghost use Rattle.registry.specs.Served.{IsServedChange};
-ghost use Rattle.seq_bus.specs.Served.{IsServedChange as IsServedByPlainBus};
+ghost use Rattle.seq_bus_core.specs.Served.{IsServedChange};
 
-use bus_view::BusView;
+use bus_view::{Asked, BusView, can_open};
 use match_rules::{Facts, Rule};
 use names::BusName;
 use owner_queues::{Profile, RequestFlags};
 use registry::Registry;
-use seq_bus::{Asked, SeqBus, can_open};
+use seq_bus::SeqBus;
 use seq_bus_core::{Change, Query, Reply, Signals, Verdict};
 use std::alloc::Global;
 use std::process::Abort;
@@ -31,8 +30,7 @@ pub enum Deed<'a> {
 
 /// The change that is meant; none where a text is no name or no rule.
 pub fn change_of(deed: Deed<'_>) -> Option<Change>
-    ensures registry { IfSome result (λ change. IsServedChange change) }
-    ensures plain { IfSome result (λ change. IsServedByPlainBus change) }
+    ensures { IfSome result (λ change. IsServedChange change) }
 {
     Some(match deed {
         Deed::Hello => Change::Hello { privileged: false },
@@ -216,6 +214,17 @@ impl Seated {
             registry: once_more!(rt; Registry::new(alloc, &[], routers, Profile::One)),
         }
     }
+
+    /// Whether a query is answered this body, which is empty where the name has no owner.
+    fn answers(&self, query: &Query, expected: &[u8]) -> bool {
+        let mut body = Vec::new(self.alloc);
+        let asked = match self.registry.ask(query, &mut body) {
+            Ok(asked) => Ok(asked),
+            Err(_) if !body.is_empty() => return false,
+            Err(_) => self.registry.ask(query, &mut body),
+        };
+        asked == Ok(answer_of(expected)) && body.as_slice() == expected
+    }
 }
 
 impl Bus for Seated {
@@ -229,16 +238,19 @@ impl Bus for Seated {
         Ok((outcome.reply, outcome.signals))
     }
 
-    fn has_owner(&mut self, name: BusName, owner: Option<u64>, _body: &[u8]) -> bool {
+    fn has_owner(&mut self, name: BusName, owner: Option<u64>, body: &[u8]) -> bool {
         self.registry.owner(&name) == owner
+            && self.answers(&Query::GetNameOwner(name), body)
+            && self.answers(&Query::NameHasOwner(name), whether(body))
     }
 
-    fn has_queue(&mut self, name: BusName, queue: &[u64], _body: &[u8]) -> bool {
+    fn has_queue(&mut self, name: BusName, queue: &[u64], body: &[u8]) -> bool {
         let places = self.registry.queue(name.as_str());
         places
             .iter()
             .map(|place| place.connection)
             .eq(queue.iter().copied())
+            && self.answers(&Query::ListQueuedOwners(name), body)
     }
 
     fn goes(&mut self, from: u64, facts: &Facts<'_>) -> Option<Verdict> {

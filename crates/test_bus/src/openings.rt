@@ -2,9 +2,10 @@
 
 use crate::buses::{Plain, Seated};
 use crate::runs::is_welcomed;
+use bus_view::can_open;
 use names::{BusName, UniqueName, WellKnown};
 use owner_queues::Profile;
-use seq_bus::{SeqBus, can_open};
+use seq_bus::SeqBus;
 use seq_bus_core::{Conn, Query};
 use std::alloc::Global;
 use std::process::Abort;

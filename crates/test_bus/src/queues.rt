@@ -45,7 +45,7 @@ fn code_of(rt: &impl Abort, queue: &mut Queue, step: Step) -> u32 {
         Step::Request(connection, bits) => {
             assert!(rt; queue.has_room(connection));
             let flags = RequestFlags::from_bits(bits);
-            queue.request(Profile::One, connection, flags).code()
+            queue.request(connection, flags, Profile::One).code()
         }
         Step::Release(connection) => queue.release(connection).code(),
         Step::Leave(connection) => {
@@ -86,7 +86,7 @@ fn queues_of_one_name(rt: HostRuntime) {
 /// Another queue of the same places.
 fn copied(queue: &Queue) -> Queue {
     let mut copy = Queue::new();
-    copy.request(Profile::One, C, RequestFlags::default());
+    copy.request(C, RequestFlags::default(), Profile::One);
     copy.copy_from(queue);
     copy
 }

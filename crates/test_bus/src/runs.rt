@@ -406,7 +406,7 @@ fn is_signal(found: &BusSignal, expected: Signal) -> bool {
 }
 
 fn is_told(found: &AddressedSignal, expected: &Addressed) -> bool {
-    is_signal(&found.signal, expected.0)
+    is_signal(found.signal.get(), expected.0)
         && found.to.as_slice() == expected.1
         && found.monitors.as_slice().is_empty()
 }
@@ -440,14 +440,14 @@ pub(crate) fn is_welcomed<B: Bus>(bus: &mut B, conn: Conn, listeners: &[Conn]) -
     let name = BusName::from(UniqueName::of(conn.number));
     let owner = conn.number;
     reply == Reply::Welcome(conn)
-        && passed.signal
+        && *passed.signal.get()
             == BusSignal::NameOwnerChanged {
                 name,
                 old_owner: None,
                 new_owner: Some(owner),
             }
         && passed.to.as_slice() == listeners
-        && acquired.signal == BusSignal::NameAcquired { name, owner }
+        && *acquired.signal.get() == BusSignal::NameAcquired { name, owner }
         && acquired.to.as_slice() == [conn].as_slice()
 }
 

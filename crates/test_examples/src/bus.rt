@@ -1,8 +1,9 @@
 //! A bus in one thread.
 
+use bus_view::can_open;
 use names::BusName;
 use owner_queues::{Profile, RequestFlags};
-use seq_bus::{SeqBus, can_open};
+use seq_bus::SeqBus;
 use seq_bus_core::{Change, Query};
 use std::test::Fail;
 

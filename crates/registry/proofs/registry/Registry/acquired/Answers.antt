@@ -18,6 +18,4 @@ returns g c =
     c.owner_told-facts.ensures ∙ ap (λ n. facts_with n c.as_str-2.result.now) c.as_str.ensures.value ∙ ap (facts_with c.args.name) (c.as_str-2.ensures.value ∙ c.of-owner.ensures) in
     let watching : Facts → List Conn = λ facts. conns_that (λ d. stays c.args.leaver d.number && watches_by heads facts d) s.connections in
     let sent : List Conn → List Conn → AddressedSignal = λ to shown. record { signal = signal; to = to; monitors = shown } in
-    ap (λ (u : AddressedSignal). record { signal = u.signal; to = c.push.new.self; monitors = c.add_monitors_shown.new.shown }) c.unheard-addressed.ensures
-    ∙ ap (λ to. sent to c.add_monitors_shown.new.shown) (c.push.ensures ∙ ap (λ (u : AddressedSignal). u.to ++ c.args.conn ∷ []) c.unheard-addressed.ensures)
-    ∙ ap (sent (c.args.conn ∷ [])) (c.add_monitors_shown.ensures ∙ ap watching facts_are)
+    c.in_ok-told.ensures ∙ ap (sent (c.args.conn ∷ [])) (c.as_slice.ensures ∙ c.add_monitors_shown.ensures ∙ ap watching facts_are)

@@ -19,6 +19,5 @@ returns g c =
     c.owner_told-facts.ensures ∙ ap (λ n. facts_with n c.as_str-2.result.now) c.as_str.ensures.value ∙ ap (facts_with c.args.name) (c.as_str-2.ensures.value ∙ c.of-owner_name.ensures) in
     let watching : Facts → List Conn = λ facts. conns_that (λ d. stays c.args.leaver d.number && watches_by heads facts d) s.connections in
     let sent : List Conn → List Conn → AddressedSignal = λ to shown. record { signal = signal; to = to; monitors = shown } in
-    ap (λ (u : AddressedSignal). record { signal = u.signal; to = c.add_conn.new.to; monitors = c.add_monitors_shown.new.shown }) c.unheard-addressed.ensures
-    ∙ ap (λ to. sent to c.add_monitors_shown.new.shown) c.add_conn.ensures
-    ∙ ap (sent (conn_at s (Some c.args.owner))) (c.add_monitors_shown.ensures ∙ ap watching facts_are)
+    c.in_ok-told.ensures ∙ ap (λ to. sent to c.as_slice-2.result.now) (c.as_slice.ensures ∙ c.add_conn.ensures)
+    ∙ ap (sent (conn_at s (Some c.args.owner))) (c.as_slice-2.ensures ∙ c.add_monitors_shown.ensures ∙ ap watching facts_are)

@@ -21,6 +21,5 @@ returns g c =
     let wanting : Facts → List Conn = λ facts. conns_that (λ d. stays c.args.leaver d.number && wants_by heads s.rules facts d) s.connections in
     let watching : Facts → List Conn = λ facts. conns_that (λ d. stays c.args.leaver d.number && watches_by heads facts d) s.connections in
     let sent : List Conn → List Conn → AddressedSignal = λ to shown. record { signal = signal; to = to; monitors = shown } in
-    ap (λ (u : AddressedSignal). record { signal = u.signal; to = c.add_those_that_want.new.to; monitors = c.add_monitors_shown.new.shown }) c.unheard-addressed.ensures
-    ∙ ap (λ to. sent to c.add_monitors_shown.new.shown) (c.add_those_that_want.ensures ∙ ap wanting facts_are)
-    ∙ ap (sent (wanting (facts_of signal))) (c.add_monitors_shown.ensures ∙ ap watching facts_are)
+    c.in_ok-told.ensures ∙ ap (λ to. sent to c.as_slice-2.result.now) (c.as_slice.ensures ∙ c.add_those_that_want.ensures ∙ ap wanting facts_are)
+    ∙ ap (sent (wanting (facts_of signal))) (c.as_slice-2.ensures ∙ c.add_monitors_shown.ensures ∙ ap watching facts_are)

@@ -1,18 +1,14 @@
-use Rattle.std.proofs.Common.{◌≡◌, ◌∙◌, Option, Some, List, length, ap, arith, rules}
-use Rattle.names.specs.Texts.{Text}
-use Rattle.seq_bus_core.specs.Answers.{queue_names}
-use Rattle.seq_bus.proofs.HistoryLemmas.{few_names, few_owners}
+use Rattle.std.proofs.Common.{◌≡◌, List, ℕ, ap, sym, subst, ◌∙◌}
+use Rattle.std.proofs.lemmas.Result.{IfOk-weaker}
+use Rattle.seq_bus_core.specs.Answers.{answer}
+use Rattle.seq_bus_core.specs.Tickets.{WholeBus}
+use Rattle.bus_view.specs.Bodies.{Answers}
+use Rattle.registry.specs.Idle.{without_tickets}
+use Rattle.seq_bus.specs.PlainBus.{bus_now}
 use Rattle.seq_bus.proofs.bus.SeqBus.ask.Goals as goal
 
-pub append_names-requires : goal.append_names-requires
-append_names-requires c =
-    let few = few_names c.self.inside.state c.self.invariant.2 in
-    let size = ap (λ (names : List Text). length names) (c.deref.ensures.value ∙ c.in_ok-list_names-in-ListNames.ensures) in
-    omega (arith, few, size)
-
-pub append_names-requires-in-Some : goal.append_names-requires-in-Some
-append_names-requires-in-Some c =
-    let is : ◌≡◌ {A = Option (List Text)} (Some c.in-Some.names.items) (queue_names c.self.inside.state.state c.in-ListQueuedOwners.name) = search rules in
-    let few = few_owners c.self.inside.state c.in-ListQueuedOwners.name c.in-Some.names.items c.self.invariant.2 is in
-    let size = ap (λ (names : List Text). length names) c.deref-in-Some.ensures.value in
-    omega (arith, few, size)
+pub returns-clause-answered : goal.returns-clause-answered
+returns-clause-answered c =
+    let now : bus_now c.args.self.now ≡ without_tickets c.self.inside.registry = ap bus_now (sym c.self.view_is) ∙ c.self.invariant.0 in
+    IfOk-weaker c.ask.result _ _
+    (λ asked h. subst (λ (b : WholeBus). Answers asked (answer b.state c.args.query.now) c.args.body.now.items c.ask.new.body.items) (sym now) h) c.ask.ensures.answered

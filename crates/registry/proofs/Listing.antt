@@ -1,0 +1,89 @@
+-- Lists of names, and how many they have.
+use Rattle.std.proofs.Common.{◌≡◌, ℕ, suc, ◌+◌, ◌≤◌, Bool, true, false, not, cond, Some, None, List, [], ◌∷◌, ◌++◌, filter, map, flat_map, length, length-append, refl, ap, ◌∙◌, sym, arith, if◌then◌else◌}
+use Rattle.std.specs.List.{list_all}
+use Rattle.std.proofs.lemmas.List.{length-map}
+use Rattle.names.specs.Texts.{Text}
+use Rattle.names.specs.BusName.{bus_text}
+use Rattle.names.specs.UniqueName.{unique_text}
+use Rattle.owner_queues.specs.Queues.{IsQueue}
+use Rattle.owner_queues.specs.declared.owner.QueuedOwner.{QueuedOwner}
+use Rattle.seq_bus_core.specs.Answers.{names_there}
+use Rattle.seq_bus_core.specs.BusState.{AddedRule, BusState, Connection, OwnedName, is_client, is_monitor, max_connections, queue_of}
+use Rattle.seq_bus_core.specs.Consistency.{IsConsistent, IsOwned, IsWithinLimits}
+use Rattle.seq_bus_core.specs.Histories.{max_services}
+use Rattle.seq_bus_core.proofs.Lists.{each_weaker}
+use Rattle.seq_bus_core.proofs.OwnedLemmas.{queue_of_each}
+use Rattle.registry_core.specs.Listening.{connection_of_member}
+use Rattle.registry_core.specs.declared.member.Member.{Member}
+use Rattle.registry.specs.NamesListed.{only, names_in}
+use Rattle.registry.specs.declared.listed.NamesOf.{NamesOf}
+use Rattle.registry.specs.declared.listed.NamesOf.TheVariants.{All, Services, Itself, Queued}
+use Rattle.registry.proofs.QueueLemmas.{places}
+
+-- ## How many
+
+few_filter : {X : Type 0} (test : X → Bool) (xs : List X) → length (filter test xs) ≤ length xs
+few_filter test [] = omega arith
+few_filter test (x ∷ xs) = by_test (test x) (few_filter test xs)
+  where
+    by_test : (b : Bool) → length (filter test xs) ≤ length xs → length (cond b (x ∷ filter test xs) (filter test xs)) ≤ suc (length xs)
+    by_test true few = omega (arith, few)
+    by_test false few = omega (arith, few)
+
+few_there : (s : BusState) → IsWithinLimits s → length (bus_text ∷ names_there s) ≤ 2048
+few_there s within =
+    let clients : List Connection = filter (λ c. not (is_monitor c)) s.connections in
+    let unique : Connection → Text = λ c. unique_text c.number in
+    let named : OwnedName → Text = λ n. n.name in
+    let whole : length (map unique clients ++ map named s.names) ≡ length (map unique clients) + length (map named s.names) = length-append (map unique clients) (map named s.names) in
+    let front : length (map unique clients) ≡ length clients = length-map clients unique in
+    let back : length (map named s.names) ≡ length s.names = length-map s.names named in
+    let few : length clients ≤ length s.connections = few_filter (λ (c : Connection). not (is_monitor c)) s.connections in
+    omega (arith, whole, front, back, few, within.connections, within.names)
+
+-- a queue has no more places than there are connections
+few_in_queue : (s : BusState) (name : Text) → IsConsistent s → IsWithinLimits s → length (queue_of s.names name) ≤ max_connections
+few_in_queue s name consistent within =
+    let held = queue_of_each (λ q. IsQueue q × (list_all (λ o. is_client s.connections o.connection) q ≡ true)) (tt, refl) s.names name
+    (each_weaker (IsOwned s.connections) (λ n. IsQueue n.queue × (list_all (λ o. is_client s.connections o.connection) n.queue ≡ true)) (λ n owned. (owned.once, owned.clients)) s.names consistent.names_owned) in
+    let taken = places s.connections (queue_of s.names name) held.0 held.1 in
+    omega (arith, taken, within.connections)
+
+pub few_in : (s : BusState) (list : NamesOf) → IsConsistent s → IsWithinLimits s → length s.services ≤ max_services → length (names_in s list) ≤ 2048
+few_in s All consistent within few = few_there s within
+few_in s Services consistent within few = omega (arith, few)
+few_in s (Itself name) consistent within few = omega arith
+few_in s (Queued name) consistent within few =
+    let count = length-map (queue_of s.names name) (λ (q : QueuedOwner). unique_text q.connection) in
+    omega (arith, count, few_in_queue s name consistent within)
+
+-- ## What they have
+
+pub all_listed : {X : Type 0} (text : X → Text) (xs : List X) → flat_map (λ x. only (Some (text x))) xs ≡ map text xs
+all_listed text [] = refl
+all_listed text (x ∷ xs) = ap (λ rest. text x ∷ rest) (all_listed text xs)
+
+pub same_listed : (texts : List Text) → flat_map (λ text. only (Some text)) texts ≡ texts
+same_listed [] = refl
+same_listed (text ∷ texts) = ap (λ rest. text ∷ rest) (same_listed texts)
+
+-- the unique names of the connections that are no monitors
+pub clients_listed : (rules : List AddedRule) (members : List Member)
+    → flat_map (λ m. only (if m.is_monitor then None else Some (unique_text m.conn.number))) members
+    ≡ map (λ c. unique_text c.number) (filter (λ c. not (is_monitor c)) (map (connection_of_member rules) members))
+clients_listed rules [] = refl
+clients_listed rules (m ∷ members) = by_test m.is_monitor refl (clients_listed rules members)
+  where
+    by_test : (b : Bool) → m.is_monitor ≡ b
+        → flat_map (λ (n : Member). only (if n.is_monitor then None else Some (unique_text n.conn.number))) members
+        ≡ map (λ (c : Connection). unique_text c.number) (filter (λ c. not (is_monitor c)) (map (connection_of_member rules) members))
+        → flat_map (λ (n : Member). only (if n.is_monitor then None else Some (unique_text n.conn.number))) (m ∷ members)
+        ≡ map (λ (c : Connection). unique_text c.number) (filter (λ c. not (is_monitor c)) (map (connection_of_member rules) (m ∷ members)))
+    by_test true e rest = rw e rest
+    by_test false e rest = rw e (ap (λ names. unique_text m.conn.number ∷ names) rest)
+
+-- the names of entries of a table
+pub owned_listed : {X : Type 0} (text : X → Text) (owned : X → OwnedName) (entries : List X) → ((x : X) → text x ≡ (owned x).name)
+    → flat_map (λ x. only (Some (text x))) entries ≡ map (λ n. n.name) (map owned entries)
+owned_listed text owned [] same = refl
+owned_listed text owned (x ∷ entries) same = λ i. same x i ∷ owned_listed text owned entries same i
