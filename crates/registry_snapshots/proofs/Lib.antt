@@ -1,7 +1,2 @@
-pub mod Fronts
-pub mod Adding
-pub mod Legal
-pub mod Openings
-pub mod Idle
 pub mod Changes
-pub mod Services
+pub mod SeatLemmas

@@ -1,6 +1,3 @@
 pub mod Seats
-pub mod Publications
-pub mod Copies
-pub mod Pending
-pub mod Served
+pub mod Desks
 pub mod Refusals

@@ -1,11 +1,10 @@
 -- What a seat of a registry knows, and what a change, a read and a note do to it.
-use Rattle.std.specs.Prelude.{◌≡◌, ℕ, zero, suc, ◌+◌, ltb, if◌then◌else◌, false, List, [], ◌∷◌, ◌++◌, length, Option, Some, None}
-use Rattle.std.specs.List.{list_any, range_with_len}
+use Rattle.std.specs.Prelude.{◌≡◌, ℕ, zero, suc, ◌+◌, false, List, [], ◌∷◌, ◌++◌, Option, None}
+use Rattle.std.specs.List.{list_any}
 use Rattle.seq_bus_core.specs.BusState.{is_monitor}
-use Rattle.seq_bus_core.specs.Histories.{History, IsLegal, Begins, numbers_of}
+use Rattle.seq_bus_core.specs.Histories.{History, HasJust, IsLegal, Begins, entry_alone}
 use Rattle.seq_bus_core.specs.Tickets.{WholeBus, bus_step, bus_after}
 use Rattle.seq_bus_core.specs.declared.change.Change.{Change}
-use Rattle.seq_bus_core.specs.declared.entry.Entry.{Entry}
 use Rattle.seq_bus_core.specs.declared.outcome.Outcome.{Outcome}
 
 -- The seat's number; the beginning of the history that it has seen; how many changes it made; and the longest beginning that
@@ -23,14 +22,6 @@ fresh number = record { number = number; seen = []; made = 0; held = None }
 abbrev pub fresh_to : ℕ → List SeatView
 fresh_to zero = []
 fresh_to (suc n) = fresh_to n ++ fresh n ∷ []
-
--- the history has of a seat's changes just the first `made`, each once and in order
-abbrev pub HasJust : ℕ → ℕ → History → Type 0
-HasJust seat made history = numbers_of seat history ≡ range_with_len 1 made
-
--- the entry of a change that is a publication of its own
-abbrev pub entry_alone : ℕ → ℕ → Change → Entry
-entry_alone seat number change = record { seat = seat; number = number; change = change; left = 0 }
 
 -- A change of a seat that made so many before. What it is told is what the bus says at one point of the history, which begins
 -- with all that the seat had seen. There the change was added, and the seat has seen the history up to it.
@@ -53,8 +44,3 @@ pub record IsRead (seen : History) (seat made : ℕ) (now : History) : Type 0 wh
 pub record IsUnwatched (opening : WholeBus) (seen : History) (seat made : ℕ) : Type 0 where
   pub read : IsRead seen seat made seen
   pub none : list_any is_monitor (bus_after opening seen).state.connections ≡ false
-
--- of what is held and what is told, the longer
-abbrev pub longer : Option History → History → History
-longer None told = told
-longer (Some held) told = if ltb (length held) (length told) then told else held

@@ -4,26 +4,23 @@
 //! no lock and takes no memory for it; it makes a change under the one lock of the [`Shared`]. What is told by a
 //! seat's [`Note`] is seen by the seat that takes it.
 //!
+//! A [`Desk`] is a seat with the [`Shared`] that it makes its changes by: a [`BusView`](bus_view::BusView), as a router's
+//! engine sees a bus.
+//!
 //! All changes of a registry stand in one history. It exists in the proofs alone: what is kept of it is its length.
 #![tactic(auto)]
 
-mod answers;
-mod history;
-mod naming;
-mod note;
+mod desk;
 mod opening;
 mod refusal;
 mod registrar;
 mod rule;
 mod seat;
 mod shared;
-mod snap;
 
-pub use history::Opened;
-pub use naming::Naming;
-pub use note::Note;
+pub use desk::Desk;
 pub use opening::{Serve, start};
-pub use refusal::{Cause, Gone, Refused, StartFault};
+pub use refusal::StartFault;
+pub use registry_snapshots_core::{Naming, Note, Opened, Snap};
 pub use seat::Seat;
 pub use shared::Shared;
-pub use snap::Snap;

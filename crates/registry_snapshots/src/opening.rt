@@ -1,18 +1,17 @@
 //! Opening a registry under a name that nobody else has to pick.
 
 ghost use Rattle.std.specs.Prelude.{◌≡◌, ◌+◌, ◌≤◌, OnOk, IfOk, IfErr};
+ghost use Rattle.owner_queues.specs.declared.request.Profile.TheVariants.{Two};
 ghost use Rattle.seq_bus_core.specs.Histories.{CanOpen, max_routers};
 ghost use Rattle.seq_bus_core.specs.Tickets.{opening_bus};
 ghost use Rattle.registry_snapshots.specs.Seats.{fresh_to};
 ghost use Rattle.registry_snapshots.specs.declared.refusal.StartFault.TheVariants.{Routers, Services};
 
-use crate::history::Opened;
-use crate::naming::Naming;
 use crate::refusal::StartFault;
 use crate::seat::Seat;
 use crate::shared::Shared;
 use names::WellKnown;
-use owner_queues::Profile;
+use registry_snapshots_core::{Naming, Opened};
 use std::alloc::Global;
 use std::marker::Brand;
 use std::sync::Wait;
@@ -43,18 +42,19 @@ fn begin<J: Naming + Send + Sync, S: Serve, R: Wait>(
     opened: Opened,
     services: &[WellKnown],
     routers: u8,
-    profile: Profile,
     server: S,
 ) -> Result<S::Out, StartFault>
     requires book { opened ≡ J.book }
-    requires bus { J.opening ≡ opening_bus profile routers services.now }
-    requires served { S.bus server ≡ opening_bus profile routers services.now }
+    requires bus { J.opening ≡ opening_bus Two routers services.now }
+    requires served { S.bus server ≡ opening_bus Two routers services.now }
     ensures given { IfOk result (λ out. S.gives server out) }
     ensures opened { OnOk result (CanOpen routers services.now) }
-    ensures routers { IfErr result (λ e. e ≡ Routers → (1 ≤ routers) × (routers ≤ max_routers) → ⊥) }
-    ensures services { IfErr result (λ e. e ≡ Services → (1 ≤ routers) × (routers ≤ max_routers) × (CanOpen routers services.now → ⊥)) }
+    ensures routers { IfErr result (λ e. e ≡ Routers →
+        (1 ≤ routers) × (routers ≤ max_routers) → ⊥) }
+    ensures services { IfErr result (λ e. e ≡ Services →
+        (1 ≤ routers) × (routers ≤ max_routers) × (CanOpen routers services.now → ⊥)) }
 {
-    let (shared, seats) = Shared::<J>::new(rt, alloc, opened, services, routers, profile)?;
+    let (shared, seats) = Shared::<J>::new(rt, alloc, opened, services, routers)?;
     Ok(server.serve::<J>(shared, seats))
 }
 
@@ -68,14 +68,15 @@ pub fn start<S: Serve, R: Wait>(
     alloc: Global,
     services: &[WellKnown],
     routers: u8,
-    profile: Profile,
     server: S,
 ) -> Result<S::Out, StartFault>
-    requires served { S.bus server ≡ opening_bus profile routers services.now }
+    requires served { S.bus server ≡ opening_bus Two routers services.now }
     ensures given { IfOk result (λ out. S.gives server out) }
     ensures opened { OnOk result (CanOpen routers services.now) }
-    ensures routers { IfErr result (λ e. e ≡ Routers → (1 ≤ routers) × (routers ≤ max_routers) → ⊥) }
-    ensures services { IfErr result (λ e. e ≡ Services → (1 ≤ routers) × (routers ≤ max_routers) × (CanOpen routers services.now → ⊥)) }
+    ensures routers { IfErr result (λ e. e ≡ Routers →
+        (1 ≤ routers) × (routers ≤ max_routers) → ⊥) }
+    ensures services { IfErr result (λ e. e ≡ Services →
+        (1 ≤ routers) × (routers ≤ max_routers) × (CanOpen routers services.now → ⊥)) }
 {
-    begin::<Brand, S, R>(rt, alloc, Opened::new(), services, routers, profile, server)
+    begin::<Brand, S, R>(rt, alloc, Opened::new(), services, routers, server)
 }

@@ -1,52 +1,9 @@
-//! What is refused.
+//! Why a registry is not opened.
 
 ghost use Rattle.std.specs.Prelude.{◌≡◌};
-ghost use Rattle.registry_snapshots.specs.Refusals.{cause_code, fault_code};
+ghost use Rattle.registry_snapshots.specs.Refusals.{fault_code};
 
-use seq_bus_core::Change;
 use thiserror::Error;
-
-/// Why a change is not made.
-#[derive(Clone, Copy, Debug, PartialEq, Eq, Error)]
-pub enum Cause {
-    #[error("out of memory")]
-    NoMemory,
-    /// The seat's numbers disagree with the registry's.
-    #[error("the seat is not of this registry")]
-    ForeignSeat,
-    /// The history would have more than 2^63 changes.
-    #[error("the history is full")]
-    HistoryFull,
-    /// The registry has ended, or one of its publications failed.
-    #[error("the registry has ended")]
-    Gone,
-}
-
-impl Cause {
-    /// The number of the cause.
-    pub fn code(self) -> u8
-        ensures { result ≡ cause_code self }
-    {
-        match self {
-            Cause::NoMemory => 60,
-            Cause::ForeignSeat => 61,
-            Cause::HistoryFull => 62,
-            Cause::Gone => 63,
-        }
-    }
-}
-
-/// A change that was not made, and why.
-#[derive(Drop)]
-pub struct Refused {
-    pub change: Change,
-    pub cause: Cause,
-}
-
-/// The registry has ended.
-#[derive(Clone, Copy, Debug, PartialEq, Eq, Error)]
-#[error("the registry has ended")]
-pub struct Gone;
 
 /// Why a registry was not opened.
 #[derive(Clone, Copy, Debug, PartialEq, Eq, Error)]
@@ -62,7 +19,7 @@ pub enum StartFault {
 }
 
 impl StartFault {
-    /// The number of the fault.
+    /// The number of the fault, 57 to 59.
     pub fn code(self) -> u8
         ensures { result ≡ fault_code self }
     {

@@ -1,25 +1,24 @@
 //! What makes changes, under the lock.
 
 ghost use Rattle.std.specs.Prelude.{◌≡◌, ◌≢◌, ◌⊎◌, ◌+◌, ◌<◌, ◌≤◌, ◌^◌, [], ◌∷◌, ◌++◌, drop, length, false, Some, slice_get, IfOk, IfErr, OnErr};
+ghost use Rattle.owner_queues.specs.declared.request.Profile.TheVariants.{Two};
 ghost use Rattle.seq_bus_core.specs.Histories.{CanOpen, IsLegal, Begins, numbers_of};
 ghost use Rattle.seq_bus_core.specs.Tickets.{opening_bus};
-ghost use Rattle.registry.specs.Served.{IsServedChange};
-ghost use Rattle.registry_snapshots.specs.Copies.{IsSnapOf};
-ghost use Rattle.registry_snapshots.specs.Pending.{IsReady, Shows};
+ghost use Rattle.seq_bus_core.specs.Served.{IsServedChange};
+ghost use Rattle.registry_snapshots_core.specs.Copies.{IsSnapOf};
+ghost use Rattle.registry_snapshots_core.specs.Pending.{IsReady, Shows};
 ghost use Rattle.registry_snapshots.specs.Seats.{IsChanged};
-ghost use Rattle.registry_snapshots.specs.declared.refusal.Cause.TheVariants.{ForeignSeat, HistoryFull, Gone};
+ghost use Rattle.bus_view.specs.declared.refusal.Cause.TheVariants.{ForeignSeat, HistoryFull, Gone};
 
-use crate::history::{Front, Head};
-use crate::naming::Naming;
-use crate::refusal::{Cause, Refused};
 use crate::rule::{Finds, Kept};
-use crate::snap::{Op, Snap};
+use bus_view::{Cause, Refused};
 use core::mem::replace_with;
 use left_right::reader::Reader;
 use left_right::writer::Writer;
 use names::WellKnown;
-use owner_queues::Profile;
-use seq_bus_core::{Change, Entry, NumberedOutcome, Outcome, Tickets};
+use registry::without_tickets;
+use registry_snapshots_core::{Front, Head, Naming, Op, Snap};
+use seq_bus_core::{Change, Entry, Outcome};
 use std::alloc::{AllocError, Global};
 use std::marker::Model;
 use std::sync::Wait;
@@ -32,7 +31,7 @@ type SnapWriter<J> = Writer<Snap, Op, (), Kept<J>>;
 const FULL: u64 = 1 << 63;
 
 /// It knows all of the history. Nothing is pending, unless it is spent: a publication failed, and it makes no other.
-/// Contracts see the history that is published, and whether it is spent.
+/// Contracts see the copy that is published, and whether it is spent.
 pub struct Registrar<J: Naming> {
     writer: SnapWriter<J>,
     head: Head,
@@ -41,28 +40,32 @@ pub struct Registrar<J: Naming> {
 
 impl<J: Naming> Model for Registrar<J> {
     ghost use Rattle.std.specs.Prelude.{◌≡◌, Bool, false, [], drop};
-    ghost use Rattle.seq_bus_core.specs.Histories.{History};
     ghost use Rattle.seq_bus_core.specs.Tickets.{bus_after};
-    ghost use Rattle.registry_snapshots.specs.Copies.{IsSnapOf};
-    ghost use Rattle.registry_snapshots.specs.Served.{IsIdle};
+    ghost use Rattle.registry_snapshots_core.specs.Copies.{SnapView, IsSnapOf};
+    ghost use Rattle.registry.specs.Idle.{IsIdle};
 
-    ghost Value = { History × Bool };
+    ghost Value = { SnapView × Bool };
 
-    ghost view = { λ r. (r.writer.desk.shown.value.front.log, r.spent) };
+    ghost view = { λ r. (r.writer.desk.shown.value, r.spent) };
 
-    ghost invariant = { λ r. (r.head ≡ J.book) × IsSnapOf J.book J.opening r.writer.desk.shown.value × IsIdle (bus_after J.opening r.writer.desk.shown.value.front.log)
+    ghost invariant = { λ r. (r.head ≡ J.book)
+        × IsSnapOf J.book J.opening r.writer.desk.shown.value
+        × IsIdle (bus_after J.opening r.writer.desk.shown.value.front.log)
         × (r.spent ≡ false → drop r.writer.behind r.writer.log.items ≡ []) };
 }
 
 /// Whether a seat that knows this much and made so many changes may make a change now. It gives all of the history.
-#[tactic(auto, using(crate::proofs::Legal::numbers_length))]
+#[tactic(auto, using(seq_bus_core::proofs::Extending::numbers_length))]
 pub fn judge(shown: &Snap, seat: u8, made: u64, known: &Front) -> Result<Front, Cause>
     requires { (opening : _) × IsSnapOf known.now.book opening shown.now }
     ensures front { IfOk result (λ f. (f ≡ shown.now.front) × IsLegal f.log) }
     ensures known { IfOk result (λ f. Begins known.now.log f.log) }
-    ensures made { IfOk result (λ f. (made ≡ length (numbers_of seat f.log)) × (made < 2 ^ 63) × (length f.log < 2 ^ 63)) }
+    ensures made { IfOk result (λ f. (made ≡ length (numbers_of seat f.log)) × (made < 2 ^ 63)
+        × (length f.log < 2 ^ 63)) }
     ensures cause { IfErr result (λ e. (e ≡ ForeignSeat) ⊎ (e ≡ HistoryFull)) }
-    ensures foreign { IfErr result (λ e. e ≡ ForeignSeat → (slice_get shown.now.last seat ≢ Some made) ⊎ (length shown.now.front.log < length known.now.log)) }
+    ensures foreign { IfErr result (λ e. e ≡ ForeignSeat →
+        (slice_get shown.now.last seat ≢ Some made)
+        ⊎ (length shown.now.front.log < length known.now.log)) }
     ensures full { IfErr result (λ e. e ≡ HistoryFull → 2 ^ 63 ≤ length shown.now.front.log) }
 {
     let front = shown.front().again();
@@ -75,29 +78,13 @@ pub fn judge(shown: &Snap, seat: u8, made: u64, known: &Front) -> Result<Front, 
     Ok(front)
 }
 
-// What a change is told where no call waits.
-fn without_tickets(alloc: Global, told: NumberedOutcome) -> Outcome
-    ensures { result ≡ record { reply = told.reply; signals = told.signals; tickets = []; start = told.start } }
-{
-    let NumberedOutcome {
-        reply,
-        signals,
-        tickets: _,
-        start,
-    } = told;
-    Outcome {
-        reply,
-        signals,
-        tickets: Tickets::new(alloc),
-        start,
-    }
-}
-
 // Shows what is pending.
 fn publish<J: Naming, R: Wait>(rt: &R, writer: SnapWriter<J>) -> (SnapWriter<J>, bool)
-    requires { IsReady J.book J.opening writer.desk.shown.value (drop writer.behind writer.log.items) }
+    requires { IsReady J.book J.opening writer.desk.shown.value
+        (drop writer.behind writer.log.items) }
     ensures settled { drop result.0.behind result.0.log.items ≡ [] }
-    ensures shown { Shows writer.desk.shown.value (drop writer.behind writer.log.items) result.0.desk.shown.value }
+    ensures shown { Shows writer.desk.shown.value
+        (drop writer.behind writer.log.items) result.0.desk.shown.value }
 {
     let (writer, shown) = writer.publish_as::<Finds<J>, R>(rt);
     (writer, shown.is_ok())
@@ -107,7 +94,8 @@ fn publish<J: Naming, R: Wait>(rt: &R, writer: SnapWriter<J>) -> (SnapWriter<J>,
 fn warm<J: Naming, R: Wait>(rt: &R, mut writer: SnapWriter<J>) -> Result<SnapWriter<J>, AllocError>
     requires kept { IsSnapOf J.book J.opening writer.desk.shown.value }
     requires settled { drop writer.behind writer.log.items ≡ [] }
-    ensures { IfOk result (λ w. (w.desk.shown.value ≡ writer.desk.shown.value) × (drop w.behind w.log.items ≡ [])) }
+    ensures { IfOk result (λ w. (w.desk.shown.value ≡ writer.desk.shown.value)
+        × (drop w.behind w.log.items ≡ [])) }
 {
     match writer.append(Op::Rest) {
         Ok(()) => Ok(publish(rt, writer).0),
@@ -125,18 +113,18 @@ impl<J: Naming> Registrar<J> {
         alloc: Global,
         services: &[WellKnown],
         routers: u8,
-        profile: Profile,
         seats: usize,
         head: Head,
         front: &Front,
     ) -> Result<Registrar<J>, AllocError>
-        requires bus { CanOpen routers services.now × (J.opening ≡ opening_bus profile routers services.now) }
+        requires bus { CanOpen routers services.now
+            × (J.opening ≡ opening_bus Two routers services.now) }
         requires seats { (0 < seats) × (seats < 2 ^ 32) }
         requires front { (head ≡ J.book) × (front.now.book ≡ J.book) × (front.now.log ≡ []) }
-        ensures { IfOk result (λ r. r ≡ ([], false)) }
+        ensures { IfOk result (λ r. (r.0.front.log ≡ []) × (r.1 ≡ false)) }
     {
-        let first = Snap::new(alloc, services, routers, profile, seats, front.again())?;
-        let second = Snap::new(alloc, services, routers, profile, seats, front.again())?;
+        let first = Snap::new(alloc, services, routers, seats, front.again())?;
+        let second = Snap::new(alloc, services, routers, seats, front.again())?;
         // An operation that one copy has and the other has not stays in the queue beside the next one, so there are two.
         let writer = warm(rt, warm(rt, Writer::new(alloc, first, second, seats)?)?)?;
         Ok(Registrar {
@@ -152,6 +140,8 @@ impl<J: Naming> Registrar<J> {
     }
 
     /// Makes a change of a seat that knows this much and made so many changes, or refuses it.
+    ///
+    /// What it gives of the history is what is published, and nothing that is refused: no front lies beyond it.
     pub fn change<R: Wait>(
         &mut self,
         rt: &R,
@@ -163,14 +153,19 @@ impl<J: Naming> Registrar<J> {
     ) -> Result<(Outcome, Front), Refused>
         requires book { known.now.book ≡ J.book }
         requires served { IsServedChange change }
-        ensures made { IfOk result (λ r. IsChanged J.opening known.now.log seat made change r.0 r.1.log) }
+        ensures made { IfOk result (λ r.
+            IsChanged J.opening known.now.log seat made change r.0 r.1.log) }
         ensures settled { IfOk result (λ r. r.0.tickets ≡ []) }
         ensures next { IfOk result (λ r. (r.1.book ≡ J.book) × (made < 2 ^ 63)) }
-        ensures published { IfOk result (λ r. self.new ≡ (r.1.log, false)) }
+        ensures published { IfOk result (λ r. (r.1 ≡ self.new.0.front) × (self.new.1 ≡ false)) }
         ensures refused { IfErr result (λ e. e.change ≡ change) }
         ensures same { OnErr result (self.new.0 ≡ self.old.0) }
         ensures judged { IfErr result (λ e. e.cause ≢ Gone → self.new ≡ self.old) }
-        ensures full { IfErr result (λ e. e.cause ≡ HistoryFull → 2 ^ 63 ≤ length self.old.0) }
+        ensures foreign { IfErr result (λ e. e.cause ≡ ForeignSeat →
+            (slice_get self.old.0.last seat ≢ Some made)
+            ⊎ (length self.old.0.front.log < length known.now.log)) }
+        ensures full { IfErr result (λ e. e.cause ≡ HistoryFull →
+            2 ^ 63 ≤ length self.old.0.front.log) }
     {
         if self.spent {
             return Err(Refused {
@@ -216,9 +211,11 @@ impl<J: Naming> Registrar<J> {
                     &mut self.writer,
                     rt,
                     |writer: SnapWriter<J>, rt: &R| -> (SnapWriter<J>, bool)
-                        requires { IsReady J.book J.opening writer.desk.shown.value (drop writer.behind writer.log.items) }
+                        requires { IsReady J.book J.opening writer.desk.shown.value
+                            (drop writer.behind writer.log.items) }
                         ensures settled { drop result.0.behind result.0.log.items ≡ [] }
-                        ensures shown { Shows writer.desk.shown.value (drop writer.behind writer.log.items) result.0.desk.shown.value }
+                        ensures shown { Shows writer.desk.shown.value
+                            (drop writer.behind writer.log.items) result.0.desk.shown.value }
                     { publish(rt, writer) },
                 );
                 Ok((without_tickets(alloc, told), next))

@@ -1,8 +1,7 @@
 //! The rule of the copies that readers take.
 
-use crate::naming::Naming;
-use crate::snap::Snap;
 use crossbeam_utils::rule::{Outcome, Protocol};
+use registry_snapshots_core::{Naming, Snap};
 use std::marker::PhantomData;
 
 /// The published copy stands for a beginning of this registry's history.
@@ -11,7 +10,7 @@ pub struct Kept<J> {
 }
 
 impl<J: Naming> Protocol<Snap, ()> for Kept<J> {
-    ghost use Rattle.registry_snapshots.specs.Copies.{IsSnapOf};
+    ghost use Rattle.registry_snapshots_core.specs.Copies.{IsSnapOf};
 
     ghost holds = { λ s _. IsSnapOf J.book J.opening s };
 
@@ -24,7 +23,7 @@ pub struct Finds<J> {
 }
 
 impl<J: Naming> Outcome<Snap, ()> for Finds<J> {
-    ghost use Rattle.registry_snapshots.specs.Copies.{IsSnapOf};
+    ghost use Rattle.registry_snapshots_core.specs.Copies.{IsSnapOf};
 
     ghost then = { λ v before after w. IsSnapOf J.book J.opening after };
 }

@@ -1,26 +1,26 @@
 //! The seats of a registry, one a router.
 
-ghost use Rattle.std.specs.Prelude.{◌≡◌, ◌⊎◌, ◌+◌, false, [], Some, is_some, OnOk, OnErr, IfOk, IfErr};
+ghost use Rattle.std.specs.Prelude.{◌≡◌, ◌⊎◌, ◌+◌, false, [], Some, is_some, OnOk, OnErr, IfOk, IfErr, IfSome};
 ghost use Rattle.std.specs.Fn.{FnOnceReturnsAt};
+ghost use Rattle.bus_view.specs.Bodies.{Answers};
+ghost use Rattle.bus_view.specs.declared.answer.AskFault.TheVariants.{Gone as AskGone, NoMemory as AskNoMemory};
+ghost use Rattle.seq_bus_core.specs.Answers.{answer};
 ghost use Rattle.seq_bus_core.specs.BusState.{connection_of};
-ghost use Rattle.seq_bus_core.specs.Histories.{IsLegal, Begins};
+ghost use Rattle.seq_bus_core.specs.Histories.{IsLegal, Begins, longer};
 ghost use Rattle.seq_bus_core.specs.Recipients.{recipients};
 ghost use Rattle.seq_bus_core.specs.Tickets.{bus_after};
-ghost use Rattle.registry.specs.Served.{IsServedChange};
-ghost use Rattle.registry_snapshots.specs.Copies.{SnapView};
-ghost use Rattle.registry_snapshots.specs.Seats.{fresh, longer, IsChanged, IsRead, IsUnwatched};
+ghost use Rattle.seq_bus_core.specs.Served.{IsServedChange};
+ghost use Rattle.registry_snapshots_core.specs.Copies.{SnapView};
+ghost use Rattle.registry_snapshots.specs.Seats.{fresh, IsChanged, IsRead, IsUnwatched};
 
-use crate::history::Front;
-use crate::naming::Naming;
-use crate::note::Note;
-use crate::refusal::{Gone, Refused};
 use crate::registrar::SnapReader;
 use crate::rule::{Finds, Kept};
 use crate::shared::Shared;
-use crate::snap::Snap;
+use bus_view::{Again, AskFault, Asked, Gone, Refused};
 use left_right::reader::Reading;
 use match_rules::Facts;
-use seq_bus_core::{Change, Outcome, Verdict};
+use registry_snapshots_core::{Front, Naming, Note, Snap};
+use seq_bus_core::{Change, Outcome, Query, Verdict};
 use std::marker::Model;
 use std::sync::Wait;
 
@@ -47,9 +47,12 @@ impl<J: Naming> Model for Seat<J> {
 
     ghost Value = { SeatView };
 
-    ghost view = { λ s. record { number = s.number; seen = s.front.log; made = s.made; held = s.held } };
+    ghost view = { λ s.
+        record { number = s.number; seen = s.front.log; made = s.made; held = s.held } };
 
-    ghost invariant = { λ s. (s.front.book ≡ J.book) × ((held : History) → s.held ≡ Some held → Begins held s.front.log) × (s.watched ≡ false → IsUnwatched J.opening s.front.log s.number s.made) };
+    ghost invariant = { λ s. (s.front.book ≡ J.book)
+        × ((held : History) → s.held ≡ Some held → Begins held s.front.log)
+        × (s.watched ≡ false → IsUnwatched J.opening s.front.log s.number s.made) };
 }
 
 type SnapReading<J> = Reading<Snap, (), Kept<J>>;
@@ -62,7 +65,8 @@ fn enter<J: Naming>(
     seen: &Front,
 ) -> Result<(SnapReading<J>, Front), SnapReader<J>>
     requires { seen.now.book ≡ J.book }
-    ensures front { IfOk result (λ r. (r.1.book ≡ J.book) × IsRead seen.now.log number made r.1.log) }
+    ensures front { IfOk result (λ r. (r.1.book ≡ J.book)
+        × IsRead seen.now.log number made r.1.log) }
     ensures copy { IfOk result (λ r. r.0.part.value.bus ≡ (bus_after J.opening r.1.log).state) }
 {
     let reading = reader.enter_as::<Finds<J>>()?;
@@ -100,7 +104,8 @@ impl<J: Naming> Seat<J> {
 
     // Enters the published copy.
     fn begin_reading(&mut self) -> Result<(SnapReading<J>, Front), Gone>
-        ensures front { IfOk result (λ r. (r.1.book ≡ J.book) × IsRead self.old.seen self.old.number self.old.made r.1.log) }
+        ensures front { IfOk result (λ r. (r.1.book ≡ J.book)
+            × IsRead self.old.seen self.old.number self.old.made r.1.log) }
         ensures begun { IfOk result (λ r. Begins self.new.seen r.1.log) }
         ensures copy { IfOk result (λ r. r.0.part.value.bus ≡ (bus_after J.opening r.1.log).state) }
         ensures same { self.new ≡ self.old }
@@ -123,7 +128,8 @@ impl<J: Naming> Seat<J> {
         requires read { IsRead self.old.seen self.old.number self.old.made front.log }
         requires copy { reading.part.value.bus ≡ (bus_after J.opening front.log).state }
         ensures seen { self.new.seen ≡ front.log }
-        ensures kept { (self.new.number ≡ self.old.number) × (self.new.made ≡ self.old.made) × (self.new.held ≡ self.old.held) }
+        ensures kept { (self.new.number ≡ self.old.number) × (self.new.made ≡ self.old.made)
+            × (self.new.held ≡ self.old.held) }
     {
         self.watched = reading.get().has_monitors();
         self.reader = Some(reading.leave());
@@ -135,9 +141,13 @@ impl<J: Naming> Seat<J> {
     /// What `f` is lent stays as it is until `f` returns. `Gone` where the registry has ended; then `f` isn't called.
     pub fn open<R, F: FnOnce(&Snap) -> R + Drop>(&mut self, f: F) -> Result<R, Gone>
         requires { F.IsAlwaysCallable f }
-        ensures answer { IfOk result (λ r. (copy : SnapView) × (copy.bus ≡ (bus_after J.opening self.new.seen).state) × FnOnceReturnsAt F.FnOnce f copy r) }
-        ensures read { OnOk result (IsRead self.old.seen self.old.number self.old.made self.new.seen) }
-        ensures kept { (self.new.number ≡ self.old.number) × (self.new.made ≡ self.old.made) × (self.new.held ≡ self.old.held) }
+        ensures answer { IfOk result (λ r. (copy : SnapView)
+            × (copy.bus ≡ (bus_after J.opening self.new.seen).state)
+            × FnOnceReturnsAt F.FnOnce f copy r) }
+        ensures read { OnOk result
+            (IsRead self.old.seen self.old.number self.old.made self.new.seen) }
+        ensures kept { (self.new.number ≡ self.old.number) × (self.new.made ≡ self.old.made)
+            × (self.new.held ≡ self.old.held) }
         ensures gone { OnErr result (self.new.seen ≡ self.old.seen) }
     {
         let (reading, front) = self.begin_reading()?;
@@ -150,9 +160,12 @@ impl<J: Naming> Seat<J> {
     ///
     /// It waits for no lock and takes no memory. `Gone` where the registry has ended.
     pub fn route(&mut self, from: u64, facts: &Facts<'_>) -> Result<Verdict, Gone>
-        ensures verdict { IfOk result (λ verdict. verdict ≡ recipients (bus_after J.opening self.new.seen).state from facts.now) }
-        ensures read { OnOk result (IsRead self.old.seen self.old.number self.old.made self.new.seen) }
-        ensures kept { (self.new.number ≡ self.old.number) × (self.new.made ≡ self.old.made) × (self.new.held ≡ self.old.held) }
+        ensures verdict { IfOk result (λ verdict.
+            verdict ≡ recipients (bus_after J.opening self.new.seen).state from facts.now) }
+        ensures read { OnOk result
+            (IsRead self.old.seen self.old.number self.old.made self.new.seen) }
+        ensures kept { (self.new.number ≡ self.old.number) × (self.new.made ≡ self.old.made)
+            × (self.new.held ≡ self.old.held) }
         ensures gone { OnErr result (self.new.seen ≡ self.old.seen) }
     {
         let (reading, front) = self.begin_reading()?;
@@ -169,9 +182,12 @@ impl<J: Naming> Seat<J> {
         facts: &Facts<'_>,
         told: &mut Verdict,
     ) -> Result<(), Gone>
-        ensures verdict { OnOk result (told.new ≡ recipients (bus_after J.opening self.new.seen).state from facts.now) }
-        ensures read { OnOk result (IsRead self.old.seen self.old.number self.old.made self.new.seen) }
-        ensures kept { (self.new.number ≡ self.old.number) × (self.new.made ≡ self.old.made) × (self.new.held ≡ self.old.held) }
+        ensures verdict { OnOk result
+            (told.new ≡ recipients (bus_after J.opening self.new.seen).state from facts.now) }
+        ensures read { OnOk result
+            (IsRead self.old.seen self.old.number self.old.made self.new.seen) }
+        ensures kept { (self.new.number ≡ self.old.number) × (self.new.made ≡ self.old.made)
+            × (self.new.held ≡ self.old.held) }
         ensures gone { OnErr result (self.new.seen ≡ self.old.seen) }
         ensures untold { OnErr result (told.new ≡ told.old) }
     {
@@ -181,13 +197,44 @@ impl<J: Naming> Seat<J> {
         Ok(())
     }
 
+    /// Answers a query: appends the body of the reply, in little-endian order as from offset 0 on, or says that the name has no
+    /// owner. After a fault nothing is appended.
+    ///
+    /// It waits for no lock. For want of memory it has read the bus all the same; `Gone` where the registry has ended, and then
+    /// nothing was read.
+    pub fn ask(&mut self, query: &Query, body: &mut Vec<u8>) -> Result<Asked, AskFault>
+        ensures answered { IfOk result (λ asked.
+            Answers asked (answer (bus_after J.opening self.new.seen).state query.now)
+            body.old.items body.new.items) }
+        ensures read { OnOk result
+            (IsRead self.old.seen self.old.number self.old.made self.new.seen) }
+        ensures unanswered { OnErr result (body.new.items ≡ body.old.items) }
+        ensures unread { OnErr result ((self.new ≡ self.old)
+            ⊎ IsRead self.old.seen self.old.number self.old.made self.new.seen) }
+        ensures memory { IfErr result (λ fault. fault ≡ AskNoMemory →
+            IsRead self.old.seen self.old.number self.old.made self.new.seen) }
+        ensures kept { (self.new.number ≡ self.old.number) × (self.new.made ≡ self.old.made)
+            × (self.new.held ≡ self.old.held) }
+        ensures gone { IfErr result (λ fault. fault ≡ AskGone → self.new ≡ self.old) }
+    {
+        let Ok((reading, front)) = self.begin_reading() else {
+            return Err(AskFault::Gone);
+        };
+        let asked = reading.get().ask(query, body);
+        self.end_reading(reading, front);
+        asked
+    }
+
     /// Whether there is a connection of this number.
     ///
     /// It waits for no lock and takes no memory. `Gone` where the registry has ended.
     pub fn present(&mut self, number: u64) -> Result<bool, Gone>
-        ensures present { IfOk result (λ present. present ≡ is_some (connection_of (bus_after J.opening self.new.seen).state number)) }
-        ensures read { OnOk result (IsRead self.old.seen self.old.number self.old.made self.new.seen) }
-        ensures kept { (self.new.number ≡ self.old.number) × (self.new.made ≡ self.old.made) × (self.new.held ≡ self.old.held) }
+        ensures present { IfOk result (λ present.
+            present ≡ is_some (connection_of (bus_after J.opening self.new.seen).state number)) }
+        ensures read { OnOk result
+            (IsRead self.old.seen self.old.number self.old.made self.new.seen) }
+        ensures kept { (self.new.number ≡ self.old.number) × (self.new.made ≡ self.old.made)
+            × (self.new.held ≡ self.old.held) }
         ensures gone { OnErr result (self.new.seen ≡ self.old.seen) }
     {
         self.open(|snap| snap.present(number))
@@ -196,7 +243,8 @@ impl<J: Naming> Seat<J> {
     /// Whether a monitor may be shown messages, as far as the seat has seen: where not, there was none when it read the bus last,
     /// which was at the end of what it has seen. It reads nothing, and takes no memory.
     pub fn is_watched(&self) -> bool
-        ensures { result ≡ false → IsUnwatched J.opening self.now.seen self.now.number self.now.made }
+        ensures { result ≡ false →
+            IsUnwatched J.opening self.now.seen self.now.number self.now.made }
     {
         self.watched
     }
@@ -212,9 +260,12 @@ impl<J: Naming> Seat<J> {
         change: Change,
     ) -> Result<(Outcome, Note<J>), Refused>
         requires { IsServedChange change }
-        ensures changed { IfOk result (λ r. IsChanged J.opening self.old.seen self.old.number self.old.made change r.0 self.new.seen) }
+        ensures changed { IfOk result (λ r.
+            IsChanged J.opening self.old.seen self.old.number self.old.made
+            change r.0 self.new.seen) }
         ensures settled { IfOk result (λ r. r.0.tickets ≡ []) }
-        ensures note { IfOk result (λ r. (r.1 ≡ self.new.seen) × (self.new.held ≡ Some self.new.seen)) }
+        ensures note { IfOk result (λ r. (r.1 ≡ self.new.seen)
+            × (self.new.held ≡ Some self.new.seen)) }
         ensures made { OnOk result (self.new.made ≡ self.old.made + 1) }
         ensures number { self.new.number ≡ self.old.number }
         ensures refused { IfErr result (λ e. e.change ≡ change) }
@@ -250,9 +301,10 @@ impl<J: Naming> Seat<J> {
         self.held = Some(held);
     }
 
-    /// The longest note that it made or took; none where it made and took none.
+    /// The longest note that it made or took; none where it made and took none. What it tells was seen.
     pub fn note(&self) -> Option<Note<J>>
-        ensures { result ≡ self.now.held }
+        ensures held { result ≡ self.now.held }
+        ensures seen { IfSome result (λ note. Begins note self.now.seen) }
     {
         match &self.held {
             Some(held) => Some(held.again()),

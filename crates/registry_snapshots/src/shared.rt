@@ -1,31 +1,46 @@
 //! What the seats of a registry share.
 
 ghost use Rattle.std.specs.Prelude.{◌≡◌, ◌+◌, ◌<◌, ◌≤◌, ◌^◌, [], ◌∷◌, ◌++◌, length, OnOk, OnErr, IfOk, IfErr};
+ghost use Rattle.owner_queues.specs.declared.request.Profile.TheVariants.{Two};
 ghost use Rattle.seq_bus_core.specs.Histories.{CanOpen, max_routers};
 ghost use Rattle.seq_bus_core.specs.Tickets.{opening_bus};
-ghost use Rattle.registry.specs.Served.{IsServedChange};
+ghost use Rattle.seq_bus_core.specs.Served.{IsServedChange};
 ghost use Rattle.registry_snapshots.specs.Seats.{fresh, fresh_to, IsChanged};
 ghost use Rattle.registry_snapshots.specs.declared.refusal.StartFault.TheVariants.{Routers, Services};
 
-use crate::history::{Front, Opened};
-use crate::naming::Naming;
-use crate::refusal::{Refused, StartFault};
+use crate::refusal::StartFault;
 use crate::registrar::Registrar;
 use crate::seat::Seat;
+use bus_view::{Refused, can_open};
 use names::WellKnown;
-use owner_queues::Profile;
-use seq_bus::can_open;
+use registry_snapshots_core::{Front, Naming, Opened};
 use seq_bus_core::{Change, Outcome};
 use std::alloc::{AllocError, Global};
+use std::marker::Model;
 use std::sync::{Mutex, MutexGuard, Wait};
 
 /// The most routers of a bus.
 const MAX_ROUTERS: u8 = 8;
 
 /// What the seats of a registry share to make changes.
+///
+/// Contracts see the number of its routers, which is 1 to 8.
 pub struct Shared<J: Naming> {
     alloc: Global,
+    routers: u8,
     registrar: Mutex<Registrar<J>>,
+}
+
+impl<J: Naming> Model for Shared<J> {
+    ghost use Rattle.std.specs.Prelude.{◌≡◌, ◌≤◌, ℕ};
+    ghost use Rattle.seq_bus_core.specs.Histories.{max_routers};
+
+    ghost Value = { ℕ };
+
+    ghost view = { λ s. s.routers };
+
+    ghost invariant = { λ s. (s.routers ≡ J.opening.state.routers) × (1 ≤ s.routers)
+        × (s.routers ≤ max_routers) };
 }
 
 // One seat more, with the next number.
@@ -73,13 +88,15 @@ impl<J: Naming> Shared<J> {
         opened: Opened,
         services: &[WellKnown],
         routers: u8,
-        profile: Profile,
     ) -> Result<(Shared<J>, Vec<Seat<J>>), StartFault>
-        requires { (opened ≡ J.book) × (J.opening ≡ opening_bus profile routers services.now) }
+        requires { (opened ≡ J.book) × (J.opening ≡ opening_bus Two routers services.now) }
+        ensures shared { IfOk result (λ r. r.0 ≡ routers) }
         ensures seats { IfOk result (λ r. r.1.items ≡ fresh_to (routers + 1)) }
         ensures opened { OnOk result (CanOpen routers services.now) }
-        ensures routers { IfErr result (λ e. e ≡ Routers → (1 ≤ routers) × (routers ≤ max_routers) → ⊥) }
-        ensures services { IfErr result (λ e. e ≡ Services → (1 ≤ routers) × (routers ≤ max_routers) × (CanOpen routers services.now → ⊥)) }
+        ensures routers { IfErr result (λ e. e ≡ Routers →
+            (1 ≤ routers) × (routers ≤ max_routers) → ⊥) }
+        ensures services { IfErr result (λ e. e ≡ Services →
+            (1 ≤ routers) × (routers ≤ max_routers) × (CanOpen routers services.now → ⊥)) }
     {
         if routers == 0 || routers > MAX_ROUTERS {
             return Err(StartFault::Routers);
@@ -93,7 +110,6 @@ impl<J: Naming> Shared<J> {
             alloc,
             services,
             routers,
-            profile,
             usize::from(routers) + 1,
             head,
             &front,
@@ -104,6 +120,7 @@ impl<J: Naming> Shared<J> {
             Ok(seats) => {
                 let shared = Shared {
                     alloc,
+                    routers,
                     registrar: Mutex::new(registrar),
                 };
                 Ok((shared, seats))
@@ -113,6 +130,16 @@ impl<J: Naming> Shared<J> {
                 Err(StartFault::NoMemory)
             }
         }
+    }
+
+    /// The number of its routers, 1 to 8.
+    pub fn routers(&self) -> u8
+        ensures value { result ≡ self.now }
+        ensures opened { result ≡ J.opening.state.routers }
+        ensures some { 1 ≤ result }
+        ensures few { result ≤ max_routers }
+    {
+        self.routers
     }
 
     // Makes a change of a seat that knows this much and made so many changes, or refuses it.
@@ -126,7 +153,8 @@ impl<J: Naming> Shared<J> {
     ) -> Result<(Outcome, Front), Refused>
         requires book { known.now.book ≡ J.book }
         requires served { IsServedChange change }
-        ensures made { IfOk result (λ r. IsChanged J.opening known.now.log seat made change r.0 r.1.log) }
+        ensures made { IfOk result (λ r.
+            IsChanged J.opening known.now.log seat made change r.0 r.1.log) }
         ensures settled { IfOk result (λ r. r.0.tickets ≡ []) }
         ensures next { IfOk result (λ r. (r.1.book ≡ J.book) × (made < 2 ^ 63)) }
         ensures refused { IfErr result (λ e. e.change ≡ change) }
@@ -141,6 +169,7 @@ impl<J: Naming> Shared<J> {
     pub fn end<R: Wait>(self, rt: &R) {
         let Shared {
             alloc: _,
+            routers: _,
             registrar,
         } = self;
         registrar.into_inner().end(rt);

@@ -1,14 +1,12 @@
 //! Two desks of one registry.
 
-ghost use Rattle.seq_bus.specs.Served.{IsServedChange};
+ghost use Rattle.seq_bus_core.specs.Served.{IsServedChange};
 
-use bus_view::{Again, BusView, Cause};
-use desk::{Desk, Note};
+use bus_view::{Again, AskFault, Asked, BusView, Cause};
 use match_rules::Rule;
 use names::BusName;
 use owner_queues::{Reply as QueueReply, RequestFlags};
-use registry_snapshots::Naming;
-use seq_bus::{AskFault, Asked};
+use registry_snapshots::{Desk, Naming, Note};
 use seq_bus_core::{Change, Conn, Outcome, Query, Reply, VerdictKind};
 use std::alloc::Global;
 use std::sync::Wait;

@@ -4,15 +4,14 @@
 ghost use Rattle.std.specs.Prelude.{◌≡◌, ◌<◌, [], IfOk};
 ghost use Rattle.owner_queues.specs.declared.request.Profile.TheVariants.{Two};
 ghost use Rattle.seq_bus_core.specs.Tickets.{opening_bus};
-ghost use Rattle.registry.specs.Served.{IsServedChange};
+ghost use Rattle.seq_bus_core.specs.Served.{IsServedChange};
 
 use crate::publishing::publish_to;
+use bus_view::Refused;
 use driver::{Call, ReplyBody, ReplyTo, read_call, write_reply, write_signal};
-use message::{Framer, Message};
-use message_relay::{facts, with_sender};
+use message::{Framer, Message, facts, with_sender};
 use names::{BusName, UniqueName};
-use owner_queues::Profile;
-use registry_snapshots::{Naming, Opened, Refused, Seat, Shared};
+use registry_snapshots::{Naming, Opened, Seat, Shared};
 use seq_bus_core::{BusSignal, Change, Conn, Outcome, Reply};
 use std::alloc::Global;
 use std::marker::Brand;
@@ -228,7 +227,7 @@ fn serve_once<J: Naming + Send + Sync, R: Threads + Wait + Sync>(
 ) -> Result<(), Fail>
     requires { (opened ≡ J.book) × (J.opening ≡ opening_bus Two 1 []) }
 {
-    let Ok((shared, mut seats)) = Shared::<J>::new(rt, alloc, opened, &[], 1, Profile::Two) else {
+    let Ok((shared, mut seats)) = Shared::<J>::new(rt, alloc, opened, &[], 1) else {
         return Err(Fail::from("no memory"));
     };
     let served = match (seats.pop(), seats.pop()) {

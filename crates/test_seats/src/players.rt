@@ -2,12 +2,12 @@
 
 use crate::desks::serve_both;
 use crate::rows::{Deed, RUNS, Row, count_so, make};
-use desk::Desk;
+use bus_view::AskFault;
 use names::{BusName, UniqueName};
-use owner_queues::{Profile, Reply as QueueReply};
+use owner_queues::Reply as QueueReply;
 use registry_core::NameEntry;
-use registry_snapshots::{Naming, Seat, Serve, Shared, start};
-use seq_bus_core::{Conn, Reply};
+use registry_snapshots::{Desk, Naming, Seat, Serve, Shared, start};
+use seq_bus_core::{Conn, Query, Reply};
 use std::alloc::Global;
 use std::process::Abort;
 use std::sync::Wait;
@@ -30,26 +30,21 @@ enum Play {
 struct Player<'a, R> {
     rt: &'a R,
     alloc: Global,
-    profile: Profile,
     play: Play,
 }
 
 impl<'a, R: Wait> Serve for Player<'a, R> {
     ghost use Rattle.std.specs.Prelude.{[]};
+    ghost use Rattle.owner_queues.specs.declared.request.Profile.TheVariants.{Two};
     ghost use Rattle.seq_bus_core.specs.Tickets.{opening_bus};
 
     /// Whether all was as it should be.
     type Out = bool;
 
-    ghost bus = { λ s. opening_bus s.profile 2 [] };
+    ghost bus = { λ _. opening_bus Two 2 [] };
 
     fn serve<J: Naming + Send + Sync>(self, shared: Shared<J>, mut seats: Vec<Seat<J>>) -> bool {
-        let Player {
-            rt,
-            alloc,
-            profile: _,
-            play,
-        } = self;
+        let Player { rt, alloc, play } = self;
         let (Some(mut second), Some(mut first)) = (seats.pop(), seats.pop()) else {
             shared.end(rt);
             return false;
@@ -62,16 +57,27 @@ impl<'a, R: Wait> Serve for Player<'a, R> {
             Play::MostNames => fill(rt, alloc, &shared, &mut first, &mut second) == Some(true),
             Play::NamesInOrder => list(rt, alloc, &shared, &mut first, &mut second) == Some(true),
             Play::Desks => {
-                let first = Desk::new(alloc, first, &shared);
-                let second = Desk::new(alloc, second, &shared);
+                let first = Desk::new(first, &shared);
+                let second = Desk::new(second, &shared);
                 let is_so = serve_both(rt, alloc, first, second);
                 shared.end(rt);
                 return is_so && seats.len() == 1;
             }
         };
+        let are_two = shared.routers() == 2;
         shared.end(rt);
-        is_so && first.present(1).is_err() && second.open(|snap| snap.conn(1)).is_err()
+        is_so && are_two && is_gone(alloc, &mut first) && is_gone(alloc, &mut second)
     }
+}
+
+/// Whether the registry of a seat has ended, as each of its reads tells.
+fn is_gone<J: Naming>(alloc: Global, seat: &mut Seat<J>) -> bool {
+    let mut body = Vec::new(alloc);
+    let is_unanswered = seat.ask(&Query::ListNames, &mut body) == Err(AskFault::Gone);
+    is_unanswered
+        && body.is_empty()
+        && seat.present(1).is_err()
+        && seat.open(|snap| snap.conn(1)).is_err()
 }
 
 fn numbered(alloc: Global, number: u64) -> Option<String> {
@@ -211,17 +217,12 @@ fn are_told<J: Naming, R: Wait>(
 }
 
 /// A play ends as it should: once more where one allocation failed.
-fn must_play<R: Wait + Abort>(rt: &R, alloc: Global, profile: Profile, play: Play, name: &str) {
+fn must_play<R: Wait + Abort>(rt: &R, alloc: Global, play: Play, name: &str) {
     let mut played = false;
     for _try in 0..2 {
         if !played {
-            let player = Player {
-                rt,
-                alloc,
-                profile,
-                play,
-            };
-            let out = start(rt, alloc, &[], 2, profile, player);
+            let player = Player { rt, alloc, play };
+            let out = start(rt, alloc, &[], 2, player);
             played = out.ok() == Some(true);
         }
     }
@@ -231,18 +232,18 @@ fn must_play<R: Wait + Abort>(rt: &R, alloc: Global, profile: Profile, play: Pla
 #[test]
 fn rows_over_two_seats(rt: HostRuntime) {
     for (name, rows) in RUNS {
-        must_play(&rt, rt.alloc(), Profile::One, Play::Rows(rows), name);
+        must_play(&rt, rt.alloc(), Play::Rows(rows), name);
     }
 }
 
 #[test]
 fn plays_over_two_seats(rt: HostRuntime) {
-    for (name, profile, play) in [
-        ("a note carries a Hello", Profile::Two, Play::Notes),
-        ("most names", Profile::One, Play::MostNames),
-        ("names in order", Profile::One, Play::NamesInOrder),
-        ("two desks", Profile::One, Play::Desks),
+    for (name, play) in [
+        ("a note carries a Hello", Play::Notes),
+        ("most names", Play::MostNames),
+        ("names in order", Play::NamesInOrder),
+        ("two desks", Play::Desks),
     ] {
-        must_play(&rt, rt.alloc(), profile, play, name);
+        must_play(&rt, rt.alloc(), play, name);
     }
 }

@@ -2,10 +2,11 @@
 
 ghost use Rattle.std.specs.Prelude.{◌≡◌, IfOk, IfErr, OnOk, OnErr};
 ghost use Rattle.seq_bus_core.specs.Histories.{Begins};
-ghost use Rattle.registry.specs.Served.{IsServedChange};
+ghost use Rattle.seq_bus_core.specs.Served.{IsServedChange};
 ghost use Rattle.registry_snapshots.specs.Seats.{IsChanged};
 
-use registry_snapshots::{Naming, Note, Refused, Seat, Shared};
+use bus_view::Refused;
+use registry_snapshots::{Naming, Note, Seat, Shared};
 use seq_bus_core::{Change, Outcome};
 use std::sync::Wait;
 use std::thread::{Threads, join};

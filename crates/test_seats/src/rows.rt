@@ -1,7 +1,7 @@
 //! Runs over the seats of two routers, row by row. Each seat is told what the other has made.
 
 ghost use Rattle.std.specs.Prelude.{IfSome};
-ghost use Rattle.registry.specs.Served.{IsServedChange};
+ghost use Rattle.seq_bus_core.specs.Served.{IsServedChange};
 
 use arrayvec::ArrayVec;
 use match_rules::{Facts, MessageKind, Rule};
@@ -129,7 +129,7 @@ const THIRD_TAKES_A: &[Addressed] = &[
     (Signal::Acquired(A, 3), &[THIRD]),
 ];
 
-pub(crate) const RUNS: [(&str, &[Row]); 4] = [
+pub(crate) const RUNS: [(&str, &[Row]); 5] = [
     (
         "an owner is replaced",
         &[
@@ -140,6 +140,20 @@ pub(crate) const RUNS: [(&str, &[Row]); 4] = [
             Row::Makes(Router::Second, Deed::Request(2, A, 0), WAITS, &[]),
             Row::Makes(Router::First, Deed::Request(3, A, 2), OWNED, THIRD_TAKES_A),
             Row::Queue(Router::Second, A, &[3, 1, 2]),
+        ],
+    ),
+    (
+        "one who would replace waits next",
+        &[
+            FIRST_COMES,
+            SECOND_COMES,
+            THIRD_COMES,
+            Row::Makes(Router::First, Deed::Request(1, A, 0), OWNED, FIRST_OWNS_A),
+            Row::Makes(Router::Second, Deed::Request(2, A, 0), WAITS, &[]),
+            Row::Makes(Router::First, Deed::Request(3, A, 2), WAITS, &[]),
+            Row::Queue(Router::Second, A, &[1, 3, 2]),
+            Row::Makes(Router::Second, Deed::Request(2, A, 2), WAITS, &[]),
+            Row::Queue(Router::First, A, &[1, 2, 3]),
         ],
     ),
     (
@@ -339,7 +353,7 @@ fn is_told(outcome: &Outcome, reply: Reply, expected: &[Addressed]) -> bool {
     outcome.reply == reply
         && signals.len() == expected.len()
         && signals.iter().zip(expected).all(|(found, (signal, to))| {
-            is_signal(&found.signal, *signal) && found.to.as_slice() == *to
+            is_signal(found.signal.get(), *signal) && found.to.as_slice() == *to
         })
 }
 

@@ -1,10 +1,8 @@
 //! A desk of a registry with a service.
 
 use crate::desks::is_told;
-use desk::Desk;
 use names::WellKnown;
-use owner_queues::Profile;
-use registry_snapshots::{Naming, Seat, Serve, Shared, StartFault, start};
+use registry_snapshots::{Desk, Naming, Seat, Serve, Shared, StartFault, start};
 use seq_bus_core::Query;
 use std::alloc::Global;
 use std::process::Abort;
@@ -27,13 +25,13 @@ struct OneService<'a, R> {
 
 impl<'a, R: Wait> Serve for OneService<'a, R> {
     ghost use Rattle.std.specs.Prelude.{[], ◌∷◌};
-    ghost use Rattle.owner_queues.specs.declared.request.Profile.TheVariants.{One};
+    ghost use Rattle.owner_queues.specs.declared.request.Profile.TheVariants.{Two};
     ghost use Rattle.seq_bus_core.specs.Tickets.{opening_bus};
 
     /// Whether the names that programs can be started for are told.
     type Out = bool;
 
-    ghost bus = { λ s. opening_bus One 1 (s.service ∷ []) };
+    ghost bus = { λ s. opening_bus Two 1 (s.service ∷ []) };
 
     fn serve<J: Naming + Send + Sync>(self, shared: Shared<J>, mut seats: Vec<Seat<J>>) -> bool {
         let OneService {
@@ -45,7 +43,7 @@ impl<'a, R: Wait> Serve for OneService<'a, R> {
             shared.end(rt);
             return false;
         };
-        let desk: Desk<'_, J, R> = Desk::new(alloc, seat, &shared);
+        let desk: Desk<'_, J, R> = Desk::new(seat, &shared);
         let is_so = tells_services(alloc, desk);
         shared.end(rt);
         is_so
@@ -54,7 +52,7 @@ impl<'a, R: Wait> Serve for OneService<'a, R> {
 
 fn serve_one<R: Wait>(rt: &R, alloc: Global, service: WellKnown) -> Result<bool, StartFault> {
     let server = OneService { rt, alloc, service };
-    start(rt, alloc, &[service], 1, Profile::One, server)
+    start(rt, alloc, &[service], 1, server)
 }
 
 #[test]

@@ -1,13 +1,12 @@
 //! Seats of a registry in threads of their own.
 
 ghost use Rattle.std.specs.Prelude.{◌≡◌, []};
-ghost use Rattle.owner_queues.specs.declared.request.Profile.TheVariants.{One};
+ghost use Rattle.owner_queues.specs.declared.request.Profile.TheVariants.{Two};
 ghost use Rattle.seq_bus_core.specs.Tickets.{opening_bus};
 
 use arrayvec::ArrayVec;
 use match_rules::{Facts, MessageKind};
 use names::UniqueName;
-use owner_queues::Profile;
 use registry_snapshots::{Naming, Opened, Seat, Shared};
 use seq_bus_core::{Change, Outcome, Reply};
 use std::alloc::Global;
@@ -96,9 +95,9 @@ fn two_routers<J: Naming + Send + Sync, R: Threads + Wait + Abort + Sync>(
     alloc: Global,
     opened: Opened,
 )
-    requires { (opened ≡ J.book) × (J.opening ≡ opening_bus One 2 []) }
+    requires { (opened ≡ J.book) × (J.opening ≡ opening_bus Two 2 []) }
 {
-    let (shared, mut seats) = Shared::<J>::new(rt, alloc, opened, &[], 2, Profile::One)
+    let (shared, mut seats) = Shared::<J>::new(rt, alloc, opened, &[], 2)
         .ok()
         .expect(rt, "there is memory");
     let second = seats.pop().expect(rt, "there are three seats");

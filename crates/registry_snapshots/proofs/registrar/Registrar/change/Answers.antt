@@ -2,11 +2,12 @@ use Rattle.std.proofs.Common.{◌≡◌, ◌+◌, ◌∙◌, ap, ◌++◌, ◌�
 use Rattle.seq_bus_core.specs.Steps.{step}
 use Rattle.seq_bus_core.specs.Tickets.{bus_after}
 use Rattle.registry.specs.PreparedChanges.{PreparedChange}
-use Rattle.registry_snapshots.specs.Copies.{FrontView, SnapView, IsSnapOf, absorbed}
-use Rattle.registry_snapshots.specs.Served.{IsIdle}
-use Rattle.registry_snapshots.specs.declared.snap.Op.{Op}
-use Rattle.registry_snapshots.specs.declared.snap.Op.TheVariants.{Made}
-use Rattle.registry_snapshots.proofs.Changes.{snap_after, next_legal, idle_after, changed_here}
+use Rattle.registry_snapshots_core.specs.Copies.{FrontView, SnapView, IsSnapOf, absorbed}
+use Rattle.registry.specs.Idle.{IsIdle}
+use Rattle.registry_snapshots_core.specs.declared.snap.Op.{Op}
+use Rattle.registry_snapshots_core.specs.declared.snap.Op.TheVariants.{Made}
+use Rattle.registry_snapshots_core.proofs.Steps.{next_legal, snap_after}
+use Rattle.registry_snapshots.proofs.Changes.{idle_after, changed_here}
 use Rattle.registry_snapshots.proofs.registrar.Registrar.change.Goals as goal
 
 pub add-requires-clause-legal : goal.add-requires-clause-legal

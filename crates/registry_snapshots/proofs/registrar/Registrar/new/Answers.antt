@@ -1,8 +1,8 @@
 use Rattle.std.proofs.Common.{rules, ◌≡◌, sym, subst, [], replicate}
 use Rattle.seq_bus_core.specs.Tickets.{bus_after}
-use Rattle.registry_snapshots.specs.Copies.{IsSnapOf, SnapView}
-use Rattle.registry_snapshots.specs.Served.{IsIdle}
-use Rattle.registry_snapshots.proofs.Openings.{just_opened}
+use Rattle.registry_snapshots_core.specs.Copies.{IsSnapOf, SnapView}
+use Rattle.registry.specs.Idle.{IsIdle}
+use Rattle.registry_snapshots_core.proofs.Openings.{just_opened}
 use Rattle.registry_snapshots.proofs.registrar.Registrar.new.Goals as goal
 
 pub warm-requires-2-clause-kept : goal.warm-requires-2-clause-kept

@@ -1,4 +1,4 @@
-use Rattle.registry_snapshots.proofs.Fronts.{begins_same}
+use Rattle.registry_snapshots_core.proofs.Fronts.{begins_same}
 use Rattle.registry_snapshots.proofs.seat.Seat.change.Goals as goal
 
 pub invariant_of-self : goal.invariant_of-self

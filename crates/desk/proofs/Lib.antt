@@ -1,2 +1,0 @@
-pub mod SeatLemmas
-pub mod ListLemmas

@@ -1,0 +1,93 @@
+-- What a change does to the copies.
+use Rattle.std.proofs.Common.{◌≡◌, ℕ, ◌+◌, ◌<◌, ◌≤◌, ◌==◌, ltb, Bool, true, false, cond, List, [], ◌∷◌, ◌++◌, length, refl, ap, sym, ◌∙◌, ◌≢◌, subst, arith, length-append, slice_index, slice_set, if◌then◌else◌}
+use Rattle.std.proofs.lemmas.Bool.Decides.{nat_tests}
+use Rattle.std.proofs.lemmas.List.{get_or-set_other, length-set}
+use Rattle.std.proofs.lemmas.Grind.{get_or-set_at}
+use Rattle.logbook.specs.Pages.{Book}
+use Rattle.seq_bus_core.specs.BusState.{BusState}
+use Rattle.seq_bus_core.specs.Changes.{as_seen}
+use Rattle.seq_bus_core.specs.Histories.{History, IsLegal, numbers_of, entry_alone}
+use Rattle.seq_bus_core.specs.Steps.{step}
+use Rattle.seq_bus_core.specs.Tickets.{WholeBus, bus_after}
+use Rattle.seq_bus_core.specs.declared.change.Change.{Change}
+use Rattle.seq_bus_core.specs.declared.entry.Entry.{Entry}
+use Rattle.seq_bus_core.proofs.ChangeLaws.{steps_see_no_more}
+use Rattle.seq_bus_core.proofs.Extending.{after_more, legal_more, numbers_mine, numbers_others}
+use Rattle.registry.specs.PreparedChanges.{PreparedChange, prepared_on}
+use Rattle.registry_snapshots_core.specs.Copies.{FrontView, SnapView, front_of, put_number, absorbed, IsSnapOf, IsLastOf}
+
+put_length : (last : List ℕ) (seat number : ℕ) → length (put_number last seat number) ≡ length last
+put_length last seat number = by_test (ltb seat (length last))
+  where
+    by_test : (b : Bool) → length (if b then slice_set last seat number else last) ≡ length last
+    by_test true = length-set last seat number
+    by_test false = refl
+
+put_at : (last : List ℕ) (seat number i : ℕ) → i < length last → slice_index (put_number last seat number) i ≡ cond (seat == i) number (slice_index last i)
+put_at last seat number i within = by_tests (ltb seat (length last)) refl (seat == i) refl
+  where
+    by_tests : (b : Bool) → ltb seat (length last) ≡ b → (d : Bool) → (seat == i) ≡ d → slice_index (if b then slice_set last seat number else last) i ≡ cond d number (slice_index last i)
+    by_tests true there true same = get_or-set_at last seat i number 0 (grind (arith, nat_tests)) (grind (arith, nat_tests))
+    by_tests true there false other = get_or-set_other last seat i number 0 (grind (arith, nat_tests))
+    by_tests false away true same = let e : seat ≡ i = grind (arith, nat_tests) in let le : length last ≤ seat = grind (arith, nat_tests) in absurd (omega arith)
+    by_tests false away false other = refl
+
+-- a seat's next change may be added
+pub next_legal : (log : History) (seat made : ℕ) (change : Change) → IsLegal log → made ≡ length (numbers_of seat log) → IsLegal (log ++ entry_alone seat (made + 1) change ∷ [])
+next_legal log seat made change legal is = legal_more log seat (made + 1) (change ∷ []) legal (ap (λ n. n + 1) is)
+
+-- the numbers of the last changes, where the number of one more is written into them
+last_more : (last last' : List ℕ) (h : History) (seat number : ℕ) (change : Change) → IsLastOf last h → number ≡ length (numbers_of seat h) + 1 → length last' ≡ length last
+    → ((i : ℕ) → i < length last → slice_index last' i ≡ cond (seat == i) number (slice_index last i)) → IsLastOf last' (h ++ entry_alone seat number change ∷ [])
+last_more last last' h seat number change kept next same new other within = by_test (seat == other) refl
+  where
+    more : History
+    more = h ++ entry_alone seat number change ∷ []
+
+    there : other < length last
+    there = omega arith
+
+    count : length (numbers_of seat more) ≡ number
+    count =
+        let mine : numbers_of seat more ≡ numbers_of seat h ++ number ∷ [] = numbers_mine seat number h (change ∷ []) in
+        omega (arith, next, ap length mine, length-append (numbers_of seat h) (number ∷ []))
+
+    by_test : (b : Bool) → (seat == other) ≡ b → slice_index last' other ≡ length (numbers_of other more)
+    by_test true is =
+        let mine : seat ≡ other = grind (arith, nat_tests) in
+        let at : slice_index last' other ≡ number = rw is at (new other there) in
+        at ∙ sym (subst (λ (s : ℕ). length (numbers_of s more) ≡ number) mine count)
+    by_test false is =
+        let differ : seat ≢ other = grind (arith, nat_tests) in
+        let at : slice_index last' other ≡ slice_index last other = rw is at (new other there) in
+        omega (arith, at, kept other there, ap length (numbers_others seat other number h (change ∷ []) differ))
+
+-- the copy that has the change too
+snap_next : (book : Book) (opening : WholeBus) (s : SnapView) (seat made : ℕ) (change : Change) (p : PreparedChange) (front : FrontView) → IsSnapOf book opening s → made ≡ length (numbers_of seat s.front.log)
+    → p.seat ≡ seat → p.change ≡ as_seen change → front ≡ front_of book (s.front.log ++ entry_alone seat (made + 1) change ∷ []) → IsSnapOf book opening (absorbed s seat (made + 1) p front)
+snap_next book opening s seat made change p front kept made_is seat_is change_is is =
+    let e : Entry = entry_alone seat (made + 1) change in
+    let stepped : (step s.bus p.seat p.change).0 ≡ (step s.bus seat change).0 =
+    ap (λ k. (step s.bus k p.change).0) seat_is ∙ ap (λ d. (step s.bus seat d).0) change_is ∙ ap (λ r. r.0) (steps_see_no_more s.bus seat change) in
+    let after : (step s.bus p.seat p.change).0 ≡ (bus_after opening (s.front.log ++ e ∷ [])).state =
+    stepped ∙ ap (λ (b : BusState). (step b seat change).0) kept.bus_is ∙ sym (ap (λ (b : WholeBus). b.state) (after_more opening s.front.log (e ∷ []))) in
+    subst (λ (f : FrontView). IsSnapOf book opening (absorbed s seat (made + 1) p f)) (sym is)
+    (record {
+      book_is = refl;
+      bus_is = after;
+      last_is = last_more s.last (put_number s.last seat (made + 1)) s.front.log seat (made + 1) change kept.last_is (ap (λ n. n + 1) made_is) (put_length s.last seat (made + 1)) (put_at s.last seat (made + 1));
+    })
+
+-- The published copy with a change that was prepared on it, where `front` is all of the history and `next` goes on with the
+-- change. The outcome was taken out of what was prepared.
+pub snap_after : (book : Book) (opening : WholeBus) (s shown : SnapView) (front : FrontView) (seat made : ℕ) (change : Change) (prepared left : PreparedChange) (next copy : FrontView) → IsSnapOf book opening s → shown ≡ s
+    → front ≡ shown.front → made ≡ length (numbers_of seat front.log) → prepared ≡ prepared_on shown.bus seat change → left.seat ≡ prepared.seat → left.change ≡ prepared.change
+    → next ≡ front_of front.book (front.log ++ entry_alone seat (made + 1) change ∷ []) → copy ≡ next → IsSnapOf book opening (absorbed s seat (made + 1) left copy)
+snap_after book opening s shown front seat made change prepared left next copy kept shown_is front_is made_is prepared_is seat_is change_is next_is copy_is =
+    let same : front ≡ s.front = front_is ∙ ap (λ (t : SnapView). t.front) shown_is in
+    let made_there : made ≡ length (numbers_of seat s.front.log) = made_is ∙ ap (λ (f : FrontView). length (numbers_of seat f.log)) same in
+    let now : copy ≡ front_of book (s.front.log ++ entry_alone seat (made + 1) change ∷ []) =
+    copy_is ∙ next_is ∙ ap (λ (f : FrontView). front_of f.book (f.log ++ entry_alone seat (made + 1) change ∷ [])) same
+    ∙ ap (λ (b : Book). front_of b (s.front.log ++ entry_alone seat (made + 1) change ∷ [])) kept.book_is in
+    snap_next book opening s seat made change left copy kept made_there (seat_is ∙ ap (λ (p : PreparedChange). p.seat) prepared_is)
+    (change_is ∙ ap (λ (p : PreparedChange). p.change) prepared_is) now

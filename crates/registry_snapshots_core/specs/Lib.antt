@@ -1,0 +1,3 @@
+pub mod Publications
+pub mod Copies
+pub mod Pending

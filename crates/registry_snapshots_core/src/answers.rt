@@ -1,0 +1,106 @@
+//! What a copy of the registry answers, and what it lends.
+
+ghost use Rattle.std.specs.List.{list_any};
+ghost use Rattle.std.specs.Prelude.{◌≡◌, is_some, map, option_map, IfOk, IfErr, OnErr};
+ghost use Rattle.bus_view.specs.Bodies.{Answers};
+ghost use Rattle.bus_view.specs.declared.answer.AskFault.TheVariants.{NoMemory as AskNoMemory};
+ghost use Rattle.seq_bus_core.specs.Answers.{answer};
+ghost use Rattle.seq_bus_core.specs.BusState.{connection_of, conn_of, head_of, is_monitor, queue_of};
+ghost use Rattle.seq_bus_core.specs.Consistency.{IsConsistent, IsWithinLimits};
+ghost use Rattle.seq_bus_core.specs.Recipients.{recipients};
+ghost use Rattle.registry_core.specs.NameTables.{owned_name};
+ghost use Rattle.registry_core.specs.RulesOf.{rules_by, rules_left};
+
+use crate::snap::Snap;
+use bus_view::{AskFault, Asked};
+use match_rules::Facts;
+use names::BusName;
+use owner_queues::QueuedOwner;
+use registry_core::{NameEntry, RulesOf};
+use seq_bus_core::{Conn, Query, Verdict};
+
+impl Snap {
+    /// Answers a query: appends the body of the reply, in little-endian order as from offset 0 on, or says that the name has no
+    /// owner. After a fault, which is want of memory, nothing is appended.
+    pub fn ask(&self, query: &Query, body: &mut Vec<u8>) -> Result<Asked, AskFault>
+        ensures answered { IfOk result (λ asked.
+            Answers asked (answer self.now.bus query.now) body.old.items body.new.items) }
+        ensures fault { IfErr result (λ fault. fault ≡ AskNoMemory) }
+        ensures unanswered { OnErr result (body.new.items ≡ body.old.items) }
+    {
+        self.registry().ask(query, body)
+    }
+
+    /// Where a message from this connection goes, 0 being the bus, and which monitors are shown it.
+    pub fn route(&self, from: u64, facts: &Facts<'_>) -> Verdict
+        ensures { result ≡ recipients self.now.bus from facts.now }
+    {
+        self.registry().route(from, facts)
+    }
+
+    /// The same as `route`, told where there is room for it: a verdict is large, and is not moved.
+    pub fn route_into(&self, from: u64, facts: &Facts<'_>, told: &mut Verdict)
+        ensures { told.new ≡ recipients self.now.bus from facts.now }
+    {
+        self.registry().route_into(from, facts, told);
+    }
+
+    /// The head of a name: the connection that messages to it are delivered to. The bus itself is no connection.
+    pub fn owner(&self, name: &BusName) -> Option<u64>
+        ensures { result ≡ head_of self.now.bus name.now }
+    {
+        self.registry().owner(name)
+    }
+
+    /// Where the connection of this number is reached, if there is one.
+    pub fn conn(&self, number: u64) -> Option<Conn>
+        ensures { result ≡ option_map conn_of (connection_of self.now.bus number) }
+    {
+        self.registry().conn(number)
+    }
+
+    /// Whether any connection is a monitor.
+    pub fn has_monitors(&self) -> bool
+        ensures { result ≡ list_any is_monitor self.now.bus.connections }
+    {
+        self.registry().has_monitors()
+    }
+
+    /// Whether there is a connection of this number.
+    pub fn present(&self, number: u64) -> bool
+        ensures { result ≡ is_some (connection_of self.now.bus number) }
+    {
+        self.registry().present(number)
+    }
+
+    /// The well-known names that have an owner, by rising bytes, each with its queue.
+    pub fn names(&self) -> &[Box<NameEntry>]
+        ensures { map (λ b. owned_name b.value) result.now ≡ self.now.bus.names }
+    {
+        self.registry().names()
+    }
+
+    /// Who owns a well-known name and who waits for it, in order. It is empty where the name has no owner.
+    /// (D-Bus Specification: "org.freedesktop.DBus.ListQueuedOwners")
+    pub fn queue(&self, name: &BusName) -> &[QueuedOwner]
+        ensures { result.now ≡ queue_of self.now.bus.names name.now }
+    {
+        self.registry().queue(name.as_str())
+    }
+
+    /// The match rules that a connection added, in order of arrival.
+    pub fn rules(&self, connection: u64) -> RulesOf<'_>
+        ensures { rules_left result ≡ rules_by connection self.now.bus.rules }
+    {
+        self.registry().rules(connection)
+    }
+
+    /// The number of routers.
+    pub fn routers(&self) -> u8
+        ensures value { result ≡ self.now.bus.routers }
+        ensures consistent { IsConsistent self.now.bus }
+        ensures within_limits { IsWithinLimits self.now.bus }
+    {
+        self.registry().routers()
+    }
+}

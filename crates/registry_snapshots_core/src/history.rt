@@ -1,0 +1,196 @@
+//! The one history of a registry: a word with its length, and the beginnings of it that were seen.
+
+ghost use Rattle.std.specs.Prelude.{◌≡◌, ◌+◌, ◌==◌, ◌<◌, ◌≤◌, ◌^◌, ◌++◌, ◌∷◌, [], length, MatchBool, IfSome};
+ghost use Rattle.seq_bus_core.specs.Histories.{IsLegal, Begins};
+ghost use Rattle.registry_snapshots_core.specs.Copies.{front_of};
+
+use logbook::{Gain, Offer, Plain, Play, Rule, Seen, Start, Word};
+use seq_bus_core::Entry;
+use std::collections::LinkedList;
+use std::marker::Model;
+
+/// The entries that are published together. No value of it is made.
+pub struct Publication {
+    pub entries: LinkedList<Entry>,
+}
+
+/// The rule of the book: its word is the length of the history, which is legal.
+pub struct Law;
+
+impl Rule<Publication, u64> for Law {
+    ghost use Rattle.std.specs.Prelude.{[]};
+    ghost use base.Fml.{ftrue};
+    ghost use Rattle.registry_snapshots_core.specs.Publications.{IsKept};
+
+    ghost holds = { λ cells log. IsKept cells log };
+
+    ghost first = { [] };
+
+    ghost hinted = { λ n log. Unit {0} };
+
+    ghost shows = { λ log. [] };
+
+    ghost keeps = { λ names log. ftrue };
+
+    ghost moves = { λ ask before after answer. Unit {0} };
+}
+
+/// Callers trade nothing.
+pub struct Nothing;
+
+impl Gain<Publication, u64> for Nothing {
+    ghost use base.Fml.{ftrue};
+
+    ghost after = { λ names about answer. ftrue };
+}
+
+/// A step that adds a publication.
+pub struct Add;
+
+impl Play<Publication, u64> for Add {
+    ghost use Rattle.registry_snapshots_core.specs.Publications.{Adds};
+
+    ghost then = { Adds };
+}
+
+/// What a step asks for: the publication of one entry.
+impl Plain<Entry, Publication, u64> for Add {
+    ghost use Rattle.std.specs.Prelude.{None};
+    ghost use Rattle.registry_snapshots_core.specs.Publications.{publication_of};
+
+    ghost ask = { publication_of };
+
+    ghost state = { λ entry. None };
+}
+
+/// The word with the length of the history. Contracts see it as the book that it is of.
+#[derive(Drop)]
+pub struct Head {
+    word: Word<Publication, u64, Law>,
+}
+
+impl Model for Head {
+    ghost use Rattle.std.specs.Prelude.{◌≡◌};
+    ghost use Rattle.logbook.specs.Pages.{Book};
+    ghost use Rattle.registry_snapshots_core.specs.Publications.{head_of};
+
+    ghost Value = { Book };
+
+    ghost view = { λ h. h.word.book };
+
+    ghost invariant = { λ h. h.word ≡ head_of h.word.book };
+}
+
+/// A beginning of the history that was seen, of which only the length is stored. Contracts see its book and its entries.
+#[derive(Drop)]
+pub struct Front {
+    count: u64,
+    seen: Seen<Publication, u64, Law>,
+}
+
+impl Model for Front {
+    ghost use Rattle.std.specs.Prelude.{◌≡◌, length};
+    ghost use Rattle.seq_bus_core.specs.Histories.{IsLegal};
+    ghost use Rattle.registry_snapshots_core.specs.Copies.{FrontView};
+    ghost use Rattle.registry_snapshots_core.specs.Publications.{flat};
+
+    ghost Value = { FrontView };
+
+    ghost view = { λ f. record { book = f.seen.book; log = flat f.seen.log } };
+
+    ghost invariant = { λ f. (f.count ≡ length (flat f.seen.log)) × IsLegal (flat f.seen.log) };
+}
+
+/// An empty history, which has no name yet. Contracts see its book.
+#[derive(Drop)]
+pub struct Opened {
+    head: Head,
+    front: Front,
+}
+
+impl Model for Opened {
+    ghost use Rattle.std.specs.Prelude.{◌≡◌, []};
+    ghost use Rattle.logbook.specs.Pages.{Book};
+
+    ghost Value = { Book };
+
+    ghost view = { λ o. o.front.book };
+
+    ghost invariant = { λ o. (o.head ≡ o.front.book) × (o.front.log ≡ []) };
+}
+
+impl Opened {
+    pub fn new() -> Opened {
+        let (seen, mut first, _second) = Seen::open(Start::alone(), 0, 0);
+        Opened {
+            head: Head {
+                word: Word::tracked(0, &mut first),
+            },
+            front: Front { count: 0, seen },
+        }
+    }
+
+    /// The word with its length, and the front that has seen nothing.
+    pub fn parts(self) -> (Head, Front)
+        ensures { (result.0 ≡ self) × (result.1.book ≡ self) × (result.1.log ≡ []) }
+    {
+        let Opened { head, front } = self;
+        (head, front)
+    }
+}
+
+impl Front {
+    /// How many changes it has.
+    pub fn len(&self) -> u64
+        ensures length { result ≡ length self.now.log }
+        ensures legal { IsLegal self.now.log }
+    {
+        self.count
+    }
+
+    /// A copy, which takes no memory.
+    pub fn again(&self) -> Front
+        ensures { result ≡ self.now }
+    {
+        Front {
+            count: self.count,
+            seen: self.seen.again(),
+        }
+    }
+
+    /// Of two beginnings of one history, whether this one begins the other.
+    pub fn begins(&self, other: &Front) -> bool
+        requires { other.now.book ≡ self.now.book }
+        ensures { MatchBool result (Begins self.now.log other.now.log)
+            (Begins other.now.log self.now.log × (length other.now.log < length self.now.log)) }
+    {
+        let mut both = self.seen.again();
+        both.learn(&other.seen);
+        self.count <= other.count
+    }
+
+    /// Publishes an entry behind all that was seen, where that is the whole history.
+    pub fn add(&self, head: &Head, entry: &Entry) -> Option<Front>
+        requires book { head.now ≡ self.now.book }
+        requires room { length self.now.log < 2 ^ 63 }
+        requires legal { IsLegal (self.now.log ++ entry.now ∷ []) }
+        ensures { IfSome result (λ f. f ≡ front_of self.now.book (self.now.log ++ entry.now ∷ [])) }
+    {
+        let mut seen = self.seen.again();
+        let mut offer: Offer<Publication, u64, Law, Nothing> = seen.plain::<Nothing, Entry, Add>(
+            entry,
+        );
+        let mut pen = seen.no_pen();
+        let count = self.count;
+        let found = head
+            .word
+            .compare_exchange::<Add, Nothing>(count, count + 1, &mut seen, &mut offer, &mut pen);
+        if found != count {
+            return None;
+        }
+        Some(Front {
+            count: count + 1,
+            seen,
+        })
+    }
+}

@@ -1,0 +1,147 @@
+//! The copy of the registry that readers take, and the operation that brings it up.
+
+ghost use Rattle.owner_queues.specs.declared.request.Profile.TheVariants.{Two};
+ghost use Rattle.std.specs.Prelude.{◌≡◌, ◌<◌, length, IfOk, IfSome, replicate, slice_get, slice_index};
+ghost use Rattle.seq_bus_core.specs.Histories.{CanOpen, opening};
+ghost use Rattle.registry.specs.PreparedChanges.{prepared_on};
+ghost use Rattle.seq_bus_core.specs.Served.{IsServedChange};
+ghost use Rattle.registry_snapshots_core.specs.Copies.{put_number};
+
+use crate::history::Front;
+use left_right::Absorb;
+use names::WellKnown;
+use owner_queues::Profile;
+use registry::{Prepared, Registry};
+use seq_bus_core::Change;
+use std::alloc::{AllocError, Global};
+use std::marker::Model;
+
+/// How a registry settles queues of names.
+const PROFILE: Profile = Profile::Two;
+
+/// The bus as it was published.
+#[derive(Drop)]
+pub struct Snap {
+    registry: Registry,
+    // The number of each seat's last change.
+    last: Vec<u64>,
+    front: Front,
+}
+
+impl Model for Snap {
+    ghost use Rattle.registry_snapshots_core.specs.Copies.{SnapView};
+
+    ghost Value = { SnapView };
+
+    ghost view = { λ s. record { bus = s.registry; last = s.last.items; front = s.front } };
+}
+
+/// What brings a copy up.
+#[derive(Drop)]
+pub enum Op {
+    /// Nothing: it makes room for the operations to come.
+    Rest,
+    /// A change that a seat made.
+    Made {
+        seat: u8,
+        /// Its number among the changes of the seat.
+        number: u64,
+        prepared: Prepared,
+        /// The beginning of the history that its entry ends.
+        front: Front,
+    },
+}
+
+impl Absorb<Op> for Snap {
+    ghost use Rattle.registry_snapshots_core.specs.Pending.{brought_up};
+
+    type State = Snap;
+
+    ghost state = { λ s. s };
+
+    ghost applied = { brought_up };
+
+    ghost never_fails = { Unit {0} };
+
+    fn absorb_first(&mut self, operation: &Op, _other: &Snap) -> Result<(), AllocError> {
+        match operation {
+            Op::Rest => {}
+            Op::Made {
+                seat,
+                number,
+                prepared,
+                front,
+            } => {
+                self.registry.absorb(prepared);
+                remember(&mut self.last, *seat, *number);
+                self.front = front.again();
+            }
+        }
+        Ok(())
+    }
+}
+
+// Writes down the number of the seat's last change.
+fn remember(last: &mut Vec<u64>, seat: u8, number: u64)
+    ensures { last.new.items ≡ put_number last.old.items seat number }
+{
+    let seat = usize::from(seat);
+    if seat < last.len() {
+        last[seat] = number;
+    }
+}
+
+impl Snap {
+    /// The bus before its first change, with so many seats.
+    pub fn new(
+        alloc: Global,
+        services: &[WellKnown],
+        routers: u8,
+        seats: usize,
+        front: Front,
+    ) -> Result<Snap, AllocError>
+        requires { CanOpen routers services.now }
+        ensures { IfOk result (λ s. s ≡ record {
+          bus = opening Two routers services.now;
+          last = replicate seats 0;
+          front = front;
+        }) }
+    {
+        Ok(Snap {
+            registry: Registry::new(alloc, services, routers, PROFILE)?,
+            last: Vec::from_elem(alloc, 0u64, seats)?,
+            front,
+        })
+    }
+
+    /// The tables of the bus.
+    pub(crate) fn registry(&self) -> &Registry
+        ensures { result.now ≡ self.now.bus }
+    {
+        &self.registry
+    }
+
+    /// The beginning of the history that it stands for.
+    pub fn front(&self) -> &Front
+        ensures { result.now ≡ self.now.front }
+    {
+        &self.front
+    }
+
+    /// The number of the seat's last change, if there is such a seat.
+    pub fn made(&self, seat: u8) -> Option<u64>
+        ensures some { IfSome result (λ n. (seat < length self.now.last)
+            × (n ≡ slice_index self.now.last seat)) }
+        ensures same { result ≡ slice_get self.now.last seat }
+    {
+        self.last.get(usize::from(seat)).copied()
+    }
+
+    /// Makes all that a change needs, and says what it is told.
+    pub fn prepare(&self, alloc: Global, seat: u8, change: &Change) -> Result<Prepared, AllocError>
+        requires { IsServedChange change.now }
+        ensures { IfOk result (λ prepared. prepared ≡ prepared_on self.now.bus seat change.now) }
+    {
+        self.registry.prepare(alloc, seat, change)
+    }
+}
