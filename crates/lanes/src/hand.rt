@@ -9,7 +9,8 @@ pub struct Entry<E> {
     pub item: E,
 }
 
-/// The lanes that a hand puts for, `from` up to `to`, whether it takes, what it put and what it took. No value of it is made.
+/// The lanes that a hand puts for, `from` up to `to`, whether it takes, what it put and what it took. No value of it is
+/// made.
 pub struct Hand<E> {
     pub from: u64,
     pub to: u64,
@@ -18,6 +19,7 @@ pub struct Hand<E> {
     pub taken: LinkedList<Entry<E>>,
 }
 
+/// The rule of a queue: what comes out of it is a beginning of what was put into it.
 pub struct InOrder;
 
 impl<E> Protocol<E, Hand<E>> for InOrder {
@@ -50,6 +52,7 @@ impl<E> Join<Hand<E>> for Adopt {
     ghost spent = { spent };
 }
 
+/// An item was put, for the first lane of the hand.
 pub(crate) struct Puts;
 
 impl<E> Outcome<E, Hand<E>> for Puts {
@@ -65,6 +68,7 @@ impl<E> Lesson<E, Hand<E>> for Puts {
     ghost fact = { Shows };
 }
 
+/// An item was taken.
 pub(crate) struct Takes;
 
 impl<E> Outcome<E, Hand<E>> for Takes {

@@ -53,10 +53,11 @@ impl<E: Drop> Lane<E> {
         self.ends.len()
     }
 
-    /// Puts an item behind those that the queue of a slot holds. Where the queue is full, the item comes back; `Full` comes
-    /// only where it was full at some moment of the call.
+    /// Puts an item behind those that the queue of a slot holds. It takes no memory.
     ///
-    /// It takes no memory.
+    /// # Errors
+    ///
+    /// The item comes back, only where the queue was full at some moment of the call.
     pub fn put<R: Wait>(&mut self, rt: &R, slot: usize, item: E) -> Result<(), Full<E>>
         requires { slot < length self.old }
         ensures slots { length self.new ≡ length self.old }
@@ -67,8 +68,8 @@ impl<E: Drop> Lane<E> {
         self.ends[slot].put(rt, item)
     }
 
-    /// Shows that what was taken of this lane from the queue of a slot is a beginning of what the lane put into it, once the
-    /// lane and the tap are in one hand.
+    /// Shows that what was taken of this lane from the queue of a slot is a beginning of what the lane put into it, once
+    /// the lane and the tap are in one hand.
     ///
     /// Both may go on afterwards.
     pub fn compare(&mut self, slot: usize, tap: &mut Tap<E>)

@@ -10,8 +10,12 @@ use std::alloc::{AllocError, Global};
 /// The most lanes.
 const LANES: u64 = 9;
 
-/// New queues for groups of slots, as many slots in each: so many lanes, each with an end of every queue, and the taps of
-/// each group.
+/// New queues for groups of slots, as many slots in each: so many lanes, at most 9, each with an end of every queue, and
+/// the taps of each group.
+///
+/// # Errors
+///
+/// There may not be memory for all.
 pub fn open_lanes<E: Drop>(
     alloc: Global,
     lanes: usize,

@@ -2,6 +2,8 @@
 #![tactic(auto)]
 
 #[cfg(test)]
+mod examples;
+#[cfg(test)]
 mod lanes_tests;
 #[cfg(test)]
 mod outbox_tests;

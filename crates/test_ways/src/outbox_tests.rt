@@ -1,14 +1,14 @@
 //! Outboxes of a registry.
 
 ghost use Rattle.std.specs.Prelude.{◌≡◌, []};
-ghost use Rattle.owner_queues.specs.declared.request.Profile.TheVariants.{One};
+ghost use Rattle.owner_queues.specs.declared.request.Profile.TheVariants.{Two};
 ghost use Rattle.seq_bus_core.specs.Tickets.{opening_bus};
 
-use desk::Note;
-use envelopes::{Content, Envelope, SharedBytes};
+use crate::examples::comes_to_the_second;
 use outbox::{Full, Lane, Outboxes, Tap};
-use owner_queues::Profile;
-use registry_snapshots::{Naming, Opened, Shared};
+use outbox_core::{Content, Envelope};
+use registry_snapshots::{Naming, Note, Opened, Shared};
+use seq_bus_core::SharedBytes;
 use std::alloc::{AllocError, Global};
 use std::marker::Brand;
 use std::process::Abort;
@@ -53,12 +53,12 @@ fn two_routers<J: Naming + Send + Sync, R: Threads + Wait + Abort + Sync>(
     alloc: Global,
     opened: Opened,
 )
-    requires { (opened ≡ J.book) × (J.opening ≡ opening_bus One 2 []) }
+    requires { (opened ≡ J.book) × (J.opening ≡ opening_bus Two 2 []) }
 {
-    let (shared, _seats) = Shared::<J>::new(rt, alloc, opened, &[], 2, Profile::One)
+    let (shared, _seats) = Shared::<J>::new(rt, alloc, opened, &[], 2)
         .ok()
         .expect(rt, "there is memory");
-    let made = Outboxes::new(alloc, &shared, 2);
+    let made = Outboxes::new(alloc, &shared);
     let (mut lanes, mut routers) = made.ok().expect(rt, "there is memory");
     assert_eq!(rt; (lanes.len(), routers.len()), (3, 2));
     let lane = lanes.pop().expect(rt, "there are three lanes");
@@ -76,6 +76,9 @@ fn two_routers<J: Naming + Send + Sync, R: Threads + Wait + Abort + Sync>(
         move || fill(rt, other, 256, lent),
     );
     assert_eq!(rt; (back, none, first_of(rt, tap)), (Some(256), None, Some(0)));
+    let envelope = letter(lent, 7).ok().expect(rt, "few share the bytes");
+    let came = comes_to_the_second(rt, alloc, &shared, envelope);
+    assert!(rt; came.unwrap_or(false));
     shared.end(rt);
 }
 

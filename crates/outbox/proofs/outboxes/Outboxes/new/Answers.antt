@@ -3,4 +3,4 @@ use Rattle.std.proofs.Math.Nat.{mul-div-le}
 use Rattle.outbox.proofs.outboxes.Outboxes.new.Goals as goal
 
 pub open_lanes-requires-clause-slots : goal.open_lanes-requires-clause-slots
-open_lanes-requires-clause-slots g c = omega (arith, mul-div-le 256 c.args.routers)
+open_lanes-requires-clause-slots g c = omega (arith, mul-div-le 256 c.routers.result)

@@ -1,0 +1,4 @@
+pub mod Answers
+pub mod Contents
+pub mod Deliveries
+pub mod Named

@@ -1,0 +1,34 @@
+//! What is on its way.
+
+ghost use Rattle.std.specs.Prelude.{◌≡◌, IfOk};
+
+use crate::own_message::OwnMessage;
+use seq_bus_core::SharedBytes;
+use std::alloc::AllocError;
+
+/// A message on its way to a connection.
+#[derive(Debug, Drop)]
+pub enum Content {
+    /// A message of a connection, as it is written.
+    Relayed(SharedBytes),
+    /// A message of the bus itself.
+    Own(OwnMessage),
+}
+
+impl Content {
+    /// The same once more. No bytes are copied; it fails where too many share them already.
+    pub fn again(&self) -> Result<Content, AllocError>
+        ensures { IfOk result (λ content. content ≡ self.now) }
+    {
+        match self {
+            Content::Relayed(bytes) => {
+                let bytes = bytes.again()?;
+                Ok(Content::Relayed(bytes))
+            }
+            Content::Own(message) => {
+                let message = message.again()?;
+                Ok(Content::Own(message))
+            }
+        }
+    }
+}

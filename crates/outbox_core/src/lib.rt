@@ -1,0 +1,38 @@
+//! What routers send one another: messages on their way to connections of other routers, and who gets them.
+//!
+//! A relayed message is there in its bytes, which all who get it share. The bus's own messages are numbered by the
+//! router of the recipient, so they travel unwritten, as an [`OwnMessage`], and are written where they arrive. An
+//! [`Envelope`] has such a [`Content`], the number of the connection that it is for, and what its sender knew of the
+//! bus. Who gets a content, and in which order, is said by [`Deliveries`]; its laws stand in [`laws`].
+//!
+//! ```
+//! use outbox_core::Deliveries;
+//! use seq_bus_core::Conn;
+//!
+//! fn get_it_once(one: Conn, two: Conn) -> bool {
+//!     let to = [one];
+//!     let monitors = [one, two];
+//!     let mut deliveries = Deliveries::new(&to, &monitors);
+//!     let first = deliveries.next();
+//!     let second = deliveries.next();
+//!     first == Some(one) && second == Some(two) && deliveries.next().is_none()
+//! }
+//! ```
+#![tactic(auto)]
+
+mod answer;
+mod call;
+mod content;
+mod deliveries;
+mod envelope;
+pub mod laws;
+mod own_facts;
+mod own_message;
+
+pub use answer::AnswerBody;
+pub use call::CallToAnswer;
+pub use content::Content;
+pub use deliveries::Deliveries;
+pub use envelope::Envelope;
+pub use own_facts::OwnNames;
+pub use own_message::{OwnMessage, ReplyContent};

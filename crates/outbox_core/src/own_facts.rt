@@ -1,0 +1,271 @@
+//! What rules and routing look at in the bus's own messages.
+
+ghost use Rattle.std.specs.Prelude.{◌≡◌, [], option_map, unwrap_or, map};
+ghost use Rattle.names.specs.UniqueName.{unique_text};
+ghost use Rattle.marshal_check.specs.Arguments.{argument_of as value_argument, arguments as value_arguments};
+ghost use Rattle.match_rules.specs.Facts.{StringArgument};
+ghost use Rattle.match_rules.specs.FactsView.{argument_of};
+ghost use Rattle.message.specs.FactsOf.{as_argument, facts_of};
+ghost use Rattle.bus_view.specs.Bodies.{answer_value};
+ghost use Rattle.driver.specs.OwnMessages.{signal_member, signal_texts};
+ghost use Rattle.outbox_core.specs.Answers.{kind_of};
+ghost use Rattle.outbox_core.specs.declared.answer.BodyKind.TheVariants.{Text};
+ghost use Rattle.outbox_core.specs.Contents.{Signals, carried_of, carried_values, own_of, own_message};
+ghost use Rattle.outbox_core.specs.Named.{names_of, number_in};
+
+use crate::answer::{AnswerBody, BodyKind};
+use crate::own_message::{OwnMessage, ReplyContent};
+use arrayvec::ArrayVec;
+use driver::error_text;
+use marshal_check::{Argument as Read, Arguments, Types};
+use marshal_core::Order;
+use match_rules::{Argument, Facts, MessageKind};
+use names::UniqueName;
+use seq_bus_core::BusSignal;
+
+/// The unique names in a message of the bus, which has them by the numbers of their connections. Its
+/// [facts](OwnMessage::put_facts) are lent out of both.
+#[derive(Clone, Copy, Debug)]
+pub struct OwnNames {
+    /// The connection that the message is for.
+    destination: Option<UniqueName>,
+    /// The connections in its body.
+    first: Option<UniqueName>,
+    second: Option<UniqueName>,
+}
+
+fn name_of(number: Option<u64>) -> Option<UniqueName>
+    ensures { result ≡ option_map unique_text number }
+{
+    match number {
+        Some(number) => Some(UniqueName::of(number)),
+        None => None,
+    }
+}
+
+fn lent(name: &Option<UniqueName>) -> Option<&str>
+    ensures { option_map (λ t. t.now) result ≡ name.now }
+{
+    match name {
+        Some(name) => Some(name.as_str()),
+        None => None,
+    }
+}
+
+/// A name as an argument, which is an empty text where there is none.
+fn owner_argument(name: &Option<UniqueName>) -> Argument<'_>
+    ensures { argument_of result ≡ StringArgument (unwrap_or name.now []) }
+{
+    match name {
+        Some(name) => Argument::String(name.as_str()),
+        None => Argument::String(""),
+    }
+}
+
+impl OwnNames {
+    fn of_signal(signal: &BusSignal) -> OwnNames
+        ensures { result ≡ names_of (Signals signal.now) }
+    {
+        match signal {
+            BusSignal::NameOwnerChanged {
+                name: _,
+                old_owner,
+                new_owner,
+            } => OwnNames {
+                destination: None,
+                first: name_of(*old_owner),
+                second: name_of(*new_owner),
+            },
+            BusSignal::NameLost { name: _, owner } | BusSignal::NameAcquired { name: _, owner } => {
+                OwnNames {
+                    destination: name_of(Some(*owner)),
+                    first: None,
+                    second: None,
+                }
+            }
+        }
+    }
+}
+
+/// The one string of an answer, which lies in its bytes.
+fn text_in(answer: &AnswerBody) -> Argument<'_>
+    requires { kind_of answer.now ≡ Text }
+    ensures { argument_of result ≡ as_argument (value_argument (answer_value answer.now)) }
+{
+    let types = Types { text: b"s" };
+    let mut arguments = Arguments::new(Order::Little, 0, types, answer.bytes());
+    match arguments.next() {
+        Some(Read::String(text)) => Argument::String(text),
+        Some(Read::ObjectPath(text)) => Argument::ObjectPath(text),
+        Some(Read::Other) => Argument::Other,
+        None => Argument::Other,
+    }
+}
+
+/// An answer as an argument.
+fn answered(answer: &AnswerBody) -> Argument<'_>
+    ensures { argument_of result ≡ as_argument (value_argument (answer_value answer.now)) }
+{
+    match answer.kind() {
+        BodyKind::Text => text_in(answer),
+        BodyKind::Boolean | BodyKind::Texts => Argument::Other,
+    }
+}
+
+impl ReplyContent {
+    /// The number of the connection whose unique name it is.
+    fn number(&self) -> Option<u64>
+        ensures { result ≡ number_in (carried_of self.now) }
+    {
+        match self {
+            ReplyContent::UniqueName(number) => Some(*number),
+            ReplyContent::Empty | ReplyContent::Number(_) | ReplyContent::Answer(_) => None,
+        }
+    }
+}
+
+/// Puts what a reply carries.
+fn put_carried<'a>(
+    content: &'a ReplyContent,
+    name: &'a Option<UniqueName>,
+    arguments: &mut ArrayVec<Argument<'a>, 64>,
+)
+    requires name { name.now ≡ option_map unique_text (number_in (carried_of content.now)) }
+    requires none { map argument_of arguments.old.items ≡ [] }
+    ensures { map argument_of arguments.new.items
+        ≡ map as_argument (value_arguments (carried_values (carried_of content.now))) }
+{
+    match content {
+        ReplyContent::Empty => {}
+        ReplyContent::Number(_) => arguments.push(Argument::Other),
+        ReplyContent::UniqueName(_) => arguments.push(owner_argument(name)),
+        ReplyContent::Answer(answer) => arguments.push(answered(answer)),
+    }
+}
+
+/// Puts the texts of a signal.
+fn put_texts<'a>(
+    signal: &'a BusSignal,
+    names: &'a OwnNames,
+    arguments: &mut ArrayVec<Argument<'a>, 64>,
+)
+    requires names { names.now ≡ names_of (Signals signal.now) }
+    requires none { arguments.old.items ≡ [] }
+    ensures { map argument_of arguments.new.items ≡ map StringArgument (signal_texts signal.now) }
+{
+    match signal {
+        BusSignal::NameOwnerChanged { name, .. } => {
+            arguments.push(Argument::String(name.as_str()));
+            arguments.push(owner_argument(&names.first));
+            arguments.push(owner_argument(&names.second));
+        }
+        BusSignal::NameLost { name, .. } => arguments.push(Argument::String(name.as_str())),
+        BusSignal::NameAcquired { name, .. } => arguments.push(Argument::String(name.as_str())),
+    }
+}
+
+fn member_of(signal: &BusSignal) -> &'static str
+    ensures { result.now ≡ signal_member signal.now }
+{
+    match signal {
+        BusSignal::NameOwnerChanged { .. } => "NameOwnerChanged",
+        BusSignal::NameLost { .. } => "NameLost",
+        BusSignal::NameAcquired { .. } => "NameAcquired",
+    }
+}
+
+impl OwnMessage {
+    /// The unique names in the message. It takes no memory.
+    pub fn names(&self) -> OwnNames
+        ensures { result ≡ names_of (own_of self.now) }
+    {
+        match self {
+            OwnMessage::Signal(signal) => OwnNames::of_signal(signal.get()),
+            OwnMessage::Reply { to, content } => OwnNames {
+                destination: name_of(to.reply_to().caller),
+                first: name_of(content.number()),
+                second: None,
+            },
+            OwnMessage::Error { to, error: _ } => OwnNames {
+                destination: name_of(to.reply_to().caller),
+                first: None,
+                second: None,
+            },
+        }
+    }
+
+    fn kind(&self) -> MessageKind
+        ensures { result ≡ (facts_of (own_message 1 (own_of self.now))).kind }
+    {
+        match self {
+            OwnMessage::Signal(_) => MessageKind::Signal,
+            OwnMessage::Reply { .. } => MessageKind::MethodReturn,
+            OwnMessage::Error { .. } => MessageKind::Error,
+        }
+    }
+
+    fn path(&self) -> Option<&'static str>
+        ensures { option_map (λ t. t.now) result
+            ≡ (facts_of (own_message 1 (own_of self.now))).path }
+    {
+        match self {
+            OwnMessage::Signal(_) => Some("/org/freedesktop/DBus"),
+            OwnMessage::Reply { .. } | OwnMessage::Error { .. } => None,
+        }
+    }
+
+    fn interface(&self) -> Option<&'static str>
+        ensures { option_map (λ t. t.now) result
+            ≡ (facts_of (own_message 1 (own_of self.now))).interface }
+    {
+        match self {
+            OwnMessage::Signal(_) => Some("org.freedesktop.DBus"),
+            OwnMessage::Reply { .. } | OwnMessage::Error { .. } => None,
+        }
+    }
+
+    fn member(&self) -> Option<&'static str>
+        ensures { option_map (λ t. t.now) result
+            ≡ (facts_of (own_message 1 (own_of self.now))).member }
+    {
+        match self {
+            OwnMessage::Signal(signal) => Some(member_of(signal.get())),
+            OwnMessage::Reply { .. } | OwnMessage::Error { .. } => None,
+        }
+    }
+
+    /// Puts the arguments of the message.
+    #[inline(never)]
+    fn put_arguments<'a>(&'a self, names: &'a OwnNames, arguments: &mut ArrayVec<Argument<'a>, 64>)
+        requires names { names.now ≡ names_of (own_of self.now) }
+        requires none { arguments.old.items ≡ [] }
+        ensures { map argument_of arguments.new.items
+            ≡ (facts_of (own_message 1 (own_of self.now))).arguments }
+    {
+        match self {
+            OwnMessage::Signal(signal) => put_texts(signal.get(), names, arguments),
+            OwnMessage::Reply { to: _, content } => put_carried(content, &names.first, arguments),
+            OwnMessage::Error { to: _, error } => arguments.push(Argument::String(error_text(
+                *error,
+            ))),
+        }
+    }
+
+    /// Puts what match rules and routing look at in the message ("Match Rules" of the D-Bus Specification), lent out of
+    /// it and its names, in the place of what stood there. The message is not written for that. It takes no memory, and
+    /// facts are too large to be handed on.
+    pub fn put_facts<'a>(&'a self, names: &'a OwnNames, facts: &mut Facts<'a>)
+        requires { names.now ≡ names_of (own_of self.now) }
+        ensures { facts.new ≡ facts_of (own_message 1 (own_of self.now)) }
+    {
+        facts.kind = self.kind();
+        facts.auto_start = true;
+        facts.sender = 0;
+        facts.path = self.path();
+        facts.interface = self.interface();
+        facts.member = self.member();
+        facts.destination = lent(&names.destination);
+        facts.arguments.clear();
+        self.put_arguments(names, &mut facts.arguments);
+    }
+}
