@@ -7,7 +7,7 @@ use Rattle.std.proofs.lemmas.List.{take_all}
 use Rattle.seq_bus_core.specs.Histories.{History}
 use Rattle.seq_bus_core.specs.Steps.{is_among}
 use Rattle.seq_bus_core.specs.declared.connection.Conn.{Conn}
-use Rattle.envelopes.specs.Contents.{Said}
+use Rattle.outbox_core.specs.Contents.{Said}
 use Rattle.router_core.specs.Acts.{State}
 use Rattle.router_core.specs.Deeds.{GatedCall}
 use Rattle.busd_core.specs.declared.fault.RunFault.{RunFault}

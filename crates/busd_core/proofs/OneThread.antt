@@ -5,9 +5,9 @@ use mathlib.Core.List.{append-nil}
 use Rattle.seq_bus_core.specs.Histories.{History}
 use Rattle.seq_bus_core.specs.declared.connection.Conn.{Conn}
 use Rattle.seq_bus_core.specs.declared.signal.AddressedSignal.{AddressedSignal}
-use Rattle.message_relay.specs.MessageBytes.{message_bytes}
-use Rattle.envelopes.specs.Contents.{Said, Tells, Signals, said_of}
-use Rattle.envelopes.specs.declared.envelope.Envelope.{Envelope}
+use Rattle.message.specs.MessageBytes.{message_bytes}
+use Rattle.outbox_core.specs.Contents.{Said, Tells, Signals, said_of}
+use Rattle.outbox_core.specs.declared.envelope.Envelope.{Envelope}
 use Rattle.router_core.specs.declared.action.Action.{Action}
 use Rattle.router_core.specs.declared.action.Action.TheVariants.{Write, Put, Announce, Close, Run}
 use Rattle.router_core.specs.declared.event.Event.{Event}

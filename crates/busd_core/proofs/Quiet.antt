@@ -2,8 +2,8 @@
 use Rattle.std.proofs.Common.{◌≡◌, ℕ, Bool, Option, Some, None, option_map, position, List, [], ◌∷◌, ◌++◌, refl, sym, ap, ◌∙◌, subst, append-nil}
 use Rattle.seq_bus_core.specs.Histories.{History}
 use Rattle.message_core.specs.Messages.{Message}
-use Rattle.envelopes.specs.Contents.{Said, Relays, Tells, said_of}
-use Rattle.envelopes.specs.declared.envelope.Envelope.{Envelope}
+use Rattle.outbox_core.specs.Contents.{Said, Relays, Tells, said_of}
+use Rattle.outbox_core.specs.declared.envelope.Envelope.{Envelope}
 use Rattle.router_core.specs.declared.action.Action.{Action}
 use Rattle.router_core.specs.declared.action.Action.TheVariants.{Write, Put, Announce, Close, Run}
 use Rattle.router_core.specs.declared.event.Event.TheVariants.{Mail}

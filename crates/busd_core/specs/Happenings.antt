@@ -5,8 +5,8 @@ use Rattle.std.specs.Option.{option_or}
 use Rattle.seq_bus_core.specs.Histories.{History}
 use Rattle.seq_bus_core.specs.declared.connection.Conn.{Conn}
 use Rattle.seq_bus_core.specs.declared.signal.AddressedSignal.{AddressedSignal}
-use Rattle.envelopes.specs.Contents.{Said, Tells, Signals, said_of}
-use Rattle.envelopes.specs.declared.envelope.Envelope.{Envelope}
+use Rattle.outbox_core.specs.Contents.{Said, Tells, Signals, said_of}
+use Rattle.outbox_core.specs.declared.envelope.Envelope.{Envelope}
 use Rattle.router_core.specs.declared.action.Action.{Action}
 use Rattle.router_core.specs.declared.action.Action.TheVariants.{Write, Put, Announce, Close}
 use Rattle.router_core.specs.declared.cause.CloseCause.{CloseCause}

@@ -1,7 +1,7 @@
 -- What events bring over a bus of one thread, where nothing is refused: a function of the events.
 use Rattle.std.specs.Prelude.{ℕ, Bool, ◌==◌, None, List, [], ◌∷◌, ◌++◌, if◌then◌else◌}
 use Rattle.seq_bus_core.specs.Histories.{History}
-use Rattle.message_relay.specs.MessageBytes.{message_bytes}
+use Rattle.message.specs.MessageBytes.{message_bytes}
 use Rattle.router_core.specs.declared.event.Event.{Event}
 use Rattle.router_core.specs.Acts.{Exchange, State}
 use Rattle.router_core.specs.Deeds.{Deed, Writes, Sends, Puts, GatedCall}

@@ -25,7 +25,8 @@ pub fn write_out<N: Drop, W: Write>(
     key: usize,
     actions: &[Action<N>],
 ) -> Result<(), io::Error>
-    ensures { WritesFront (W.contents writer.old) (W.contents writer.new) (written_to key actions.now) result }
+    ensures { WritesFront (W.contents writer.old) (W.contents writer.new)
+        (written_to key actions.now) result }
 {
     for action in actions {
         write_whole(writer, bytes_for(key, action))?;

@@ -27,8 +27,12 @@ pub fn bring<V: BusView, G: Gate, W: Write>(
     writer: &mut W,
 ) -> Result<Vec<Action<V::Note>>, RunFault>
     requires { CanHappen V.registry_of engine.old.view.registry engine.old.standing event }
-    ensures ok { IfOk result (λ actions. IsBrought V.told V.registry_of G.passes V.alone key engine.old event actions.items (W.contents writer.old) (W.contents writer.new) engine.new) }
-    ensures err { IfErr result (λ fault. IsCutShort V.told V.registry_of G.passes V.alone key engine.old event (W.contents writer.old) (W.contents writer.new) engine.new fault) }
+    ensures ok { IfOk result
+        (λ actions. IsBrought V.told V.registry_of G.passes V.alone key engine.old event
+        actions.items (W.contents writer.old) (W.contents writer.new) engine.new) }
+    ensures err { IfErr result
+        (λ fault. IsCutShort V.told V.registry_of G.passes V.alone key engine.old event
+        (W.contents writer.old) (W.contents writer.new) engine.new fault) }
 {
     let mut event = event;
     let Ok(actions) = engine.event(right, &mut event) else {

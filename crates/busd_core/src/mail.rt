@@ -3,7 +3,7 @@
 ghost use Rattle.std.specs.Prelude.{◌≡◌, not, filter};
 ghost use Rattle.std.specs.List.{flat_map};
 ghost use Rattle.seq_bus_core.specs.Steps.{is_among};
-ghost use Rattle.envelopes.specs.Contents.{said_of};
+ghost use Rattle.outbox_core.specs.Contents.{said_of};
 ghost use Rattle.router_core.specs.Deeds.{all_of};
 ghost use Rattle.busd_core.specs.Happenings.{mail_to, mail_to_all, mail_of_signal, mail_of, mails_of};
 ghost use Rattle.busd_core.specs.Parts.{Delivers};
@@ -11,11 +11,10 @@ ghost use Rattle.busd_core.specs.Parts.{Delivers};
 use crate::carrying::{Place, bring};
 use crate::fault::RunFault;
 use bus_view::BusView;
-use envelopes::{Content, Envelope, OwnMessage, SharedSignal};
+use outbox_core::{Content, Envelope, OwnMessage};
 use router::Engine;
 use router_core::{Action, Event, Gate};
 use seq_bus_core::{AddressedSignal, Conn};
-use std::alloc::Global;
 use std::io::Write;
 
 /// Brings a message to a connection, if it is one of the same router.
@@ -27,7 +26,9 @@ fn deliver_to<V: BusView, G: Gate, W: Write>(
     content: &Content,
     writer: &mut W,
 ) -> Result<(), RunFault>
-    ensures { Delivers V.told G.passes V.alone place.seat place.key engine.old (mail_to place.seat (said_of content.now) conn) (W.contents writer.old) (W.contents writer.new) engine.new result }
+    ensures { Delivers V.told G.passes V.alone place.seat place.key engine.old
+        (mail_to place.seat (said_of content.now) conn) (W.contents writer.old)
+        (W.contents writer.new) engine.new result }
 {
     if conn.router != place.seat {
         return Ok(());
@@ -58,7 +59,9 @@ fn deliver_to_all<V: BusView, G: Gate, W: Write>(
     content: &Content,
     writer: &mut W,
 ) -> Result<(), RunFault>
-    ensures { Delivers V.told G.passes V.alone place.seat place.key engine.old (mail_to_all place.seat (said_of content.now) to.now) (W.contents writer.old) (W.contents writer.new) engine.new result }
+    ensures { Delivers V.told G.passes V.alone place.seat place.key engine.old
+        (mail_to_all place.seat (said_of content.now) to.now) (W.contents writer.old)
+        (W.contents writer.new) engine.new result }
 {
     for conn in to {
         deliver_to(engine, right, place, *conn, content, writer)?;
@@ -82,7 +85,10 @@ fn show_to_others<V: BusView, G: Gate, W: Write>(
     content: &Content,
     writer: &mut W,
 ) -> Result<(), RunFault>
-    ensures { Delivers V.told G.passes V.alone place.seat place.key engine.old (mail_to_all place.seat (said_of content.now) (filter (λ m. not (is_among to.now m)) monitors.now)) (W.contents writer.old) (W.contents writer.new) engine.new result }
+    ensures { Delivers V.told G.passes V.alone place.seat place.key engine.old
+        (mail_to_all place.seat (said_of content.now)
+        (filter (λ m. not (is_among to.now m)) monitors.now)) (W.contents writer.old)
+        (W.contents writer.new) engine.new result }
 {
     for conn in monitors {
         if !is_among(to, *conn) {
@@ -102,7 +108,9 @@ fn deliver<V: BusView, G: Gate, W: Write>(
     content: &Content,
     writer: &mut W,
 ) -> Result<(), RunFault>
-    ensures { Delivers V.told G.passes V.alone place.seat place.key engine.old (mail_to_all place.seat (said_of content.now) (all_of to.now monitors.now)) (W.contents writer.old) (W.contents writer.new) engine.new result }
+    ensures { Delivers V.told G.passes V.alone place.seat place.key engine.old
+        (mail_to_all place.seat (said_of content.now) (all_of to.now monitors.now))
+        (W.contents writer.old) (W.contents writer.new) engine.new result }
 {
     deliver_to_all(engine, right, place, to, content, writer)?;
     show_to_others(engine, right, place, to, monitors, content, writer)
@@ -110,16 +118,17 @@ fn deliver<V: BusView, G: Gate, W: Write>(
 
 /// Brings a signal to its recipients, who share it, and then to the monitors.
 fn announce_one<V: BusView, G: Gate, W: Write>(
-    alloc: Global,
     engine: &mut Engine<V, G>,
     right: &V::Right,
     place: Place,
     addressed: &AddressedSignal,
     writer: &mut W,
 ) -> Result<(), RunFault>
-    ensures { Delivers V.told G.passes V.alone place.seat place.key engine.old (mail_of_signal place.seat addressed.now) (W.contents writer.old) (W.contents writer.new) engine.new result }
+    ensures { Delivers V.told G.passes V.alone place.seat place.key engine.old
+        (mail_of_signal place.seat addressed.now) (W.contents writer.old) (W.contents writer.new)
+        engine.new result }
 {
-    let Ok(signal) = SharedSignal::new(alloc, addressed.signal) else {
+    let Ok(signal) = addressed.signal.again() else {
         return Err(RunFault::Memory);
     };
     let content = Content::Own(OwnMessage::Signal(signal));
@@ -130,31 +139,33 @@ fn announce_one<V: BusView, G: Gate, W: Write>(
 
 /// Brings the signals of a change to their recipients, in order.
 fn announce<V: BusView, G: Gate, W: Write>(
-    alloc: Global,
     engine: &mut Engine<V, G>,
     right: &V::Right,
     place: Place,
     signals: &[AddressedSignal],
     writer: &mut W,
 ) -> Result<(), RunFault>
-    ensures { Delivers V.told G.passes V.alone place.seat place.key engine.old (flat_map (mail_of_signal place.seat) signals.now) (W.contents writer.old) (W.contents writer.new) engine.new result }
+    ensures { Delivers V.told G.passes V.alone place.seat place.key engine.old
+        (flat_map (mail_of_signal place.seat) signals.now) (W.contents writer.old)
+        (W.contents writer.new) engine.new result }
 {
     for addressed in signals {
-        announce_one(alloc, engine, right, place, addressed, writer)?;
+        announce_one(engine, right, place, addressed, writer)?;
     }
     Ok(())
 }
 
 /// Brings what an action puts.
 fn deliver_one<V: BusView, G: Gate, W: Write>(
-    alloc: Global,
     engine: &mut Engine<V, G>,
     right: &V::Right,
     place: Place,
     action: &Action<V::Note>,
     writer: &mut W,
 ) -> Result<(), RunFault>
-    ensures { Delivers V.told G.passes V.alone place.seat place.key engine.old (mail_of place.seat action.now) (W.contents writer.old) (W.contents writer.new) engine.new result }
+    ensures { Delivers V.told G.passes V.alone place.seat place.key engine.old
+        (mail_of place.seat action.now) (W.contents writer.old) (W.contents writer.new) engine.new
+        result }
 {
     match action {
         Action::Put {
@@ -171,7 +182,7 @@ fn deliver_one<V: BusView, G: Gate, W: Write>(
             writer,
         ),
         Action::Announce { signals, note: _ } => {
-            announce(alloc, engine, right, place, signals.as_slice(), writer)
+            announce(engine, right, place, signals.as_slice(), writer)
         }
         _ => Ok(()),
     }
@@ -179,17 +190,18 @@ fn deliver_one<V: BusView, G: Gate, W: Write>(
 
 /// Brings what the actions put, in order.
 pub fn deliver_all<V: BusView, G: Gate, W: Write>(
-    alloc: Global,
     engine: &mut Engine<V, G>,
     right: &V::Right,
     place: Place,
     actions: &[Action<V::Note>],
     writer: &mut W,
 ) -> Result<(), RunFault>
-    ensures { Delivers V.told G.passes V.alone place.seat place.key engine.old (mails_of place.seat actions.now) (W.contents writer.old) (W.contents writer.new) engine.new result }
+    ensures { Delivers V.told G.passes V.alone place.seat place.key engine.old
+        (mails_of place.seat actions.now) (W.contents writer.old) (W.contents writer.new) engine.new
+        result }
 {
     for action in actions {
-        deliver_one(alloc, engine, right, place, action, writer)?;
+        deliver_one(engine, right, place, action, writer)?;
     }
     Ok(())
 }

@@ -27,9 +27,14 @@ fn next_piece<R: Read>(
     buffer: &mut [u8],
 ) -> Result<Option<Vec<u8>>, RunFault>
     requires { 0 < length buffer.old }
-    ensures piece { IfOk result (λ o. IfSome o (λ piece. Consumes (R.remaining reader.old) (R.remaining reader.new) piece.items)) }
-    ensures end { IfOk result (λ o. IfNone o (Consumes (R.remaining reader.old) (R.remaining reader.new) [] × IsAtEnd (R.remaining reader.new))) }
-    ensures err { IfErr result (λ fault. LosesPiece (R.remaining reader.old) (R.remaining reader.new) fault) }
+    ensures piece { IfOk result
+        (λ o. IfSome o (λ piece.
+        Consumes (R.remaining reader.old) (R.remaining reader.new) piece.items)) }
+    ensures end { IfOk result
+        (λ o. IfNone o (Consumes (R.remaining reader.old) (R.remaining reader.new) [] ×
+        IsAtEnd (R.remaining reader.new))) }
+    ensures err { IfErr result
+        (λ fault. LosesPiece (R.remaining reader.old) (R.remaining reader.new) fault) }
     ensures room { length buffer.new ≡ length buffer.old }
 {
     let Ok(count) = read_piece(reader, buffer) else {
@@ -47,7 +52,6 @@ fn next_piece<R: Read>(
 /// Serves an event, and carries out its actions: what they write is written, then what they put comes back as mail. Where
 /// they close the connection, the run ends.
 fn carry_out<V: BusView, G: Gate, W: Write>(
-    alloc: Global,
     engine: &mut Engine<V, G>,
     right: &V::Right,
     place: Place,
@@ -55,13 +59,14 @@ fn carry_out<V: BusView, G: Gate, W: Write>(
     writer: &mut W,
 ) -> Result<(), RunFault>
     requires { CanHappen V.registry_of engine.old.view.registry engine.old.standing event }
-    ensures { IsCarriedOut V.told G.passes V.alone place.seat place.key engine.old event (W.contents writer.old) (W.contents writer.new) engine.new result }
+    ensures { IsCarriedOut V.told G.passes V.alone place.seat place.key engine.old event
+        (W.contents writer.old) (W.contents writer.new) engine.new result }
 {
     let actions = bring(engine, right, place.key, event, writer)?;
     if let Some(cause) = closed_by(place.key, &actions) {
         return Err(RunFault::Closed(cause));
     }
-    let delivered = deliver_all(alloc, engine, right, place, &actions, writer);
+    let delivered = deliver_all(engine, right, place, &actions, writer);
     engine.give_back(actions);
     delivered
 }
@@ -86,7 +91,8 @@ pub fn run<V: BusView, G: Gate, R: Read, W: Write>(
     reader: &mut R,
     writer: &mut W,
 ) -> Result<(), RunFault>
-    ensures runs { Runs V.told G.passes V.alone seat engine.old engine.new (R.remaining reader.old) (R.remaining reader.new) (W.contents writer.old) (W.contents writer.new) result }
+    ensures runs { Runs V.told G.passes V.alone seat engine.old engine.new (R.remaining reader.old)
+        (R.remaining reader.new) (W.contents writer.old) (W.contents writer.new) result }
     ensures whole { OnOk result (IsAtEnd (R.remaining reader.new)) }
 {
     let key = engine.free_key();
@@ -95,24 +101,17 @@ pub fn run<V: BusView, G: Gate, R: Read, W: Write>(
         key,
         challenge: None,
     };
-    carry_out(alloc, engine, right, place, comes, writer)?;
+    carry_out(engine, right, place, comes, writer)?;
     let mut buffer = [0u8; PIECE];
     for _ in 0..u64::MAX {
         if engine.has_next(key) {
-            carry_out(alloc, engine, right, place, Event::Next { key }, writer)?;
+            carry_out(engine, right, place, Event::Next { key }, writer)?;
             continue;
         }
         let Some(piece) = next_piece(alloc, reader, &mut buffer)? else {
-            return carry_out(alloc, engine, right, place, Event::Closed { key }, writer);
+            return carry_out(engine, right, place, Event::Closed { key }, writer);
         };
-        carry_out(
-            alloc,
-            engine,
-            right,
-            place,
-            Event::Bytes { key, piece },
-            writer,
-        )?;
+        carry_out(engine, right, place, Event::Bytes { key, piece }, writer)?;
     }
     Err(RunFault::Memory)
 }

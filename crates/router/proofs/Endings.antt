@@ -2,7 +2,7 @@
 use Rattle.std.proofs.Common.{ℕ, Bool, true, false, List, [], ◌∷◌, sym, subst, if◌then◌else◌}
 use Rattle.seq_bus_core.specs.Histories.{History}
 use Rattle.seq_bus_core.specs.declared.connection.Conn.{Conn}
-use Rattle.envelopes.specs.Contents.{Said}
+use Rattle.outbox_core.specs.Contents.{Said}
 use Rattle.router_core.specs.Deeds.{GatedCall}
 use Rattle.router_core.specs.Scripts.{Script, Gives, Changing, Asking, Routing, Looking, Noting, Fronting, Calling, Gating, Wanting, Doing, Announcing, and_then, putting, World, Comes}
 

@@ -20,8 +20,8 @@ use Rattle.message_core.specs.Messages.{Message}
 use Rattle.message_core.specs.Said.{said as message_said}
 use Rattle.driver.specs.declared.call.Call.TheVariants as call
 use Rattle.driver.specs.Calls.{expects_reply, is_hello}
-use Rattle.envelopes.specs.Contents.{Said, Relays, Tells, Own, Errs, UniqueName, own_message}
-use Rattle.message_relay.specs.FactsOf.{facts_of}
+use Rattle.outbox_core.specs.Contents.{Said, Relays, Tells, Own, Errs, UniqueName, own_message}
+use Rattle.message.specs.FactsOf.{facts_of}
 use Rattle.router_core.specs.declared.cause.CloseCause.{CloseCause}
 use Rattle.router_core.specs.declared.cause.CloseCause.TheVariants as cause
 use Rattle.router_core.specs.Answers.{Heard, Says, Refuses, error_for}

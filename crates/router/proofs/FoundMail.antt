@@ -1,7 +1,7 @@
 -- Mail is for the connection that it finds, or for nobody.
 use Rattle.std.proofs.Common.{◌≡◌, ℕ, Bool, Option, Some, None, refl, sym, subst}
 use Rattle.seq_bus_core.specs.Histories.{History}
-use Rattle.envelopes.specs.Contents.{Said}
+use Rattle.outbox_core.specs.Contents.{Said}
 use Rattle.router_core.specs.Deeds.{GatedCall}
 use Rattle.router_core.specs.Events.{write, for_slot, mail_found, noted}
 use Rattle.router_core.specs.Scripts.{Gives, World, Comes}

@@ -12,7 +12,7 @@ use Rattle.seq_bus_core.specs.declared.outcome.Reply.TheVariants.{Welcome}
 use Rattle.message_core.specs.Messages.{Message}
 use Rattle.message_core.specs.Said.{said}
 use Rattle.driver.specs.Calls.{is_hello}
-use Rattle.envelopes.specs.Contents.{UniqueName}
+use Rattle.outbox_core.specs.Contents.{UniqueName}
 use Rattle.router_core.specs.declared.cause.CloseCause.TheVariants as cause
 use Rattle.router_core.specs.Answers.{Heard, Says, Refuses, error_for}
 use Rattle.router_core.specs.Deeds.{GatedCall, Closes}

@@ -17,9 +17,9 @@ use Rattle.sasl.specs.Settings.{Setting}
 use Rattle.sasl.specs.Hearing.{Conversed, conversed}
 use Rattle.message_core.specs.Messages.{Message}
 use Rattle.message_core.specs.Said.{said as message_said}
-use Rattle.message_relay.specs.FactsOf.{facts_of}
+use Rattle.message.specs.FactsOf.{facts_of}
 use Rattle.driver.specs.Calls.{expects_reply, is_hello}
-use Rattle.envelopes.specs.Contents.{Said, Relays, Tells, Own, Errs, UniqueName, own_message}
+use Rattle.outbox_core.specs.Contents.{Said, Relays, Tells, Own, Errs, UniqueName, own_message}
 use Rattle.router_core.specs.declared.cause.CloseCause.{CloseCause}
 use Rattle.router_core.specs.declared.cause.CloseCause.TheVariants as cause
 use Rattle.router_core.specs.Answers.{Heard, Says, Refuses, error_for}

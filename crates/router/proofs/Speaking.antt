@@ -12,7 +12,7 @@ use Rattle.sasl.specs.Settings.{Login}
 use Rattle.message_core.specs.Messages.{Message}
 use Rattle.message_core.specs.Said.{said as message_said}
 use Rattle.driver.specs.Calls.{is_hello}
-use Rattle.envelopes.specs.Contents.{Said, Relays, Tells, UniqueName}
+use Rattle.outbox_core.specs.Contents.{Said, Relays, Tells, UniqueName}
 use Rattle.router_core.specs.declared.cause.CloseCause.{CloseCause}
 use Rattle.router_core.specs.declared.cause.CloseCause.TheVariants as cause
 use Rattle.router_core.specs.Answers.{Heard, Says, Refuses, error_for}

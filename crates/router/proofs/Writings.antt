@@ -14,10 +14,10 @@ use Rattle.message_core.specs.Messages.{Message, IsWritten}
 use Rattle.message_core.specs.Places.{SpellField, field_depth}
 use Rattle.message_core.proofs.Strings.{length-number}
 use Rattle.message_core.proofs.Shape.{field_parts, field_part_types}
-use Rattle.message_relay.specs.MessageBytes.{field_bytes, fields_bytes, lined_up, message_bytes}
-use Rattle.message_relay.proofs.Lines.{length-pads}
-use Rattle.message_relay.proofs.Ready.{body_is}
-use Rattle.message_relay.proofs.Spelled.{bytes_of}
+use Rattle.message.specs.MessageBytes.{field_bytes, fields_bytes, lined_up, message_bytes}
+use Rattle.message.proofs.Lines.{length-pads}
+use Rattle.message.proofs.Ready.{body_is}
+use Rattle.message.proofs.Spelled.{bytes_of}
 
 -- a field stands behind its padding
 field_is : (order : Order) (at : ℕ) (f : Field) (bytes : List ℕ) → SpellField order at f bytes → bytes ≡ pads 8 at ++ field_bytes order f

@@ -14,7 +14,7 @@ ghost use Rattle.router.specs.Upcoming.{HasNoNext};
 use crate::login::Login;
 use crate::served::Served;
 use bus_view::BusView;
-use envelopes::Envelope;
+use outbox_core::Envelope;
 use router_core::{Action, Event, Gate};
 use std::alloc::{AllocError, Global};
 use std::marker::Model;
@@ -32,7 +32,12 @@ impl<V: BusView, G: Gate> Model for Engine<V, G> {
 
     ghost Value = { State G };
 
-    ghost view = { λ e. record { standing = e.served.standing; view = e.served.work.world.view; gate = e.served.work.world.gate } };
+    ghost view = { λ e. record {
+      standing = e.served.standing;
+      view = e.served.work.world.view;
+      gate =
+          e.served.work.world.gate;
+    } };
 
     ghost invariant = { λ e. e.served.work.world.actions ≡ [] };
 }
@@ -45,7 +50,12 @@ impl<V: BusView + Drop, G: Gate + Drop> Engine<V, G> {
         gate: G,
         login: Option<Login>,
     ) -> Result<Engine<V, G>, AllocError>
-        ensures { IfOk result (λ engine. engine ≡ record { standing = fresh login; view = V.knows view; gate = gate }) }
+        ensures { IfOk result
+            (λ engine. engine ≡ record {
+              standing = fresh login;
+              view = V.knows view;
+              gate = gate;
+            }) }
     {
         Ok(Engine {
             served: Served::new(alloc, view, gate, login)?,
@@ -82,8 +92,11 @@ impl<V: BusView, G: Gate> Engine<V, G> {
         key: usize,
         challenge: Option<[u8; 16]>,
     ) -> Result<Vec<Action<V::Note>>, AllocError>
-        requires { CanHappen V.registry_of self.old.view.registry self.old.standing (Opened key challenge) }
-        ensures brings { IfOk result (λ actions. Brings V.told V.registry_of G.passes V.alone self.old (Opened key challenge) actions.items self.new) }
+        requires { CanHappen V.registry_of self.old.view.registry self.old.standing
+            (Opened key challenge) }
+        ensures brings { IfOk result
+            (λ actions. Brings V.told V.registry_of G.passes V.alone self.old (Opened key challenge)
+            actions.items self.new) }
         ensures err { OnErr result (self.new ≡ self.old) }
     {
         self.served.open(key, challenge)?;
@@ -92,7 +105,9 @@ impl<V: BusView, G: Gate> Engine<V, G> {
 
     /// Bytes of a connection came. Without memory they stay where they were.
     fn bytes(&mut self, key: usize, piece: &mut Vec<u8>) -> Result<Vec<Action<V::Note>>, AllocError>
-        ensures brings { IfOk result (λ actions. Brings V.told V.registry_of G.passes V.alone self.old (Bytes key piece.old) actions.items self.new) }
+        ensures brings { IfOk result
+            (λ actions. Brings V.told V.registry_of G.passes V.alone self.old (Bytes key piece.old)
+            actions.items self.new) }
         ensures err { OnErr result (self.new ≡ self.old) }
         ensures kept { OnErr result (piece.new ≡ piece.old) }
     {
@@ -147,7 +162,9 @@ impl<V: BusView, G: Gate> Engine<V, G> {
 
     /// The next whole message of a connection is served. There are no actions where there is none.
     fn next(&mut self, right: &V::Right, key: usize) -> Result<Vec<Action<V::Note>>, AllocError>
-        ensures brings { IfOk result (λ actions. Brings V.told V.registry_of G.passes V.alone self.old (Next key) actions.items self.new) }
+        ensures brings { IfOk result
+            (λ actions. Brings V.told V.registry_of G.passes V.alone self.old (Next key)
+            actions.items self.new) }
         ensures err { OnErr result (self.new ≡ self.old) }
     {
         self.served.next(right, key)?;
@@ -160,8 +177,11 @@ impl<V: BusView, G: Gate> Engine<V, G> {
         slot: u16,
         envelope: &Envelope<V::Note>,
     ) -> Result<Vec<Action<V::Note>>, AllocError>
-        requires { CanHappen V.registry_of self.old.view.registry self.old.standing (Mail slot envelope.now) }
-        ensures brings { IfOk result (λ actions. Brings V.told V.registry_of G.passes V.alone self.old (Mail slot envelope.now) actions.items self.new) }
+        requires { CanHappen V.registry_of self.old.view.registry self.old.standing
+            (Mail slot envelope.now) }
+        ensures brings { IfOk result
+            (λ actions. Brings V.told V.registry_of G.passes V.alone self.old
+            (Mail slot envelope.now) actions.items self.new) }
         ensures err { OnErr result (self.new ≡ self.old) }
     {
         self.served.mail(slot, envelope)?;
@@ -170,7 +190,9 @@ impl<V: BusView, G: Gate> Engine<V, G> {
 
     /// A connection is gone, and its key is free.
     fn closed(&mut self, right: &V::Right, key: usize) -> Result<Vec<Action<V::Note>>, AllocError>
-        ensures brings { IfOk result (λ actions. Brings V.told V.registry_of G.passes V.alone self.old (Closed key) actions.items self.new) }
+        ensures brings { IfOk result
+            (λ actions. Brings V.told V.registry_of G.passes V.alone self.old (Closed key)
+            actions.items self.new) }
         ensures err { OnErr result (self.new ≡ self.old) }
     {
         self.served.close(right, key)?;
@@ -179,7 +201,9 @@ impl<V: BusView, G: Gate> Engine<V, G> {
 
     /// The connection of a number takes no more mail.
     fn full(&mut self, right: &V::Right, number: u64) -> Result<Vec<Action<V::Note>>, AllocError>
-        ensures brings { IfOk result (λ actions. Brings V.told V.registry_of G.passes V.alone self.old (Full number) actions.items self.new) }
+        ensures brings { IfOk result
+            (λ actions. Brings V.told V.registry_of G.passes V.alone self.old (Full number)
+            actions.items self.new) }
         ensures err { OnErr result (self.new ≡ self.old) }
     {
         self.served.leave(right, number)?;
@@ -188,7 +212,9 @@ impl<V: BusView, G: Gate> Engine<V, G> {
 
     /// Time has passed.
     fn tick(&mut self, right: &V::Right) -> Result<Vec<Action<V::Note>>, AllocError>
-        ensures brings { IfOk result (λ actions. Brings V.told V.registry_of G.passes V.alone self.old Tick actions.items self.new) }
+        ensures brings { IfOk result
+            (λ actions. Brings V.told V.registry_of G.passes V.alone self.old Tick actions.items
+            self.new) }
         ensures err { OnErr result (self.new ≡ self.old) }
     {
         self.served.tick(right)?;
@@ -202,7 +228,9 @@ impl<V: BusView, G: Gate> Engine<V, G> {
         event: &mut Event<V::Note>,
     ) -> Result<Vec<Action<V::Note>>, AllocError>
         requires { CanHappen V.registry_of self.old.view.registry self.old.standing event.old }
-        ensures brings { IfOk result (λ actions. Brings V.told V.registry_of G.passes V.alone self.old event.old actions.items self.new) }
+        ensures brings { IfOk result
+            (λ actions. Brings V.told V.registry_of G.passes V.alone self.old event.old
+            actions.items self.new) }
         ensures err { OnErr result (self.new ≡ self.old) }
         ensures kept { OnErr result (event.new ≡ event.old) }
     {
@@ -230,9 +258,15 @@ impl<V: BusView, G: Gate> Engine<V, G> {
         event: &mut Event<V::Note>,
     ) -> Result<Vec<Action<V::Note>>, AllocError>
         requires { CanHappen V.registry_of self.old.view.registry self.old.standing event.old }
-        ensures brings { IfOk result (λ actions. Brings V.told V.registry_of G.passes V.alone self.old event.old actions.items self.new) }
-        ensures served { IfOk result (λ actions. IsServedWell V.told G.passes V.alone self.old event.old actions.items self.new) }
-        ensures notes { IfOk result (λ actions. AllByRecursion (CarriesOwn V.registry_of self.old.view.registry) actions.items) }
+        ensures brings { IfOk result
+            (λ actions. Brings V.told V.registry_of G.passes V.alone self.old event.old
+            actions.items self.new) }
+        ensures served { IfOk result
+            (λ actions. IsServedWell V.told G.passes V.alone self.old event.old actions.items
+            self.new) }
+        ensures notes { IfOk result
+            (λ actions. AllByRecursion (CarriesOwn V.registry_of self.old.view.registry)
+            actions.items) }
         ensures registry { self.new.view.registry ≡ self.old.view.registry }
         ensures err { OnErr result (self.new ≡ self.old) }
         ensures handed_back { OnErr result (event.new ≡ event.old) }

@@ -14,8 +14,8 @@ ghost use Rattle.router.specs.Welcomes.{welcomed};
 use crate::served::{SLOT_COUNT, Served};
 use bus_view::{BusView, Cause};
 use driver::Call;
-use envelopes::ReplyContent;
 use message_core::Message;
+use outbox_core::ReplyContent;
 use router_core::{Gate, WrittenBytes};
 use router_hands::{HelloErrors, Peer, Stage};
 use seq_bus_core::{Change, Conn, ErrorKind, Outcome, Reply};
@@ -86,8 +86,11 @@ impl<V: BusView, G: Gate> Served<V, G> {
     /// Whoever had the slot before has left, though its connection is not gone yet: it is closed.
     fn close_former(&mut self, conn: Conn)
         requires { 0 < self.old.work.room }
-        ensures comes { Comes V.told V.registry_of G.passes V.alone (close_former self.old.standing conn) self.old.work.world self.new.standing self.new.work.world }
+        ensures comes { Comes V.told V.registry_of G.passes V.alone
+            (close_former self.old.standing conn) self.old.work.world self.new.standing
+            self.new.work.world }
         ensures room { self.old.work.room ≤ self.new.work.room + 1 }
+        ensures crowds { self.new.work.crowds ≡ self.old.work.crowds }
         ensures keys { length self.new.standing.peers ≡ length self.old.standing.peers }
         ensures vacant { IsVacant conn.slot self.new.standing.peers }
     {
@@ -100,10 +103,13 @@ impl<V: BusView, G: Gate> Served<V, G> {
     /// The connection has its name: the reply comes first, then the signals.
     fn welcome(&mut self, key: usize, hello: &Message, mut peer: Peer, outcome: Outcome, conn: Conn)
         requires room { 1 < self.old.work.room }
+        requires crowds { 0 < self.old.work.crowds }
         requires unnamed { IsUnnamed peer.stage }
         requires key { key < length self.old.standing.peers }
         requires vacant { IsVacant conn.slot self.old.standing.peers }
-        ensures { Comes V.told V.registry_of G.passes V.alone (welcome key (said hello.now) peer outcome conn self.old.standing) self.old.work.world self.new.standing self.new.work.world }
+        ensures { Comes V.told V.registry_of G.passes V.alone
+            (welcome key (said hello.now) peer outcome conn self.old.standing) self.old.work.world
+            self.new.standing self.new.work.world }
     {
         self.hands
             .reply_with(hello, conn, ReplyContent::UniqueName(conn.number));
@@ -123,10 +129,14 @@ impl<V: BusView, G: Gate> Served<V, G> {
         errors: HelloErrors,
     )
         requires room { 1 < self.old.work.room }
+        requires crowds { 0 < self.old.work.crowds }
         requires unnamed { IsUnnamed peer.stage }
         requires key { key < length self.old.standing.peers }
         requires written { AreRefusals (said hello.now) (next_serial peer.serial) errors }
-        ensures { Comes V.told V.registry_of G.passes V.alone (for_peer self.old.standing key (Some peer) (refuse_with key (said hello.now) (error_for (refusal_of why)))) self.old.work.world self.new.standing self.new.work.world }
+        ensures { Comes V.told V.registry_of G.passes V.alone
+            (for_peer self.old.standing key (Some peer)
+            (refuse_with key (said hello.now) (error_for (refusal_of why)))) self.old.work.world
+            self.new.standing self.new.work.world }
     {
         self.hands.refuse_for(key, hello, &mut peer, why, errors);
         self.peers[key] = Some(peer);
@@ -135,9 +145,13 @@ impl<V: BusView, G: Gate> Served<V, G> {
     /// The Hello would exceed a limit of the bus: the connection is closed.
     fn turn_away_at(&mut self, key: usize, hello: &Message, mut peer: Peer, bytes: WrittenBytes)
         requires room { 2 < self.old.work.room }
+        requires crowds { 0 < self.old.work.crowds }
         requires key { key < length self.old.standing.peers }
-        requires written { IsRefusal (said hello.now) ErrorKind.LimitsExceeded (next_serial peer.serial) bytes }
-        ensures { Comes V.told V.registry_of G.passes V.alone (for_peer self.old.standing key (Some peer) (turn_away key (said hello.now))) self.old.work.world self.new.standing self.new.work.world }
+        requires written { IsRefusal (said hello.now) ErrorKind.LimitsExceeded
+            (next_serial peer.serial) bytes }
+        ensures { Comes V.told V.registry_of G.passes V.alone
+            (for_peer self.old.standing key (Some peer) (turn_away key (said hello.now)))
+            self.old.work.world self.new.standing self.new.work.world }
     {
         self.hands.turn_away(key, hello, &mut peer, bytes);
         self.peers[key] = Some(peer);
@@ -153,10 +167,13 @@ impl<V: BusView, G: Gate> Served<V, G> {
         errors: HelloErrors,
     )
         requires room { 2 < self.old.work.room }
+        requires crowds { 0 < self.old.work.crowds }
         requires unnamed { IsUnnamed peer.stage }
         requires key { key < length self.old.standing.peers }
         requires written { AreRefusals (said hello.now) (next_serial peer.serial) errors }
-        ensures { Comes V.told V.registry_of G.passes V.alone (greeted_by self.old.standing key (said hello.now) peer outcome outcome.reply) self.old.work.world self.new.standing self.new.work.world }
+        ensures { Comes V.told V.registry_of G.passes V.alone
+            (greeted_by self.old.standing key (said hello.now) peer outcome outcome.reply)
+            self.old.work.world self.new.standing self.new.work.world }
     {
         match welcomed(outcome.reply) {
             Some(conn) => {
@@ -177,10 +194,13 @@ impl<V: BusView, G: Gate> Served<V, G> {
         errors: HelloErrors,
     )
         requires room { 2 < self.old.work.room }
+        requires crowds { 0 < self.old.work.crowds }
         requires unnamed { IsUnnamed peer.stage }
         requires key { key < length self.old.standing.peers }
         requires written { AreRefusals (said hello.now) (next_serial peer.serial) errors }
-        ensures { Comes V.told V.registry_of G.passes V.alone (greeted self.old.standing key (said hello.now) peer (heard_change heard)) self.old.work.world self.new.standing self.new.work.world }
+        ensures { Comes V.told V.registry_of G.passes V.alone
+            (greeted self.old.standing key (said hello.now) peer (heard_change heard))
+            self.old.work.world self.new.standing self.new.work.world }
     {
         match heard {
             Ok(outcome) => self.answer_hello(key, hello, peer, outcome, errors),
@@ -203,10 +223,13 @@ impl<V: BusView, G: Gate> Served<V, G> {
         errors: HelloErrors,
     )
         requires room { 2 < self.old.work.room }
+        requires crowds { 0 < self.old.work.crowds }
         requires unnamed { IsUnnamed peer.stage }
         requires key { key < length self.old.standing.peers }
         requires written { AreRefusals (said hello.now) (next_serial peer.serial) errors }
-        ensures { Comes V.told V.registry_of G.passes V.alone (greet self.old.standing key (said hello.now) peer privileged) self.old.work.world self.new.standing self.new.work.world }
+        ensures { Comes V.told V.registry_of G.passes V.alone
+            (greet self.old.standing key (said hello.now) peer privileged) self.old.work.world
+            self.new.standing self.new.work.world }
     {
         self.hands.pass(&Call::Hello);
         let heard = self.hands.change(right, Change::Hello { privileged });

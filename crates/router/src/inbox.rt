@@ -1,7 +1,7 @@
 //! Mail from other routers.
 
 ghost use Rattle.std.specs.Prelude.{◌≡◌, option_map, position, OnOk, OnErr};
-ghost use Rattle.envelopes.specs.Contents.{said_of};
+ghost use Rattle.outbox_core.specs.Contents.{said_of};
 ghost use Rattle.router_core.specs.Deeds.{IsOwnNote};
 ghost use Rattle.router_core.specs.Events.{mail_found, noted};
 ghost use Rattle.router_core.specs.Scripts.{Comes};
@@ -10,7 +10,7 @@ ghost use Rattle.router.specs.Indexed.{IsIndexed};
 
 use crate::served::{SLOT_COUNT, Served};
 use bus_view::BusView;
-use envelopes::Envelope;
+use outbox_core::Envelope;
 use router_core::Gate;
 use router_hands::{Peer, Stage};
 use std::alloc::AllocError;
@@ -62,7 +62,12 @@ impl<V: BusView, G: Gate> Served<V, G> {
     /// dropped: its slot may be another's by now. Without memory nothing changes.
     pub fn mail(&mut self, slot: u16, envelope: &Envelope<V::Note>) -> Result<(), AllocError>
         requires { IsOwnNote V.registry_of self.old.work.world.view.registry envelope.now.note }
-        ensures comes { OnOk result (Comes V.told V.registry_of G.passes V.alone (noted (option_map V.told envelope.now.note) (mail_found self.old.standing (said_of envelope.now.content) (position (is_conn slot envelope.now.number) self.old.standing.peers))) self.old.work.world self.new.standing self.new.work.world) }
+        ensures comes { OnOk result
+            (Comes V.told V.registry_of G.passes V.alone
+            (noted (option_map V.told envelope.now.note)
+            (mail_found self.old.standing (said_of envelope.now.content)
+            (position (is_conn slot envelope.now.number) self.old.standing.peers)))
+            self.old.work.world self.new.standing self.new.work.world) }
         ensures err { OnErr result (self.new.standing ≡ self.old.standing) }
         ensures world { OnErr result (self.new.work.world ≡ self.old.work.world) }
     {

@@ -28,7 +28,10 @@ impl<V: BusView, G: Gate> Served<V, G> {
     /// made at a [`tick`](Served::tick). Without memory nothing changes.
     #[tactic(auto, using(crate::proofs::Slots::set_same))]
     pub fn close(&mut self, right: &V::Right, key: usize) -> Result<(), AllocError>
-        ensures comes { OnOk result (Comes V.told V.registry_of G.passes V.alone (closed self.old.standing key (peer_at self.old.standing key)) self.old.work.world self.new.standing self.new.work.world) }
+        ensures comes { OnOk result
+            (Comes V.told V.registry_of G.passes V.alone
+            (closed self.old.standing key (peer_at self.old.standing key)) self.old.work.world
+            self.new.standing self.new.work.world) }
         ensures err { OnErr result (self.new.standing ≡ self.old.standing) }
         ensures world { OnErr result (self.new.work.world ≡ self.old.work.world) }
     {
@@ -45,7 +48,9 @@ impl<V: BusView, G: Gate> Served<V, G> {
     /// The Leave of a number is made, whoever has it. One that is refused is kept, and made at a [`tick`](Served::tick). Without memory
     /// nothing changes.
     pub fn leave(&mut self, right: &V::Right, number: u64) -> Result<(), AllocError>
-        ensures comes { OnOk result (Comes V.told V.registry_of G.passes V.alone (leave self.old.standing number) self.old.work.world self.new.standing self.new.work.world) }
+        ensures comes { OnOk result
+            (Comes V.told V.registry_of G.passes V.alone (leave self.old.standing number)
+            self.old.work.world self.new.standing self.new.work.world) }
         ensures err { OnErr result (self.new.standing ≡ self.old.standing) }
         ensures world { OnErr result (self.new.work.world ≡ self.old.work.world) }
     {

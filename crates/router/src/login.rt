@@ -21,5 +21,11 @@ impl Model for Login {
 
     ghost Value = { Allowed };
 
-    ghost view = { λ l. record { guid = l.guid; user = arc_str_bytes l.user; cookie = l.cookie; allow_anonymous = l.allow_anonymous } };
+    ghost view = { λ l. record {
+      guid = l.guid;
+      user = arc_str_bytes l.user;
+      cookie = l.cookie;
+      allow_anonymous =
+          l.allow_anonymous;
+    } };
 }

@@ -42,7 +42,10 @@ impl<V: BusView, G: Gate> Served<V, G> {
     /// Hello, and closed where it says anything else; what is no message closes each. Without memory nothing changes.
     #[tactic(auto, using(crate::proofs::Slots::none_beyond))]
     pub fn next(&mut self, right: &V::Right, key: usize) -> Result<(), AllocError>
-        ensures comes { OnOk result (Comes V.told V.registry_of G.passes V.alone (coming_next self.old.standing key (peer_at self.old.standing key)) self.old.work.world self.new.standing self.new.work.world) }
+        ensures comes { OnOk result
+            (Comes V.told V.registry_of G.passes V.alone
+            (coming_next self.old.standing key (peer_at self.old.standing key)) self.old.work.world
+            self.new.standing self.new.work.world) }
         ensures err { OnErr result (self.new.standing ≡ self.old.standing) }
         ensures world { OnErr result (self.new.work.world ≡ self.old.work.world) }
     {
@@ -50,6 +53,7 @@ impl<V: BusView, G: Gate> Served<V, G> {
             return Ok(());
         }
         self.hands.reserve(4)?;
+        self.hands.reserve_crowds(2)?;
         match next_in(
             self.alloc,
             &mut self.hands,

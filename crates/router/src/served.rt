@@ -37,7 +37,10 @@ impl<V: BusView, G: Gate> Model for Served<V, G> {
 
     ghost Value = { Table V.Note G };
 
-    ghost view = { λ s. record { standing = record { peers = s.peers.items; leaves = s.leaves.items; login = s.login }; work = s.hands } };
+    ghost view = { λ s. record {
+      standing = record { peers = s.peers.items; leaves = s.leaves.items; login = s.login };
+      work = s.hands;
+    } };
 
     ghost invariant = { λ s. IsIndexed s.peers.items s.places };
 }
@@ -69,7 +72,12 @@ impl<V: BusView + Drop, G: Gate + Drop> Served<V, G> {
         login: Option<Login>,
     ) -> Result<Served<V, G>, AllocError>
         ensures standing { IfOk result (λ served. served.standing ≡ fresh login) }
-        ensures world { IfOk result (λ served. served.work.world ≡ record { view = V.knows view; gate = gate; actions = [] }) }
+        ensures world { IfOk result
+            (λ served. served.work.world ≡ record {
+              view = V.knows view;
+              gate = gate;
+              actions = [];
+            }) }
     {
         Ok(Served {
             alloc,
@@ -132,7 +140,8 @@ impl<V: BusView, G: Gate> Served<V, G> {
 
     /// How far a connection has come that has sent nothing: with a challenge it is to say who it is.
     fn first_stage(&self, challenge: Option<[u8; 16]>) -> Result<Stage, AllocError>
-        ensures stage { IfOk result (λ stage. stage_of stage ≡ first_stage self.now.standing.login challenge) }
+        ensures stage { IfOk result
+            (λ stage. stage_of stage ≡ first_stage self.now.standing.login challenge) }
         ensures first { IfOk result IsFirst }
     {
         let Some(challenge) = challenge else {
@@ -175,7 +184,11 @@ impl<V: BusView, G: Gate> Served<V, G> {
     /// Bytes of a connection came. Without memory nothing changes, and they stay where they were.
     #[tactic(auto, using(crate::proofs::Slots::set_beyond, crate::proofs::Slots::set_same, crate::proofs::Slots::none_beyond))]
     pub fn feed(&mut self, key: usize, piece: &mut Vec<u8>) -> Result<(), AllocError>
-        ensures comes { OnOk result (Comes V.told V.registry_of G.passes V.alone (for_peer self.old.standing key (peer_at self.old.standing key) (λ p. hear key piece.old.items p p.stage)) self.old.work.world self.new.standing self.new.work.world) }
+        ensures comes { OnOk result
+            (Comes V.told V.registry_of G.passes V.alone
+            (for_peer self.old.standing key (peer_at self.old.standing key)
+            (λ p. hear key piece.old.items p p.stage)) self.old.work.world self.new.standing
+            self.new.work.world) }
         ensures err { OnErr result (self.new.standing ≡ self.old.standing) }
         ensures world { OnErr result (self.new.work.world ≡ self.old.work.world) }
         ensures kept { OnErr result (piece.new ≡ piece.old) }

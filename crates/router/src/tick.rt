@@ -13,7 +13,9 @@ impl<V: BusView, G: Gate> Served<V, G> {
     /// Time has passed: the Leaves that were refused are made, in order, and then each connection with a name that has
     /// left is closed. A Leave that is refused again is kept. Without memory nothing changes.
     pub fn tick(&mut self, right: &V::Right) -> Result<(), AllocError>
-        ensures comes { OnOk result (Comes V.told V.registry_of G.passes V.alone (ticking self.old.standing) self.old.work.world self.new.standing self.new.work.world) }
+        ensures comes { OnOk result
+            (Comes V.told V.registry_of G.passes V.alone (ticking self.old.standing)
+            self.old.work.world self.new.standing self.new.work.world) }
         ensures err { OnErr result (self.new.standing ≡ self.old.standing) }
         ensures world { OnErr result (self.new.work.world ≡ self.old.work.world) }
     {

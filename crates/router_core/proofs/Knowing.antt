@@ -8,7 +8,7 @@ use Rattle.seq_bus_core.specs.declared.outcome.Outcome.{Outcome}
 use Rattle.seq_bus_core.specs.declared.query.Query.{Query}
 use Rattle.seq_bus_core.specs.declared.verdict.Verdict.{Verdict}
 use Rattle.bus_view.specs.Views.{Knowledge, IsChanged, IsRead, IsNoted, next_entry, having_changed}
-use Rattle.router_core.specs.Answers.{Heard, Says, Refuses, HearsChange, HearsAnswer, HearsVerdict, HearsPresent}
+use Rattle.router_core.specs.Answers.{Heard, Says, Refuses, NoMemory, Lost, HearsChange, HearsAnswer, HearsVerdict, HearsPresent}
 
 -- ## The registry and the seat stay
 
@@ -33,7 +33,8 @@ change_home alone change (Refuses r) k m h = home_of k m h.0
 
 pub answer_home : (alone : Bool) (query : Query) (heard : Heard (Option Answer)) (k m : Knowledge) → HearsAnswer alone query k heard m → home m ≡ home k
 answer_home alone query (Says told) k m h = read_home alone k m h.0
-answer_home alone query (Refuses r) k m h = ap (λ (n : Knowledge). home n) h.0.kept
+answer_home alone query (Refuses NoMemory) k m h = read_home alone k m h
+answer_home alone query (Refuses Lost) k m h = home_of k m h.0
 
 pub verdict_home : (alone : Bool) (from : ℕ) (facts : Facts) (heard : Heard Verdict) (k m : Knowledge) → HearsVerdict alone from facts k heard m → home m ≡ home k
 verdict_home alone from facts (Says v) k m h = read_home alone k m h.0

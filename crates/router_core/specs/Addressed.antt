@@ -11,4 +11,4 @@ pub record Addressed : Type 0 where
 
 abbrev pub addressed : Held → Addressed
 addressed (One conn) = record { to = conn ∷ []; monitors = [] }
-addressed (Shown crowd) = record { to = crowd.value.to; monitors = crowd.value.monitors }
+addressed (Shown verdict) = record { to = verdict.value.to; monitors = verdict.value.monitors }

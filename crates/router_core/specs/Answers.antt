@@ -10,11 +10,11 @@ use Rattle.seq_bus_core.specs.declared.error_kind.ErrorKind.TheVariants.{Failed,
 use Rattle.seq_bus_core.specs.declared.outcome.Outcome.{Outcome}
 use Rattle.seq_bus_core.specs.declared.query.Query.{Query}
 use Rattle.seq_bus_core.specs.declared.verdict.Verdict.{Verdict}
-use Rattle.bus_view.specs.Views.{Knowledge, bus_seen, IsChanged, IsRead, IsUnread}
+use Rattle.bus_view.specs.Views.{Knowledge, bus_seen, IsChanged, IsRead}
 use Rattle.bus_view.specs.declared.refusal.Cause.{Cause}
 use Rattle.bus_view.specs.declared.refusal.Cause.TheVariants as cause
-use Rattle.seq_bus.specs.declared.answer.AskFault.{AskFault}
-use Rattle.seq_bus.specs.declared.answer.AskFault.TheVariants as fault
+use Rattle.bus_view.specs.declared.answer.AskFault.{AskFault}
+use Rattle.bus_view.specs.declared.answer.AskFault.TheVariants as fault
 
 -- why a call of the bus is not answered: for want of memory, or as the bus is gone or the router no part of it
 pub data Refusal : Type 0 where
@@ -53,9 +53,12 @@ abbrev pub HearsChange : Bool → Change → Knowledge → Heard Outcome → Kno
 HearsChange alone change before (Says outcome) after = IsChanged alone before change outcome after
 HearsChange alone change before (Refuses refusal) after = (after ≡ before) × IsLost alone refusal
 
+-- For want of memory the bus may have been read all the same, and no more was done. Where it is gone, nothing was read.
 abbrev pub HearsAnswer : Bool → Query → Knowledge → Heard (Option Answer) → Knowledge → Type 0
-HearsAnswer alone query before (Says told) after = IsRead alone before after × (told ≡ answer (bus_seen after).state query)
-HearsAnswer alone query before (Refuses refusal) after = IsUnread alone before after × IsLost alone refusal
+HearsAnswer alone query before (Says told) after =
+    IsRead alone before after × (told ≡ answer (bus_seen after).state query)
+HearsAnswer alone query before (Refuses NoMemory) after = IsRead alone before after
+HearsAnswer alone query before (Refuses Lost) after = (after ≡ before) × (alone ≡ true → ⊥)
 
 abbrev pub HearsVerdict : Bool → ℕ → Facts → Knowledge → Heard Verdict → Knowledge → Type 0
 HearsVerdict alone from facts before (Says verdict) after = IsRead alone before after × (verdict ≡ recipients (bus_seen after).state from facts)

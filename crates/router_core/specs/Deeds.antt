@@ -8,7 +8,7 @@ use Rattle.seq_bus_core.specs.declared.signal.AddressedSignal.{AddressedSignal}
 use Rattle.message_core.specs.Messages.{Message, IsWritten}
 use Rattle.driver.specs.declared.call.Call.{Call}
 use Rattle.bus_view.specs.Views.{Knowledge}
-use Rattle.envelopes.specs.Contents.{Said, Tells, Signals, said_of}
+use Rattle.outbox_core.specs.Contents.{Said, Tells, Signals, said_of}
 use Rattle.router_core.specs.declared.action.Action.{Action}
 use Rattle.router_core.specs.declared.action.Action.TheVariants.{Write, Put, Announce, Close, Run}
 use Rattle.router_core.specs.declared.cause.CloseCause.{CloseCause}

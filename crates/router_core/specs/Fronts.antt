@@ -2,7 +2,7 @@
 use Rattle.std.specs.Prelude.{◌≡◌, ◌≢◌, ℕ, ◌≤◌, List, ◌++◌, length}
 use Rattle.message_core.specs.declared.fault.FrameFault.{FrameFault}
 use Rattle.message_core.specs.declared.fault.FrameFault.TheVariants.{NoMemory}
-use Rattle.message_core.specs.declared.announcement.TheConstants.{MESSAGE_LIMIT}
+use Rattle.message_core.specs.declared.announcement.TheConstants.{MAXIMUM_LENGTH}
 use Rattle.message_core.specs.Messages.{IsMessage}
 use Rattle.message_core.specs.Said.{said}
 use Rattle.message.specs.Framing.{IsWaiting, IsJudged}
@@ -17,6 +17,6 @@ pub data Front : Type 0 where
 
 -- The bytes have this front. Of several faults any that stands in them may be told.
 abbrev pub IsFront : List ℕ → Front → Type 0
-IsFront bytes Waits = IsWaiting MESSAGE_LIMIT bytes
-IsFront bytes (Whole message rest) = IsMessage message (said message) × (length message ≤ MESSAGE_LIMIT) × (bytes ≡ message ++ rest)
-IsFront bytes (Faulty fault) = IsJudged MESSAGE_LIMIT fault bytes × (fault ≢ NoMemory)
+IsFront bytes Waits = IsWaiting MAXIMUM_LENGTH bytes
+IsFront bytes (Whole message rest) = IsMessage message (said message) × (length message ≤ MAXIMUM_LENGTH) × (bytes ≡ message ++ rest)
+IsFront bytes (Faulty fault) = IsJudged MAXIMUM_LENGTH fault bytes × (fault ≢ NoMemory)

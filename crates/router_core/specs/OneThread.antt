@@ -5,7 +5,7 @@ use Rattle.seq_bus_core.specs.BusState.{connection_of}
 use Rattle.seq_bus_core.specs.Recipients.{recipients}
 use Rattle.seq_bus_core.specs.Tickets.{bus_step}
 use Rattle.message_core.specs.Messages.{Message}
-use Rattle.message_relay.specs.MessageBytes.{message_bytes}
+use Rattle.message.specs.MessageBytes.{message_bytes}
 use Rattle.driver.specs.declared.call.Call.{Call}
 use Rattle.driver.specs.Calls.{Reading}
 use Rattle.bus_view.specs.Views.{Knowledge, bus_seen, next_entry, having_changed}

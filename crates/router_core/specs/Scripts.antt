@@ -14,7 +14,7 @@ use Rattle.driver.specs.declared.call.Call.{Call}
 use Rattle.driver.specs.Calls.{Reading, IsCall}
 use Rattle.bus_view.specs.Views.{Knowledge, IsNoted}
 use Rattle.router_core.specs.Answers.{Heard, HearsChange, HearsAnswer, HearsVerdict, HearsPresent}
-use Rattle.envelopes.specs.Contents.{Said}
+use Rattle.outbox_core.specs.Contents.{Said}
 use Rattle.router_core.specs.declared.action.Action.{Action}
 use Rattle.router_core.specs.Deeds.{Deed, Puts, GatedCall, IsDoneBy, announcement, IsFurthest, CarriesFurthest}
 use Rattle.router_core.specs.Fronts.{Front, IsFront}

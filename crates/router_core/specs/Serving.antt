@@ -28,14 +28,14 @@ use Rattle.message_core.specs.declared.header.TheConstants.{NO_REPLY_EXPECTED}
 use Rattle.message_core.specs.declared.header_field.HeaderField.TheVariants as field
 use Rattle.message_core.specs.HeaderFields.{text_field}
 use Rattle.message_core.specs.Messages.{Message}
-use Rattle.message_relay.specs.FactsOf.{facts_of}
-use Rattle.message_relay.specs.MessageBytes.{message_bytes, is_too_long}
-use Rattle.message_relay.specs.Senders.{sent_by}
+use Rattle.message.specs.FactsOf.{facts_of}
+use Rattle.message.specs.MessageBytes.{message_bytes, is_too_long}
+use Rattle.message.specs.Senders.{sent_by}
 use Rattle.driver.specs.declared.call.Call.{Call}
 use Rattle.driver.specs.declared.call.Call.TheVariants as call
 use Rattle.driver.specs.declared.reply.ReplyTo.{ReplyTo}
 use Rattle.driver.specs.Calls.{Reading, expects_reply, error_of}
-use Rattle.envelopes.specs.Contents.{Own, Replies, Errs, Carried, Nothing, Number, Answered, Relays, Tells, own_message}
+use Rattle.outbox_core.specs.Contents.{Own, Replies, Errs, Carried, Nothing, Number, Answered, Relays, Tells, own_message}
 use Rattle.router_core.specs.declared.cause.CloseCause.{CloseCause}
 use Rattle.router_core.specs.declared.cause.CloseCause.TheVariants.{TooLong, Left}
 use Rattle.router_core.specs.Answers.{Heard, Says, Refuses, error_for}

@@ -3,8 +3,8 @@
 use crate::cause::CloseCause;
 use crate::recipients::Addressees;
 use crate::written::WrittenBytes;
-use envelopes::Content;
 use names::BusName;
+use outbox_core::Content;
 use seq_bus_core::Signals;
 
 /// What a router does to the world. What is put carries the furthest note that the router had made or taken.

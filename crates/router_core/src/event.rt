@@ -1,6 +1,6 @@
 //! What happens to a router.
 
-use envelopes::Envelope;
+use outbox_core::Envelope;
 
 /// What happens to a router. A key is the place of a connection among those of the router.
 #[derive(Drop)]

@@ -21,5 +21,5 @@ pub use action::Action;
 pub use cause::CloseCause;
 pub use event::Event;
 pub use gate::{Gate, OpenGate};
-pub use recipients::{Addressees, Crowd};
+pub use recipients::Addressees;
 pub use written::WrittenBytes;

@@ -1,35 +1,11 @@
 //! Who a message is put to.
 
-ghost use Rattle.std.specs.Prelude.{◌≡◌, [], ◌∷◌, IfOk};
+ghost use Rattle.std.specs.Prelude.{◌≡◌, [], ◌∷◌, IfSome};
 
-use seq_bus_core::{Conn, Recipients};
-use std::alloc::{AllocError, Global};
+use seq_bus_core::{Conn, Verdict};
 use std::marker::Model;
 
-/// The recipients of a message, and the monitors that are shown it.
-#[derive(Debug, Drop)]
-pub struct Crowd {
-    pub to: Recipients,
-    pub monitors: Recipients,
-}
-
-impl Crowd {
-    /// Room for a crowd.
-    pub fn empty(alloc: Global) -> Result<Box<Crowd>, AllocError>
-        ensures { IfOk result (λ room. room.value ≡ record { to = []; monitors = [] }) }
-    {
-        let crowd = Crowd {
-            to: Recipients::new(),
-            monitors: Recipients::new(),
-        };
-        match Box::new(alloc, crowd) {
-            Ok(room) => Ok(room),
-            Err(_) => Err(AllocError),
-        }
-    }
-}
-
-/// Those that a message is put to, each once. For one of them it takes no memory.
+/// Those that a message is put to, each once. For one of them it takes no memory; several stand in the verdict that the bus told.
 #[derive(Debug, Drop)]
 pub struct Addressees {
     held: Held,
@@ -38,7 +14,7 @@ pub struct Addressees {
 #[derive(Debug, Drop)]
 enum Held {
     One(Conn),
-    Shown(Box<Crowd>),
+    Shown(Box<Verdict>),
 }
 
 impl Model for Addressees {
@@ -59,12 +35,23 @@ impl Addressees {
         }
     }
 
-    /// Recipients, and monitors that are shown the message. A monitor that is a recipient gets it once.
-    pub fn shown(crowd: Box<Crowd>) -> Self
-        ensures { result ≡ record { to = crowd.value.to; monitors = crowd.value.monitors } }
+    /// The recipients of a verdict, and the monitors that are shown the message. A monitor that is a recipient gets it once.
+    pub fn shown(verdict: Box<Verdict>) -> Self
+        ensures { result ≡ record { to = verdict.value.to; monitors = verdict.value.monitors } }
     {
         Addressees {
-            held: Held::Shown(crowd),
+            held: Held::Shown(verdict),
+        }
+    }
+
+    /// The verdict in which several stand. It is large, and may be told anew.
+    pub fn into_verdict(self) -> Option<Box<Verdict>>
+        ensures to { IfSome result (λ verdict. verdict.value.to ≡ self.to) }
+        ensures monitors { IfSome result (λ verdict. verdict.value.monitors ≡ self.monitors) }
+    {
+        match self.held {
+            Held::One(_) => None,
+            Held::Shown(verdict) => Some(verdict),
         }
     }
 
@@ -74,7 +61,7 @@ impl Addressees {
     {
         match &self.held {
             Held::One(conn) => std::slice::from_ref(conn),
-            Held::Shown(crowd) => crowd.to.as_slice(),
+            Held::Shown(verdict) => verdict.to.as_slice(),
         }
     }
 
@@ -84,7 +71,7 @@ impl Addressees {
     {
         match &self.held {
             Held::One(_) => &[],
-            Held::Shown(crowd) => crowd.monitors.as_slice(),
+            Held::Shown(verdict) => verdict.monitors.as_slice(),
         }
     }
 }

@@ -2,7 +2,7 @@
 
 ghost use Rattle.std.specs.Prelude.{◌≡◌};
 
-use envelopes::SharedBytes;
+use seq_bus_core::SharedBytes;
 use std::marker::Model;
 
 /// The bytes that are written to a connection. Those of a message that others get too are shared with them, and not copied.

@@ -2,7 +2,7 @@
 use Rattle.std.proofs.Common.{◌≡◌, ℕ, Bool, List, refl, sym, subst}
 use Rattle.seq_bus_core.specs.Histories.{History}
 use Rattle.message_core.specs.Messages.{Message, IsWritten}
-use Rattle.envelopes.specs.Contents.{Said, Own, Relays, Tells, own_message}
+use Rattle.outbox_core.specs.Contents.{Said, Own, Relays, Tells, own_message}
 use Rattle.router_core.specs.Deeds.{GatedCall, Writes, Sends}
 use Rattle.router_core.specs.Events.{write}
 use Rattle.router_core.specs.Scripts.{World, Does, Comes}

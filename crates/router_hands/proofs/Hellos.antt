@@ -5,9 +5,9 @@ use Rattle.seq_bus_core.specs.declared.connection.Conn.{Conn}
 use Rattle.seq_bus_core.specs.declared.error_kind.ErrorKind.{ErrorKind}
 use Rattle.seq_bus_core.specs.declared.verdict.Verdict.{Verdict}
 use Rattle.message_core.specs.Messages.{Message}
-use Rattle.message_relay.specs.FactsOf.{facts_of}
+use Rattle.message.specs.FactsOf.{facts_of}
 use Rattle.driver.specs.Calls.{expects_reply}
-use Rattle.envelopes.specs.Contents.{Said, Own, Tells, Errs, own_message}
+use Rattle.outbox_core.specs.Contents.{Said, Own, Tells, Errs, own_message}
 use Rattle.router_core.specs.Answers.{Heard}
 use Rattle.router_core.specs.Deeds.{GatedCall, Sends, all_of}
 use Rattle.router_core.specs.Events.{OfPeer, for_slot, refuse, refuse_with}

@@ -2,7 +2,7 @@
 use Rattle.std.proofs.Common.{◌≡◌, ℕ, Bool, List, [], ◌∷◌, refl}
 use Rattle.seq_bus_core.specs.Histories.{History}
 use Rattle.seq_bus_core.specs.declared.connection.Conn.{Conn}
-use Rattle.envelopes.specs.Contents.{Said}
+use Rattle.outbox_core.specs.Contents.{Said}
 use Rattle.router_core.specs.Deeds.{GatedCall, Puts, all_of}
 use Rattle.router_core.specs.Scripts.{putting, World, Does, Comes}
 use Rattle.router_core.specs.Serving.{nothing}

@@ -3,10 +3,10 @@ use Rattle.std.proofs.Common.{◌≡◌, ℕ, Bool, true, false, Option, Some, R
 use Rattle.seq_bus_core.specs.Histories.{History}
 use Rattle.seq_bus_core.specs.declared.connection.Conn.{Conn}
 use Rattle.message_core.specs.Messages.{Message}
-use Rattle.message_relay.specs.declared.fault.RelayFault.{RelayFault}
-use Rattle.message_relay.specs.declared.fault.RelayFault.TheVariants as relay
-use Rattle.message_relay.specs.MessageBytes.{message_bytes, is_too_long}
-use Rattle.envelopes.specs.Contents.{Said, Relays}
+use Rattle.message.specs.declared.fault.RelayFault.{RelayFault}
+use Rattle.message.specs.declared.fault.RelayFault.TheVariants as relay
+use Rattle.message.specs.MessageBytes.{message_bytes, is_too_long}
+use Rattle.outbox_core.specs.Contents.{Said, Relays}
 use Rattle.router_core.specs.declared.cause.CloseCause.{CloseCause}
 use Rattle.router_core.specs.declared.cause.CloseCause.TheVariants as cause
 use Rattle.seq_bus_core.specs.declared.error_kind.ErrorKind.TheVariants as error

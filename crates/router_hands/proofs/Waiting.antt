@@ -8,7 +8,7 @@ use Rattle.message_core.specs.Said.{said}
 use Rattle.message_core.proofs.NoMessages.{announced_message}
 use Rattle.message.specs.Framing.{IsWaiting}
 use Rattle.std.specs.Prelude.{IfSome}
-use Rattle.message_core.specs.declared.announcement.TheConstants.{MESSAGE_LIMIT}
+use Rattle.message_core.specs.declared.announcement.TheConstants.{MAXIMUM_LENGTH}
 use Rattle.router_hands.specs.Pending.{IsWithin, pending_bytes}
 use Rattle.message.proofs.Front.{announced_append}
 
@@ -27,6 +27,6 @@ is_whole limit message rest is within (inr waits) =
     absurd (omega (arith, n, waits.2, length-append message rest))
 
 -- a message that was taken off, and what is behind it
-pub pending_is_whole : (pending : Option (List ℕ)) (rest : List ℕ) → IfSome pending IsWithin → is_some pending ≡ true → IsWaiting MESSAGE_LIMIT (pending_bytes pending ++ rest) → ⊥
-pending_is_whole (Some message) rest within there waits = is_whole MESSAGE_LIMIT message rest within.is_message within.within waits
+pub pending_is_whole : (pending : Option (List ℕ)) (rest : List ℕ) → IfSome pending IsWithin → is_some pending ≡ true → IsWaiting MAXIMUM_LENGTH (pending_bytes pending ++ rest) → ⊥
+pending_is_whole (Some message) rest within there waits = is_whole MAXIMUM_LENGTH message rest within.is_message within.within waits
 pending_is_whole None rest within there waits = cc

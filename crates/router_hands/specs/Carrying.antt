@@ -1,8 +1,8 @@
 -- What a call is answered, as it is held.
 use Rattle.std.specs.Prelude.{Result, Ok, Err}
 use Rattle.seq_bus_core.specs.declared.error_kind.ErrorKind.{ErrorKind}
-use Rattle.envelopes.specs.declared.own_message.ReplyContent.{ReplyContent}
-use Rattle.envelopes.specs.Contents.{Carried, carried_of}
+use Rattle.outbox_core.specs.declared.own_message.ReplyContent.{ReplyContent}
+use Rattle.outbox_core.specs.Contents.{Carried, carried_of}
 
 -- a reply with what it carries, or an error
 abbrev pub answer_of : Result ReplyContent ErrorKind → Result Carried ErrorKind

@@ -3,10 +3,10 @@ use Rattle.std.specs.Prelude.{◌≡◌, ℕ, Bool, Option, Some, None, Result, 
 use Rattle.seq_bus_core.specs.Answers.{Answer}
 use Rattle.seq_bus_core.specs.declared.outcome.Outcome.{Outcome}
 use Rattle.seq_bus_core.specs.declared.verdict.Verdict.{Verdict}
-use Rattle.seq_bus.specs.Bodies.{IsBody}
-use Rattle.seq_bus.specs.declared.answer.AskFault.{AskFault}
-use Rattle.seq_bus.specs.declared.answer.Asked.{Asked}
-use Rattle.seq_bus.specs.declared.answer.Asked.TheVariants.{Body, NameHasNoOwner}
+use Rattle.bus_view.specs.Bodies.{IsBody}
+use Rattle.bus_view.specs.declared.answer.AskFault.{AskFault}
+use Rattle.bus_view.specs.declared.answer.Asked.{Asked}
+use Rattle.bus_view.specs.declared.answer.Asked.TheVariants.{Body, NameHasNoOwner}
 use Rattle.bus_view.specs.declared.refusal.Cause.{Cause}
 use Rattle.bus_view.specs.declared.refusal.Gone.{Gone}
 use Rattle.router_core.specs.Answers.{Heard, Says, Refuses, Lost, refusal_of, unanswered_for}

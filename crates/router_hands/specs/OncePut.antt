@@ -3,8 +3,8 @@ use Rattle.std.specs.Prelude.{Bool, true, false, Some, Result, Ok, Err}
 use Rattle.seq_bus_core.specs.declared.connection.Conn.{Conn}
 use Rattle.seq_bus_core.specs.declared.error_kind.ErrorKind.TheVariants as error
 use Rattle.message_core.specs.Messages.{Message}
-use Rattle.message_relay.specs.declared.fault.RelayFault.{RelayFault}
-use Rattle.message_relay.specs.declared.fault.RelayFault.TheVariants as relay
+use Rattle.message.specs.declared.fault.RelayFault.{RelayFault}
+use Rattle.message.specs.declared.fault.RelayFault.TheVariants as relay
 use Rattle.router_core.specs.declared.cause.CloseCause.TheVariants as cause
 use Rattle.router_core.specs.Scripts.{Gives}
 use Rattle.router_core.specs.Serving.{Fated, and_stays, err_if_call}

@@ -4,7 +4,7 @@ use Rattle.seq_bus_core.specs.declared.error_kind.ErrorKind.{ErrorKind}
 use Rattle.seq_bus_core.specs.declared.error_kind.ErrorKind.TheVariants as error
 use Rattle.message_core.specs.Messages.{Message, IsWritten}
 use Rattle.driver.specs.declared.reply.ReplyTo.{ReplyTo}
-use Rattle.envelopes.specs.Contents.{Errs, own_message}
+use Rattle.outbox_core.specs.Contents.{Errs, own_message}
 
 -- The caller of a Hello has no name yet.
 abbrev pub hello_of : Message → ReplyTo

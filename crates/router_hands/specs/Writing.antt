@@ -1,7 +1,7 @@
 -- What is written of a content.
 use Rattle.std.specs.Prelude.{◌≡◌, ℕ, List}
 use Rattle.message_core.specs.Messages.{IsWritten}
-use Rattle.envelopes.specs.Contents.{Said, Relays, Tells, own_message}
+use Rattle.outbox_core.specs.Contents.{Said, Relays, Tells, own_message}
 
 -- the bytes of what is said; a message of the bus has this serial
 abbrev pub IsSpelled : Said → ℕ → List ℕ → Type 0

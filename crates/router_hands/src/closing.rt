@@ -13,7 +13,8 @@ impl<V: BusView, G: Gate> Hands<V, G> {
     /// Closes a connection, if there is a cause.
     pub fn close_if(&mut self, key: usize, peer: &mut Peer, cause: Option<CloseCause>)
         requires { 0 < self.old.room }
-        ensures comes { Comes V.told V.registry_of G.passes V.alone (closing_if key cause peer.old) self.old.world peer.new self.new.world }
+        ensures comes { Comes V.told V.registry_of G.passes V.alone (closing_if key cause peer.old)
+            self.old.world peer.new self.new.world }
         ensures room { self.old.room ≤ self.new.room + 1 }
     {
         if let Some(cause) = cause {

@@ -35,7 +35,8 @@ fn is_user(identity: Identity) -> bool
 impl Peer {
     /// Goes on with the conversation by which it says who it is. Once that is done, the bytes behind it are the first of its messages.
     fn converse(&mut self, piece: &[u8]) -> Turn
-        ensures turn { IsConversed self.old self.old.stage piece.now result.sent.items result.fault self.new }
+        ensures turn { IsConversed self.old self.old.stage piece.now result.sent.items result.fault
+            self.new }
         ensures conn { conn_of self.new.stage ≡ conn_of self.old.stage }
     {
         let Stage::Authenticating(server) = &mut self.stage else {
@@ -83,7 +84,8 @@ impl<V: BusView, G: Gate> Hands<V, G> {
     /// Writes what a connection is answered while it says who it is, if it is anything.
     fn answer(&mut self, key: usize, sent: Vec<u8>)
         requires { 0 < self.old.room }
-        ensures sent { IsSent V.told V.registry_of V.alone key sent.items self.old.world self.new.world }
+        ensures sent { IsSent V.told V.registry_of V.alone key sent.items self.old.world
+            self.new.world }
         ensures room { self.old.room ≤ self.new.room + 1 }
     {
         if !sent.is_empty() {
@@ -100,7 +102,10 @@ impl<V: BusView, G: Gate> Hands<V, G> {
         piece: &mut Vec<u8>,
     ) -> Result<(), AllocError>
         requires { 1 < self.old.room }
-        ensures comes { OnOk result (Comes V.told V.registry_of G.passes V.alone (hearing key piece.old.items peer.old peer.old.stage) self.old.world peer.new self.new.world) }
+        ensures comes { OnOk result
+            (Comes V.told V.registry_of G.passes V.alone
+            (hearing key piece.old.items peer.old peer.old.stage) self.old.world peer.new
+            self.new.world) }
         ensures err { OnErr result (peer.new ≡ peer.old) }
         ensures world { OnErr result (self.new.world ≡ self.old.world) }
         ensures kept { OnErr result (piece.new ≡ piece.old) }

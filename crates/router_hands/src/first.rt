@@ -89,9 +89,13 @@ impl<V: BusView, G: Gate> Hands<V, G> {
     ) -> Result<Option<Greeting>, AllocError>
         requires room { 0 < self.old.room }
         requires unnamed { IfSome slot.old (λ p. p.stage ≡ Unnamed privileged) }
-        ensures next { IfOk result (λ greeting. ComesOfNext V.told V.registry_of G.passes V.alone key greeting slot.old slot.new self.old.world self.new.world) }
+        ensures next { IfOk result
+            (λ greeting. ComesOfNext V.told V.registry_of G.passes V.alone key greeting slot.old
+            slot.new self.old.world self.new.world) }
         ensures room { self.old.room ≤ self.new.room + 1 }
-        ensures kept { IfOk result (λ greeting. IfSome greeting (λ _. self.new.room ≡ self.old.room)) }
+        ensures kept { IfOk result
+            (λ greeting. IfSome greeting (λ _. (self.new.room ≡ self.old.room) ×
+            (self.new.crowds ≡ self.old.crowds))) }
         ensures err { OnErr result (slot.new ≡ slot.old) }
         ensures world { OnErr result (self.new.world ≡ self.old.world) }
     {

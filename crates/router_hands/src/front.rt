@@ -28,7 +28,8 @@ pub(crate) fn take_front(
 ) -> Result<Front, AllocError>
     requires fine { unread.old.fault ≡ None }
     requires within { IfSome pending.old IsWithin }
-    ensures front { IfOk result (λ front. HasFront front (pending_bytes pending.old ++ unread.old.bytes) unread.new.bytes) }
+    ensures front { IfOk result
+        (λ front. HasFront front (pending_bytes pending.old ++ unread.old.bytes) unread.new.bytes) }
     ensures none { OnOk result (pending.new ≡ None) }
     ensures fine { unread.new.fault ≡ None }
     ensures pending { OnErr result (pending.new ≡ pending.old) }

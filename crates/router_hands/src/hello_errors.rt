@@ -3,8 +3,8 @@
 ghost use Rattle.std.specs.Prelude.{◌≡◌, ◌<◌, ◌≤◌, ◌+◌, IfOk};
 ghost use Rattle.message_core.specs.Messages.{IsWritten};
 ghost use Rattle.message_core.specs.Said.{said};
-ghost use Rattle.message_relay.specs.FactsOf.{facts_of};
-ghost use Rattle.envelopes.specs.Contents.{Errs, own_of, own_message};
+ghost use Rattle.message.specs.FactsOf.{facts_of};
+ghost use Rattle.outbox_core.specs.Contents.{Errs, own_of, own_message};
 ghost use Rattle.router_core.specs.Answers.{error_for, refusal_of};
 ghost use Rattle.router_core.specs.Events.{refuse, refuse_with, turn_away};
 ghost use Rattle.router_core.specs.Scripts.{Routing, Comes};
@@ -14,10 +14,11 @@ ghost use Rattle.router_hands.specs.Refusing.{IsRefusal, AreRefusals, hello_of};
 use crate::hands::Hands;
 use crate::mail::bytes_of;
 use crate::peer::Peer;
+use crate::verdicts::tell_monitors_alone;
 use bus_view::{BusView, Cause};
 use driver::{ReplyTo, expects_reply};
-use envelopes::{CallToAnswer, Content, OwnMessage};
 use message_core::Message;
+use outbox_core::{CallToAnswer, Content, OwnMessage};
 use router_core::{CloseCause, Gate, WrittenBytes};
 use seq_bus_core::ErrorKind;
 use std::alloc::{AllocError, Global};
@@ -92,15 +93,20 @@ impl<V: BusView, G: Gate> Hands<V, G> {
     /// Writes an error to a connection that has no name, and puts it to the monitors.
     fn refuse(&mut self, key: usize, peer: &mut Peer, own: OwnMessage, bytes: WrittenBytes)
         requires room { 1 < self.old.room }
-        requires written { IsWritten bytes (own_message (next_serial peer.old.serial) (own_of own)) }
-        ensures comes { Comes V.told V.registry_of G.passes V.alone (Routing 0 (facts_of (own_message 1 (own_of own))) (λ heard. refuse key (own_of own) peer.old heard)) self.old.world peer.new self.new.world }
+        requires crowds { 0 < self.old.crowds }
+        requires written { IsWritten bytes
+            (own_message (next_serial peer.old.serial) (own_of own)) }
+        ensures comes { Comes V.told V.registry_of G.passes V.alone
+            (Routing 0 (facts_of (own_message 1 (own_of own)))
+            (λ heard. refuse key (own_of own) peer.old heard)) self.old.world peer.new
+            self.new.world }
         ensures room { self.old.room ≤ self.new.room + 2 }
     {
-        self.ask_monitors(&own);
-        self.tell_monitors_alone();
+        let mut verdict = self.ask_monitors(&own);
+        tell_monitors_alone(&mut verdict);
         peer.count();
         self.send(key, bytes);
-        self.put_told(Content::Own(own));
+        self.put_to(verdict, Content::Own(own));
     }
 
     /// Answers a Hello an error, if it wants an answer. The connection stays without a name: it may say Hello again.
@@ -113,8 +119,11 @@ impl<V: BusView, G: Gate> Hands<V, G> {
         bytes: WrittenBytes,
     )
         requires room { 1 < self.old.room }
+        requires crowds { 0 < self.old.crowds }
         requires written { IsRefusal (said hello.now) error (next_serial peer.old.serial) bytes }
-        ensures comes { Comes V.told V.registry_of G.passes V.alone (refuse_with key (said hello.now) error peer.old) self.old.world peer.new self.new.world }
+        ensures comes { Comes V.told V.registry_of G.passes V.alone
+            (refuse_with key (said hello.now) error peer.old) self.old.world peer.new
+            self.new.world }
         ensures room { self.old.room ≤ self.new.room + 2 }
     {
         if expects_reply(hello) {
@@ -125,8 +134,11 @@ impl<V: BusView, G: Gate> Hands<V, G> {
     /// Answers a Hello that would exceed a limit of the bus, and closes its connection.
     pub fn turn_away(&mut self, key: usize, hello: &Message, peer: &mut Peer, bytes: WrittenBytes)
         requires room { 2 < self.old.room }
-        requires written { IsRefusal (said hello.now) ErrorKind.LimitsExceeded (next_serial peer.old.serial) bytes }
-        ensures { Comes V.told V.registry_of G.passes V.alone (turn_away key (said hello.now) peer.old) self.old.world peer.new self.new.world }
+        requires crowds { 0 < self.old.crowds }
+        requires written { IsRefusal (said hello.now) ErrorKind.LimitsExceeded
+            (next_serial peer.old.serial) bytes }
+        ensures { Comes V.told V.registry_of G.passes V.alone
+            (turn_away key (said hello.now) peer.old) self.old.world peer.new self.new.world }
     {
         self.refuse_with(key, hello, peer, ErrorKind::LimitsExceeded, bytes);
         self.close_peer(key, peer, CloseCause::LimitsExceeded);
@@ -142,8 +154,11 @@ impl<V: BusView, G: Gate> Hands<V, G> {
         errors: HelloErrors,
     )
         requires room { 1 < self.old.room }
+        requires crowds { 0 < self.old.crowds }
         requires written { AreRefusals (said hello.now) (next_serial peer.old.serial) errors }
-        ensures { Comes V.told V.registry_of G.passes V.alone (refuse_with key (said hello.now) (error_for (refusal_of why)) peer.old) self.old.world peer.new self.new.world }
+        ensures { Comes V.told V.registry_of G.passes V.alone
+            (refuse_with key (said hello.now) (error_for (refusal_of why)) peer.old) self.old.world
+            peer.new self.new.world }
     {
         match why {
             Cause::NoMemory => {

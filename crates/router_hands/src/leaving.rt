@@ -16,7 +16,10 @@ impl<V: BusView, G: Gate> Hands<V, G> {
     pub fn leave(&mut self, right: &V::Right, number: u64, leaves: &mut Vec<u64>)
         requires room { 0 < self.old.room }
         requires spare { vec_len leaves.old < vec_capacity leaves.old }
-        ensures comes { (s : Standing) → Comes V.told V.registry_of G.passes V.alone (leaving (record s { leaves = leaves.old.items }) number) self.old.world (record s { leaves = leaves.new.items }) self.new.world }
+        ensures comes { (s : Standing) →
+            Comes V.told V.registry_of G.passes V.alone
+            (leaving (record s { leaves = leaves.old.items }) number) self.old.world
+            (record s { leaves = leaves.new.items }) self.new.world }
         ensures room { self.old.room ≤ self.new.room + 1 }
         ensures len { vec_len leaves.new ≤ vec_len leaves.old + 1 }
         ensures capacity { vec_capacity leaves.old ≤ vec_capacity leaves.new }
@@ -31,7 +34,10 @@ impl<V: BusView, G: Gate> Hands<V, G> {
     pub fn leave_of(&mut self, right: &V::Right, conn: Option<Conn>, leaves: &mut Vec<u64>)
         requires room { 0 < self.old.room }
         requires spare { vec_len leaves.old < vec_capacity leaves.old }
-        ensures comes { (s : Standing) → Comes V.told V.registry_of G.passes V.alone (leaving_of (record s { leaves = leaves.old.items }) conn) self.old.world (record s { leaves = leaves.new.items }) self.new.world }
+        ensures comes { (s : Standing) →
+            Comes V.told V.registry_of G.passes V.alone
+            (leaving_of (record s { leaves = leaves.old.items }) conn) self.old.world
+            (record s { leaves = leaves.new.items }) self.new.world }
     {
         match conn {
             None => {}
@@ -43,7 +49,10 @@ impl<V: BusView, G: Gate> Hands<V, G> {
     pub fn leave_all(&mut self, right: &V::Right, numbers: &[u64], leaves: &mut Vec<u64>)
         requires room { length numbers.now ≤ self.old.room }
         requires spare { vec_len leaves.old + length numbers.now ≤ vec_capacity leaves.old }
-        ensures comes { (s : Standing) → Comes V.told V.registry_of G.passes V.alone (leaving_all numbers.now (record s { leaves = leaves.old.items })) self.old.world (record s { leaves = leaves.new.items }) self.new.world }
+        ensures comes { (s : Standing) →
+            Comes V.told V.registry_of G.passes V.alone
+            (leaving_all numbers.now (record s { leaves = leaves.old.items })) self.old.world
+            (record s { leaves = leaves.new.items }) self.new.world }
         ensures room { self.old.room ≤ self.new.room + length numbers.now }
     {
         for number in numbers {

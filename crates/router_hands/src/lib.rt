@@ -17,6 +17,7 @@ mod relaying;
 mod room;
 mod slot;
 mod telling;
+mod verdicts;
 
 pub use first::{First, Greeting};
 pub use front::Front;

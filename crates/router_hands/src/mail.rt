@@ -1,7 +1,7 @@
 //! What an envelope brings to its connection.
 
 ghost use Rattle.std.specs.Prelude.{◌≡◌, ◌<◌, ◌≤◌, ◌+◌, option_map, IfOk, OnOk, OnErr};
-ghost use Rattle.envelopes.specs.Contents.{said_of};
+ghost use Rattle.outbox_core.specs.Contents.{said_of};
 ghost use Rattle.router_core.specs.Deeds.{IsOwnNote};
 ghost use Rattle.router_core.specs.Events.{write as writing};
 ghost use Rattle.router_core.specs.Scripts.{Comes};
@@ -12,7 +12,7 @@ ghost use Rattle.router_hands.specs.Writing.{IsSpelled};
 use crate::hands::Hands;
 use crate::peer::Peer;
 use bus_view::BusView;
-use envelopes::{Content, Envelope};
+use outbox_core::{Content, Envelope};
 use router_core::{Gate, WrittenBytes};
 use std::alloc::{AllocError, Global};
 
@@ -45,7 +45,8 @@ impl<V: BusView, G: Gate> Hands<V, G> {
     pub fn deliver(&mut self, key: usize, peer: &mut Peer, content: &Content, bytes: WrittenBytes)
         requires room { 0 < self.old.room }
         requires spelled { IsSpelled (said_of content.now) (next_serial peer.old.serial) bytes }
-        ensures comes { Comes V.told V.registry_of G.passes V.alone (writing key (said_of content.now) peer.old) self.old.world peer.new self.new.world }
+        ensures comes { Comes V.told V.registry_of G.passes V.alone
+            (writing key (said_of content.now) peer.old) self.old.world peer.new self.new.world }
         ensures room { self.old.room ≤ self.new.room + 1 }
     {
         match content {
@@ -60,7 +61,8 @@ impl<V: BusView, G: Gate> Hands<V, G> {
     /// Takes in the note that came with an envelope, if there is one.
     pub fn heed(&mut self, note: &Option<V::Note>)
         requires { IsOwnNote V.registry_of self.old.world.view.registry note.now }
-        ensures heeds { IsHeeded V.alone (option_map V.told note.now) self.old.world self.new.world }
+        ensures heeds { IsHeeded V.alone (option_map V.told note.now) self.old.world
+            self.new.world }
         ensures room { self.new.room ≡ self.old.room }
     {
         if let Some(note) = note {
@@ -78,7 +80,11 @@ impl<V: BusView, G: Gate> Hands<V, G> {
     ) -> Result<(), AllocError>
         requires room { 0 < self.old.room }
         requires own { IsOwnNote V.registry_of self.old.world.view.registry envelope.now.note }
-        ensures comes { OnOk result (Comes V.told V.registry_of G.passes V.alone (once_noted (option_map V.told envelope.now.note) (writing key (said_of envelope.now.content) peer.old)) self.old.world peer.new self.new.world) }
+        ensures comes { OnOk result
+            (Comes V.told V.registry_of G.passes V.alone
+            (once_noted (option_map V.told envelope.now.note)
+            (writing key (said_of envelope.now.content) peer.old)) self.old.world peer.new
+            self.new.world) }
         ensures err { OnErr result (peer.new ≡ peer.old) }
         ensures world { OnErr result (self.new.world ≡ self.old.world) }
     {

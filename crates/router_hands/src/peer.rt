@@ -66,9 +66,15 @@ impl Model for Peer {
 
     ghost Value = { Standing_peer };
 
-    ghost view = { λ p. record { stage = stage_of p.stage; unread = unread_at p.stage (pending_bytes p.pending ++ p.unread.bytes); serial = p.serial } };
+    ghost view = { λ p. record {
+      stage = stage_of p.stage;
+      unread = unread_at p.stage
+          (pending_bytes p.pending ++ p.unread.bytes);
+      serial = p.serial;
+    } };
 
-    ghost invariant = { λ p. (p.unread.fault ≡ None) × IfSome p.pending IsWithin × IsSilentAt p.stage (pending_bytes p.pending ++ p.unread.bytes) };
+    ghost invariant = { λ p. (p.unread.fault ≡ None) × IfSome p.pending IsWithin ×
+        IsSilentAt p.stage (pending_bytes p.pending ++ p.unread.bytes) };
 }
 
 impl Peer {
@@ -168,8 +174,10 @@ impl<V: BusView, G: Gate> Hands<V, G> {
     /// Closes a connection.
     pub fn close_peer(&mut self, key: usize, peer: &mut Peer, cause: CloseCause)
         requires { 0 < self.old.room }
-        ensures comes { Comes V.told V.registry_of G.passes V.alone (closing key cause peer.old) self.old.world peer.new self.new.world }
+        ensures comes { Comes V.told V.registry_of G.passes V.alone (closing key cause peer.old)
+            self.old.world peer.new self.new.world }
         ensures room { self.old.room ≤ self.new.room + 1 }
+        ensures crowds { self.new.crowds ≡ self.old.crowds }
     {
         peer.shut();
         self.close(key, cause);
@@ -178,7 +186,8 @@ impl<V: BusView, G: Gate> Hands<V, G> {
     /// Closes a connection that has a name, if it has left.
     fn look_at(&mut self, key: usize, peer: &mut Peer, conn: Conn)
         requires { 0 < self.old.room }
-        ensures comes { Comes V.told V.registry_of G.passes V.alone (look key peer.old (Named conn)) self.old.world peer.new self.new.world }
+        ensures comes { Comes V.told V.registry_of G.passes V.alone (look key peer.old (Named conn))
+            self.old.world peer.new self.new.world }
         ensures room { self.old.room ≤ self.new.room + 1 }
     {
         match self.look(conn.number) {
@@ -191,7 +200,8 @@ impl<V: BusView, G: Gate> Hands<V, G> {
     /// Closes a connection that has left.
     pub fn look_after(&mut self, key: usize, peer: &mut Peer)
         requires { 0 < self.old.room }
-        ensures comes { Comes V.told V.registry_of G.passes V.alone (look key peer.old peer.old.stage) self.old.world peer.new self.new.world }
+        ensures comes { Comes V.told V.registry_of G.passes V.alone
+            (look key peer.old peer.old.stage) self.old.world peer.new self.new.world }
         ensures room { self.old.room ≤ self.new.room + 1 }
     {
         if let Stage::Named(conn) = peer.stage() {

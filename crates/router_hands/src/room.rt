@@ -2,8 +2,9 @@
 
 ghost use Rattle.std.specs.Prelude.{◌≡◌, ◌<◌, ◌≤◌, ◌+◌, ◌++◌, ◌∷◌, [], vec_len, vec_capacity};
 
-use router_core::{Addressees, Crowd};
+use router_core::Action;
 use seq_bus_core::Verdict;
+use std::alloc::{AllocError, Global};
 
 /// One element more, for which there is room.
 pub fn push_reserved<T: Drop>(elements: &mut Vec<T>, element: T)
@@ -15,12 +16,35 @@ pub fn push_reserved<T: Drop>(elements: &mut Vec<T>, element: T)
     let _ = elements.push(element);
 }
 
-/// The recipients and monitors of a verdict, where there was room for a crowd.
-pub fn filled(room: Box<Crowd>, told: &Verdict) -> Addressees
-    ensures { result ≡ record { to = told.now.to; monitors = told.now.monitors } }
+/// Room for a verdict. It is large, so it stays in one place.
+pub fn blank_verdict(alloc: Global) -> Result<Box<Verdict>, AllocError> {
+    match Box::new(alloc, Verdict::new()) {
+        Ok(verdict) => Ok(verdict),
+        Err(_) => Err(AllocError),
+    }
+}
+
+/// Keeps a verdict, where there is a place for it.
+pub fn keep_verdict(verdict: Box<Verdict>, verdicts: &mut Vec<Box<Verdict>>)
+    ensures { vec_len verdicts.old ≤ vec_len verdicts.new }
 {
-    let mut crowd = room;
-    crowd.to.copy_from(&told.to);
-    crowd.monitors.copy_from(&told.monitors);
-    Addressees::shown(crowd)
+    if verdicts.len() < verdicts.capacity() {
+        push_reserved(verdicts, verdict);
+    }
+}
+
+/// Lets an action go. The verdict of one for several recipients is kept.
+fn keep_verdict_of<N: Drop>(action: Action<N>, verdicts: &mut Vec<Box<Verdict>>) {
+    if let Action::Put { to, .. } = action {
+        if let Some(verdict) = to.into_verdict() {
+            keep_verdict(verdict, verdicts);
+        }
+    }
+}
+
+/// Lets actions go that are done. The verdicts of those for several recipients are kept, where there are places for them.
+pub fn clear_actions<N: Drop>(actions: &mut Vec<Action<N>>, verdicts: &mut Vec<Box<Verdict>>) {
+    while let Some(action) = actions.pop() {
+        keep_verdict_of(action, verdicts);
+    }
 }

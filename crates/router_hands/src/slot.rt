@@ -1,7 +1,7 @@
 //! Keys that a connection may have, or none.
 
 ghost use Rattle.std.specs.Prelude.{◌≡◌, ◌<◌, ◌≤◌, ◌+◌, [], length, option_map, OnOk, OnErr};
-ghost use Rattle.envelopes.specs.Contents.{said_of};
+ghost use Rattle.outbox_core.specs.Contents.{said_of};
 ghost use Rattle.router_core.specs.Deeds.{IsOwnNote};
 ghost use Rattle.router_core.specs.Events.{closing, hear, for_slot, look, look_all as looking_at_all, write as writing};
 ghost use Rattle.router_core.specs.Scripts.{Comes};
@@ -10,7 +10,7 @@ ghost use Rattle.router_hands.specs.Noting.{once_noted};
 use crate::hands::Hands;
 use crate::peer::Peer;
 use bus_view::BusView;
-use envelopes::Envelope;
+use outbox_core::Envelope;
 use router_core::{CloseCause, Gate};
 use std::alloc::{AllocError, Global};
 
@@ -23,7 +23,10 @@ impl<V: BusView, G: Gate> Hands<V, G> {
         piece: &mut Vec<u8>,
     ) -> Result<(), AllocError>
         requires { 1 < self.old.room }
-        ensures comes { OnOk result (Comes V.told V.registry_of G.passes V.alone (for_slot slot.old (λ p. hear key piece.old.items p p.stage)) self.old.world slot.new self.new.world) }
+        ensures comes { OnOk result
+            (Comes V.told V.registry_of G.passes V.alone
+            (for_slot slot.old (λ p. hear key piece.old.items p p.stage)) self.old.world slot.new
+            self.new.world) }
         ensures err { OnErr result (slot.new ≡ slot.old) }
         ensures world { OnErr result (self.new.world ≡ self.old.world) }
         ensures kept { OnErr result (piece.new ≡ piece.old) }
@@ -45,7 +48,11 @@ impl<V: BusView, G: Gate> Hands<V, G> {
     ) -> Result<(), AllocError>
         requires room { 0 < self.old.room }
         requires own { IsOwnNote V.registry_of self.old.world.view.registry envelope.now.note }
-        ensures comes { OnOk result (Comes V.told V.registry_of G.passes V.alone (once_noted (option_map V.told envelope.now.note) (for_slot slot.old (writing key (said_of envelope.now.content)))) self.old.world slot.new self.new.world) }
+        ensures comes { OnOk result
+            (Comes V.told V.registry_of G.passes V.alone
+            (once_noted (option_map V.told envelope.now.note)
+            (for_slot slot.old (writing key (said_of envelope.now.content)))) self.old.world
+            slot.new self.new.world) }
         ensures err { OnErr result (slot.new ≡ slot.old) }
         ensures world { OnErr result (self.new.world ≡ self.old.world) }
     {
@@ -61,8 +68,11 @@ impl<V: BusView, G: Gate> Hands<V, G> {
     /// Closes a connection that has left, if it is there.
     pub fn close_left(&mut self, key: usize, slot: &mut Option<Peer>)
         requires { 0 < self.old.room }
-        ensures comes { Comes V.told V.registry_of G.passes V.alone (for_slot slot.old (λ p. closing key CloseCause.Left p)) self.old.world slot.new self.new.world }
+        ensures comes { Comes V.told V.registry_of G.passes V.alone
+            (for_slot slot.old (λ p. closing key CloseCause.Left p)) self.old.world slot.new
+            self.new.world }
         ensures room { self.old.room ≤ self.new.room + 1 }
+        ensures crowds { self.new.crowds ≡ self.old.crowds }
     {
         if let Some(peer) = slot {
             self.close_peer(key, peer, CloseCause::Left);
@@ -72,7 +82,8 @@ impl<V: BusView, G: Gate> Hands<V, G> {
     /// Closes the connection of a key, if it is there and has left.
     fn look_into(&mut self, key: usize, slot: &mut Option<Peer>)
         requires { 0 < self.old.room }
-        ensures comes { Comes V.told V.registry_of G.passes V.alone (for_slot slot.old (λ p. look key p p.stage)) self.old.world slot.new self.new.world }
+        ensures comes { Comes V.told V.registry_of G.passes V.alone
+            (for_slot slot.old (λ p. look key p p.stage)) self.old.world slot.new self.new.world }
         ensures room { self.old.room ≤ self.new.room + 1 }
     {
         match slot {
@@ -84,7 +95,8 @@ impl<V: BusView, G: Gate> Hands<V, G> {
     /// Closes those that have left, by rising key.
     pub fn look_at_all(&mut self, peers: &mut [Option<Peer>])
         requires { length peers.old ≤ self.old.room }
-        ensures { Comes V.told V.registry_of G.passes V.alone (looking_at_all [] peers.old) self.old.world peers.new self.new.world }
+        ensures { Comes V.told V.registry_of G.passes V.alone (looking_at_all [] peers.old)
+            self.old.world peers.new self.new.world }
     {
         for key in 0..peers.len() {
             self.look_into(key, &mut peers[key]);

@@ -3,22 +3,23 @@
 ghost use Rattle.std.specs.Prelude.{◌≡◌, ◌<◌, ◌≤◌, ◌+◌};
 ghost use Rattle.seq_bus_core.specs.declared.verdict.Verdict.{Verdict as Told};
 ghost use Rattle.message_core.specs.Said.{said};
-ghost use Rattle.message_relay.specs.FactsOf.{facts_of};
-ghost use Rattle.envelopes.specs.Contents.{carried_of, own_of, own_message};
+ghost use Rattle.message.specs.FactsOf.{facts_of};
+ghost use Rattle.outbox_core.specs.Contents.{carried_of, own_of, own_message};
 ghost use Rattle.router_core.specs.Answers.{Heard};
 ghost use Rattle.router_core.specs.Scripts.{Routes, Comes};
 ghost use Rattle.router_core.specs.Serving.{answer_with as answering, call_of as call_in, err_if_call as erring_if_call, err_with as erring, is_method_call as is_method_call_in, monitors_in, reply_with as replying, tell as telling};
 ghost use Rattle.router_hands.specs.Carrying.{answer_of};
 
 use crate::hands::Hands;
+use crate::verdicts::{tell_no_monitors, tell_one};
 use arrayvec::ArrayVec;
 use bus_view::BusView;
 use driver::{ReplyTo, expects_reply};
-use envelopes::{CallToAnswer, Content, OwnMessage, ReplyContent};
 use match_rules::{Facts, MessageKind};
 use message_core::Message;
+use outbox_core::{CallToAnswer, Content, OwnMessage, ReplyContent};
 use router_core::Gate;
-use seq_bus_core::{Conn, ErrorKind};
+use seq_bus_core::{Conn, ErrorKind, Verdict};
 
 /// The call, as it is answered.
 fn call_of(message: &Message, caller: Conn) -> CallToAnswer
@@ -41,13 +42,18 @@ pub fn is_method_call(message: &Message) -> bool
 impl<V: BusView, G: Gate> Hands<V, G> {
     /// Asks which monitors are shown a message of the bus. Where the bus does not say, it is shown to none; where there are no
     /// monitors, what they would see of it is not made.
-    pub(crate) fn ask_monitors(&mut self, own: &OwnMessage)
-        ensures routes { (heard : Heard Told) × Routes V.alone 0 (facts_of (own_message 1 (own_of own.now))) self.old.world heard self.new.world × (self.new.told.monitors ≡ monitors_in heard) }
+    pub(crate) fn ask_monitors(&mut self, own: &OwnMessage) -> Box<Verdict>
+        requires { 0 < self.old.crowds }
+        ensures routes { (heard : Heard Told) ×
+            Routes V.alone 0 (facts_of (own_message 1 (own_of own.now))) self.old.world heard
+            self.new.world × (result.value.monitors ≡ monitors_in heard) }
         ensures room { self.new.room ≡ self.old.room }
+        ensures crowds { self.new.crowds + 1 ≡ self.old.crowds }
     {
+        let mut verdict = self.take_verdict();
         if !self.is_watched() {
-            self.tell_no_monitors();
-            return;
+            tell_no_monitors(&mut verdict);
+            return verdict;
         }
         let names = own.names();
         // Made where they stay: they are too large to be copied.
@@ -62,28 +68,36 @@ impl<V: BusView, G: Gate> Hands<V, G> {
             arguments: ArrayVec::new(),
         };
         own.put_facts(&names, &mut facts);
-        match self.route(0, &facts) {
+        match self.route(0, &facts, &mut verdict) {
             Ok(()) => {}
-            Err(_) => self.tell_no_monitors(),
+            Err(_) => tell_no_monitors(&mut verdict),
         }
+        verdict
     }
 
     /// Tells a connection a message of the bus. The monitors are shown it too.
     pub fn tell(&mut self, conn: Conn, own: OwnMessage)
-        requires { 0 < self.old.room }
-        ensures comes { Comes V.told V.registry_of G.passes V.alone (telling conn (own_of own)) self.old.world tt self.new.world }
+        requires room { 0 < self.old.room }
+        requires crowds { 0 < self.old.crowds }
+        ensures comes { Comes V.told V.registry_of G.passes V.alone (telling conn (own_of own))
+            self.old.world tt self.new.world }
         ensures room { self.old.room ≤ self.new.room + 1 }
+        ensures crowds { self.old.crowds ≤ self.new.crowds + 1 }
     {
-        self.ask_monitors(&own);
-        self.tell_one(conn);
-        self.put_told(Content::Own(own));
+        let mut verdict = self.ask_monitors(&own);
+        tell_one(&mut verdict, conn);
+        self.put_to(verdict, Content::Own(own));
     }
 
     /// Replies to a call. One that wants no reply gets none.
     pub fn reply_with(&mut self, call: &Message, caller: Conn, content: ReplyContent)
-        requires { 0 < self.old.room }
-        ensures comes { Comes V.told V.registry_of G.passes V.alone (replying (said call.now) caller (carried_of content)) self.old.world tt self.new.world }
+        requires room { 0 < self.old.room }
+        requires crowds { 0 < self.old.crowds }
+        ensures comes { Comes V.told V.registry_of G.passes V.alone
+            (replying (said call.now) caller (carried_of content)) self.old.world tt
+            self.new.world }
         ensures room { self.old.room ≤ self.new.room + 1 }
+        ensures crowds { self.old.crowds ≤ self.new.crowds + 1 }
     {
         if expects_reply(call) {
             let to = call_of(call, caller);
@@ -93,9 +107,12 @@ impl<V: BusView, G: Gate> Hands<V, G> {
 
     /// Answers a call an error. One that wants no reply gets none.
     pub fn err_with(&mut self, call: &Message, caller: Conn, error: ErrorKind)
-        requires { 0 < self.old.room }
-        ensures comes { Comes V.told V.registry_of G.passes V.alone (erring (said call.now) caller error) self.old.world tt self.new.world }
+        requires room { 0 < self.old.room }
+        requires crowds { 0 < self.old.crowds }
+        ensures comes { Comes V.told V.registry_of G.passes V.alone
+            (erring (said call.now) caller error) self.old.world tt self.new.world }
         ensures room { self.old.room ≤ self.new.room + 1 }
+        ensures crowds { self.old.crowds ≤ self.new.crowds + 1 }
     {
         if expects_reply(call) {
             let to = call_of(call, caller);
@@ -105,9 +122,12 @@ impl<V: BusView, G: Gate> Hands<V, G> {
 
     /// Answers a call an error; another message is dropped.
     pub fn err_if_call(&mut self, message: &Message, sender: Conn, error: ErrorKind)
-        requires { 0 < self.old.room }
-        ensures comes { Comes V.told V.registry_of G.passes V.alone (erring_if_call (said message.now) sender error) self.old.world tt self.new.world }
+        requires room { 0 < self.old.room }
+        requires crowds { 0 < self.old.crowds }
+        ensures comes { Comes V.told V.registry_of G.passes V.alone
+            (erring_if_call (said message.now) sender error) self.old.world tt self.new.world }
         ensures room { self.old.room ≤ self.new.room + 1 }
+        ensures crowds { self.old.crowds ≤ self.new.crowds + 1 }
     {
         if is_method_call(message) {
             self.err_with(message, sender, error);
@@ -121,9 +141,12 @@ impl<V: BusView, G: Gate> Hands<V, G> {
         caller: Conn,
         answer: Result<ReplyContent, ErrorKind>,
     )
-        requires { 0 < self.old.room }
-        ensures comes { Comes V.told V.registry_of G.passes V.alone (answering (said call.now) caller (answer_of answer)) self.old.world tt self.new.world }
+        requires room { 0 < self.old.room }
+        requires crowds { 0 < self.old.crowds }
+        ensures comes { Comes V.told V.registry_of G.passes V.alone
+            (answering (said call.now) caller (answer_of answer)) self.old.world tt self.new.world }
         ensures room { self.old.room ≤ self.new.room + 1 }
+        ensures crowds { self.old.crowds ≤ self.new.crowds + 1 }
     {
         match answer {
             Ok(content) => self.reply_with(call, caller, content),

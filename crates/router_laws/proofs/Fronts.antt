@@ -2,7 +2,7 @@
 use Rattle.std.proofs.Common.{◌≡◌, ◌⊎◌, ℕ, ◌≤◌, List, ◌++◌, length, take, Ok, Err, inl, inr, refl, sym, ap, ◌∙◌, subst, append_assoc, arith}
 use Rattle.std.proofs.lemmas.List.{length-append, take_at, take-append-le}
 use Rattle.message_core.specs.declared.fault.FrameFault.{FrameFault}
-use Rattle.message_core.specs.declared.announcement.TheConstants.{MESSAGE_LIMIT}
+use Rattle.message_core.specs.declared.announcement.TheConstants.{MAXIMUM_LENGTH}
 use Rattle.message_core.specs.Announcements.{announced, fixed_length}
 use Rattle.message_core.specs.Messages.{IsMessage}
 use Rattle.message_core.specs.Refusals.{IsRefused}
@@ -53,14 +53,14 @@ not_waiting limit fault bytes long (inr why) (inr waits) =
 -- ## One front
 
 whole_waits : (bytes message rest : List ℕ) → IsFront bytes (Whole message rest) → IsFront bytes Waits → ⊥
-whole_waits bytes message rest is waits = not_short MESSAGE_LIMIT message rest is.0 is.1 (subst (λ (b : List ℕ). IsWaiting MESSAGE_LIMIT b) is.2 waits)
+whole_waits bytes message rest is waits = not_short MAXIMUM_LENGTH message rest is.0 is.1 (subst (λ (b : List ℕ). IsWaiting MAXIMUM_LENGTH b) is.2 waits)
 
 faulty_waits : (bytes : List ℕ) (fault : FrameFault) → IsFront bytes (Faulty fault) → IsFront bytes Waits → ⊥
-faulty_waits bytes fault is waits = not_waiting MESSAGE_LIMIT fault bytes is.0.0 is.0.1 waits
+faulty_waits bytes fault is waits = not_waiting MAXIMUM_LENGTH fault bytes is.0.0 is.0.1 waits
 
 whole_faulty : (bytes message rest : List ℕ) (fault : FrameFault) → IsFront bytes (Whole message rest) → IsFront bytes (Faulty fault) → ⊥
 whole_faulty bytes message rest fault is wrong =
-    not_refused MESSAGE_LIMIT fault message rest is.0 is.1 (subst (λ (b : List ℕ). IsJudged MESSAGE_LIMIT fault b) is.2 wrong.0).1
+    not_refused MAXIMUM_LENGTH fault message rest is.0 is.1 (subst (λ (b : List ℕ). IsJudged MAXIMUM_LENGTH fault b) is.2 wrong.0).1
 
 pub fronts_are_one : FrontsAreOne
 fronts_are_one bytes Waits Waits is so = refl
@@ -73,7 +73,7 @@ fronts_are_one bytes (Whole message rest) (Whole other later) is so =
 fronts_are_one bytes (Whole message rest) (Faulty fault) is so = absurd (whole_faulty bytes message rest fault is so)
 fronts_are_one bytes (Faulty fault) Waits is so = absurd (faulty_waits bytes fault is so)
 fronts_are_one bytes (Faulty fault) (Whole message rest) is so = absurd (whole_faulty bytes message rest fault so is)
-fronts_are_one bytes (Faulty fault) (Faulty other) is so = ap (λ (f : FrameFault). Faulty f) (one_judgement MESSAGE_LIMIT bytes fault other is.0 so.0)
+fronts_are_one bytes (Faulty fault) (Faulty other) is so = ap (λ (f : FrameFault). Faulty f) (one_judgement MAXIMUM_LENGTH bytes fault other is.0 so.0)
 
 -- ## More bytes
 
@@ -91,4 +91,4 @@ pub fronts_stay : FrontsStay
 fronts_stay bytes piece Waits not_so is = absurd (not_so refl)
 fronts_stay bytes piece (Whole message rest) not_so is = (is.0, is.1, ap (λ (b : List ℕ). b ++ piece) is.2 ∙ append_assoc message rest piece)
 fronts_stay bytes piece (Faulty fault) not_so is =
-    ((omega (arith, is.0.0, length-append bytes piece), refused_more MESSAGE_LIMIT fault bytes piece is.0.0 is.0.1), is.1)
+    ((omega (arith, is.0.0, length-append bytes piece), refused_more MAXIMUM_LENGTH fault bytes piece is.0.0 is.0.1), is.1)

@@ -11,7 +11,7 @@ use Rattle.router_core.specs.OneThread.{keys_after, written_to}
 use Rattle.router_core.specs.Standing.{Standing}
 use Rattle.router_core.proofs.Asked.{answers_are_lawful}
 use Rattle.router_runs.specs.declared.fault.RunFault.{RunFault}
-use Rattle.router_runs.specs.declared.fault.RunFault.TheVariants.{KeyTaken, NoLogin, NoMemory}
+use Rattle.router_runs.specs.declared.fault.RunFault.TheVariants.{WrongKey, NoLogin, NoMemory}
 use Rattle.router.specs.OneEvent.{rest_in}
 use Rattle.router_runs.specs.Turns.{AreServedBy, keys_of, written_by}
 use Rattle.router_runs.specs.Runs.{IsFaultOf, IsRunOf, IsStopped, LacksKey, LacksLogin, happening, occasions_of}
@@ -140,7 +140,7 @@ module _ {G : Type 0} (passes : G → GatedCall → G → Type 0) where
   -- why an event is not served is why the run ends
   pub course_faults : (before now : State G) (events : List (Event (Unit {0}))) (index : ℕ) (event : Event (Unit {0})) (sent : Output) (fault : RunFault) →
       IsCourse passes before (take index events) now sent → slice_get events index ≡ Some event → IsRefused now index event fault → IsFaultOf (rest_in before) events fault
-  course_faults before now events index event sent (KeyTaken at) c reached refused =
+  course_faults before now events index event sent (WrongKey at) c reached refused =
       subst (λ (n : ℕ). IsStopped LacksKey (rest_in before) events n) (sym refused.0) (course_stops LacksKey before now events index event sent c reached refused.1)
   course_faults before now events index event sent (NoLogin at) c reached refused =
       subst (λ (n : ℕ). IsStopped LacksLogin (rest_in before) events n) (sym refused.0) (course_stops LacksLogin before now events index event sent c reached refused.1)

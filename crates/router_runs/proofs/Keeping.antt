@@ -8,7 +8,7 @@ use Rattle.seq_bus_core.specs.declared.query.Query.{Query}
 use Rattle.seq_bus_core.specs.declared.verdict.Verdict.{Verdict}
 use Rattle.bus_view.specs.Views.{Knowledge, IsRead}
 use Rattle.router_core.specs.Acts.{Exchange, Changed, Asked, Routed, Looked, Noted, Fronted, Called, Gated, Wanted, IsLawful}
-use Rattle.router_core.specs.Answers.{Heard, Says, Refuses, HearsChange, HearsAnswer, HearsVerdict, HearsPresent}
+use Rattle.router_core.specs.Answers.{Heard, Says, Refuses, NoMemory, Lost, HearsChange, HearsAnswer, HearsVerdict, HearsPresent}
 use Rattle.router_core.specs.Events.{Occasion}
 use Rattle.router_core.specs.OneThread.{Rest}
 use Rattle.router_runs.specs.Turns.{AreServedBy, Turn}
@@ -32,7 +32,8 @@ change alone c (Refuses r) k m h = same k m h.0
 
 answer : (alone : Bool) (query : Query) (heard : Heard (Option Answer)) (k m : Knowledge) → HearsAnswer alone query k heard m → Stays k m
 answer alone query (Says told) k m h = read alone k m h.0
-answer alone query (Refuses r) k m h = record { registry = ap (λ (n : Knowledge). n.registry) h.0.kept; seat = ap (λ (n : Knowledge). n.seat) h.0.kept }
+answer alone query (Refuses NoMemory) k m h = read alone k m h
+answer alone query (Refuses Lost) k m h = same k m h.0
 
 verdict : (alone : Bool) (from : ℕ) (facts : Facts) (heard : Heard Verdict) (k m : Knowledge) → HearsVerdict alone from facts k heard m → Stays k m
 verdict alone from facts (Says v) k m h = read alone k m h.0

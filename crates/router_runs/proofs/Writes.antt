@@ -3,8 +3,8 @@ use Rattle.std.proofs.Common.{◌≡◌, ℕ, List, [], ◌∷◌, ◌++◌, ref
 use mathlib.Core.List.{append-nil}
 use Rattle.seq_bus_core.specs.declared.connection.Conn.{Conn}
 use Rattle.seq_bus_core.specs.declared.signal.AddressedSignal.{AddressedSignal}
-use Rattle.message_relay.specs.MessageBytes.{message_bytes}
-use Rattle.envelopes.specs.Contents.{Said, Tells, Signals}
+use Rattle.message.specs.MessageBytes.{message_bytes}
+use Rattle.outbox_core.specs.Contents.{Said, Tells, Signals}
 use Rattle.router_core.specs.declared.action.Action.{Action}
 use Rattle.router_core.specs.declared.action.Action.TheVariants.{Write, Put, Announce, Close, Run}
 use Rattle.router_core.specs.Deeds.{Deed, Writes, Sends, Puts, Closes, Runs, all_of, put_to, announced, IsWriting, AreDeedsOf, AreDoneBy}

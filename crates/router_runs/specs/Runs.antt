@@ -3,7 +3,7 @@ use Rattle.std.specs.Prelude.{◌≡◌, ℕ, true, Some, List, [], length, map,
 use Rattle.std.specs.List.{range_with_len}
 use Rattle.sasl.specs.Settings.{Login}
 use Rattle.seq_bus.specs.PlainBus.{PlainBus}
-use Rattle.bus_view.specs.PlainViews.{knowledge_of}
+use Rattle.seq_bus.specs.PlainViews.{knowledge_of}
 use Rattle.router_core.specs.declared.event.Event.{Event}
 use Rattle.router_core.specs.declared.event.Event.TheVariants as event
 use Rattle.router_core.specs.Acts.{gated_in}
@@ -12,7 +12,7 @@ use Rattle.router_core.specs.Events.{Occasion, CanBeAsked, IsFree, occasion_of}
 use Rattle.router_core.specs.OneThread.{Rest}
 use Rattle.router_core.specs.Standing.{Standing, fresh}
 use Rattle.router_runs.specs.declared.fault.RunFault.{RunFault}
-use Rattle.router_runs.specs.declared.fault.RunFault.TheVariants.{KeyTaken, NoLogin, NoMemory}
+use Rattle.router_runs.specs.declared.fault.RunFault.TheVariants.{WrongKey, NoLogin, NoMemory}
 use Rattle.router_runs.specs.Turns.{AreServedBy, Turn, asked_in, keys_of, written_by}
 
 -- no connection, over a plain bus
@@ -60,6 +60,6 @@ pub record IsStopped (lacks : Standing → Event (Unit {0}) → Type 0) (before 
 
 -- why a run ends before its events do
 abbrev pub IsFaultOf : Rest → List (Event (Unit {0})) → RunFault → Type 0
-IsFaultOf before events (KeyTaken index) = IsStopped LacksKey before events index
+IsFaultOf before events (WrongKey index) = IsStopped LacksKey before events index
 IsFaultOf before events (NoLogin index) = IsStopped LacksLogin before events index
 IsFaultOf before events NoMemory = Unit {0}

@@ -7,8 +7,8 @@ use thiserror::Error;
 #[derive(Clone, Copy, Debug, PartialEq, Eq, Error)]
 pub enum RunFault {
     /// A connection comes at the event of this index, and its key is not the least that none has.
-    #[error("event {0}: the key is not free")]
-    KeyTaken(usize),
+    #[error("event {0}: the key is not the least that is free")]
+    WrongKey(usize),
     /// A connection that is to say who it is comes at the event of this index, and no one may log in.
     #[error("event {0}: no one may log in")]
     NoLogin(usize),

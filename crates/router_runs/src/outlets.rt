@@ -39,7 +39,11 @@ impl Model for Outlets {
 
     ghost Value = { Output };
 
-    ghost view = { λ o. record { keys = reverse (map (λ outlet. outlet.key) o.outlets.items); written = map (λ outlet. outlet.bytes.items) o.outlets.items } };
+    ghost view = { λ o. record {
+      keys = reverse (map (λ outlet. outlet.key) o.outlets.items);
+      written = map
+          (λ outlet. outlet.bytes.items) o.outlets.items;
+    } };
 }
 
 impl Outlets {
@@ -82,7 +86,9 @@ impl Outlets {
 
     /// Bytes go to the connection that has the key.
     fn write(&mut self, key: usize, bytes: &[u8]) -> Result<(), AllocError>
-        ensures { OnOk result (Adds self.old (λ opening. bytes_if opening (opening_in key self.old.keys) bytes.now) self.new) }
+        ensures { OnOk result
+            (Adds self.old (λ opening. bytes_if opening (opening_in key self.old.keys) bytes.now)
+            self.new) }
     {
         let opening = self.opening_of(key);
         if opening == 0 {
@@ -93,7 +99,8 @@ impl Outlets {
 
     /// What an action writes.
     fn take(&mut self, action: &Action<()>) -> Result<(), AllocError>
-        ensures { OnOk result (Adds self.old (λ opening. bytes_by opening self.old.keys action.now) self.new) }
+        ensures { OnOk result
+            (Adds self.old (λ opening. bytes_by opening self.old.keys action.now) self.new) }
     {
         match action {
             Action::Write { key, bytes } => self.write(*key, bytes.as_slice()),
@@ -103,7 +110,8 @@ impl Outlets {
 
     /// What actions write, in order.
     pub(crate) fn take_all(&mut self, actions: &[Action<()>]) -> Result<(), AllocError>
-        ensures { OnOk result (Adds self.old (λ opening. bytes_by_all opening self.old.keys actions.now) self.new) }
+        ensures { OnOk result
+            (Adds self.old (λ opening. bytes_by_all opening self.old.keys actions.now) self.new) }
     {
         for action in actions {
             self.take(action)?;

@@ -1,7 +1,7 @@
 //! The run of a list of events.
 
 ghost use Rattle.std.specs.Prelude.{◌≡◌, map, OnOk, IfOk, IfErr};
-ghost use Rattle.bus_view.specs.PlainViews.{knowledge_of};
+ghost use Rattle.seq_bus.specs.PlainViews.{knowledge_of};
 ghost use Rattle.router_core.specs.Events.{CanHappen};
 ghost use Rattle.router_core.specs.Standing.{fresh};
 ghost use Rattle.router_runs.specs.Outputs.{IsRefused, IsTurn, no_output};
@@ -29,7 +29,12 @@ impl<G: Gate + Drop> Session<G> {
         gate: G,
         login: Option<Login>,
     ) -> Result<Session<G>, AllocError>
-        ensures engine { IfOk result (λ session. session.engine ≡ record { standing = fresh login; view = knowledge_of bus; gate = gate }) }
+        ensures engine { IfOk result
+            (λ session. session.engine ≡ record {
+              standing = fresh login;
+              view = knowledge_of bus;
+              gate = gate;
+            }) }
         ensures outlets { IfOk result (λ session. session.outlets ≡ no_output) }
     {
         Ok(Session {
@@ -42,14 +47,15 @@ impl<G: Gate + Drop> Session<G> {
     /// where someone may log in.
     fn admit(&self, index: usize, event: &Event<()>) -> Result<(), RunFault>
         requires { self.now.engine.view.registry ≡ 0 }
-        ensures happens { OnOk result (CanHappen (λ _. 0) self.now.engine.view.registry self.now.engine.standing event.now) }
+        ensures happens { OnOk result
+            (CanHappen (λ _. 0) self.now.engine.view.registry self.now.engine.standing event.now) }
         ensures fault { IfErr result (λ fault. IsRefused self.now.engine index event.now fault) }
     {
         let Event::Opened { key, challenge } = event else {
             return Ok(());
         };
         if !self.engine.is_free(*key) {
-            return Err(RunFault::KeyTaken(index));
+            return Err(RunFault::WrongKey(index));
         }
         if challenge.is_some() && !self.engine.has_login() {
             return Err(RunFault::NoLogin(index));
@@ -60,7 +66,9 @@ impl<G: Gate + Drop> Session<G> {
     /// Serves the event of this index.
     fn serve(&mut self, index: usize, event: Event<()>) -> Result<(), RunFault>
         requires { self.old.engine.view.registry ≡ 0 }
-        ensures turn { OnOk result (IsTurn G.passes self.old.engine self.old.outlets event self.new.engine self.new.outlets) }
+        ensures turn { OnOk result
+            (IsTurn G.passes self.old.engine self.old.outlets event self.new.engine
+            self.new.outlets) }
         ensures fault { IfErr result (λ fault. IsRefused self.old.engine index event fault) }
     {
         self.admit(index, &event)?;
@@ -75,8 +83,8 @@ impl<G: Gate + Drop> Session<G> {
 /// Serves events in order over a plain bus, from no connection on, and gives the bytes that go to each connection, the
 /// first that came first. Connections that come with a challenge say who they are, by the login.
 ///
-/// What goes to them is what the actions of the events write. It ends early where a connection comes whose key is not free,
-/// or that is to say who it is where no one may log in; and without memory.
+/// What goes to them is what the actions of the events write. It ends early where a connection comes whose key is not the
+/// least that none has, or that is to say who it is where no one may log in; and without memory.
 pub fn run<G: Gate + Drop>(
     alloc: Global,
     bus: SeqBus,
@@ -84,7 +92,9 @@ pub fn run<G: Gate + Drop>(
     login: Option<Login>,
     events: Vec<Event<()>>,
 ) -> Result<Vec<Vec<u8>>, RunFault>
-    ensures run { IfOk result (λ all. IsRunOf G.passes gate (fresh_over login bus) (occasions_of events.items) (map (λ bytes. bytes.items) all.items)) }
+    ensures run { IfOk result
+        (λ all. IsRunOf G.passes gate (fresh_over login bus) (occasions_of events.items)
+        (map (λ bytes. bytes.items) all.items)) }
     ensures fault { IfErr result (λ fault. IsFaultOf (fresh_over login bus) events.items fault) }
 {
     let mut session = Session::new(alloc, bus, gate, login)?;

@@ -11,17 +11,16 @@ use Rattle.seq_bus_core.specs.declared.outcome.Reply.{Reply}
 use Rattle.seq_bus_core.specs.declared.outcome.Reply.TheVariants as reply
 use Rattle.seq_bus_core.specs.declared.query.Query.{Query}
 use Rattle.seq_bus_core.specs.declared.ticket.SettledTicket.{SettledTicket}
-use Rattle.seq_bus.specs.declared.answer.Asked.{Asked}
-use Rattle.seq_bus.specs.declared.answer.Asked.TheVariants.{Body, NameHasNoOwner}
-use Rattle.seq_bus.specs.declared.answer.AskFault.{AskFault}
+use Rattle.bus_view.specs.declared.answer.Asked.{Asked}
+use Rattle.bus_view.specs.declared.answer.Asked.TheVariants.{Body, NameHasNoOwner}
+use Rattle.bus_view.specs.declared.answer.AskFault.{AskFault}
 use Rattle.message_core.specs.Messages.{Message}
 use Rattle.driver.specs.declared.call.Call.{Call}
 use Rattle.driver.specs.declared.fault.DriverFault.{DriverFault}
 use Rattle.driver.specs.Calls.{Reading, error_of, IsCallOrWants}
 use Rattle.bus_view.specs.Views.{bus_seen}
-use Rattle.envelopes.specs.Answers.{Carries, kind_of}
-use Rattle.envelopes.specs.Contents.{Carried}
-use Rattle.envelopes.specs.declared.answer.BodyKind.{BodyKind}
+use Rattle.outbox_core.specs.Answers.{IsAnswerTo}
+use Rattle.outbox_core.specs.Contents.{Carried}
 use Rattle.router_core.specs.declared.cause.CloseCause.{CloseCause}
 use Rattle.router_core.specs.Answers.{Heard, Says, Refuses, error_for, unanswered_for}
 use Rattle.router_core.specs.Deeds.{GatedCall}
@@ -50,13 +49,13 @@ module _ {N G : Type 0} (told : N → History) (registry_of : N → ℕ) (passes
     made_still o other w v there comes = stays (tell_change m caller o) w v comes
 
     module _ (query : Query) (r : Result Asked AskFault) (bytes : List ℕ) (w n v : World N G) (asks : (heard : Heard (Option Answer)) × Asks alone query w heard n × IsTold r heard bytes) where
-      pub asked_body : (kind : BodyKind) → r ≡ Ok Body → ((state : BusState) (a : Answer) → answer state query ≡ Some a → kind ≡ kind_of a) →
-          ((a : Answer) → Carries (record { kind = kind; bytes = bytes }) a → Comes told registry_of passes alone (answered m caller (Says (Some a))) n tt v) →
+      pub asked_body : r ≡ Ok Body →
+          ((a : Answer) → IsAnswerTo query bytes a → Comes told registry_of passes alone (answered m caller (Says (Some a))) n tt v) →
           Comes told registry_of passes alone (Asking query (λ heard. and_stays (answered m caller heard))) w None v
-      asked_body kind is kinds comes =
+      asked_body is comes =
           let so : IsTold (Ok Body) asks.0 bytes = subst (λ (x : Result Asked AskFault). IsTold x asks.0 bytes) is asks.2 in
           let says : Asks alone query w (Says (Some so.0)) n = subst (λ (h : Heard (Option Answer)). Asks alone query w h n) so.1 asks.1 in
-          let carries : Carries (record { kind = kind; bytes = bytes }) so.0 = record { kind = kinds (bus_seen n.view).state so.0 (sym says.hears.1); spelled = so.2 } in
+          let carries : IsAnswerTo query bytes so.0 = record { state = (bus_seen n.view).state; told_so = sym says.hears.1; is_body = so.2 } in
           (Says (Some so.0), n, says, stays (answered m caller (Says (Some so.0))) n v (comes so.0 carries))
 
       pub asked_none : (fate : Option CloseCause) → r ≡ Ok NameHasNoOwner → Comes told registry_of passes alone (and_stays (err_with m caller error.NameHasNoOwner)) n fate v →

@@ -3,26 +3,25 @@
 ghost use Rattle.std.specs.Prelude.{◌≡◌, ◌<◌, ◌≤◌, ◌+◌, [], Ok, Some, IfOk};
 ghost use Rattle.message_core.specs.Said.{said};
 ghost use Rattle.seq_bus_core.specs.Answers.{Answer};
-ghost use Rattle.seq_bus.specs.Served.{IsServedChange};
+ghost use Rattle.seq_bus_core.specs.Served.{IsServedChange};
 ghost use Rattle.driver.specs.declared.call.Call.TheVariants.{RequestName, ReleaseName, AddMatch, RemoveMatch};
-ghost use Rattle.envelopes.specs.Answers.{Carries};
+ghost use Rattle.outbox_core.specs.Answers.{IsAnswerTo};
 ghost use Rattle.router_core.specs.Answers.{Says, error_for as error_for_refusal, refusal_of, unanswered_for};
 ghost use Rattle.router_core.specs.Scripts.{Comes};
 ghost use Rattle.router_core.specs.Serving.{Asks, Makes, and_stays, answered, answer_told as answer_told_in, err_with as erring, made as made_in, request_of as request_in, serve_bus as serving_bus, serve_call as serving_call, serve_reading as serving_reading, serve_request as serving_request, tell_change as telling_change};
 ghost use Rattle.router_hands.specs.Carrying.{answer_of};
 ghost use Rattle.router_hands.specs.Hearing.{heard_change};
 
-use bus_view::{BusView, Cause};
+use bus_view::{AskFault, Asked, BusView, Cause};
 use driver::{Call, DriverFault, read_call};
-use envelopes::{AnswerBody, BodyKind, ReplyContent, SharedBytes};
 use match_rules::Rule;
 use message_core::Message;
 use names::BusName;
+use outbox_core::{AnswerBody, ReplyContent};
 use owner_queues::RequestFlags;
 use router_core::{CloseCause, Gate};
 use router_hands::{Hands, is_method_call};
-use seq_bus::{AskFault, Asked};
-use seq_bus_core::{Change, Conn, ErrorKind, Outcome, Query, Reply};
+use seq_bus_core::{Change, Conn, ErrorKind, Outcome, Query, Reply, SharedBytes};
 use std::alloc::Global;
 use std::sync::Arc;
 
@@ -76,8 +75,10 @@ fn refuse<V: BusView, G: Gate>(
     caller: Conn,
     error: ErrorKind,
 ) -> Option<CloseCause>
-    requires { 0 < hands.old.room }
-    ensures comes { Comes V.told V.registry_of G.passes V.alone (and_stays (erring (said call.now) caller error)) hands.old.world result hands.new.world }
+    requires room { 0 < hands.old.room }
+    requires crowds { 0 < hands.old.crowds }
+    ensures comes { Comes V.told V.registry_of G.passes V.alone
+        (and_stays (erring (said call.now) caller error)) hands.old.world result hands.new.world }
     ensures room { hands.old.room ≤ hands.new.room + 1 }
 {
     hands.err_with(call, caller, error);
@@ -92,8 +93,10 @@ fn tell_change<V: BusView, G: Gate>(
     outcome: Outcome,
 )
     requires room { 1 < hands.old.room }
+    requires crowds { 0 < hands.old.crowds }
     requires settled { outcome.tickets ≡ [] }
-    ensures comes { Comes V.told V.registry_of G.passes V.alone (telling_change (said call.now) caller outcome) hands.old.world tt hands.new.world }
+    ensures comes { Comes V.told V.registry_of G.passes V.alone
+        (telling_change (said call.now) caller outcome) hands.old.world tt hands.new.world }
     ensures room { hands.old.room ≤ hands.new.room + 2 }
 {
     hands.announce(outcome.signals);
@@ -108,8 +111,10 @@ fn made_by<V: BusView, G: Gate>(
     outcome: Outcome,
 ) -> Option<CloseCause>
     requires room { 1 < hands.old.room }
+    requires crowds { 0 < hands.old.crowds }
     requires settled { outcome.tickets ≡ [] }
-    ensures comes { Comes V.told V.registry_of G.passes V.alone (made_in (said call.now) caller (Says outcome)) hands.old.world result hands.new.world }
+    ensures comes { Comes V.told V.registry_of G.passes V.alone
+        (made_in (said call.now) caller (Says outcome)) hands.old.world result hands.new.world }
     ensures room { hands.old.room ≤ hands.new.room + 2 }
 {
     match outcome.reply {
@@ -129,8 +134,11 @@ fn made<V: BusView, G: Gate>(
     told: Result<Outcome, Cause>,
 ) -> Option<CloseCause>
     requires room { 1 < hands.old.room }
+    requires crowds { 0 < hands.old.crowds }
     requires settled { IfOk told (λ outcome. outcome.tickets ≡ []) }
-    ensures comes { Comes V.told V.registry_of G.passes V.alone (made_in (said call.now) caller (heard_change told)) hands.old.world result hands.new.world }
+    ensures comes { Comes V.told V.registry_of G.passes V.alone
+        (made_in (said call.now) caller (heard_change told)) hands.old.world result
+        hands.new.world }
     ensures room { hands.old.room ≤ hands.new.room + 2 }
 {
     match told {
@@ -145,17 +153,20 @@ fn reply_body<V: BusView, G: Gate>(
     hands: &mut Hands<V, G>,
     call: &Message,
     caller: Conn,
-    kind: BodyKind,
+    query: &Query,
     body: Vec<u8>,
 )
     requires room { 0 < hands.old.room }
-    requires carried { (told : Answer) × Carries (record { kind = kind; bytes = body.items }) told }
-    ensures comes { (told : Answer) → Carries (record { kind = kind; bytes = body.items }) told → Comes V.told V.registry_of G.passes V.alone (answered (said call.now) caller (Says (Some told))) hands.old.world tt hands.new.world }
+    requires crowds { 0 < hands.old.crowds }
+    requires answered { (told : Answer) × IsAnswerTo query.now body.items told }
+    ensures comes { (told : Answer) → IsAnswerTo query.now body.items told →
+        Comes V.told V.registry_of G.passes V.alone
+        (answered (said call.now) caller (Says (Some told))) hands.old.world tt hands.new.world }
     ensures room { hands.old.room ≤ hands.new.room + 1 }
 {
     match Arc::new(alloc, body) {
         Ok(bytes) => {
-            let answer = AnswerBody::new(kind, SharedBytes::new(bytes));
+            let answer = AnswerBody::new(query, SharedBytes::new(bytes));
             hands.reply_with(call, caller, ReplyContent::Answer(answer));
         }
         Err(_) => hands.err_with(call, caller, ErrorKind::NoMemory),
@@ -171,14 +182,17 @@ fn answer_query<V: BusView, G: Gate>(
     caller: Conn,
     query: &Query,
 ) -> Option<CloseCause>
-    requires { 0 < hands.old.room }
-    ensures comes { Comes V.told V.registry_of G.passes V.alone (serving_request (said call.now) caller (Ok (Asks query.now))) hands.old.world result hands.new.world }
+    requires room { 0 < hands.old.room }
+    requires crowds { 0 < hands.old.crowds }
+    ensures comes { Comes V.told V.registry_of G.passes V.alone
+        (serving_request (said call.now) caller (Ok (Asks query.now))) hands.old.world result
+        hands.new.world }
     ensures room { hands.old.room ≤ hands.new.room + 1 }
 {
     let mut body = Vec::new(alloc);
     match hands.ask(query, &mut body) {
         Ok(Asked::Body) => {
-            reply_body(alloc, hands, call, caller, BodyKind::of(query), body);
+            reply_body(alloc, hands, call, caller, query, body);
             None
         }
         Ok(Asked::NameHasNoOwner) => refuse(hands, call, caller, ErrorKind::NameHasNoOwner),
@@ -195,8 +209,11 @@ fn make<V: BusView, G: Gate>(
     change: Change,
 ) -> Option<CloseCause>
     requires room { 1 < hands.old.room }
+    requires crowds { 0 < hands.old.crowds }
     requires served { IsServedChange change }
-    ensures comes { Comes V.told V.registry_of G.passes V.alone (serving_request (said call.now) caller (Ok (Makes change))) hands.old.world result hands.new.world }
+    ensures comes { Comes V.told V.registry_of G.passes V.alone
+        (serving_request (said call.now) caller (Ok (Makes change))) hands.old.world result
+        hands.new.world }
     ensures room { hands.old.room ≤ hands.new.room + 2 }
 {
     let told = hands.change(right, change);
@@ -215,8 +232,12 @@ fn request_name<V: BusView, G: Gate>(
     name: &BusName,
     flags: RequestFlags,
 ) -> Option<CloseCause>
-    requires { 1 < hands.old.room }
-    ensures comes { Comes V.told V.registry_of G.passes V.alone (serving_request (said call.now) caller (request_in caller.number (RequestName name.now flags))) hands.old.world result hands.new.world }
+    requires room { 1 < hands.old.room }
+    requires crowds { 0 < hands.old.crowds }
+    ensures comes { Comes V.told V.registry_of G.passes V.alone
+        (serving_request (said call.now) caller
+        (request_in caller.number (RequestName name.now flags))) hands.old.world result
+        hands.new.world }
     ensures room { hands.old.room ≤ hands.new.room + 2 }
 {
     let change = Change::Request {
@@ -235,8 +256,11 @@ fn release_name<V: BusView, G: Gate>(
     caller: Conn,
     name: &BusName,
 ) -> Option<CloseCause>
-    requires { 1 < hands.old.room }
-    ensures comes { Comes V.told V.registry_of G.passes V.alone (serving_request (said call.now) caller (request_in caller.number (ReleaseName name.now))) hands.old.world result hands.new.world }
+    requires room { 1 < hands.old.room }
+    requires crowds { 0 < hands.old.crowds }
+    ensures comes { Comes V.told V.registry_of G.passes V.alone
+        (serving_request (said call.now) caller (request_in caller.number (ReleaseName name.now)))
+        hands.old.world result hands.new.world }
     ensures room { hands.old.room ≤ hands.new.room + 2 }
 {
     let change = Change::Release {
@@ -254,8 +278,11 @@ fn add_match<V: BusView, G: Gate>(
     caller: Conn,
     rule: &Rule,
 ) -> Option<CloseCause>
-    requires { 1 < hands.old.room }
-    ensures comes { Comes V.told V.registry_of G.passes V.alone (serving_request (said call.now) caller (request_in caller.number (AddMatch rule.now))) hands.old.world result hands.new.world }
+    requires room { 1 < hands.old.room }
+    requires crowds { 0 < hands.old.crowds }
+    ensures comes { Comes V.told V.registry_of G.passes V.alone
+        (serving_request (said call.now) caller (request_in caller.number (AddMatch rule.now)))
+        hands.old.world result hands.new.world }
     ensures room { hands.old.room ≤ hands.new.room + 2 }
 {
     let change = Change::AddMatch {
@@ -273,8 +300,11 @@ fn remove_match<V: BusView, G: Gate>(
     caller: Conn,
     rule: &Rule,
 ) -> Option<CloseCause>
-    requires { 1 < hands.old.room }
-    ensures comes { Comes V.told V.registry_of G.passes V.alone (serving_request (said call.now) caller (request_in caller.number (RemoveMatch rule.now))) hands.old.world result hands.new.world }
+    requires room { 1 < hands.old.room }
+    requires crowds { 0 < hands.old.crowds }
+    ensures comes { Comes V.told V.registry_of G.passes V.alone
+        (serving_request (said call.now) caller (request_in caller.number (RemoveMatch rule.now)))
+        hands.old.world result hands.new.world }
     ensures room { hands.old.room ≤ hands.new.room + 2 }
 {
     let change = Change::RemoveMatch {
@@ -293,8 +323,11 @@ fn serve_request<V: BusView, G: Gate>(
     caller: Conn,
     call: &Call,
 ) -> Option<CloseCause>
-    requires { 1 < hands.old.room }
-    ensures comes { Comes V.told V.registry_of G.passes V.alone (serving_request (said message.now) caller (request_in caller.number call.now)) hands.old.world result hands.new.world }
+    requires room { 1 < hands.old.room }
+    requires crowds { 0 < hands.old.crowds }
+    ensures comes { Comes V.told V.registry_of G.passes V.alone
+        (serving_request (said message.now) caller (request_in caller.number call.now))
+        hands.old.world result hands.new.world }
     ensures room { hands.old.room ≤ hands.new.room + 2 }
 {
     match call {
@@ -342,8 +375,11 @@ fn serve_reading<V: BusView, G: Gate>(
     caller: Conn,
     reading: &Result<Call, DriverFault>,
 ) -> Option<CloseCause>
-    requires { 1 < hands.old.room }
-    ensures comes { Comes V.told V.registry_of G.passes V.alone (serving_reading (said message.now) caller reading.now) hands.old.world result hands.new.world }
+    requires room { 1 < hands.old.room }
+    requires crowds { 0 < hands.old.crowds }
+    ensures comes { Comes V.told V.registry_of G.passes V.alone
+        (serving_reading (said message.now) caller reading.now) hands.old.world result
+        hands.new.world }
     ensures room { hands.old.room ≤ hands.new.room + 2 }
 {
     match reading {
@@ -363,8 +399,10 @@ fn serve_call<V: BusView, G: Gate>(
     message: &Message,
     caller: Conn,
 ) -> Option<CloseCause>
-    requires { 1 < hands.old.room }
-    ensures comes { Comes V.told V.registry_of G.passes V.alone (serving_call (said message.now) caller) hands.old.world result hands.new.world }
+    requires room { 1 < hands.old.room }
+    requires crowds { 0 < hands.old.crowds }
+    ensures comes { Comes V.told V.registry_of G.passes V.alone
+        (serving_call (said message.now) caller) hands.old.world result hands.new.world }
     ensures room { hands.old.room ≤ hands.new.room + 2 }
 {
     let reading = read_call(alloc, message);
@@ -381,8 +419,10 @@ pub fn serve_bus<V: BusView, G: Gate>(
     message: &Message,
     sender: Conn,
 ) -> Option<CloseCause>
-    requires { 1 < hands.old.room }
-    ensures comes { Comes V.told V.registry_of G.passes V.alone (serving_bus (said message.now) sender) hands.old.world result hands.new.world }
+    requires room { 1 < hands.old.room }
+    requires crowds { 0 < hands.old.crowds }
+    ensures comes { Comes V.told V.registry_of G.passes V.alone
+        (serving_bus (said message.now) sender) hands.old.world result hands.new.world }
     ensures room { hands.old.room ≤ hands.new.room + 2 }
 {
     if is_method_call(message) {

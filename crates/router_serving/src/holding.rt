@@ -20,8 +20,11 @@ pub(crate) fn hold<V: BusView, G: Gate>(
     message: &Message,
     sender: Conn,
 ) -> Option<CloseCause>
-    requires { 0 < hands.old.room }
-    ensures comes { Comes V.told V.registry_of G.passes V.alone (holding (said message.now) sender (text_field Destination (said message.now).fields)) hands.old.world result hands.new.world }
+    requires room { 0 < hands.old.room }
+    requires crowds { 0 < hands.old.crowds }
+    ensures comes { Comes V.told V.registry_of G.passes V.alone
+        (holding (said message.now) sender (text_field Destination (said message.now).fields))
+        hands.old.world result hands.new.world }
     ensures room { hands.old.room ≤ hands.new.room + 1 }
 {
     match message.destination() {

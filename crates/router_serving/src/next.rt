@@ -24,8 +24,11 @@ fn serve_next<V: BusView, G: Gate>(
     conn: Conn,
 ) -> Result<(), AllocError>
     requires room { 3 < hands.old.room }
+    requires crowds { 1 < hands.old.crowds }
     requires named { peer.old.stage ≡ Named conn }
-    ensures comes { OnOk result ((s : Standing) → peer_at s key ≡ Some peer.old → Comes V.told V.registry_of G.passes V.alone (next_at s key peer.old (Named conn)) hands.old.world (with_peer s key (Some peer.new)) hands.new.world) }
+    ensures comes { OnOk result ((s : Standing) → peer_at s key ≡ Some peer.old →
+        Comes V.told V.registry_of G.passes V.alone (next_at s key peer.old (Named conn))
+        hands.old.world (with_peer s key (Some peer.new)) hands.new.world) }
     ensures err { OnErr result (peer.new ≡ peer.old) }
     ensures world { OnErr result (hands.new.world ≡ hands.old.world) }
 {
@@ -50,8 +53,13 @@ pub fn next_in<V: BusView, G: Gate>(
     slot: &mut Option<Peer>,
 ) -> Result<Option<Greeting>, AllocError>
     requires room { 3 < hands.old.room }
-    ensures next { IfOk result (λ greeting. ComesOfNext V.told V.registry_of G.passes V.alone key greeting slot.old slot.new hands.old.world hands.new.world) }
-    ensures kept { IfOk result (λ greeting. IfSome greeting (λ _. hands.new.room ≡ hands.old.room)) }
+    requires crowds { 1 < hands.old.crowds }
+    ensures next { IfOk result
+        (λ greeting. ComesOfNext V.told V.registry_of G.passes V.alone key greeting slot.old
+        slot.new hands.old.world hands.new.world) }
+    ensures kept { IfOk result
+        (λ greeting. IfSome greeting (λ _. (hands.new.room ≡ hands.old.room) ×
+        (hands.new.crowds ≡ hands.old.crowds))) }
     ensures err { OnErr result (slot.new ≡ slot.old) }
     ensures world { OnErr result (hands.new.world ≡ hands.old.world) }
 {

@@ -13,11 +13,11 @@ use crate::holding::hold;
 use arrayvec::ArrayVec;
 use bus_view::{BusView, Gone};
 use match_rules::{Facts, MessageKind};
+use message::{RelayFault, put_arguments};
 use message_core::{Message, NO_AUTO_START};
-use message_relay::{RelayFault, put_arguments};
 use router_core::{CloseCause, Gate};
 use router_hands::Hands;
-use seq_bus_core::{Conn, ErrorKind, VerdictKind};
+use seq_bus_core::{Conn, ErrorKind, Verdict, VerdictKind};
 use std::alloc::Global;
 
 /// Answers a call with an error. The connection stays open.
@@ -27,8 +27,11 @@ fn err_and_stay<V: BusView, G: Gate>(
     sender: Conn,
     error: ErrorKind,
 ) -> Option<CloseCause>
-    requires { 0 < hands.old.room }
-    ensures comes { Comes V.told V.registry_of G.passes V.alone (and_stays (err_if_call (said message.now) sender error)) hands.old.world result hands.new.world }
+    requires room { 0 < hands.old.room }
+    requires crowds { 0 < hands.old.crowds }
+    ensures comes { Comes V.told V.registry_of G.passes V.alone
+        (and_stays (err_if_call (said message.now) sender error)) hands.old.world result
+        hands.new.world }
     ensures room { hands.old.room ≤ hands.new.room + 1 }
 {
     hands.err_if_call(message, sender, error);
@@ -42,8 +45,10 @@ fn not_put<V: BusView, G: Gate>(
     sender: Conn,
     fault: RelayFault,
 ) -> Option<CloseCause>
-    requires { 0 < hands.old.room }
-    ensures comes { Comes V.told V.registry_of G.passes V.alone (unput fault (said message.now) sender) hands.old.world result hands.new.world }
+    requires room { 0 < hands.old.room }
+    requires crowds { 0 < hands.old.crowds }
+    ensures comes { Comes V.told V.registry_of G.passes V.alone
+        (unput fault (said message.now) sender) hands.old.world result hands.new.world }
     ensures room { hands.old.room ≤ hands.new.room + 1 }
 {
     match fault {
@@ -57,13 +62,17 @@ fn relay_plainly<V: BusView, G: Gate>(
     hands: &mut Hands<V, G>,
     message: &Message,
     sender: Conn,
+    verdict: Box<Verdict>,
 ) -> Option<CloseCause>
     requires room { 1 < hands.old.room }
-    requires plain { hands.old.told.kind ≡ VerdictKind.Plain }
-    ensures comes { Comes V.told V.registry_of G.passes V.alone (relaying (said message.now) sender hands.old.told hands.old.told.kind) hands.old.world result hands.new.world }
+    requires crowds { 0 < hands.old.crowds }
+    requires plain { verdict.value.kind ≡ VerdictKind.Plain }
+    ensures comes { Comes V.told V.registry_of G.passes V.alone
+        (relaying (said message.now) sender verdict.value verdict.value.kind) hands.old.world result
+        hands.new.world }
     ensures room { hands.old.room ≤ hands.new.room + 2 }
 {
-    match hands.relay(message, sender) {
+    match hands.relay(message, sender, verdict) {
         Ok(()) => None,
         Err(fault) => not_put(hands, message, sender, fault),
     }
@@ -74,13 +83,17 @@ fn relay_to_nobody<V: BusView, G: Gate>(
     hands: &mut Hands<V, G>,
     message: &Message,
     sender: Conn,
+    verdict: Box<Verdict>,
 ) -> Option<CloseCause>
     requires room { 1 < hands.old.room }
-    requires nobody { hands.old.told.kind ≡ VerdictKind.Nobody }
-    ensures comes { Comes V.told V.registry_of G.passes V.alone (relaying (said message.now) sender hands.old.told hands.old.told.kind) hands.old.world result hands.new.world }
+    requires crowds { 0 < hands.old.crowds }
+    requires nobody { verdict.value.kind ≡ VerdictKind.Nobody }
+    ensures comes { Comes V.told V.registry_of G.passes V.alone
+        (relaying (said message.now) sender verdict.value verdict.value.kind) hands.old.world result
+        hands.new.world }
     ensures room { hands.old.room ≤ hands.new.room + 2 }
 {
-    match hands.relay_to_monitors(message, sender) {
+    match hands.relay_to_monitors(message, sender, verdict) {
         Ok(()) => err_and_stay(hands, message, sender, ErrorKind::ServiceUnknown),
         Err(fault) => not_put(hands, message, sender, fault),
     }
@@ -93,13 +106,17 @@ fn relay_to_bus<V: BusView, G: Gate>(
     right: &V::Right,
     message: &Message,
     sender: Conn,
+    verdict: Box<Verdict>,
 ) -> Option<CloseCause>
     requires room { 2 < hands.old.room }
-    requires bus { hands.old.told.kind ≡ VerdictKind.Bus }
-    ensures comes { Comes V.told V.registry_of G.passes V.alone (relaying (said message.now) sender hands.old.told hands.old.told.kind) hands.old.world result hands.new.world }
+    requires crowds { 0 < hands.old.crowds }
+    requires bus { verdict.value.kind ≡ VerdictKind.Bus }
+    ensures comes { Comes V.told V.registry_of G.passes V.alone
+        (relaying (said message.now) sender verdict.value verdict.value.kind) hands.old.world result
+        hands.new.world }
     ensures room { hands.old.room ≤ hands.new.room + 3 }
 {
-    match hands.show(message, sender) {
+    match hands.show(message, sender, verdict) {
         Ok(()) => serve_bus(alloc, hands, right, message, sender),
         Err(fault) => not_put(hands, message, sender, fault),
     }
@@ -110,13 +127,17 @@ fn relay_to_service<V: BusView, G: Gate>(
     hands: &mut Hands<V, G>,
     message: &Message,
     sender: Conn,
+    verdict: Box<Verdict>,
 ) -> Option<CloseCause>
     requires room { 1 < hands.old.room }
-    requires start { hands.old.told.kind ≡ VerdictKind.Start }
-    ensures comes { Comes V.told V.registry_of G.passes V.alone (relaying (said message.now) sender hands.old.told hands.old.told.kind) hands.old.world result hands.new.world }
+    requires crowds { 0 < hands.old.crowds }
+    requires start { verdict.value.kind ≡ VerdictKind.Start }
+    ensures comes { Comes V.told V.registry_of G.passes V.alone
+        (relaying (said message.now) sender verdict.value verdict.value.kind) hands.old.world result
+        hands.new.world }
     ensures room { hands.old.room ≤ hands.new.room + 2 }
 {
-    match hands.relay_to_monitors(message, sender) {
+    match hands.relay_to_monitors(message, sender, verdict) {
         Ok(()) => hold(hands, message, sender),
         Err(fault) => not_put(hands, message, sender, fault),
     }
@@ -129,17 +150,21 @@ fn relay<V: BusView, G: Gate>(
     right: &V::Right,
     message: &Message,
     sender: Conn,
+    verdict: Box<Verdict>,
 ) -> Option<CloseCause>
-    requires { 2 < hands.old.room }
-    ensures comes { Comes V.told V.registry_of G.passes V.alone (relaying (said message.now) sender hands.old.told hands.old.told.kind) hands.old.world result hands.new.world }
+    requires room { 2 < hands.old.room }
+    requires crowds { 0 < hands.old.crowds }
+    ensures comes { Comes V.told V.registry_of G.passes V.alone
+        (relaying (said message.now) sender verdict.value verdict.value.kind) hands.old.world result
+        hands.new.world }
     ensures room { hands.old.room ≤ hands.new.room + 3 }
 {
-    match hands.told_kind() {
+    match verdict.kind {
         VerdictKind::Absent => Some(CloseCause::Left),
-        VerdictKind::Bus => relay_to_bus(alloc, hands, right, message, sender),
-        VerdictKind::Plain => relay_plainly(hands, message, sender),
-        VerdictKind::Nobody => relay_to_nobody(hands, message, sender),
-        VerdictKind::Start => relay_to_service(hands, message, sender),
+        VerdictKind::Bus => relay_to_bus(alloc, hands, right, message, sender, verdict),
+        VerdictKind::Plain => relay_plainly(hands, message, sender, verdict),
+        VerdictKind::Nobody => relay_to_nobody(hands, message, sender, verdict),
+        VerdictKind::Start => relay_to_service(hands, message, sender, verdict),
     }
 }
 
@@ -150,14 +175,18 @@ fn routed<V: BusView, G: Gate>(
     right: &V::Right,
     message: &Message,
     sender: Conn,
+    verdict: Box<Verdict>,
     heard: Result<(), Gone>,
 ) -> Option<CloseCause>
-    requires { 2 < hands.old.room }
-    ensures comes { Comes V.told V.registry_of G.passes V.alone (routing (said message.now) sender (heard_verdict heard hands.old.told)) hands.old.world result hands.new.world }
+    requires room { 2 < hands.old.room }
+    requires crowds { 0 < hands.old.crowds }
+    ensures comes { Comes V.told V.registry_of G.passes V.alone
+        (routing (said message.now) sender (heard_verdict heard verdict.value)) hands.old.world
+        result hands.new.world }
     ensures room { hands.old.room ≤ hands.new.room + 3 }
 {
     match heard {
-        Ok(()) => relay(alloc, hands, right, message, sender),
+        Ok(()) => relay(alloc, hands, right, message, sender, verdict),
         Err(_) => err_and_stay(hands, message, sender, ErrorKind::Failed),
     }
 }
@@ -171,8 +200,10 @@ fn route_message<V: BusView, G: Gate>(
     sender: Conn,
 ) -> Option<CloseCause>
     requires room { 2 < hands.old.room }
+    requires crowds { 1 < hands.old.crowds }
     requires known { is_unknown (kind_of (said message.now).kind) ≡ false }
-    ensures comes { Comes V.told V.registry_of G.passes V.alone (serving (said message.now) sender) hands.old.world result hands.new.world }
+    ensures comes { Comes V.told V.registry_of G.passes V.alone (serving (said message.now) sender)
+        hands.old.world result hands.new.world }
     ensures room { hands.old.room ≤ hands.new.room + 3 }
 {
     // Made where they stay, and with the sender's number, as the bus takes them: they are too large to be copied.
@@ -187,8 +218,9 @@ fn route_message<V: BusView, G: Gate>(
         arguments: ArrayVec::new(),
     };
     put_arguments(message, &mut facts.arguments);
-    let heard = hands.route(sender.number, &facts);
-    routed(alloc, hands, right, message, sender, heard)
+    let mut verdict = hands.take_verdict();
+    let heard = hands.route(sender.number, &facts, &mut verdict);
+    routed(alloc, hands, right, message, sender, verdict, heard)
 }
 
 /// Serves a message of a connection that has its name ("Message Bus Message Routing" of the D-Bus Specification). A message of a
@@ -202,8 +234,10 @@ pub fn serve<V: BusView, G: Gate>(
     message: &Message,
     sender: Conn,
 ) -> Option<CloseCause>
-    requires { 2 < hands.old.room }
-    ensures comes { Comes V.told V.registry_of G.passes V.alone (serving (said message.now) sender) hands.old.world result hands.new.world }
+    requires room { 2 < hands.old.room }
+    requires crowds { 1 < hands.old.crowds }
+    ensures comes { Comes V.told V.registry_of G.passes V.alone (serving (said message.now) sender)
+        hands.old.world result hands.new.world }
     ensures room { hands.old.room ≤ hands.new.room + 3 }
 {
     match message.kind() {

@@ -137,7 +137,7 @@ pub const TO_ITSELF: &[u8] =
 
 /// The same as it is relayed.
 pub const TO_ITSELF_RELAYED: &[u8] =
-    b"B\x01\0\x01\0\0\0\x06\0\0\0\x02\0\0\0M\x01\x01o\0\0\0\0\x02/a\0\0\0\0\0\0\x03\x01s\0\0\0\0\x04Ping\0\0\0\0\x06\x01s\0\0\0\0\x04:1.1\0\0\0\0\x07\x01s\0\0\0\0\x04:1.1\0\0\0\0\x08\x01g\0\x01s\0\0\xc8\x01y\0\x07\0\0\0\0\0\0\x01x\0";
+    b"B\x01\0\x01\0\0\0\x06\0\0\0\x02\0\0\0G\x01\x01o\0\0\0\0\x02/a\0\0\0\0\0\0\x03\x01s\0\0\0\0\x04Ping\0\0\0\0\x06\x01s\0\0\0\0\x04:1.1\0\0\0\0\x07\x01s\0\0\0\0\x04:1.1\0\0\0\0\x08\x01g\0\x01s\0\0\0\0\0\x01x\0";
 
 /// A reply to a connection that is not there.
 pub const TO_NOBODY: &[u8] =

@@ -1,10 +1,11 @@
 //! A run over memory, by an engine over a plain bus.
 
+use bus_view::can_open;
 use busd_core::{RunFault, run as run_by};
 use owner_queues::Profile;
 use router::Engine;
 use router_core::OpenGate;
-use seq_bus::{SeqBus, can_open};
+use seq_bus::SeqBus;
 use std::alloc::{AllocError, Global};
 use std::io::{Read, Write};
 

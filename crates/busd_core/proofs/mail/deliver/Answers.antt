@@ -1,7 +1,7 @@
 use Rattle.std.proofs.Common.{not, filter}
 use Rattle.std.proofs.lemmas.Result.{err_from_is_err_and}
 use Rattle.seq_bus_core.specs.Steps.{is_among}
-use Rattle.envelopes.specs.Contents.{said_of}
+use Rattle.outbox_core.specs.Contents.{said_of}
 use Rattle.busd_core.proofs.Mailing.{both, first_fails}
 use Rattle.busd_core.proofs.mail.deliver.Goals as goal
 

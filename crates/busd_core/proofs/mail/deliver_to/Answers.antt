@@ -1,7 +1,7 @@
 use Rattle.std.proofs.Common.{None, refl, ap}
 use Rattle.std.proofs.lemmas.Result.{err_from_is_err_and}
-use Rattle.envelopes.specs.Contents.{said_of}
-use Rattle.envelopes.specs.declared.envelope.Envelope.{Envelope}
+use Rattle.outbox_core.specs.Contents.{said_of}
+use Rattle.outbox_core.specs.declared.envelope.Envelope.{Envelope}
 use Rattle.busd_core.specs.Happenings.{Carries}
 use Rattle.busd_core.proofs.Letters.{for_conn, sent, sent_in_part}
 use Rattle.busd_core.proofs.mail.deliver_to.Goals as goal

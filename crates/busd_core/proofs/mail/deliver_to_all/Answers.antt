@@ -1,7 +1,7 @@
 use Rattle.std.proofs.Common.{get_or, arith, refl}
 use Rattle.std.proofs.lemmas.Result.{err_from_is_err_and}
 use Rattle.seq_bus_core.specs.declared.connection.Conn.{Conn}
-use Rattle.envelopes.specs.Contents.{said_of}
+use Rattle.outbox_core.specs.Contents.{said_of}
 use Rattle.busd_core.specs.Happenings.{mail_to}
 use Rattle.busd_core.proofs.Mailing.{each_more, each_stops}
 use Rattle.busd_core.proofs.mail.deliver_to_all.Goals as goal

@@ -1,6 +1,6 @@
 -- What the first put was brought.
 use Rattle.std.proofs.Common.{Ok, take}
-use Rattle.envelopes.specs.Contents.{said_of}
+use Rattle.outbox_core.specs.Contents.{said_of}
 use Rattle.busd_core.specs.Happenings.{mail_to_all}
 use Rattle.busd_core.specs.Parts.{Delivers}
 use Rattle.busd_core.proofs.mail.deliver_to_all.Given as goal

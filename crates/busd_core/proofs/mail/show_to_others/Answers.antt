@@ -1,7 +1,7 @@
 use Rattle.std.proofs.Common.{List, Ok, Err, get_or, arith, refl, sym, ◌∙◌, subst}
 use Rattle.std.proofs.lemmas.Result.{err_from_is_err_and}
 use Rattle.seq_bus_core.specs.declared.connection.Conn.{Conn}
-use Rattle.envelopes.specs.Contents.{said_of}
+use Rattle.outbox_core.specs.Contents.{said_of}
 use Rattle.busd_core.specs.Happenings.{Delivery}
 use Rattle.busd_core.specs.Parts.{Delivers}
 use Rattle.busd_core.proofs.Mailing.{mail_to_other, mail_to_others, is_other, is_recipient, each_more, each_stops, each_ends, delivers_nothing}

@@ -1,6 +1,6 @@
 -- The first monitors were shown it.
 use Rattle.std.proofs.Common.{Ok, take, flat_map}
-use Rattle.envelopes.specs.Contents.{said_of}
+use Rattle.outbox_core.specs.Contents.{said_of}
 use Rattle.busd_core.specs.Parts.{Delivers}
 use Rattle.busd_core.proofs.Mailing.{mail_to_other}
 use Rattle.busd_core.proofs.mail.show_to_others.Given as goal

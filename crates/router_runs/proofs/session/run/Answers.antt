@@ -3,7 +3,7 @@ use Rattle.std.proofs.lemmas.Iterator.Adapters.{YieldsList-from_vec}
 use Rattle.std.proofs.lemmas.Iterator.Consumers.{YieldsList-from_enumerate, YieldsList-so_far, YieldsList-turn, YieldsList-end}
 use Rattle.std.proofs.lemmas.List.{map-append}
 use Rattle.std.proofs.lemmas.Result.{err_from_is_err_and}
-use Rattle.bus_view.specs.PlainViews.{knowledge_of}
+use Rattle.seq_bus.specs.PlainViews.{knowledge_of}
 use Rattle.router_core.specs.declared.event.Event.{Event}
 use Rattle.router_core.specs.Acts.{State}
 use Rattle.router_core.specs.Standing.{fresh}

@@ -1,5 +1,5 @@
 use Rattle.std.proofs.Common.{map}
-use Rattle.bus_view.specs.PlainViews.{knowledge_of}
+use Rattle.seq_bus.specs.PlainViews.{knowledge_of}
 use Rattle.router_core.specs.Standing.{fresh}
 use Rattle.router_runs.specs.Outputs.{IsCourse}
 use Rattle.router_runs.proofs.session.run.Given as goal

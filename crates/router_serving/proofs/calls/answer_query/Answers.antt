@@ -1,6 +1,6 @@
 use Rattle.std.proofs.Common.{rules, ◌≡◌, Ok, Err}
 use Rattle.message_core.specs.Said.{said}
-use Rattle.seq_bus.specs.declared.answer.Asked.TheVariants.{Body, NameHasNoOwner}
+use Rattle.bus_view.specs.declared.answer.Asked.TheVariants.{Body, NameHasNoOwner}
 use Rattle.router_serving.proofs.Answering.{asked_body, asked_none, asked_fault}
 use Rattle.router_serving.proofs.calls.answer_query.Goals as goal
 
@@ -8,7 +8,7 @@ pub returns-in-Ok-Body-clause-comes : goal.returns-in-Ok-Body-clause-comes
 returns-in-Ok-Body-clause-comes g c =
     let is : c.ask.result ≡ Ok Body = search rules in
     asked_body g.V.BusView.told g.V.BusView.registry_of g.G.Gate.passes g.V.BusView.alone (said c.args.call.now) c.args.caller c.args.query.now c.ask.result c.ask.new.body.items
-    c.args.hands.now.world c.ask.new.self.world c.reply_body.new.hands.world c.ask.ensures.asks c.of.result is c.of.ensures c.reply_body.ensures.comes
+    c.args.hands.now.world c.ask.new.self.world c.reply_body.new.hands.world c.ask.ensures.asks is c.reply_body.ensures.comes
 
 pub returns-in-Ok-NameHasNoOwner-clause-comes : goal.returns-in-Ok-NameHasNoOwner-clause-comes
 returns-in-Ok-NameHasNoOwner-clause-comes g c =

@@ -1,6 +1,6 @@
 use Rattle.std.proofs.Common.{Some, refl, sym, subst}
 use Rattle.message_core.specs.Said.{said}
-use Rattle.envelopes.specs.Contents.{UniqueName}
+use Rattle.outbox_core.specs.Contents.{UniqueName}
 use Rattle.router_core.specs.Events.{welcome}
 use Rattle.router_core.specs.Scripts.{Gives, Announcing, Comes}
 use Rattle.router_core.specs.Serving.{reply_with}

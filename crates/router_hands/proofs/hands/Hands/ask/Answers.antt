@@ -15,4 +15,4 @@ returns-clause-asks g c =
     subst
     (λ (k : Work g.row.V-Note.Denot g.row.G.Denot). (heard : Heard (Option Answer)) × Asks alone c.args.query.now k.world heard after × IsTold c.ask.result heard c.ask.new.body.items)
     c.self.view_is
-    (asks_told alone c.args.query.now before after refl c.args.body.now.items c.ask.new.body.items c.requires c.ask.result c.ask.ensures.answered c.ask.ensures.read c.ask.ensures.unanswered c.ask.ensures.unread c.ask.ensures.there)
+    (asks_told alone c.args.query.now before after refl c.args.body.now.items c.ask.new.body.items c.requires c.ask.result c.ask.ensures.answered c.ask.ensures.read c.ask.ensures.unanswered c.ask.ensures.read_no_less c.ask.ensures.gone c.ask.ensures.there)

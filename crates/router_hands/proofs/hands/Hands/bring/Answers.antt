@@ -1,5 +1,5 @@
 use Rattle.std.proofs.Common.{option_map}
-use Rattle.envelopes.specs.Contents.{said_of}
+use Rattle.outbox_core.specs.Contents.{said_of}
 use Rattle.router_core.specs.Events.{write}
 use Rattle.router_hands.proofs.Receiving.{heeded}
 use Rattle.router_hands.proofs.hands.Hands.bring.Goals as goal

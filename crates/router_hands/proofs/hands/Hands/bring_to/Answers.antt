@@ -1,6 +1,6 @@
 use Rattle.std.proofs.Common.{option_map}
 use Rattle.std.proofs.lemmas.Result.{on_ok_weaker}
-use Rattle.envelopes.specs.Contents.{said_of}
+use Rattle.outbox_core.specs.Contents.{said_of}
 use Rattle.router_core.specs.Events.{write}
 use Rattle.router_hands.proofs.Receiving.{for_nobody, for_one_noted}
 use Rattle.router_hands.proofs.hands.Hands.bring_to.Goals as goal

@@ -1,5 +1,5 @@
 use Rattle.std.proofs.Common.{sym, ap, subst}
-use Rattle.envelopes.specs.Contents.{said_of, own_of}
+use Rattle.outbox_core.specs.Contents.{said_of, own_of}
 use Rattle.router_core.specs.Events.{write}
 use Rattle.router_core.specs.Scripts.{Comes}
 use Rattle.router_core.specs.Standing.{Peer}

@@ -1,6 +1,6 @@
 use Rattle.std.proofs.Common.{sym, ◌∙◌}
 use Rattle.message_core.specs.Said.{said}
-use Rattle.envelopes.specs.Contents.{own_of}
+use Rattle.outbox_core.specs.Contents.{own_of}
 use Rattle.router_hands.proofs.Hellos.{refused_with}
 use Rattle.router_hands.proofs.hands.Hands.refuse_with.Goals as goal
 

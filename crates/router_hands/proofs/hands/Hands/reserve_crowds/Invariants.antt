@@ -1,5 +1,5 @@
 use Rattle.std.proofs.Common.{◌≡◌, ◌-◌}
-use Rattle.router_hands.proofs.hands.Hands.reserve.Given as goal
+use Rattle.router_hands.proofs.hands.Hands.reserve_crowds.Given as goal
 
 abbrev pub invariant-loop-self : goal.invariant-loop-self
 invariant-loop-self g l = record {
@@ -7,8 +7,8 @@ invariant-loop-self g l = record {
   gate : l.self-inside.gate ≡ l.initial.self-inside.gate;
   actions : l.self-inside.actions ≡ l.initial.self-inside.actions;
   spare : l.self-inside.spare ≡ l.initial.self-inside.spare;
-  room : l.self-inside.room ≡ 0;
+  room : l.self-inside.room ≡ l.initial.self-inside.room;
 }
 
 abbrev pub decreases-loop-self : goal.decreases-loop-self
-decreases-loop-self g l = l.count - l.self-inside.crowds.len
+decreases-loop-self g l = l.count - l.self-inside.verdicts.len
