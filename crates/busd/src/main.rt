@@ -19,9 +19,7 @@ use busd_core::{RunFault, run};
 use busd_start::serve_command;
 use clap::error::ErrorKind;
 use clap::{Command, Error};
-use desk::Desk;
-use owner_queues::Profile;
-use registry_snapshots::{Naming, Opened, Seat, Shared};
+use registry_snapshots::{Desk, Naming, Opened, Seat, Shared};
 use router::Engine;
 use router_core::OpenGate;
 use std::alloc::{AllocError, Global};
@@ -100,7 +98,7 @@ fn serve_at<J: Naming, R: Input + Print + AllocGlobal + Wait>(
     shared: &Shared<J>,
     seat: Seat<J>,
 ) -> Result<(), RunFault> {
-    let desk = Desk::new(rt.alloc(), seat, shared);
+    let desk = Desk::new(seat, shared);
     let number = desk.seat();
     let Ok(mut engine) = Engine::new(rt.alloc(), desk, OpenGate, None) else {
         return Err(RunFault::Memory);
@@ -122,8 +120,7 @@ fn serve_over<J: Naming, R: Input + Print + AllocGlobal + Wait>(
 ) -> Result<(), RunFault>
     requires { (opened ≡ J.book) × (J.opening ≡ opening_bus Two 1 []) }
 {
-    let Ok((shared, mut seats)) = Shared::<J>::new(rt, rt.alloc(), opened, &[], 1, Profile::Two)
-    else {
+    let Ok((shared, mut seats)) = Shared::<J>::new(rt, rt.alloc(), opened, &[], 1) else {
         return Err(RunFault::Memory);
     };
     let end = match seats.pop() {

@@ -12,7 +12,6 @@ use busd_sockets::{Acceptor, Sockets};
 use busd_start::ServeFault;
 use mio::Poll;
 use outbox::{EnvelopeOf, Lane, Outboxes, Tap};
-use owner_queues::Profile;
 use registry_snapshots::{Naming, Opened, Seat, Shared};
 use router_core::OpenGate;
 use routers::{RouterSetup, serve};
@@ -48,7 +47,7 @@ fn open_registry<
     requires { (opened ≡ J.book) × (J.opening ≡ opening_bus Two bus.now.options.routers []) }
 {
     let routers = bus.options.routers;
-    let made = Shared::<J>::new(rt, rt.alloc(), opened, &[], routers, Profile::Two);
+    let made = Shared::<J>::new(rt, rt.alloc(), opened, &[], routers);
     let Ok((shared, seats)) = made else {
         return Err(ServeFault::Memory);
     };
@@ -109,7 +108,7 @@ fn serve_over<
         poll,
         router_polls,
     } = listening;
-    let (lanes, taps) = Outboxes::new(alloc, shared, bus.options.routers)?;
+    let (lanes, taps) = Outboxes::new(alloc, shared)?;
     let parts = RouterParts {
         seats,
         lanes,

@@ -9,7 +9,8 @@ use Rattle.router_host.specs.declared.kept.Kept.TheVariants.{Happening, Piece}
 -- It can happen at any later time too: no connection comes with it, and its note is of this registry.
 abbrev pub CanWait : {N : Type 0} → (N → ℕ) → ℕ → Event N → Type 0
 CanWait registry_of registry (event.Opened key challenge) = ⊥
-CanWait registry_of registry (event.Mail slot envelope) = IsOwnNote registry_of registry envelope.note
+CanWait registry_of registry (event.Mail slot envelope) =
+    IsOwnNote registry_of registry envelope.note
 CanWait registry_of registry other = Unit {0}
 
 abbrev pub KeepsOwn : {N : Type 0} → (N → ℕ) → ℕ → Option (Kept N) → Type 0

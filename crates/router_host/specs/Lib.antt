@@ -1,4 +1,3 @@
-pub mod Carrying
 pub mod Happening
 pub mod Keeping
 pub mod States

@@ -2,16 +2,12 @@
 
 ghost use Rattle.std.specs.Prelude.{◌≡◌, IfOk};
 
-use crate::carrier::Carrier;
-use crate::ending::Ended;
 use crate::kept::Kept;
 use crate::opening::{MOST_UNNAMED, OpenFault, Opened, open};
-use crate::post::Post;
-use crate::slots::Slots;
-use crate::socket::Socket;
 use bus_view::BusView;
 use router::Engine;
 use router_core::Gate;
+use router_host_core::{Carrier, Ended, Post, Slots, Socket};
 use std::alloc::{AllocError, Global};
 use std::marker::Model;
 use std::mem;

@@ -6,26 +6,13 @@
 //! the loop round it does.
 #![tactic(auto)]
 
-mod carrier;
-mod ending;
-mod hints;
 mod host;
 mod kept;
-mod line;
-mod lines;
 mod local_post;
 mod opening;
-mod post;
-mod put_out;
-mod slots;
-mod socket;
 mod turn;
-mod written;
 
-pub use ending::{EndCause, Ended};
 pub use host::Host;
 pub use local_post::LocalPost;
 pub use opening::OpenFault;
-pub use post::{Full, Post};
-pub use socket::Socket;
-pub use written::Written;
+pub use router_host_core::{EndCause, Ended, Full, Post, Socket, Written};

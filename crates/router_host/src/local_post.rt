@@ -2,9 +2,8 @@
 
 ghost use Rattle.std.specs.Prelude.{◌≡◌, ◌∷◌, ◌++◌, [], IfErr, OnErr, OnOk};
 
-use crate::post::{Full, Post};
-use crate::put_out::SLOTS;
-use envelopes::Envelope;
+use outbox_core::Envelope;
+use router_host_core::{Full, Post, SLOTS};
 use seq_bus::SeqBus;
 use seq_bus_core::Conn;
 use std::alloc::{AllocError, Global};
@@ -22,7 +21,7 @@ struct Mail {
 
 impl Model for Mail {
     ghost use Rattle.std.specs.Prelude.{List};
-    ghost use Rattle.envelopes.specs.declared.envelope.Envelope.{Envelope};
+    ghost use Rattle.outbox_core.specs.declared.envelope.Envelope.{Envelope};
 
     ghost Value = { List (Envelope (Unit {0})) };
 
@@ -57,7 +56,7 @@ pub struct LocalPost {
 
 impl Model for LocalPost {
     ghost use Rattle.std.specs.Prelude.{List};
-    ghost use Rattle.envelopes.specs.declared.envelope.Envelope.{Envelope};
+    ghost use Rattle.outbox_core.specs.declared.envelope.Envelope.{Envelope};
 
     ghost Value = { List (List (Envelope (Unit {0}))) };
 

@@ -36,7 +36,8 @@ pub(crate) fn open<V: BusView, G: Gate>(
     right: &V::Right,
     challenge: Option<[u8; 16]>,
 ) -> Result<Opened<V::Note>, OpenFault>
-    ensures notes { IfOk result (λ opened. AllByRecursion (CarriesOwn V.registry_of engine.old.view.registry) opened.actions.items) }
+    ensures notes { IfOk result (λ opened.
+        AllByRecursion (CarriesOwn V.registry_of engine.old.view.registry) opened.actions.items) }
     ensures registry { engine.new.view.registry ≡ engine.old.view.registry }
     ensures err { OnErr result (engine.new ≡ engine.old) }
 {

@@ -5,16 +5,11 @@ ghost use Rattle.router_core.specs.Events.{CanHappen};
 ghost use Rattle.router_host.specs.Happening.{Happens, IsSlotBlocked};
 ghost use Rattle.router_host.specs.Keeping.{CanWait};
 
-use crate::ending::Ended;
-use crate::hints::Todo;
 use crate::host::Host;
 use crate::kept::Kept;
-use crate::line::Pulled;
-use crate::post::Post;
-use crate::put_out::SLOTS;
-use crate::socket::Socket;
 use bus_view::BusView;
 use router_core::{Event, Gate};
+use router_host_core::{Ended, Post, Pulled, SLOTS, Socket, Todo};
 use std::alloc::AllocError;
 
 /// How many messages of a connection are served in a turn.
@@ -72,8 +67,10 @@ impl<V: BusView, G: Gate, P: Post<V>, S: Socket> Host<V, G, P, S> {
 
     /// Serves an event, and carries out what it brings. Without memory nothing changes, and the event neither.
     fn bring(&mut self, right: &V::Right, event: &mut Event<V::Note>) -> Result<(), AllocError>
-        requires { CanHappen V.registry_of self.old.engine.view.registry self.old.engine.standing event.old }
-        ensures happens { OnOk result (Happens V.told G.passes V.alone P.puts self.old event.old self.new) }
+        requires { CanHappen V.registry_of self.old.engine.view.registry
+            self.old.engine.standing event.old }
+        ensures happens { OnOk result
+            (Happens V.told G.passes V.alone P.puts self.old event.old self.new) }
         ensures err { OnErr result (self.new ≡ self.old) }
         ensures handed_back { OnErr result (event.new ≡ event.old) }
     {
@@ -86,7 +83,8 @@ impl<V: BusView, G: Gate, P: Post<V>, S: Socket> Host<V, G, P, S> {
     /// Serves an event. What there is no memory for is kept for the next turn.
     fn serve(&mut self, right: &V::Right, event: Event<V::Note>) -> Result<(), AllocError>
         requires { CanWait V.registry_of self.old.engine.view.registry event }
-        ensures happens { OnOk result (Happens V.told G.passes V.alone P.puts self.old event self.new) }
+        ensures happens { OnOk result
+            (Happens V.told G.passes V.alone P.puts self.old event self.new) }
         ensures err { OnErr result (self.new ≡ self.old) }
     {
         let mut event = event;

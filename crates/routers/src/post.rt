@@ -4,9 +4,8 @@ ghost use Rattle.std.specs.Prelude.{◌≡◌, IfErr, OnOk, OnErr};
 ghost use Rattle.routers.specs.Posts.{Puts};
 
 use crate::coordinator::{Coordinator, Wake};
-use desk::{Desk, Note};
 use outbox::{EnvelopeOf, Lane, Tap};
-use registry_snapshots::Naming;
+use registry_snapshots::{Desk, Naming, Note};
 use router_host::{Full, Post};
 use seq_bus_core::Conn;
 use std::marker::Model;
@@ -27,7 +26,7 @@ pub struct LanePost<'a, J: Naming, W: Wake + Drop> {
 
 impl<'a, J: Naming, W: Wake + Drop> Model for LanePost<'a, J, W> {
     ghost use Rattle.std.specs.Prelude.{List};
-    ghost use Rattle.envelopes.specs.declared.envelope.Envelope.{Envelope};
+    ghost use Rattle.outbox_core.specs.declared.envelope.Envelope.{Envelope};
     ghost use Rattle.lanes.specs.Lanes.{End};
     ghost use Rattle.seq_bus_core.specs.Histories.{History};
 

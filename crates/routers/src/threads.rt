@@ -7,9 +7,8 @@ use crate::fault::Fault;
 use crate::post::LanePost;
 use crate::router_loop::Router;
 use crate::source::Source;
-use desk::Desk;
 use outbox::{EnvelopeOf, Lane, Tap};
-use registry_snapshots::{Naming, Seat, Shared};
+use registry_snapshots::{Desk, Naming, Seat, Shared};
 use router::{Engine, Login};
 use router_core::Gate;
 use router_host::{Host, Socket};
@@ -66,7 +65,7 @@ fn serve_as_router<
         gate,
         login,
     } = setup;
-    let view: Desk<'_, J, R> = Desk::new(alloc, seat, shared);
+    let view: Desk<'_, J, R> = Desk::new(seat, shared);
     let Ok(engine) = Engine::new(alloc, view, gate, login) else {
         return Err(Fault::Memory);
     };

@@ -1,17 +1,22 @@
 //! What clients of a message bus see on their sockets, as the rows of a table say.
 //!
 //! A row is a line of standard input, and the line of the same number answers it with all that it brought; `-` is nothing. Empty lines
-//! and headings (`#`) stand in both. Rows are steps of a scenario, which begins with `bus` and goes on up to the next `bus`. It is played
-//! by the daemon's own hosts over sockets in memory. [`scene`] says what a row may ask.
+//! and headings (`#`) stand in both. Rows are steps of a scenario, which goes on up to the next one. One that begins with `bus` is played
+//! by the daemon's own hosts over sockets in memory; [`scene`] says what a row of it may ask. One that begins with `engine` is about an
+//! engine alone, which no host serves; [`engine_scene`] says what a row of it may ask.
 //!
 //! - `bus plain N`, `bus registry N`: a bus of N routers, as one thread has it or as several share it. The plain one has one router, which
 //!   has the places of one of N. `bus both N`: each of the two, one after the other, which must answer the same.
 //! - `login`, in the next row: connections may be asked who they are, and the user is `alice`. `login anonymous`: anybody may come in.
+//! - `watch`, in a later row: where a call is shown that requests or releases a name, it is told whether the name has an owner then. Only
+//!   the registry's first router looks.
 //! - `again`: the scenario is played again byte by byte, and must answer the same. `again cut N`: also by the plain bus with the bytes of
 //!   each row in two pieces, for each length of the first up to N.
 #![tactic(auto)]
 
 mod client;
+mod engine_scene;
+mod happening;
 mod journal;
 mod plain_bus;
 mod scenario;
@@ -20,7 +25,7 @@ mod script;
 mod sent;
 mod shared_bus;
 mod shown;
-mod tap_post;
+mod watch;
 mod words;
 
 use crate::scenario::{Pieces, Scenario, View};
@@ -40,7 +45,13 @@ fn answers<R: Wait>(rt: &R, alloc: Global, scenario: Scenario<'_>) -> Result<Str
             ensure!(plain == shared, "the shared bus answers\n{shared}");
             Ok(plain)
         }
+        View::Engine => engine_scene::play(alloc, scenario.rows),
     }
+}
+
+/// Whether a row begins a scenario.
+fn begins(row: &str) -> bool {
+    row == "engine" || row.starts_with("bus ")
 }
 
 /// Plays a scenario again with its bytes in pieces: the answers must be these.
@@ -74,7 +85,7 @@ fn main(rt: HostRuntime) -> Result<()> {
     let mut rows = Vec::new(alloc);
     for line in BufReader::new(alloc, rt.reader())?.lines(alloc) {
         let line = line?;
-        if line.as_str().starts_with("bus ") {
+        if begins(line.as_str()) {
             let answers = play(&rt, alloc, &rows)?;
             print!(rt; "{answers}")?;
             rows.clear();

@@ -2,12 +2,14 @@
 
 use crate::scenario::Scenario;
 use crate::scene;
+use crate::watch::Findings;
 use anyhow::{Result, bail};
+use bus_view::can_open;
 use owner_queues::Profile;
 use router::Engine;
 use router_core::OpenGate;
 use router_host::{Host, LocalPost};
-use seq_bus::{SeqBus, can_open};
+use seq_bus::SeqBus;
 use std::alloc::Global;
 
 /// The answers of a plain bus, whose one router has the places of one of so many.
@@ -20,5 +22,5 @@ pub fn play(alloc: Global, scenario: Scenario<'_>) -> Result<String> {
     let host = Host::new(alloc, engine, LocalPost::new(alloc)?, 0, 256)?;
     let mut hosts = Vec::new(alloc);
     hosts.push(host)?;
-    scene::play(alloc, hosts, &(), scenario)
+    scene::play(alloc, hosts, Findings::new(alloc)?, &(), scenario)
 }

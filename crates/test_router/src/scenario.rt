@@ -17,6 +17,8 @@ pub enum View {
     Registry,
     /// Each of the two must answer the same.
     Both,
+    /// An engine that no host serves.
+    Engine,
 }
 
 /// How the bytes of a client come that it sends at once.
@@ -63,6 +65,8 @@ pub struct Scenario<'a> {
     pub is_again: bool,
     /// and cut at each place up to this.
     pub last_cut: usize,
+    /// It is told what a gate finds of the bus.
+    pub is_watched: bool,
     has_login: bool,
     lets_in_anybody: bool,
 }
@@ -76,6 +80,7 @@ impl<'a> Scenario<'a> {
             pieces: Pieces::Whole,
             is_again: false,
             last_cut: 0,
+            is_watched: false,
             has_login: false,
             lets_in_anybody: false,
         };
@@ -96,6 +101,8 @@ impl<'a> Scenario<'a> {
                 };
                 self.routers = u8::try_from(words.number()).unwrap_or(0);
             }
+            "engine" => self.view = View::Engine,
+            "watch" => self.is_watched = true,
             "login" => {
                 self.has_login = true;
                 self.lets_in_anybody = words.next() == "anonymous";

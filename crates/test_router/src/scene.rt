@@ -17,23 +17,22 @@
 //! - `show bytes`, `show words`: what comes from now on is told so.
 
 use crate::client::Client;
+use crate::happening::CHALLENGE;
 use crate::journal::Journal;
 use crate::scenario::{Pieces, Scenario};
 use crate::script::{Script, Wire};
 use crate::sent;
+use crate::watch::Findings;
 use crate::words::Words;
 use anyhow::{Context, Result, bail};
 use bus_view::BusView;
-use router_core::OpenGate;
+use router_core::Gate;
 use router_host::{Ended, Host, Post};
 use std::alloc::Global;
 use std::cell::RefCell;
 use std::rc::Rc;
 use test_support::messages::HELLO;
 use test_support::unescaped;
-
-/// What a client is challenged with: the bytes 0 to 15.
-const CHALLENGE: [u8; 16] = [0, 1, 2, 3, 4, 5, 6, 7, 8, 9, 10, 11, 12, 13, 14, 15];
 
 /// How many turns the routers take at most until they have nothing left to do.
 const MOST_TURNS: usize = 10_000;
@@ -42,23 +41,25 @@ const MOST_TURNS: usize = 10_000;
 const PLACES: usize = 256;
 
 /// A router of a stage.
-pub type StageHost<V, P> = Host<V, OpenGate, P, Script>;
+pub type StageHost<V, G, P> = Host<V, G, P, Script>;
 
 /// The routers of a bus and their clients.
 #[derive(Drop)]
-pub struct Scene<V: BusView, P: Post<V>> {
+pub struct Scene<V: BusView, G: Gate, P: Post<V>> {
     alloc: Global,
-    hosts: Vec<StageHost<V, P>>,
+    hosts: Vec<StageHost<V, G, P>>,
     clients: Vec<Client>,
+    findings: Findings,
     pieces: Pieces,
     /// What comes is told as bytes.
     shows_bytes: bool,
 }
 
 /// The answers to the rows of a scenario, a line to each.
-pub fn play<V: BusView + Drop, P: Post<V>>(
+pub fn play<V: BusView + Drop, G: Gate + Drop, P: Post<V>>(
     alloc: Global,
-    hosts: Vec<StageHost<V, P>>,
+    hosts: Vec<StageHost<V, G, P>>,
+    findings: Findings,
     right: &V::Right,
     scenario: Scenario<'_>,
 ) -> Result<String> {
@@ -66,13 +67,14 @@ pub fn play<V: BusView + Drop, P: Post<V>>(
         alloc,
         hosts,
         clients: Vec::new(alloc),
+        findings,
         pieces: scenario.pieces,
         shows_bytes: false,
     };
     scene.answer_all(right, scenario.rows)
 }
 
-impl<V: BusView, P: Post<V>> Scene<V, P> {
+impl<V: BusView, G: Gate, P: Post<V>> Scene<V, G, P> {
     /// What the rows bring, a line to each.
     fn answer_all(&mut self, right: &V::Right, rows: &[String]) -> Result<String> {
         let mut answers = String::new(self.alloc);
@@ -99,6 +101,7 @@ impl<V: BusView, P: Post<V>> Scene<V, P> {
         let (count, row) = row.split_once(" times ").unwrap_or(("1", row));
         for _time in 0..count.parse::<u32>()? {
             self.act(right, row, &mut journal)?;
+            self.findings.tell(&mut journal)?;
             for client in self.clients.iter_mut() {
                 client.tell(self.shows_bytes, &mut journal)?;
             }
@@ -113,7 +116,7 @@ impl<V: BusView, P: Post<V>> Scene<V, P> {
     fn act(&mut self, right: &V::Right, row: &str, journal: &mut Journal) -> Result<()> {
         let mut words = Words::of(row);
         match words.next() {
-            "bus" | "login" | "again" => Ok(()),
+            "bus" | "login" | "watch" | "again" => Ok(()),
             "open" => self.open(right, words, journal),
             "crowd" => self.crowd(right, words, journal),
             "tick" => self.tick(right),

@@ -6,17 +6,44 @@ ghost use Rattle.seq_bus_core.specs.Histories.{max_routers};
 use crate::scenario::Scenario;
 use crate::scene;
 use crate::scene::StageHost;
-use crate::tap_post::TapPost;
+use crate::watch::{Findings, Lookout, Watch};
 use anyhow::{Result, bail};
-use desk::Desk;
-use outbox::{EnvelopeOf, Lane, Outboxes, Tap};
-use owner_queues::Profile;
-use registry_snapshots::{Naming, Seat, Serve, Shared, start};
-use router::{Engine, Login};
-use router_core::OpenGate;
+use outbox::Outboxes;
+use registry_snapshots::{Desk, Naming, Seat, Serve, Shared, start};
+use router::Engine;
 use router_host::Host;
-use std::alloc::Global;
+use routers::{Coordinator, LanePost, Wake};
+use std::alloc::{AllocError, Global};
 use std::sync::Wait;
+
+/// Wakes nobody: all routers look.
+#[derive(Clone, Copy)]
+struct NoWaker;
+
+impl Wake for NoWaker {
+    fn wake(&self) {}
+}
+
+/// What this many routers tell one another by.
+fn coordinator(alloc: Global, routers: u8) -> Result<Coordinator<NoWaker>, AllocError> {
+    let wakers = Vec::from_elem(alloc, NoWaker, usize::from(routers))?;
+    Coordinator::new(alloc, wakers, NoWaker)
+}
+
+/// One more, behind the others.
+fn add<T: Drop>(list: &mut Vec<T>, item: T) -> Result<(), AllocError> {
+    match list.push(item) {
+        Ok(()) => Ok(()),
+        Err(_) => Err(AllocError),
+    }
+}
+
+/// A router of a registry.
+type SharedHost<'b, 'c, J, R> = StageHost<
+    Desk<'b, J, R>,
+    Watch<'b, J, R>,
+    LanePost<'c, J, NoWaker>,
+>;
 
 /// The answers of a registry, whose routers all serve in this thread.
 pub fn play<R: Wait>(rt: &R, alloc: Global, scenario: Scenario<'_>) -> Result<String> {
@@ -27,7 +54,7 @@ pub fn play<R: Wait>(rt: &R, alloc: Global, scenario: Scenario<'_>) -> Result<St
         scenario,
         routers,
     };
-    match start(rt, alloc, &[], routers, Profile::Two, stage) {
+    match start(rt, alloc, &[], routers, stage) {
         Ok(answers) => answers,
         Err(fault) => bail!("no registry: {fault}"),
     }
@@ -70,32 +97,63 @@ impl<'a, R: Wait> Stage<'a, R> {
         if routers == 0 || routers > 8 {
             bail!("no such number of routers");
         }
-        let (lanes, taps) = Outboxes::new(self.alloc, shared, routers)?;
-        let places = 256 / usize::from(routers);
-        let mut hosts = Vec::new(self.alloc);
-        // Seat 0 and its lane are those of the thread that accepts connections.
-        let ways = lanes.into_iter().skip(1).zip(taps);
-        for ((router, seat), (lane, taps)) in seats.into_iter().skip(1).enumerate().zip(ways) {
-            let first = router.saturating_mul(places);
-            let login = self.scenario.login(self.alloc)?;
-            hosts.push(self.host(shared, seat, TapPost { lane, taps, first }, places, login)?)?;
-        }
-        scene::play(self.alloc, hosts, self.rt, self.scenario)
+        let coordinator = coordinator(self.alloc, routers)?;
+        self.answers_over(shared, seats, &coordinator)
     }
 
-    /// A router over a seat.
-    fn host<'b, J: Naming>(
+    fn answers_over<'b, 'c, J: Naming>(
+        &self,
+        shared: &'b Shared<J>,
+        seats: Vec<Seat<J>>,
+        coordinator: &'c Coordinator<NoWaker>,
+    ) -> Result<String> {
+        let (lanes, taps) = Outboxes::new(self.alloc, shared)?;
+        let findings = Findings::new(self.alloc)?;
+        // Seat 0 and its lane are those of the thread that accepts connections.
+        let mut seats = seats.into_iter();
+        let mut lookout = self.lookout(shared, seats.next(), findings.again()?);
+        let ways = lanes.into_iter().skip(1).zip(taps);
+        let mut hosts: Vec<SharedHost<'b, 'c, J, R>> = Vec::new(self.alloc);
+        for ((router, seat), (lane, taps)) in seats.enumerate().zip(ways) {
+            let post = LanePost::new(router, lane, taps, coordinator);
+            let first = router.saturating_mul(coordinator.places());
+            let gate = Watch {
+                alloc: self.alloc,
+                lookout: lookout.take(),
+            };
+            add(&mut hosts, self.host(shared, seat, post, first, gate)?)?;
+        }
+        scene::play(self.alloc, hosts, findings, self.rt, self.scenario)
+    }
+
+    /// What a gate looks through, where it is to be told what it finds.
+    fn lookout<'b, J: Naming>(
+        &self,
+        shared: &'b Shared<J>,
+        seat: Option<Seat<J>>,
+        findings: Findings,
+    ) -> Option<Lookout<'b, J, R>> {
+        if !self.scenario.is_watched {
+            return None;
+        }
+        let desk: Desk<'b, J, R> = Desk::new(seat?, shared);
+        Some(Lookout { desk, findings })
+    }
+
+    /// A router over a seat, whose places begin with this.
+    fn host<'b, 'c, J: Naming>(
         &self,
         shared: &'b Shared<J>,
         seat: Seat<J>,
-        post: TapPost<J>,
-        places: usize,
-        login: Option<Login>,
-    ) -> Result<StageHost<Desk<'b, J, R>, TapPost<J>>> {
-        let view: Desk<'b, J, R> = Desk::new(self.alloc, seat, shared);
-        let engine = Engine::new(self.alloc, view, OpenGate, login)?;
-        let first = u16::try_from(post.first).unwrap_or(u16::MAX);
-        let places = u16::try_from(places).unwrap_or(0);
+        post: LanePost<'c, J, NoWaker>,
+        first: usize,
+        gate: Watch<'b, J, R>,
+    ) -> Result<SharedHost<'b, 'c, J, R>> {
+        let view: Desk<'b, J, R> = Desk::new(seat, shared);
+        let login = self.scenario.login(self.alloc)?;
+        let engine = Engine::new(self.alloc, view, gate, login)?;
+        let places = 256 / u16::from(self.routers.max(1));
+        let first = u16::try_from(first)?;
         Ok(Host::new(self.alloc, engine, post, first, places)?)
     }
 }

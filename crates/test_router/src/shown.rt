@@ -2,10 +2,11 @@
 
 use anyhow::Result;
 use marshal::Order;
-use match_rules::MessageKind;
-use message::Message;
+use match_rules::{Argument, MessageKind};
+use message::{Framer, Message};
+use outbox_core::OwnMessage;
 use std::alloc::Global;
-use test_support::Escaped;
+use test_support::{Escaped, signal};
 
 const BUS: &str = "org.freedesktop.DBus";
 
@@ -79,6 +80,46 @@ pub fn put_message(alloc: Global, message: &Message, text: &mut String) -> Resul
     }
     for argument in &message.arguments(alloc)? {
         write!(text, " {argument}")?;
+    }
+    Ok(())
+}
+
+/// The messages that bytes are, one after the other.
+pub fn put_bytes(alloc: Global, bytes: &[u8], text: &mut String) -> Result<()> {
+    let mut framer = Framer::new(alloc);
+    framer.feed(bytes)?;
+    for place in 0..bytes.len() {
+        let Some(message) = framer.next()? else {
+            return Ok(());
+        };
+        if place > 0 {
+            write!(text, ", ")?;
+        }
+        put_message(alloc, &message, text)?;
+    }
+    Ok(())
+}
+
+/// What rules see of a message of the bus itself that has no serial yet: its type, whom it is for, and its arguments.
+pub fn put_own(message: &OwnMessage, text: &mut String) -> Result<()> {
+    let names = message.names();
+    let mut facts = signal("", "", "");
+    message.put_facts(&names, &mut facts);
+    let kind = match facts.kind {
+        MessageKind::MethodReturn => "reply",
+        MessageKind::Error => "error",
+        _ => facts.member.unwrap_or(""),
+    };
+    write!(text, "{kind}")?;
+    if let Some(destination) = facts.destination {
+        write!(text, " for {destination}")?;
+    }
+    for argument in facts.arguments.as_slice() {
+        match *argument {
+            Argument::String(argument) => write!(text, " \"{argument}\"")?,
+            Argument::ObjectPath(argument) => write!(text, " {argument}")?,
+            Argument::Other => write!(text, " other")?,
+        }
     }
     Ok(())
 }

@@ -4,8 +4,7 @@ ghost use Rattle.std.specs.Prelude.{◌≡◌, ◌≤◌, length, IfOk};
 
 use crate::scenario::ClientMessage;
 use match_rules::{Argument, MessageKind};
-use message::{Framer, Message};
-use message_relay::facts;
+use message::{Framer, Message, facts};
 use router_host::Socket;
 use std::alloc::{AllocError, Global};
 use std::fmt::Write as _;

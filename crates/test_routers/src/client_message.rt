@@ -2,27 +2,61 @@
 
 use crate::scenario::ClientMessage;
 use anyhow::Result;
-use engine_host::{Purpose, bytes_of, call_to_bus, name_and_flags, text};
+use marshal::{BasicValue, Order, Value};
 use match_rules::MessageKind;
-use std::alloc::Global;
+use message::{Header, Message, NO_REPLY_EXPECTED};
+use names::{BusName, Interface, Member, ObjectPath};
+use std::alloc::{AllocError, Global};
 
-/// A message to other clients.
-fn to_clients(
-    alloc: Global,
+/// A call of a method of the bus.
+fn to_bus<'a>(serial: u32, member: &'a str) -> Header<'a> {
+    Header {
+        order: Order::Little,
+        kind: MessageKind::MethodCall,
+        flags: 0,
+        serial,
+        path: ObjectPath::parse("/org/freedesktop/DBus").ok(),
+        interface: Interface::parse("org.freedesktop.DBus").ok(),
+        member: Member::parse(member).ok(),
+        error_name: None,
+        reply_serial: None,
+        destination: Some(BusName::bus()),
+        sender: None,
+    }
+}
+
+/// A message to one client, or to all who listen. No reply to it is wanted.
+fn to_clients<'a>(
     serial: u32,
     kind: MessageKind,
-    destination: Option<&str>,
-    member: &str,
-) -> Result<Vec<u8>> {
-    let purpose = Purpose {
-        kind,
-        destination,
-        interface: "com.example.Clock",
-        member,
-        replies_to: None,
-        wants_reply: false,
+    destination: Option<&'a str>,
+    member: &'a str,
+) -> Header<'a> {
+    let mut header = to_bus(serial, member);
+    header.kind = kind;
+    header.flags = NO_REPLY_EXPECTED;
+    header.interface = Interface::parse("com.example.Clock").ok();
+    header.destination = match destination {
+        Some(name) => BusName::parse(name).ok(),
+        None => None,
     };
-    bytes_of(alloc, serial, purpose, "", b"")
+    header
+}
+
+fn bytes_of(alloc: Global, header: &Header<'_>, arguments: &[Value]) -> Result<Vec<u8>> {
+    let message = Message::new(alloc, header, arguments)?;
+    Ok(Vec::from_slice(alloc, message.as_bytes())?)
+}
+
+fn text(alloc: Global, text: &str) -> Result<Value, AllocError> {
+    let text = String::from_str(alloc, text)?;
+    Ok(Value::Basic(BasicValue::String(text)))
+}
+
+/// A call of a method of the bus that takes a text.
+fn call_with(alloc: Global, serial: u32, member: &str, argument: &str) -> Result<Vec<u8>> {
+    let arguments = [text(alloc, argument)?];
+    bytes_of(alloc, &to_bus(serial, member), &arguments)
 }
 
 /// Signals, one behind the other.
@@ -30,8 +64,8 @@ fn ticks(alloc: Global, serial: u32, to: Option<&str>, count: u32) -> Result<Vec
     let mut bytes = Vec::new(alloc);
     for number in 0..count {
         let serial = serial.saturating_add(number);
-        let tick = to_clients(alloc, serial, MessageKind::Signal, to, "Ticked")?;
-        bytes.extend_from_slice(tick.as_slice())?;
+        let header = to_clients(serial, MessageKind::Signal, to, "Ticked");
+        bytes.extend_from_slice(&bytes_of(alloc, &header, &[])?)?;
     }
     Ok(bytes)
 }
@@ -40,22 +74,18 @@ impl ClientMessage {
     /// Its bytes, with this serial; of several messages the serials follow one another.
     pub(crate) fn bytes(self, alloc: Global, serial: u32) -> Result<Vec<u8>> {
         match self {
-            ClientMessage::Hello => call_to_bus(alloc, serial, "Hello", "", b""),
-            ClientMessage::AddMatch(rule) => {
-                let body = text(alloc, rule)?;
-                call_to_bus(alloc, serial, "AddMatch", "s", body.as_slice())
-            }
+            ClientMessage::Hello => bytes_of(alloc, &to_bus(serial, "Hello"), &[]),
+            ClientMessage::ListNames => bytes_of(alloc, &to_bus(serial, "ListNames"), &[]),
+            ClientMessage::AddMatch(rule) => call_with(alloc, serial, "AddMatch", rule),
+            ClientMessage::GetNameOwner(name) => call_with(alloc, serial, "GetNameOwner", name),
             ClientMessage::RequestName(name) => {
-                let body = name_and_flags(alloc, name, 0)?;
-                call_to_bus(alloc, serial, "RequestName", "su", body.as_slice())
+                let flags = Value::Basic(BasicValue::Uint32(0));
+                let arguments = [text(alloc, name)?, flags];
+                bytes_of(alloc, &to_bus(serial, "RequestName"), &arguments)
             }
-            ClientMessage::GetNameOwner(name) => {
-                let body = text(alloc, name)?;
-                call_to_bus(alloc, serial, "GetNameOwner", "s", body.as_slice())
-            }
-            ClientMessage::ListNames => call_to_bus(alloc, serial, "ListNames", "", b""),
             ClientMessage::Wind(name) => {
-                to_clients(alloc, serial, MessageKind::MethodCall, Some(name), "Wind")
+                let header = to_clients(serial, MessageKind::MethodCall, Some(name), "Wind");
+                bytes_of(alloc, &header, &[])
             }
             ClientMessage::Ticks(to, count) => ticks(alloc, serial, to, count),
         }

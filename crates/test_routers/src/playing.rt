@@ -10,7 +10,6 @@ use crate::scenario::Scenario;
 use crate::source::ScenarioSource;
 use crate::stopper::Stopper;
 use outbox::Outboxes;
-use owner_queues::Profile;
 use registry_snapshots::{Naming, Opened, Seat, Shared};
 use routers::{Coordinator, Fault, RouterSetup, serve};
 use std::alloc::{AllocError, Global};
@@ -38,7 +37,7 @@ fn open<J: Naming + Send + Sync, R: Threads + Wait + Clock + Sync>(
 ) -> Result<String, Fail>
     requires { (opened ≡ J.book) × (J.opening ≡ opening_bus Two 2 []) }
 {
-    let Ok((shared, seats)) = Shared::<J>::new(rt, alloc, opened, &[], 2, Profile::Two) else {
+    let Ok((shared, seats)) = Shared::<J>::new(rt, alloc, opened, &[], 2) else {
         return Err(Fail::from("no registry"));
     };
     let told = serve_over(rt, alloc, &shared, seats, scenario);
@@ -114,7 +113,7 @@ fn setups_of<'a, J: Naming, R: Wait + Clock>(
 ) -> Result<Setups<'a, J, R>, Fail>
     requires { J.opening ≡ opening_bus Two 2 [] }
 {
-    let (mut lanes, mut taps) = Outboxes::new(alloc, shared, 2)?;
+    let (mut lanes, mut taps) = Outboxes::new(alloc, shared)?;
     let mut setups = Vec::new(alloc);
     for (me, steps) in [(1, scenario.steps[1]), (0, scenario.steps[0])] {
         let (Some(seat), Some(lane), Some(taps)) = (seats.pop(), lanes.pop(), taps.pop()) else {

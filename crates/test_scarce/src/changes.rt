@@ -1,7 +1,7 @@
 //! Changes by two connections, and the reply to each.
 
-ghost use Rattle.registry.specs.Served.{IsServedChange};
-ghost use Rattle.seq_bus.specs.Served.{IsServedChange as IsServedByPlainBus};
+ghost use Rattle.seq_bus_core.specs.Served.{IsServedChange};
+ghost use Rattle.seq_bus_core.specs.Served.{IsServedChange as IsServedByPlainBus};
 
 use match_rules::Rule;
 use names::BusName;

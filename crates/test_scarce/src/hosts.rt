@@ -1,10 +1,11 @@
 //! A host, and two connections to it whose other sides follow a script.
 
+use bus_view::can_open;
 use owner_queues::Profile;
 use router::Engine;
 use router_core::OpenGate;
 use router_host::{Host, LocalPost, OpenFault, Socket};
-use seq_bus::{SeqBus, can_open};
+use seq_bus::SeqBus;
 use std::alloc::{AllocError, Global};
 use std::io;
 use std::io::{ErrorKind, IoSlice};

@@ -1,10 +1,11 @@
 //! A plain bus.
 
-ghost use Rattle.seq_bus.specs.Served.{IsServedChange};
+ghost use Rattle.seq_bus_core.specs.Served.{IsServedChange};
 
 use crate::changes::{CHANGES, change, clock, reply};
+use bus_view::{AskFault, Asked, Cause, can_open};
 use owner_queues::Profile;
-use seq_bus::{AskFault, Asked, Cause, SeqBus, can_open};
+use seq_bus::SeqBus;
 use seq_bus_core::{Change, Conn, Query, Reply};
 use std::alloc::Global;
 

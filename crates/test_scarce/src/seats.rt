@@ -1,11 +1,11 @@
 //! A registry, changed over the seats of two routers.
 
-ghost use Rattle.registry.specs.Served.{IsServedChange};
+ghost use Rattle.seq_bus_core.specs.Served.{IsServedChange};
 
 use crate::changes::{CHANGES, change, clock, maker, reply};
+use bus_view::Cause;
 use names::BusName;
-use owner_queues::Profile;
-use registry_snapshots::{Cause, Naming, Seat, Serve, Shared, StartFault, start};
+use registry_snapshots::{Naming, Seat, Serve, Shared, StartFault, start};
 use seq_bus_core::{Change, Conn, Reply};
 use std::alloc::Global;
 use std::sync::Wait;
@@ -19,9 +19,9 @@ const SECOND: Conn = Conn {
 
 /// Whether a registry is opened, changed and read as it should be.
 pub fn are_answered<R: Wait>(rt: &R, alloc: Global) -> Option<bool> {
-    let served = start(rt, alloc, &[], 2, Profile::One, Changes { rt });
+    let served = start(rt, alloc, &[], 2, Changes { rt });
     if let Err(StartFault::NoMemory) = served {
-        start(rt, alloc, &[], 2, Profile::One, Changes { rt }).ok()?
+        start(rt, alloc, &[], 2, Changes { rt }).ok()?
     } else {
         served.ok()?
     }
@@ -35,12 +35,12 @@ struct Changes<'a, R> {
 
 impl<'a, R: Wait> Serve for Changes<'a, R> {
     ghost use Rattle.std.specs.Prelude.{[]};
-    ghost use Rattle.owner_queues.specs.declared.request.Profile.TheVariants.{One};
+    ghost use Rattle.owner_queues.specs.declared.request.Profile.TheVariants.{Two};
     ghost use Rattle.seq_bus_core.specs.Tickets.{opening_bus};
 
     type Out = Option<bool>;
 
-    ghost bus = { λ s. opening_bus One 2 [] };
+    ghost bus = { λ s. opening_bus Two 2 [] };
 
     fn serve<J: Naming + Send + Sync>(
         self,

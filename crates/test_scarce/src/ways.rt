@@ -1,10 +1,9 @@
 //! The outboxes of a registry of two routers.
 
-use desk::Note;
-use envelopes::{Content, Envelope, SharedBytes};
 use outbox::{EnvelopeOf, Lane, Outboxes, Tap};
-use owner_queues::Profile;
-use registry_snapshots::{Naming, Seat, Serve, Shared, StartFault, start};
+use outbox_core::{Content, Envelope};
+use registry_snapshots::{Naming, Note, Seat, Serve, Shared, StartFault, start};
+use seq_bus_core::SharedBytes;
 use std::alloc::{AllocError, Global};
 use std::sync::{Arc, Wait};
 
@@ -13,9 +12,9 @@ const LAST: usize = 255;
 
 /// Whether outboxes are opened, and bring an envelope from a seat to a place, as they should.
 pub fn are_opened<R: Wait>(rt: &R, alloc: Global) -> Option<bool> {
-    let served = start(rt, alloc, &[], 2, Profile::One, Ways { rt, alloc });
+    let served = start(rt, alloc, &[], 2, Ways { rt, alloc });
     if let Err(StartFault::NoMemory) = served {
-        start(rt, alloc, &[], 2, Profile::One, Ways { rt, alloc }).ok()?
+        start(rt, alloc, &[], 2, Ways { rt, alloc }).ok()?
     } else {
         served.ok()?
     }
@@ -30,21 +29,21 @@ struct Ways<'a, R> {
 
 impl<'a, R: Wait> Serve for Ways<'a, R> {
     ghost use Rattle.std.specs.Prelude.{[]};
-    ghost use Rattle.owner_queues.specs.declared.request.Profile.TheVariants.{One};
+    ghost use Rattle.owner_queues.specs.declared.request.Profile.TheVariants.{Two};
     ghost use Rattle.seq_bus_core.specs.Tickets.{opening_bus};
 
     type Out = Option<bool>;
 
-    ghost bus = { λ s. opening_bus One 2 [] };
+    ghost bus = { λ s. opening_bus Two 2 [] };
 
     fn serve<J: Naming + Send + Sync>(
         self,
         shared: Shared<J>,
         seats: Vec<Seat<J>>,
     ) -> Option<bool> {
-        let made = match Outboxes::new(self.alloc, &shared, 2) {
+        let made = match Outboxes::new(self.alloc, &shared) {
             Ok(made) => Ok(made),
-            Err(AllocError) => Outboxes::new(self.alloc, &shared, 2),
+            Err(AllocError) => Outboxes::new(self.alloc, &shared),
         };
         shared.end(self.rt);
         let (lanes, taps) = made.ok()?;

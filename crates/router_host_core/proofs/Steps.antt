@@ -1,0 +1,63 @@
+-- Steps, one after the other.
+use Rattle.std.proofs.Common.{◌≡◌, ℕ, ◌+◌, ◌<◌, ◌≤◌, Bool, true, false, not, List, [], ◌∷◌, ◌++◌, length, get_or, take, filter, if◌then◌else◌, reverse, refl, sym, ap, ◌∙◌, subst, append-nil, append_assoc}
+use Rattle.std.proofs.lemmas.List.{take_more, take_all, reverse-append}
+use Rattle.std.proofs.lemmas.List.Elements.{filter-append}
+use Rattle.std.specs.List.{AllByRecursion}
+use Rattle.seq_bus_core.specs.Steps.{is_among}
+use Rattle.seq_bus_core.specs.declared.connection.Conn.{Conn}
+use Rattle.router_core.specs.Deeds.{all_of}
+use Rattle.router_host_core.specs.Carrying.{Each}
+
+module _ {X S : Type 0} (step : X → S → S → Type 0) where
+  pub each_then : (xs ys : List X) (a b c : S) → Each step xs a b → Each step ys b c → Each step (xs ++ ys) a c
+  each_then [] ys a b c f g = subst (λ (s : S). Each step ys s c) f g
+  each_then (x ∷ xs) ys a b c f g = (f.0, f.1, each_then xs ys f.0 b c f.2 g)
+
+  pub each_more : (xs : List X) (i : ℕ) (x d : X) → i < length xs → x ≡ get_or xs i d → (a b c : S) → Each step (take i xs) a b → step x b c →
+      Each step (take (i + 1) xs) a c
+  each_more xs i x d inside is a b c f g =
+      subst (λ (l : List X). Each step l a c) (sym (take_more xs i d inside))
+      (each_then (take i xs) (get_or xs i d ∷ []) a b c f (subst (λ (y : X). Each step (y ∷ []) b c) is (c, g, refl)))
+
+  pub each_ends : (xs : List X) (i : ℕ) → length xs ≤ i → (a b : S) → Each step (take i xs) a b → Each step xs a b
+  each_ends xs i over a b f = subst (λ (l : List X). Each step l a b) (take_all i xs over) f
+
+-- ## From the last to the first, which lies at the end
+
+-- whatever the rest comes to, all come to
+abbrev pub Finishes : {X S : Type 0} → (X → S → S → Type 0) → (rest all : List X) → (now before : S) → Type 0
+Finishes {S = S} step rest all now before = (after : S) → Each step rest now after → Each step all before after
+
+last_first : {X : Type 0} (older rest : List X) (x : X) → older ≡ rest ++ x ∷ [] → reverse older ≡ x ∷ reverse rest
+last_first older rest x is = ap reverse is ∙ reverse-append rest (x ∷ [])
+
+pub finish_more : {X S : Type 0} (step : X → S → S → Type 0) (older rest all : List X) (x : X) → older ≡ rest ++ x ∷ [] → (a b before : S) → Finishes step (reverse older) all a before → step x a b →
+    Finishes step (reverse rest) all b before
+finish_more step older rest all x is a b before f s after e = f after (subst (λ l. Each step l a after) (sym (last_first older rest x is)) (b, s, e))
+
+pub own_more : {X : Type 0} (Q : X → Type 0) (older rest : List X) (x : X) → older ≡ rest ++ x ∷ [] → AllByRecursion Q (reverse older) → Q x × AllByRecursion Q (reverse rest)
+own_more Q older rest x is own = subst (AllByRecursion Q) (last_first older rest x is) own
+
+-- ## To the recipients, and then to the monitors that are none of them
+
+module _ {S : Type 0} (step : Conn → S → S → Type 0) (to monitors : List Conn) (i : ℕ) (x d : Conn) (inside : i < length monitors) (is : x ≡ get_or monitors i d) where
+  abbrev others : List Conn → List Conn
+  others conns = filter (λ (m : Conn). not (is_among to m)) conns
+
+  all_more : all_of to (take (i + 1) monitors) ≡ all_of to (take i monitors) ++ others (x ∷ [])
+  all_more =
+      ap (all_of to) (take_more monitors i d inside)
+      ∙ ap (λ (l : List Conn). to ++ l) (filter-append (λ (m : Conn). not (is_among to m)) (take i monitors) (get_or monitors i d ∷ []))
+      ∙ sym (append_assoc to (others (take i monitors)) (others (get_or monitors i d ∷ [])))
+      ∙ ap (λ (y : Conn). all_of to (take i monitors) ++ others (y ∷ [])) (sym is)
+
+  pub shown_more : is_among to x ≡ false → (a b c : S) → Each step (all_of to (take i monitors)) a b → step x b c → Each step (all_of to (take (i + 1) monitors)) a c
+  shown_more other a b c f g =
+      let one : others (x ∷ []) ≡ x ∷ [] = ap (λ (k : Bool). if not k then x ∷ [] else []) other in
+      subst (λ (l : List Conn). Each step l a c) (sym (all_more ∙ ap (λ (l : List Conn). all_of to (take i monitors) ++ l) one))
+      (each_then step (all_of to (take i monitors)) (x ∷ []) a b c f (c, g, refl))
+
+  pub shown_to_recipient : is_among to x ≡ true → (a b : S) → Each step (all_of to (take i monitors)) a b → Each step (all_of to (take (i + 1) monitors)) a b
+  shown_to_recipient recipient a b f =
+      let none : others (x ∷ []) ≡ [] = ap (λ (k : Bool). if not k then x ∷ [] else []) recipient in
+      subst (λ (l : List Conn). Each step l a b) (sym (all_more ∙ ap (λ (l : List Conn). all_of to (take i monitors) ++ l) none ∙ append-nil (all_of to (take i monitors)))) f

@@ -1,0 +1,106 @@
+-- What becomes of the actions of an event.
+use Rattle.std.specs.Prelude.{◌≡◌, ◌⊎◌, ℕ, Bool, true, false, Option, Some, None, List, [], ◌∷◌, ◌++◌, slice_index_or, slice_set}
+use Rattle.seq_bus_core.specs.declared.connection.Conn.{Conn}
+use Rattle.seq_bus_core.specs.declared.signal.AddressedSignal.{AddressedSignal}
+use Rattle.outbox_core.specs.declared.content.Content.{Content}
+use Rattle.outbox_core.specs.declared.content.Content.TheVariants.{Own}
+use Rattle.outbox_core.specs.declared.envelope.Envelope.{Envelope}
+use Rattle.outbox_core.specs.declared.own_message.OwnMessage.TheVariants.{Signal}
+use Rattle.router_core.specs.declared.action.Action.{Action}
+use Rattle.router_core.specs.declared.action.Action.TheVariants.{Write, Put, Announce, Close, Run}
+use Rattle.router_core.specs.Deeds.{all_of}
+use Rattle.router_host_core.specs.declared.ending.EndCause.{EndCause}
+use Rattle.router_host_core.specs.declared.ending.EndCause.TheVariants.{Closed, NoMemory}
+use Rattle.router_host_core.specs.States.{LineState, Carried, ended_by}
+
+-- a step for each of these, one after the other
+abbrev pub Each : {X S : Type 0} → (X → S → S → Type 0) → List X → S → S → Type 0
+Each step [] before after = after ≡ before
+Each {S = S} step (x ∷ xs) before after =
+    (between : S) × step x before between × Each step xs between after
+
+-- ## Connections
+
+abbrev pub line_at : List (Option LineState) → ℕ → Option LineState
+line_at lines key = slice_index_or lines key None
+
+abbrev pub with_line : List (Option LineState) → ℕ → LineState → List (Option LineState)
+with_line lines key l = slice_set lines key (Some l)
+
+-- The bytes stand behind those that wait. Where bytes were lost before, nothing follows them; where there is no memory for these, they
+-- are lost, and the connection is over.
+abbrev pub IsWritten : LineState → List ℕ → LineState → Type 0
+IsWritten before bytes after = written before.broken
+  where
+    written : Bool → Type 0
+    written true = after ≡ before
+    written false =
+        (after ≡ record before { waits = before.waits ++ bytes })
+        ⊎ (after ≡ ended_by NoMemory (record before { broken = true }))
+
+-- what is written to the connection of a key is written to no other
+abbrev pub IsWrittenAt : List (Option LineState) → ℕ → List ℕ → Option LineState →
+    List (Option LineState) → Type 0
+IsWrittenAt before key bytes None after = after ≡ before
+IsWrittenAt before key bytes (Some l) after =
+    (written : LineState) × IsWritten l bytes written × (after ≡ with_line before key written)
+
+abbrev pub ended_at : List (Option LineState) → ℕ → EndCause → Option LineState →
+    List (Option LineState)
+ended_at lines key cause None = lines
+ended_at lines key cause (Some l) = with_line lines key (ended_by cause l)
+
+-- its socket took no more bytes
+abbrev pub IsBlockedAt : List (Option LineState) → ℕ → Type 0
+IsBlockedAt lines key = (l : LineState) × (line_at lines key ≡ Some l) × (l.blocked ≡ true)
+
+-- ## Mail
+
+abbrev pub envelope_for : {N : Type 0} → Option N → Content → Conn → Envelope N
+envelope_for note content conn = record { number = conn.number; note = note; content = content }
+
+module _ {P N : Type 0} (puts : P → Conn → Envelope N → P → Type 0) where
+  -- It is noted that the connection took no more mail.
+  abbrev pub IsRefused : Conn → Carried P → Carried P → Type 0
+  IsRefused conn before after =
+      after ≡ record before { full = slice_set before.full conn.slot (Some conn) }
+
+  -- An envelope for the connection is put, or it is refused. Where there is no message, for want of memory, it is refused.
+  abbrev pub IsPut : Option N → Option Content → Conn → Carried P → Carried P → Type 0
+  IsPut carried None conn before after = IsRefused conn before after
+  IsPut carried (Some content) conn before after =
+      ((post : P) × puts before.post conn (envelope_for carried content conn) post
+      × (after ≡ record before { post = post }))
+      ⊎ IsRefused conn before after
+
+  -- to the recipients, and to the monitors that are none of them
+  abbrev pub ArePut : Option N → Option Content → List Conn → List Conn → Carried P → Carried P →
+      Type 0
+  ArePut note content to monitors before after =
+      Each (IsPut note content) (all_of to monitors) before after
+
+  -- a signal; there may be no memory for it
+  abbrev pub IsAnnounced : Option N → AddressedSignal → Carried P → Carried P → Type 0
+  IsAnnounced note s before after =
+      ArePut note (Some (Own (Signal s.signal))) s.to s.monitors before after
+      ⊎ ArePut note None s.to s.monitors before after
+
+  -- ## Actions
+
+  abbrev pub IsCarriedOut : Action N → Carried P → Carried P → Type 0
+  IsCarriedOut (Write key bytes) before after =
+      (lines : List (Option LineState))
+      × IsWrittenAt before.lines key bytes (line_at before.lines key) lines
+      × (after ≡ record before { lines = lines })
+  IsCarriedOut (Put to carried content) before after =
+      ArePut carried (Some content) to.to to.monitors before after
+  IsCarriedOut (Announce signals carried) before after =
+      Each (IsAnnounced carried) signals before after
+  IsCarriedOut (Close key cause) before after =
+      after ≡ record before
+      { lines = ended_at before.lines key (Closed cause) (line_at before.lines key) }
+  IsCarriedOut (Run name start) before after = after ≡ before
+
+  -- Each of the actions is carried out, in order, and nothing else is done.
+  abbrev pub AreCarriedOut : List (Action N) → Carried P → Carried P → Type 0
+  AreCarriedOut actions before after = Each IsCarriedOut actions before after

@@ -1,0 +1,310 @@
+//! The connections of a router.
+
+ghost use Rattle.std.specs.Prelude.{◌≡◌, [], true};
+ghost use Rattle.router_host_core.specs.Carrying.{line_at, IsWrittenAt, ended_at, IsBlockedAt};
+
+use crate::ending::EndCause;
+use crate::hints::{Hints, Todo};
+use crate::line::{Line, Pulled};
+use crate::socket::Socket;
+use router_core::WrittenBytes;
+use std::alloc::{AllocError, Global};
+use std::marker::Model;
+
+/// The connections of a router by their keys, and which of them are to be looked at.
+#[derive(Drop)]
+pub struct Lines<S: Socket> {
+    alloc: Global,
+    table: Vec<Option<Line<S>>>,
+    /// Those to be served.
+    ready: Hints,
+    /// Those to be flushed.
+    dirty: Hints,
+    /// Those that are over.
+    over: Hints,
+}
+
+impl<S: Socket> Model for Lines<S> {
+    ghost use Rattle.std.specs.Prelude.{List, Option};
+    ghost use Rattle.router_host_core.specs.States.{LineState};
+
+    ghost Value = { List (Option LineState) };
+
+    ghost view = { λ l. l.table.items };
+}
+
+impl<S: Socket> Lines<S> {
+    /// No connections.
+    pub fn new(alloc: Global) -> Lines<S>
+        ensures { result ≡ [] }
+    {
+        Lines {
+            alloc,
+            table: Vec::new(alloc),
+            ready: Hints::new(alloc),
+            dirty: Hints::new(alloc),
+            over: Hints::new(alloc),
+        }
+    }
+
+    /// The keys are below this.
+    pub fn len(&self) -> usize {
+        self.table.len()
+    }
+
+    /// Whether nothing is to be looked at.
+    pub fn is_quiet(&self) -> bool {
+        self.ready.is_empty() && self.dirty.is_empty() && self.over.is_empty()
+    }
+
+    /// The socket of a connection.
+    pub fn socket(&self, key: usize) -> Option<&S> {
+        match self.table.get(key) {
+            Some(Some(line)) => Some(line.socket()),
+            _ => None,
+        }
+    }
+
+    /// Makes room for the connection of a key.
+    pub fn make_room(&mut self, key: usize) -> Result<(), AllocError> {
+        for _key in self.table.len()..key.saturating_add(1) {
+            self.table.push(None)?;
+        }
+        Ok(())
+    }
+
+    /// A connection came, which there is room for.
+    pub fn open(&mut self, key: usize, socket: S) {
+        let alloc = self.alloc;
+        if key < self.table.len() {
+            self.table[key] = Some(Line::new(alloc, socket));
+            self.ready.add(key);
+        }
+    }
+
+    /// The socket of a connection may be read.
+    pub fn note_readable(&mut self, key: usize, closing: bool)
+        ensures { self.new ≡ self.old }
+    {
+        if key >= self.table.len() {
+            return;
+        }
+        if let Some(line) = &mut self.table[key] {
+            line.note_readable(closing);
+            if line.list() {
+                self.ready.add(key);
+            }
+        }
+    }
+
+    /// The socket of a connection takes bytes again. Tells its slot, which mail may wait for.
+    pub fn note_writable(&mut self, key: usize) -> Option<u16> {
+        if key >= self.table.len() {
+            return None;
+        }
+        let Some(line) = &mut self.table[key] else {
+            return None;
+        };
+        if !line.is_blocked() {
+            return None;
+        }
+        line.unblock();
+        if line.soil() {
+            self.dirty.add(key);
+        }
+        line.slot()
+    }
+
+    /// All are to be looked at.
+    pub fn note_all(&mut self)
+        ensures { self.new ≡ self.old }
+    {
+        self.ready.add_all();
+        self.dirty.add_all();
+        self.over.add_all();
+    }
+
+    /// Those to be served, who are then no longer among them.
+    pub fn take_ready(&mut self) -> Todo
+        ensures { self.new ≡ self.old }
+    {
+        self.ready.take()
+    }
+
+    /// Those that are over, who are then no longer among them.
+    pub fn take_over(&mut self) -> Todo
+        ensures { self.new ≡ self.old }
+    {
+        self.over.take()
+    }
+
+    /// Whether the connection of a key is to be served now, which may have a name.
+    pub fn begin(&mut self, key: usize, named: bool) -> bool
+        ensures { self.new ≡ self.old }
+    {
+        if key >= self.table.len() {
+            return false;
+        }
+        match &mut self.table[key] {
+            Some(line) => line.begin(named),
+            None => false,
+        }
+    }
+
+    /// Reads from the socket of a connection, once.
+    pub fn pull(&mut self, key: usize, room: &mut [u8]) -> Pulled
+        ensures { self.new ≡ self.old }
+    {
+        if key >= self.table.len() {
+            return Pulled::Nothing;
+        }
+        match &mut self.table[key] {
+            Some(line) => line.pull(room),
+            None => Pulled::Nothing,
+        }
+    }
+
+    /// A connection was served. It is to be served again where it has more.
+    pub fn serve_again(&mut self, key: usize, has_more: bool)
+        ensures { self.new ≡ self.old }
+    {
+        if key >= self.table.len() {
+            return;
+        }
+        if let Some(line) = &mut self.table[key] {
+            let goes_on = has_more || line.is_readable();
+            if goes_on && line.list() {
+                self.ready.add(key);
+            }
+        }
+    }
+
+    /// Bytes are written to a connection.
+    pub fn write(&mut self, key: usize, bytes: WrittenBytes)
+        ensures { IsWrittenAt self.old key bytes (line_at self.old key) self.new }
+    {
+        if key >= self.table.len() {
+            return;
+        }
+        let Some(line) = &mut self.table[key] else {
+            return;
+        };
+        let was_over = line.ended().is_some();
+        line.write(bytes);
+        let is_over = line.ended().is_some();
+        let is_new = line.soil();
+        if is_over && !was_over {
+            self.over.add(key);
+        }
+        if is_new {
+            self.dirty.add(key);
+        }
+    }
+
+    /// A connection is over.
+    pub fn end(&mut self, key: usize, cause: EndCause)
+        ensures { self.new ≡ ended_at self.old key cause (line_at self.old key) }
+    {
+        if key >= self.table.len() {
+            return;
+        }
+        if let Some(line) = &mut self.table[key] {
+            let was_over = line.ended().is_some();
+            line.end(cause);
+            if !was_over {
+                self.over.add(key);
+            }
+        }
+    }
+
+    /// Whether mail for a connection is to wait until its socket takes bytes again.
+    pub fn is_blocked(&self, key: usize) -> bool
+        ensures { IsBlockedAt self.now key → result ≡ true }
+    {
+        match self.table.get(key) {
+            Some(Some(line)) => line.is_blocked(),
+            _ => false,
+        }
+    }
+
+    /// Whether enough bytes wait for the socket of a connection.
+    pub fn has_enough(&self, key: usize) -> bool {
+        match self.table.get(key) {
+            Some(Some(line)) => line.has_enough(),
+            _ => false,
+        }
+    }
+
+    /// A connection has a name, and this slot.
+    pub fn know_slot(&mut self, key: usize, slot: u16)
+        ensures { self.new ≡ self.old }
+    {
+        if key >= self.table.len() {
+            return;
+        }
+        if let Some(line) = &mut self.table[key] {
+            line.know_slot(slot);
+        }
+    }
+
+    /// Gives the sockets what waits for them.
+    pub fn flush_all(&mut self) {
+        match self.dirty.take() {
+            Todo::All => {
+                for key in 0..self.table.len() {
+                    self.flush(key);
+                }
+            }
+            Todo::Keys(keys) => {
+                for key in &keys {
+                    self.flush(*key);
+                }
+                self.dirty.give_back(keys);
+            }
+        }
+    }
+
+    fn flush(&mut self, key: usize) {
+        if key >= self.table.len() {
+            return;
+        }
+        let Some(line) = &mut self.table[key] else {
+            return;
+        };
+        let was_over = line.ended().is_some();
+        line.flush();
+        if line.ended().is_some() && !was_over {
+            self.over.add(key);
+        }
+        if line.is_released() && line.list() {
+            self.ready.add(key);
+        }
+    }
+
+    /// Takes back the room of keys that were served.
+    pub fn give_back_ready(&mut self, keys: Vec<usize>)
+        ensures { self.new ≡ self.old }
+    {
+        self.ready.give_back(keys);
+    }
+
+    /// Takes back the room of keys that were over.
+    pub fn give_back_over(&mut self, keys: Vec<usize>)
+        ensures { self.new ≡ self.old }
+    {
+        self.over.give_back(keys);
+    }
+
+    /// Lets go of the connection of a key, where it is over. Tells why.
+    pub fn let_go(&mut self, key: usize) -> Option<EndCause> {
+        if key >= self.table.len() {
+            return None;
+        }
+        let Some(line) = &self.table[key] else {
+            return None;
+        };
+        let cause = line.ended()?;
+        self.table[key] = None;
+        Some(cause)
+    }
+}

@@ -1,0 +1,52 @@
+//! The ways between routers.
+
+ghost use Rattle.std.specs.Prelude.{◌≡◌, IfErr, IfSome, OnOk, OnErr};
+ghost use Rattle.router_core.specs.Deeds.{IsOwnNote};
+
+use bus_view::BusView;
+use outbox_core::Envelope;
+use seq_bus_core::Conn;
+
+/// An envelope that there was no room for.
+#[derive(Drop)]
+pub struct Full<N: Drop>(pub Envelope<N>);
+
+/// The ways between the routers of a bus, as one of them uses them. All notes on them are of one registry.
+pub trait Post<V: BusView>: Drop {
+    ghost use Rattle.std.specs.Prelude.{ℕ};
+    ghost use Rattle.outbox_core.specs.declared.envelope.Envelope.{Envelope};
+    ghost use Rattle.seq_bus_core.specs.declared.connection.Conn.{Conn};
+
+    /// The registry that the notes are of.
+    ghost registry: { Self → ℕ };
+
+    /// What it may be once an envelope for a connection was put.
+    ghost puts: { Self → Conn → Envelope V.Note → Self → Type 0 };
+
+    /// Puts an envelope for a connection of whatever router. Where there is no room for it, it comes back.
+    fn put(
+        &mut self,
+        right: &V::Right,
+        to: Conn,
+        envelope: Envelope<V::Note>,
+    ) -> Result<(), Full<V::Note>>
+        requires { IsOwnNote V.registry_of (registry self.old) envelope.note }
+        ensures registry { registry self.new ≡ registry self.old }
+        ensures put { OnOk result (puts self.old to envelope self.new) }
+        ensures refused { OnErr result (self.new ≡ self.old) }
+        ensures back { IfErr result (λ full. full.0 ≡ envelope) };
+
+    /// The envelope that came first of those for a slot of this router.
+    fn take(&mut self, right: &V::Right, slot: u16) -> Option<Envelope<V::Note>>
+        ensures registry { registry self.new ≡ registry self.old }
+        ensures own { IfSome result (λ envelope.
+            IsOwnNote V.registry_of (registry self.old) envelope.note) };
+
+    /// Tells the router of a connection that it took no more mail, and has left the bus.
+    fn look(&mut self, right: &V::Right, at: Conn)
+        ensures { registry self.new ≡ registry self.old };
+
+    /// A turn ends: whoever something was put for may be woken.
+    fn turn_ends(&mut self, right: &V::Right)
+        ensures { registry self.new ≡ registry self.old };
+}

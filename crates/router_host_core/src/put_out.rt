@@ -1,0 +1,68 @@
+//! Who is to be put out.
+
+ghost use Rattle.std.specs.Prelude.{◌≡◌, slice_set, Some};
+
+use seq_bus_core::Conn;
+use std::marker::Model;
+
+/// How many slots a bus has.
+pub const SLOTS: usize = 256;
+
+/// The connections that took no more mail, one of each slot at most. A slot whose connection is another was given to another since.
+#[derive(Drop)]
+pub struct PutOut {
+    conns: [Option<Conn>; SLOTS],
+    any: bool,
+}
+
+impl Model for PutOut {
+    ghost use Rattle.std.specs.Prelude.{◌≡◌, List, Option, length};
+    ghost use Rattle.seq_bus_core.specs.declared.connection.Conn.{Conn};
+
+    ghost Value = { List (Option Conn) };
+
+    ghost view = { λ p. p.conns };
+
+    ghost invariant = { λ p. length p.conns ≡ 256 };
+}
+
+impl PutOut {
+    /// Nobody.
+    pub fn new() -> PutOut {
+        PutOut {
+            conns: [None; SLOTS],
+            any: false,
+        }
+    }
+
+    /// A connection took no more mail.
+    pub fn add(&mut self, conn: Conn)
+        ensures { self.new ≡ slice_set self.old conn.slot (Some conn) }
+    {
+        let slot = usize::from(conn.slot);
+        if slot < self.conns.len() {
+            self.conns[slot] = Some(conn);
+            self.any = true;
+        }
+    }
+
+    /// Whether there is nobody.
+    pub fn is_empty(&self) -> bool {
+        !self.any
+    }
+
+    /// One of them, who is then no longer among them.
+    pub fn take(&mut self) -> Option<Conn> {
+        if !self.any {
+            return None;
+        }
+        for slot in 0..SLOTS {
+            if let Some(conn) = self.conns[slot] {
+                self.conns[slot] = None;
+                return Some(conn);
+            }
+        }
+        self.any = false;
+        None
+    }
+}

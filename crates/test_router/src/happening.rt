@@ -1,0 +1,57 @@
+//! What happens to an engine.
+
+use crate::words::Words;
+use anyhow::{Result, bail, ensure};
+use outbox_core::{Content, Envelope};
+use router_core::Event;
+use seq_bus_core::Conn;
+use std::alloc::Global;
+use test_support::messages::HELLO;
+use test_support::unescaped;
+
+/// What a client is challenged with: the bytes 0 to 15.
+pub const CHALLENGE: [u8; 16] = [0, 1, 2, 3, 4, 5, 6, 7, 8, 9, 10, 11, 12, 13, 14, 15];
+
+/// What a row brings, if that is no mail.
+pub fn event_of(alloc: Global, row: &str) -> Result<Event<()>> {
+    let mut words = Words::of(row);
+    let happens = words.next();
+    let number = words.number();
+    let key = number as usize;
+    Ok(match happens {
+        "opens" => Event::Opened {
+            key,
+            challenge: (words.rest == "asked").then_some(CHALLENGE),
+        },
+        "hello" => Event::Bytes {
+            key,
+            piece: Vec::from_slice(alloc, HELLO)?,
+        },
+        "sends" => Event::Bytes {
+            key,
+            piece: unescaped(alloc, words.rest)?,
+        },
+        "serves" => Event::Next { key },
+        "leaves" => Event::Closed { key },
+        "fills" => Event::Full {
+            number: u64::from(number),
+        },
+        "tick" => Event::Tick,
+        _ => bail!("no such row"),
+    })
+}
+
+/// Mail for a connection: what was in an envelope for nobody, whose note is kept. A plain bus brings nothing by notes.
+pub fn mail(to: Conn, note: Option<()>, content: &Content) -> Result<Event<()>> {
+    let envelope = Envelope {
+        number: 0,
+        note,
+        content: content.again()?,
+    };
+    let envelope = envelope.for_another(to.number)?;
+    ensure!(envelope.note == note, "the note is lost");
+    Ok(Event::Mail {
+        slot: to.slot,
+        envelope,
+    })
+}
