@@ -11,7 +11,7 @@ use Rattle.router_core.specs.Events.{Closed, Next, Occasion, occasion_of}
 use Rattle.router_core.specs.Fronts.{Waits}
 use Rattle.router_core.specs.OneThread.{AreReadBy, Readers, Rest, given}
 use Rattle.router_core.specs.Standing.{Peer, Stage, Authenticating, Unnamed, Named, Shut, peer_at}
-use Rattle.router_hands.specs.Quiet.{IsQuiet, IsQuietAt}
+use Rattle.router_steps.specs.Quiet.{IsQuiet, IsQuietAt}
 use Rattle.router.specs.OneEvent.{rest_in}
 use Rattle.router.proofs.Feeding.{authenticating_given, none_given, shut_given, waiting_given}
 use Rattle.router.proofs.Grants.{granted_parts, read_parts}

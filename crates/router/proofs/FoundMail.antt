@@ -6,8 +6,8 @@ use Rattle.router_core.specs.Deeds.{GatedCall}
 use Rattle.router_core.specs.Events.{write, for_slot, mail_found, noted}
 use Rattle.router_core.specs.Scripts.{Gives, World, Comes}
 use Rattle.router_core.specs.Standing.{Peer, Standing, peer_at, with_peer}
-use Rattle.router_hands.specs.Noting.{once_noted, IsHeeded}
-use Rattle.router_hands.proofs.Sequels.{comes_then}
+use Rattle.router_steps.specs.Noting.{once_noted, IsHeeded}
+use Rattle.router_steps.proofs.Sequels.{comes_then}
 
 module _ {N G : Type 0} (told : N → History) (registry_of : N → ℕ) (passes : G → GatedCall → G → Type 0) (alone : Bool) (held : Option History) (w m : World N G) where
   -- nobody has the slot and the number

@@ -21,7 +21,7 @@ use Rattle.router_core.specs.Fronts.{Whole, IsFront}
 use Rattle.router_core.specs.Scripts.{Gives, Doing, Announcing, World, Comes, and_then}
 use Rattle.router_core.specs.Serving.{reply_with}
 use Rattle.router_core.specs.Standing.{Peer, Standing, Stage, Named, Unnamed, peer_at, with_peer, has_slot, shut}
-use Rattle.router_hands.specs.Reading.{IsRest}
+use Rattle.router_steps.specs.Reading.{IsRest}
 
 -- where the one that is replaced and what replaces it are told apart by no test, the same place is found
 position_same : {A : Type 0} (test : A → Bool) (xs : List A) (k : ℕ) (y d : A) → test y ≡ test (get_or xs k d) → position test (set xs k y) ≡ position test xs

@@ -11,8 +11,8 @@ use Rattle.router_core.specs.Deeds.{GatedCall}
 use Rattle.router_core.specs.Events.{OfPeer, closing, for_slot, for_peer, close_found, close_former, welcome, turn_away, greeted_by}
 use Rattle.router_core.specs.Scripts.{Gives, World, Comes, and_then}
 use Rattle.router_core.specs.Standing.{Stage, Authenticating, Unnamed, Named, Shut, Peer, Standing, SpeaksDBus, peer_at, with_peer, has_slot}
-use Rattle.router_hands.proofs.Hellos.{for_there}
-use Rattle.router_hands.proofs.Sequels.{comes_then}
+use Rattle.router_steps.proofs.Hellos.{for_there}
+use Rattle.router_steps.proofs.Sequels.{comes_then}
 use Rattle.router.specs.Indexed.{IsUnnamed}
 use Rattle.router.specs.Welcomes.{welcomed}
 

@@ -29,8 +29,8 @@ use Rattle.router_core.specs.Fronts.{Front, Waits, Whole, Faulty}
 use Rattle.router_core.specs.Scripts.{Gives, Routing, Announcing, World, Comes, and_then}
 use Rattle.router_core.specs.Serving.{monitors_in, reply_with, serve}
 use Rattle.router_core.specs.Standing.{Peer, Standing, Stage, Authenticating, Unnamed, Named, Shut, peer_at, with_peer, next_serial, has_slot, shut}
-use Rattle.router_hands.specs.Noting.{once_noted}
-use Rattle.router_hands.specs.Refusing.{hello_of}
+use Rattle.router_steps.specs.Noting.{once_noted}
+use Rattle.router_steps.specs.Refusing.{hello_of}
 use Rattle.router.proofs.Endings.{AllGive, given, then_give, all_give, weaker_give, if_give, putting_give}
 use Rattle.router.proofs.Indexing.{Keeps, KeepsAll}
 

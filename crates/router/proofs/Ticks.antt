@@ -5,7 +5,7 @@ use Rattle.router_core.specs.Deeds.{GatedCall}
 use Rattle.router_core.specs.Events.{leave_all, look_all, look_at_all, tick}
 use Rattle.router_core.specs.Scripts.{Gives, World, Comes}
 use Rattle.router_core.specs.Standing.{Peer, Standing}
-use Rattle.router_hands.proofs.Sequels.{comes_then}
+use Rattle.router_steps.proofs.Sequels.{comes_then}
 
 module _ {N G : Type 0} (told : N → History) (registry_of : N → ℕ) (passes : G → GatedCall → G → Type 0) (alone : Bool) (w m v : World N G) where
   -- the Leaves, then the connections

@@ -6,8 +6,8 @@ ghost use Rattle.router_core.specs.Answers.{error_for, refusal_of};
 ghost use Rattle.router_core.specs.Events.{refuse_with, turn_away, for_peer, close_former, welcome, greeted, greeted_by, greet};
 ghost use Rattle.router_core.specs.Scripts.{Comes};
 ghost use Rattle.router_core.specs.Standing.{next_serial, has_slot};
-ghost use Rattle.router_hands.specs.Hearing.{heard_change};
-ghost use Rattle.router_hands.specs.Refusing.{IsRefusal, AreRefusals};
+ghost use Rattle.router_steps.specs.Hearing.{heard_change};
+ghost use Rattle.router_steps.specs.Refusing.{IsRefusal, AreRefusals};
 ghost use Rattle.router.specs.Indexed.{slot_count, IsIndexed, IsUnnamed, IsVacant};
 ghost use Rattle.router.specs.Welcomes.{welcomed};
 
@@ -17,7 +17,7 @@ use driver::Call;
 use message_core::Message;
 use outbox_core::ReplyContent;
 use router_core::{Gate, WrittenBytes};
-use router_hands::{HelloErrors, Peer, Stage};
+use router_steps::{HelloErrors, Peer, Stage};
 use seq_bus_core::{Change, Conn, ErrorKind, Outcome, Reply};
 
 /// The connection that is welcome.
@@ -95,7 +95,7 @@ impl<V: BusView, G: Gate> Served<V, G> {
         ensures vacant { IsVacant conn.slot self.new.standing.peers }
     {
         match find_slot(&self.peers, &self.places, conn.slot) {
-            Some(key) => self.hands.close_left(key, &mut self.peers[key]),
+            Some(key) => self.context.close_left(key, &mut self.peers[key]),
             None => {}
         }
     }
@@ -111,9 +111,9 @@ impl<V: BusView, G: Gate> Served<V, G> {
             (welcome key (said hello.now) peer outcome conn self.old.standing) self.old.work.world
             self.new.standing self.new.work.world }
     {
-        self.hands
+        self.context
             .reply_with(hello, conn, ReplyContent::UniqueName(conn.number));
-        self.hands.announce(outcome.signals);
+        self.context.announce(outcome.signals);
         peer.welcome(conn);
         self.peers[key] = Some(peer);
         keep_key(&mut self.places, conn.slot, key);
@@ -138,7 +138,7 @@ impl<V: BusView, G: Gate> Served<V, G> {
             (refuse_with key (said hello.now) (error_for (refusal_of why)))) self.old.work.world
             self.new.standing self.new.work.world }
     {
-        self.hands.refuse_for(key, hello, &mut peer, why, errors);
+        self.context.refuse_for(key, hello, &mut peer, why, errors);
         self.peers[key] = Some(peer);
     }
 
@@ -153,7 +153,7 @@ impl<V: BusView, G: Gate> Served<V, G> {
             (for_peer self.old.standing key (Some peer) (turn_away key (said hello.now)))
             self.old.work.world self.new.standing self.new.work.world }
     {
-        self.hands.turn_away(key, hello, &mut peer, bytes);
+        self.context.turn_away(key, hello, &mut peer, bytes);
         self.peers[key] = Some(peer);
     }
 
@@ -231,8 +231,8 @@ impl<V: BusView, G: Gate> Served<V, G> {
             (greet self.old.standing key (said hello.now) peer privileged) self.old.work.world
             self.new.standing self.new.work.world }
     {
-        self.hands.pass(&Call::Hello);
-        let heard = self.hands.change(right, Change::Hello { privileged });
+        self.context.pass(&Call::Hello);
+        let heard = self.context.change(right, Change::Hello { privileged });
         self.greeted(key, hello, peer, heard, errors);
     }
 }

@@ -12,7 +12,7 @@ use crate::served::{SLOT_COUNT, Served};
 use bus_view::BusView;
 use outbox_core::Envelope;
 use router_core::Gate;
-use router_hands::{Peer, Stage};
+use router_steps::{Peer, Stage};
 use std::alloc::AllocError;
 
 /// Whether this is the connection of this slot and this number. One that was closed is not.
@@ -71,14 +71,14 @@ impl<V: BusView, G: Gate> Served<V, G> {
         ensures err { OnErr result (self.new.standing ≡ self.old.standing) }
         ensures world { OnErr result (self.new.work.world ≡ self.old.work.world) }
     {
-        self.hands.reserve(1)?;
+        self.context.reserve(1)?;
         match find_addressed(&self.peers, &self.places, slot, envelope.number) {
             None => {
-                self.hands.heed(&envelope.note);
+                self.context.heed(&envelope.note);
                 Ok(())
             }
             Some(key) => {
-                self.hands
+                self.context
                     .bring_to(self.alloc, key, &mut self.peers[key], envelope)
             }
         }

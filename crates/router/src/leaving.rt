@@ -8,7 +8,7 @@ ghost use Rattle.router_core.specs.Standing.{peer_at};
 use crate::served::Served;
 use bus_view::BusView;
 use router_core::Gate;
-use router_hands::Peer;
+use router_steps::Peer;
 use std::alloc::AllocError;
 
 /// The connection of a key, which is free from then on.
@@ -35,12 +35,12 @@ impl<V: BusView, G: Gate> Served<V, G> {
         ensures err { OnErr result (self.new.standing ≡ self.old.standing) }
         ensures world { OnErr result (self.new.work.world ≡ self.old.work.world) }
     {
-        self.hands.reserve(1)?;
+        self.context.reserve(1)?;
         self.leaves.reserve(1)?;
         let Some(peer) = take_peer(&mut self.peers, key) else {
             return Ok(());
         };
-        self.hands
+        self.context
             .leave_of(right, peer.stage().conn(), &mut self.leaves);
         Ok(())
     }
@@ -54,9 +54,9 @@ impl<V: BusView, G: Gate> Served<V, G> {
         ensures err { OnErr result (self.new.standing ≡ self.old.standing) }
         ensures world { OnErr result (self.new.work.world ≡ self.old.work.world) }
     {
-        self.hands.reserve(1)?;
+        self.context.reserve(1)?;
         self.leaves.reserve(1)?;
-        self.hands.leave(right, number, &mut self.leaves);
+        self.context.leave(right, number, &mut self.leaves);
         Ok(())
     }
 

@@ -1,7 +1,7 @@
 //! The engine of a router.
 //!
-//! An engine serves connections over any view of a bus. [`Served`] is the table of its connections, with the hands that
-//! serve one connection at a time. Each of its methods serves one event, as `router_core` defines its script.
+//! An engine serves connections over any view of a bus. [`Served`] is the table of its connections, with the context in
+//! which one at a time is served. Each of its methods serves one event, as `router_core` defines its script.
 #![tactic(auto)]
 
 mod engine;

@@ -7,7 +7,7 @@ ghost use Rattle.router.specs.Numbers.{number_in, number_at};
 use crate::served::Served;
 use bus_view::BusView;
 use router_core::Gate;
-use router_hands::{Peer, Stage};
+use router_steps::{Peer, Stage};
 
 /// Whether a connection is there, and has no name yet.
 fn is_unnamed(peer: &Option<Peer>) -> bool

@@ -4,14 +4,14 @@ ghost use Rattle.std.specs.Prelude.{◌≡◌, true, false, IfSome, OnOk, OnErr}
 ghost use Rattle.router_core.specs.Events.{next as coming_next};
 ghost use Rattle.router_core.specs.Scripts.{Comes};
 ghost use Rattle.router_core.specs.Standing.{peer_at};
-ghost use Rattle.router_hands.specs.Quiet.{IsQuiet};
+ghost use Rattle.router_steps.specs.Quiet.{IsQuiet};
 ghost use Rattle.router.specs.Upcoming.{HasNoNext};
 
 use crate::served::Served;
 use bus_view::BusView;
 use router_core::Gate;
-use router_hands::{Greeting, Peer};
 use router_serving::next_in;
+use router_steps::{Greeting, Peer};
 use std::alloc::AllocError;
 
 /// Whether there is something of a connection to be served, if it is there.
@@ -52,11 +52,11 @@ impl<V: BusView, G: Gate> Served<V, G> {
         if key >= self.peers.len() {
             return Ok(());
         }
-        self.hands.reserve(4)?;
-        self.hands.reserve_crowds(2)?;
+        self.context.reserve(4)?;
+        self.context.reserve_crowds(2)?;
         match next_in(
             self.alloc,
-            &mut self.hands,
+            &mut self.context,
             right,
             key,
             &mut self.peers[key],

@@ -5,12 +5,12 @@ ghost use Rattle.std.specs.List.{position_or_len};
 ghost use Rattle.router_core.specs.Events.{hear, for_peer, free_key, IsFree};
 ghost use Rattle.router_core.specs.Scripts.{Comes};
 ghost use Rattle.router_core.specs.Standing.{first_stage, fresh, opened, peer_at};
-ghost use Rattle.router_hands.specs.Stages.{stage_of, IsFirst};
+ghost use Rattle.router_steps.specs.Stages.{stage_of, IsFirst};
 
 use crate::login::Login;
 use bus_view::BusView;
 use router_core::{Action, Gate};
-use router_hands::{Hands, Peer, Stage};
+use router_steps::{Context, Peer, Stage};
 use sasl::Server;
 use std::alloc::{AllocError, Global};
 use std::marker::Model;
@@ -22,7 +22,7 @@ pub(crate) const SLOT_COUNT: usize = 256;
 #[derive(Drop)]
 pub struct Served<V: BusView, G: Gate> {
     pub(crate) alloc: Global,
-    pub(crate) hands: Hands<V, G>,
+    pub(crate) context: Context<V, G>,
     pub(crate) peers: Vec<Option<Peer>>,
     /// The key of the connection that has a slot, if there is one.
     pub(crate) places: [usize; SLOT_COUNT],
@@ -39,7 +39,7 @@ impl<V: BusView, G: Gate> Model for Served<V, G> {
 
     ghost view = { λ s. record {
       standing = record { peers = s.peers.items; leaves = s.leaves.items; login = s.login };
-      work = s.hands;
+      work = s.context;
     } };
 
     ghost invariant = { λ s. IsIndexed s.peers.items s.places };
@@ -81,7 +81,7 @@ impl<V: BusView + Drop, G: Gate + Drop> Served<V, G> {
     {
         Ok(Served {
             alloc,
-            hands: Hands::new(alloc, view, gate)?,
+            context: Context::new(alloc, view, gate)?,
             peers: Vec::new(alloc),
             places: [0; SLOT_COUNT],
             leaves: Vec::new(alloc),
@@ -97,7 +97,7 @@ impl<V: BusView, G: Gate> Served<V, G> {
         ensures world { self.new.work.world ≡ self.old.work.world }
         ensures room { OnOk result (self.new.work.room ≡ count) }
     {
-        self.hands.reserve(count)
+        self.context.reserve(count)
     }
 
     /// Hands out the actions.
@@ -106,7 +106,7 @@ impl<V: BusView, G: Gate> Served<V, G> {
         ensures actions { result.items ≡ self.old.work.world.actions }
         ensures world { self.new.work.world ≡ record self.old.work.world { actions = [] } }
     {
-        self.hands.take_actions()
+        self.context.take_actions()
     }
 
     /// Takes back the actions that it handed out, once they are done.
@@ -114,7 +114,7 @@ impl<V: BusView, G: Gate> Served<V, G> {
         ensures standing { self.new.standing ≡ self.old.standing }
         ensures world { self.new.work.world ≡ self.old.work.world }
     {
-        self.hands.give_back(actions);
+        self.context.give_back(actions);
     }
 
     /// The key of the next connection: the least that none has.
@@ -196,7 +196,7 @@ impl<V: BusView, G: Gate> Served<V, G> {
         if key >= self.peers.len() {
             return Ok(());
         }
-        self.hands.reserve(2)?;
-        self.hands.hear_slot(key, &mut self.peers[key], piece)
+        self.context.reserve(2)?;
+        self.context.hear_slot(key, &mut self.peers[key], piece)
     }
 }

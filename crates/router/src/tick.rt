@@ -19,11 +19,11 @@ impl<V: BusView, G: Gate> Served<V, G> {
         ensures err { OnErr result (self.new.standing ≡ self.old.standing) }
         ensures world { OnErr result (self.new.work.world ≡ self.old.work.world) }
     {
-        self.hands.reserve(self.leaves.len() + self.peers.len())?;
+        self.context.reserve(self.leaves.len() + self.peers.len())?;
         let mut kept = Vec::with_capacity(self.alloc, self.leaves.len())?;
-        self.hands.leave_all(right, &self.leaves, &mut kept);
+        self.context.leave_all(right, &self.leaves, &mut kept);
         self.leaves = kept;
-        self.hands.look_at_all(&mut self.peers);
+        self.context.look_at_all(&mut self.peers);
         Ok(())
     }
 }

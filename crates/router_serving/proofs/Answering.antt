@@ -26,8 +26,8 @@ use Rattle.router_core.specs.Answers.{Heard, Says, Refuses, error_for, unanswere
 use Rattle.router_core.specs.Deeds.{GatedCall}
 use Rattle.router_core.specs.Scripts.{Asking, World, Asks, Passes, Announces, Comes}
 use Rattle.router_core.specs.Serving.{Work, and_stays, stays_open, answer_told, answer_with, answered, err_with, made_by, release_all, request_of, serve_call, serve_reading, serve_request, tell_change}
-use Rattle.router_hands.specs.Hearing.{IsTold}
-use Rattle.router_hands.proofs.Sequels.{comes_then}
+use Rattle.router_steps.specs.Hearing.{IsTold}
+use Rattle.router_steps.proofs.Sequels.{comes_then}
 
 module _ {N G : Type 0} (told : N → History) (registry_of : N → ℕ) (passes : G → GatedCall → G → Type 0) (alone : Bool) where
   -- after the work the connection stays open

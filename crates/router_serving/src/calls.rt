@@ -9,8 +9,8 @@ ghost use Rattle.outbox_core.specs.Answers.{IsAnswerTo};
 ghost use Rattle.router_core.specs.Answers.{Says, error_for as error_for_refusal, refusal_of, unanswered_for};
 ghost use Rattle.router_core.specs.Scripts.{Comes};
 ghost use Rattle.router_core.specs.Serving.{Asks, Makes, and_stays, answered, answer_told as answer_told_in, err_with as erring, made as made_in, request_of as request_in, serve_bus as serving_bus, serve_call as serving_call, serve_reading as serving_reading, serve_request as serving_request, tell_change as telling_change};
-ghost use Rattle.router_hands.specs.Carrying.{answer_of};
-ghost use Rattle.router_hands.specs.Hearing.{heard_change};
+ghost use Rattle.router_steps.specs.Carrying.{answer_of};
+ghost use Rattle.router_steps.specs.Hearing.{heard_change};
 
 use bus_view::{AskFault, Asked, BusView, Cause};
 use driver::{Call, DriverFault, read_call};
@@ -20,7 +20,7 @@ use names::BusName;
 use outbox_core::{AnswerBody, ReplyContent};
 use owner_queues::RequestFlags;
 use router_core::{CloseCause, Gate};
-use router_hands::{Hands, is_method_call};
+use router_steps::{Context, is_method_call};
 use seq_bus_core::{Change, Conn, ErrorKind, Outcome, Query, Reply, SharedBytes};
 use std::alloc::Global;
 use std::sync::Arc;
@@ -70,57 +70,57 @@ fn error_unanswered(fault: AskFault) -> ErrorKind
 
 /// Answers a call an error. The caller stays.
 fn refuse<V: BusView, G: Gate>(
-    hands: &mut Hands<V, G>,
+    context: &mut Context<V, G>,
     call: &Message,
     caller: Conn,
     error: ErrorKind,
 ) -> Option<CloseCause>
-    requires room { 0 < hands.old.room }
-    requires crowds { 0 < hands.old.crowds }
+    requires room { 0 < context.old.room }
+    requires crowds { 0 < context.old.crowds }
     ensures comes { Comes V.told V.registry_of G.passes V.alone
-        (and_stays (erring (said call.now) caller error)) hands.old.world result hands.new.world }
-    ensures room { hands.old.room ≤ hands.new.room + 1 }
+        (and_stays (erring (said call.now) caller error)) context.old.world result context.new.world }
+    ensures room { context.old.room ≤ context.new.room + 1 }
 {
-    hands.err_with(call, caller, error);
+    context.err_with(call, caller, error);
     None
 }
 
 /// Tells of a change: its signals come first, then what the caller is answered.
 fn tell_change<V: BusView, G: Gate>(
-    hands: &mut Hands<V, G>,
+    context: &mut Context<V, G>,
     call: &Message,
     caller: Conn,
     outcome: Outcome,
 )
-    requires room { 1 < hands.old.room }
-    requires crowds { 0 < hands.old.crowds }
+    requires room { 1 < context.old.room }
+    requires crowds { 0 < context.old.crowds }
     requires settled { outcome.tickets ≡ [] }
     ensures comes { Comes V.told V.registry_of G.passes V.alone
-        (telling_change (said call.now) caller outcome) hands.old.world tt hands.new.world }
-    ensures room { hands.old.room ≤ hands.new.room + 2 }
+        (telling_change (said call.now) caller outcome) context.old.world tt context.new.world }
+    ensures room { context.old.room ≤ context.new.room + 2 }
 {
-    hands.announce(outcome.signals);
-    hands.answer_with(call, caller, answer_told(outcome.reply));
+    context.announce(outcome.signals);
+    context.answer_with(call, caller, answer_told(outcome.reply));
 }
 
 /// Tells of a change, where the caller has not left in the meantime. If it has it is to be closed.
 fn made_by<V: BusView, G: Gate>(
-    hands: &mut Hands<V, G>,
+    context: &mut Context<V, G>,
     call: &Message,
     caller: Conn,
     outcome: Outcome,
 ) -> Option<CloseCause>
-    requires room { 1 < hands.old.room }
-    requires crowds { 0 < hands.old.crowds }
+    requires room { 1 < context.old.room }
+    requires crowds { 0 < context.old.crowds }
     requires settled { outcome.tickets ≡ [] }
     ensures comes { Comes V.told V.registry_of G.passes V.alone
-        (made_in (said call.now) caller (Says outcome)) hands.old.world result hands.new.world }
-    ensures room { hands.old.room ≤ hands.new.room + 2 }
+        (made_in (said call.now) caller (Says outcome)) context.old.world result context.new.world }
+    ensures room { context.old.room ≤ context.new.room + 2 }
 {
     match outcome.reply {
         Reply::Gone => Some(CloseCause::Left),
         _ => {
-            tell_change(hands, call, caller, outcome);
+            tell_change(context, call, caller, outcome);
             None
         }
     }
@@ -128,48 +128,48 @@ fn made_by<V: BusView, G: Gate>(
 
 /// Answers the call that asked for a change.
 fn made<V: BusView, G: Gate>(
-    hands: &mut Hands<V, G>,
+    context: &mut Context<V, G>,
     call: &Message,
     caller: Conn,
     told: Result<Outcome, Cause>,
 ) -> Option<CloseCause>
-    requires room { 1 < hands.old.room }
-    requires crowds { 0 < hands.old.crowds }
+    requires room { 1 < context.old.room }
+    requires crowds { 0 < context.old.crowds }
     requires settled { IfOk told (λ outcome. outcome.tickets ≡ []) }
     ensures comes { Comes V.told V.registry_of G.passes V.alone
-        (made_in (said call.now) caller (heard_change told)) hands.old.world result
-        hands.new.world }
-    ensures room { hands.old.room ≤ hands.new.room + 2 }
+        (made_in (said call.now) caller (heard_change told)) context.old.world result
+        context.new.world }
+    ensures room { context.old.room ≤ context.new.room + 2 }
 {
     match told {
-        Ok(outcome) => made_by(hands, call, caller, outcome),
-        Err(cause) => refuse(hands, call, caller, error_for(cause)),
+        Ok(outcome) => made_by(context, call, caller, outcome),
+        Err(cause) => refuse(context, call, caller, error_for(cause)),
     }
 }
 
 /// Replies with the body that the bus appended.
 fn reply_body<V: BusView, G: Gate>(
     alloc: Global,
-    hands: &mut Hands<V, G>,
+    context: &mut Context<V, G>,
     call: &Message,
     caller: Conn,
     query: &Query,
     body: Vec<u8>,
 )
-    requires room { 0 < hands.old.room }
-    requires crowds { 0 < hands.old.crowds }
+    requires room { 0 < context.old.room }
+    requires crowds { 0 < context.old.crowds }
     requires answered { (told : Answer) × IsAnswerTo query.now body.items told }
     ensures comes { (told : Answer) → IsAnswerTo query.now body.items told →
         Comes V.told V.registry_of G.passes V.alone
-        (answered (said call.now) caller (Says (Some told))) hands.old.world tt hands.new.world }
-    ensures room { hands.old.room ≤ hands.new.room + 1 }
+        (answered (said call.now) caller (Says (Some told))) context.old.world tt context.new.world }
+    ensures room { context.old.room ≤ context.new.room + 1 }
 {
     match Arc::new(alloc, body) {
         Ok(bytes) => {
             let answer = AnswerBody::new(query, SharedBytes::new(bytes));
-            hands.reply_with(call, caller, ReplyContent::Answer(answer));
+            context.reply_with(call, caller, ReplyContent::Answer(answer));
         }
-        Err(_) => hands.err_with(call, caller, ErrorKind::NoMemory),
+        Err(_) => context.err_with(call, caller, ErrorKind::NoMemory),
     }
 }
 
@@ -177,47 +177,47 @@ fn reply_body<V: BusView, G: Gate>(
 #[inline(never)]
 fn answer_query<V: BusView, G: Gate>(
     alloc: Global,
-    hands: &mut Hands<V, G>,
+    context: &mut Context<V, G>,
     call: &Message,
     caller: Conn,
     query: &Query,
 ) -> Option<CloseCause>
-    requires room { 0 < hands.old.room }
-    requires crowds { 0 < hands.old.crowds }
+    requires room { 0 < context.old.room }
+    requires crowds { 0 < context.old.crowds }
     ensures comes { Comes V.told V.registry_of G.passes V.alone
-        (serving_request (said call.now) caller (Ok (Asks query.now))) hands.old.world result
-        hands.new.world }
-    ensures room { hands.old.room ≤ hands.new.room + 1 }
+        (serving_request (said call.now) caller (Ok (Asks query.now))) context.old.world result
+        context.new.world }
+    ensures room { context.old.room ≤ context.new.room + 1 }
 {
     let mut body = Vec::new(alloc);
-    match hands.ask(query, &mut body) {
+    match context.ask(query, &mut body) {
         Ok(Asked::Body) => {
-            reply_body(alloc, hands, call, caller, query, body);
+            reply_body(alloc, context, call, caller, query, body);
             None
         }
-        Ok(Asked::NameHasNoOwner) => refuse(hands, call, caller, ErrorKind::NameHasNoOwner),
-        Err(fault) => refuse(hands, call, caller, error_unanswered(fault)),
+        Ok(Asked::NameHasNoOwner) => refuse(context, call, caller, ErrorKind::NameHasNoOwner),
+        Err(fault) => refuse(context, call, caller, error_unanswered(fault)),
     }
 }
 
 /// Makes a change, and answers the call that asked for it.
 fn make<V: BusView, G: Gate>(
-    hands: &mut Hands<V, G>,
+    context: &mut Context<V, G>,
     right: &V::Right,
     call: &Message,
     caller: Conn,
     change: Change,
 ) -> Option<CloseCause>
-    requires room { 1 < hands.old.room }
-    requires crowds { 0 < hands.old.crowds }
+    requires room { 1 < context.old.room }
+    requires crowds { 0 < context.old.crowds }
     requires served { IsServedChange change }
     ensures comes { Comes V.told V.registry_of G.passes V.alone
-        (serving_request (said call.now) caller (Ok (Makes change))) hands.old.world result
-        hands.new.world }
-    ensures room { hands.old.room ≤ hands.new.room + 2 }
+        (serving_request (said call.now) caller (Ok (Makes change))) context.old.world result
+        context.new.world }
+    ensures room { context.old.room ≤ context.new.room + 2 }
 {
-    let told = hands.change(right, change);
-    made(hands, call, caller, told)
+    let told = context.change(right, change);
+    made(context, call, caller, told)
 }
 
 // A change is large, and what a function holds is cleared at its entry: each has a function of its own, so that queries need
@@ -225,143 +225,149 @@ fn make<V: BusView, G: Gate>(
 
 #[inline(never)]
 fn request_name<V: BusView, G: Gate>(
-    hands: &mut Hands<V, G>,
+    context: &mut Context<V, G>,
     right: &V::Right,
     call: &Message,
     caller: Conn,
     name: &BusName,
     flags: RequestFlags,
 ) -> Option<CloseCause>
-    requires room { 1 < hands.old.room }
-    requires crowds { 0 < hands.old.crowds }
+    requires room { 1 < context.old.room }
+    requires crowds { 0 < context.old.crowds }
     ensures comes { Comes V.told V.registry_of G.passes V.alone
         (serving_request (said call.now) caller
-        (request_in caller.number (RequestName name.now flags))) hands.old.world result
-        hands.new.world }
-    ensures room { hands.old.room ≤ hands.new.room + 2 }
+        (request_in caller.number (RequestName name.now flags))) context.old.world result
+        context.new.world }
+    ensures room { context.old.room ≤ context.new.room + 2 }
 {
     let change = Change::Request {
         connection: caller.number,
         name: *name,
         flags,
     };
-    make(hands, right, call, caller, change)
+    make(context, right, call, caller, change)
 }
 
 #[inline(never)]
 fn release_name<V: BusView, G: Gate>(
-    hands: &mut Hands<V, G>,
+    context: &mut Context<V, G>,
     right: &V::Right,
     call: &Message,
     caller: Conn,
     name: &BusName,
 ) -> Option<CloseCause>
-    requires room { 1 < hands.old.room }
-    requires crowds { 0 < hands.old.crowds }
+    requires room { 1 < context.old.room }
+    requires crowds { 0 < context.old.crowds }
     ensures comes { Comes V.told V.registry_of G.passes V.alone
         (serving_request (said call.now) caller (request_in caller.number (ReleaseName name.now)))
-        hands.old.world result hands.new.world }
-    ensures room { hands.old.room ≤ hands.new.room + 2 }
+        context.old.world result context.new.world }
+    ensures room { context.old.room ≤ context.new.room + 2 }
 {
     let change = Change::Release {
         connection: caller.number,
         name: *name,
     };
-    make(hands, right, call, caller, change)
+    make(context, right, call, caller, change)
 }
 
 #[inline(never)]
 fn add_match<V: BusView, G: Gate>(
-    hands: &mut Hands<V, G>,
+    context: &mut Context<V, G>,
     right: &V::Right,
     call: &Message,
     caller: Conn,
     rule: &Rule,
 ) -> Option<CloseCause>
-    requires room { 1 < hands.old.room }
-    requires crowds { 0 < hands.old.crowds }
+    requires room { 1 < context.old.room }
+    requires crowds { 0 < context.old.crowds }
     ensures comes { Comes V.told V.registry_of G.passes V.alone
         (serving_request (said call.now) caller (request_in caller.number (AddMatch rule.now)))
-        hands.old.world result hands.new.world }
-    ensures room { hands.old.room ≤ hands.new.room + 2 }
+        context.old.world result context.new.world }
+    ensures room { context.old.room ≤ context.new.room + 2 }
 {
     let change = Change::AddMatch {
         connection: caller.number,
         rule: *rule,
     };
-    make(hands, right, call, caller, change)
+    make(context, right, call, caller, change)
 }
 
 #[inline(never)]
 fn remove_match<V: BusView, G: Gate>(
-    hands: &mut Hands<V, G>,
+    context: &mut Context<V, G>,
     right: &V::Right,
     call: &Message,
     caller: Conn,
     rule: &Rule,
 ) -> Option<CloseCause>
-    requires room { 1 < hands.old.room }
-    requires crowds { 0 < hands.old.crowds }
+    requires room { 1 < context.old.room }
+    requires crowds { 0 < context.old.crowds }
     ensures comes { Comes V.told V.registry_of G.passes V.alone
         (serving_request (said call.now) caller (request_in caller.number (RemoveMatch rule.now)))
-        hands.old.world result hands.new.world }
-    ensures room { hands.old.room ≤ hands.new.room + 2 }
+        context.old.world result context.new.world }
+    ensures room { context.old.room ≤ context.new.room + 2 }
 {
     let change = Change::RemoveMatch {
         connection: caller.number,
         rule: *rule,
     };
-    make(hands, right, call, caller, change)
+    make(context, right, call, caller, change)
 }
 
 /// Does what a call asks, and answers it.
 fn serve_request<V: BusView, G: Gate>(
     alloc: Global,
-    hands: &mut Hands<V, G>,
+    context: &mut Context<V, G>,
     right: &V::Right,
     message: &Message,
     caller: Conn,
     call: &Call,
 ) -> Option<CloseCause>
-    requires room { 1 < hands.old.room }
-    requires crowds { 0 < hands.old.crowds }
+    requires room { 1 < context.old.room }
+    requires crowds { 0 < context.old.crowds }
     ensures comes { Comes V.told V.registry_of G.passes V.alone
         (serving_request (said message.now) caller (request_in caller.number call.now))
-        hands.old.world result hands.new.world }
-    ensures room { hands.old.room ≤ hands.new.room + 2 }
+        context.old.world result context.new.world }
+    ensures room { context.old.room ≤ context.new.room + 2 }
 {
     match call {
-        Call::Hello => refuse(hands, message, caller, ErrorKind::Failed),
+        Call::Hello => refuse(context, message, caller, ErrorKind::Failed),
         Call::RequestName { name, flags } => {
-            request_name(hands, right, message, caller, name, *flags)
+            request_name(context, right, message, caller, name, *flags)
         }
-        Call::ReleaseName { name } => release_name(hands, right, message, caller, name),
+        Call::ReleaseName { name } => release_name(context, right, message, caller, name),
         Call::GetNameOwner { name } => {
-            answer_query(alloc, hands, message, caller, &Query::GetNameOwner(*name))
+            answer_query(alloc, context, message, caller, &Query::GetNameOwner(*name))
         }
         Call::NameHasOwner { name } => {
-            answer_query(alloc, hands, message, caller, &Query::NameHasOwner(*name))
+            answer_query(alloc, context, message, caller, &Query::NameHasOwner(*name))
         }
-        Call::ListNames => answer_query(alloc, hands, message, caller, &Query::ListNames),
+        Call::ListNames => answer_query(alloc, context, message, caller, &Query::ListNames),
         Call::ListActivatableNames => {
-            answer_query(alloc, hands, message, caller, &Query::ListActivatableNames)
+            answer_query(
+                alloc,
+                context,
+                message,
+                caller,
+                &Query::ListActivatableNames,
+            )
         }
         Call::ListQueuedOwners { name } => {
             answer_query(
                 alloc,
-                hands,
+                context,
                 message,
                 caller,
                 &Query::ListQueuedOwners(*name),
             )
         }
-        Call::AddMatch { rule } => add_match(hands, right, message, caller, rule.get()),
-        Call::RemoveMatch { rule } => remove_match(hands, right, message, caller, rule.get()),
+        Call::AddMatch { rule } => add_match(context, right, message, caller, rule.get()),
+        Call::RemoveMatch { rule } => remove_match(context, right, message, caller, rule.get()),
         Call::StartServiceByName { name: _ } => {
-            refuse(hands, message, caller, ErrorKind::UnknownMethod)
+            refuse(context, message, caller, ErrorKind::UnknownMethod)
         }
         Call::BecomeMonitor { rules: _ } => {
-            refuse(hands, message, caller, ErrorKind::UnknownMethod)
+            refuse(context, message, caller, ErrorKind::UnknownMethod)
         }
     }
 }
@@ -369,44 +375,44 @@ fn serve_request<V: BusView, G: Gate>(
 /// Serves a call as it was read: the gate is shown it first. One that has a fault is answered so.
 fn serve_reading<V: BusView, G: Gate>(
     alloc: Global,
-    hands: &mut Hands<V, G>,
+    context: &mut Context<V, G>,
     right: &V::Right,
     message: &Message,
     caller: Conn,
     reading: &Result<Call, DriverFault>,
 ) -> Option<CloseCause>
-    requires room { 1 < hands.old.room }
-    requires crowds { 0 < hands.old.crowds }
+    requires room { 1 < context.old.room }
+    requires crowds { 0 < context.old.crowds }
     ensures comes { Comes V.told V.registry_of G.passes V.alone
-        (serving_reading (said message.now) caller reading.now) hands.old.world result
-        hands.new.world }
-    ensures room { hands.old.room ≤ hands.new.room + 2 }
+        (serving_reading (said message.now) caller reading.now) context.old.world result
+        context.new.world }
+    ensures room { context.old.room ≤ context.new.room + 2 }
 {
     match reading {
         Ok(call) => {
-            hands.pass(call);
-            serve_request(alloc, hands, right, message, caller, call)
+            context.pass(call);
+            serve_request(alloc, context, right, message, caller, call)
         }
-        Err(fault) => refuse(hands, message, caller, fault.error()),
+        Err(fault) => refuse(context, message, caller, fault.error()),
     }
 }
 
 /// Reads a call to the bus, and serves it.
 fn serve_call<V: BusView, G: Gate>(
     alloc: Global,
-    hands: &mut Hands<V, G>,
+    context: &mut Context<V, G>,
     right: &V::Right,
     message: &Message,
     caller: Conn,
 ) -> Option<CloseCause>
-    requires room { 1 < hands.old.room }
-    requires crowds { 0 < hands.old.crowds }
+    requires room { 1 < context.old.room }
+    requires crowds { 0 < context.old.crowds }
     ensures comes { Comes V.told V.registry_of G.passes V.alone
-        (serving_call (said message.now) caller) hands.old.world result hands.new.world }
-    ensures room { hands.old.room ≤ hands.new.room + 2 }
+        (serving_call (said message.now) caller) context.old.world result context.new.world }
+    ensures room { context.old.room ≤ context.new.room + 2 }
 {
     let reading = read_call(alloc, message);
-    serve_reading(alloc, hands, right, message, caller, &reading)
+    serve_reading(alloc, context, right, message, caller, &reading)
 }
 
 /// Serves a message to the bus ("Message Bus Messages" of the D-Bus Specification). A call is answered, and one that
@@ -414,19 +420,19 @@ fn serve_call<V: BusView, G: Gate>(
 /// in the meantime.
 pub fn serve_bus<V: BusView, G: Gate>(
     alloc: Global,
-    hands: &mut Hands<V, G>,
+    context: &mut Context<V, G>,
     right: &V::Right,
     message: &Message,
     sender: Conn,
 ) -> Option<CloseCause>
-    requires room { 1 < hands.old.room }
-    requires crowds { 0 < hands.old.crowds }
+    requires room { 1 < context.old.room }
+    requires crowds { 0 < context.old.crowds }
     ensures comes { Comes V.told V.registry_of G.passes V.alone
-        (serving_bus (said message.now) sender) hands.old.world result hands.new.world }
-    ensures room { hands.old.room ≤ hands.new.room + 2 }
+        (serving_bus (said message.now) sender) context.old.world result context.new.world }
+    ensures room { context.old.room ≤ context.new.room + 2 }
 {
     if is_method_call(message) {
-        serve_call(alloc, hands, right, message, sender)
+        serve_call(alloc, context, right, message, sender)
     } else {
         None
     }

@@ -4,12 +4,12 @@ ghost use Rattle.std.specs.Prelude.{◌≡◌, ◌<◌, ◌≤◌, ◌+◌, Some
 ghost use Rattle.router_core.specs.Events.{next_at};
 ghost use Rattle.router_core.specs.Scripts.{Comes};
 ghost use Rattle.router_core.specs.Standing.{Standing, Named, peer_at, with_peer};
-ghost use Rattle.router_hands.specs.Reading.{ComesOfNext};
+ghost use Rattle.router_steps.specs.Reading.{ComesOfNext};
 
 use crate::routing::serve;
 use bus_view::BusView;
 use router_core::{CloseCause, Gate};
-use router_hands::{Front, Greeting, Hands, Peer, Stage};
+use router_steps::{Context, Front, Greeting, Peer, Stage};
 use seq_bus_core::Conn;
 use std::alloc::{AllocError, Global};
 
@@ -17,27 +17,27 @@ use std::alloc::{AllocError, Global};
 /// nothing changes.
 fn serve_next<V: BusView, G: Gate>(
     alloc: Global,
-    hands: &mut Hands<V, G>,
+    context: &mut Context<V, G>,
     right: &V::Right,
     key: usize,
     peer: &mut Peer,
     conn: Conn,
 ) -> Result<(), AllocError>
-    requires room { 3 < hands.old.room }
-    requires crowds { 1 < hands.old.crowds }
+    requires room { 3 < context.old.room }
+    requires crowds { 1 < context.old.crowds }
     requires named { peer.old.stage ≡ Named conn }
     ensures comes { OnOk result ((s : Standing) → peer_at s key ≡ Some peer.old →
         Comes V.told V.registry_of G.passes V.alone (next_at s key peer.old (Named conn))
-        hands.old.world (with_peer s key (Some peer.new)) hands.new.world) }
+        context.old.world (with_peer s key (Some peer.new)) context.new.world) }
     ensures err { OnErr result (peer.new ≡ peer.old) }
-    ensures world { OnErr result (hands.new.world ≡ hands.old.world) }
+    ensures world { OnErr result (context.new.world ≡ context.old.world) }
 {
     match peer.take_next()? {
         Front::Waits => {}
-        Front::Faulty(fault) => hands.close_peer(key, peer, CloseCause::Faulty(fault)),
+        Front::Faulty(fault) => context.close_peer(key, peer, CloseCause::Faulty(fault)),
         Front::Whole(message) => {
-            let fate = serve(alloc, hands, right, &message, conn);
-            hands.close_if(key, peer, fate);
+            let fate = serve(alloc, context, right, &message, conn);
+            context.close_if(key, peer, fate);
         }
     }
     Ok(())
@@ -47,21 +47,21 @@ fn serve_next<V: BusView, G: Gate>(
 /// of its place, as the bus has to give it a name; it leaves the room as it was. Without memory nothing changes.
 pub fn next_in<V: BusView, G: Gate>(
     alloc: Global,
-    hands: &mut Hands<V, G>,
+    context: &mut Context<V, G>,
     right: &V::Right,
     key: usize,
     slot: &mut Option<Peer>,
 ) -> Result<Option<Greeting>, AllocError>
-    requires room { 3 < hands.old.room }
-    requires crowds { 1 < hands.old.crowds }
+    requires room { 3 < context.old.room }
+    requires crowds { 1 < context.old.crowds }
     ensures next { IfOk result
         (λ greeting. ComesOfNext V.told V.registry_of G.passes V.alone key greeting slot.old
-        slot.new hands.old.world hands.new.world) }
+        slot.new context.old.world context.new.world) }
     ensures kept { IfOk result
-        (λ greeting. IfSome greeting (λ _. (hands.new.room ≡ hands.old.room) ×
-        (hands.new.crowds ≡ hands.old.crowds))) }
+        (λ greeting. IfSome greeting (λ _. (context.new.room ≡ context.old.room) ×
+        (context.new.crowds ≡ context.old.crowds))) }
     ensures err { OnErr result (slot.new ≡ slot.old) }
-    ensures world { OnErr result (hands.new.world ≡ hands.old.world) }
+    ensures world { OnErr result (context.new.world ≡ context.old.world) }
 {
     let Some(peer) = slot else {
         return Ok(None);
@@ -70,11 +70,11 @@ pub fn next_in<V: BusView, G: Gate>(
         Stage::Authenticating(_) | Stage::Shut(_) => Ok(None),
         Stage::Unnamed { privileged } => {
             let privileged = *privileged;
-            hands.greet_or_close(key, slot, privileged)
+            context.greet_or_close(key, slot, privileged)
         }
         Stage::Named(conn) => {
             let conn = *conn;
-            serve_next(alloc, hands, right, key, peer, conn)?;
+            serve_next(alloc, context, right, key, peer, conn)?;
             Ok(None)
         }
     }

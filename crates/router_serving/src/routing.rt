@@ -5,8 +5,8 @@ ghost use Rattle.match_rules.specs.Kinds.{kind_of};
 ghost use Rattle.message_core.specs.Said.{said};
 ghost use Rattle.router_core.specs.Scripts.{Comes};
 ghost use Rattle.router_core.specs.Serving.{and_stays, err_if_call, is_unknown, relay as relaying, routed as routing, serve as serving};
-ghost use Rattle.router_hands.specs.Hearing.{heard_verdict};
-ghost use Rattle.router_hands.specs.OncePut.{not_put as unput};
+ghost use Rattle.router_steps.specs.Hearing.{heard_verdict};
+ghost use Rattle.router_steps.specs.OncePut.{not_put as unput};
 
 use crate::calls::serve_bus;
 use crate::holding::hold;
@@ -16,195 +16,195 @@ use match_rules::{Facts, MessageKind};
 use message::{RelayFault, put_arguments};
 use message_core::{Message, NO_AUTO_START};
 use router_core::{CloseCause, Gate};
-use router_hands::Hands;
+use router_steps::Context;
 use seq_bus_core::{Conn, ErrorKind, Verdict, VerdictKind};
 use std::alloc::Global;
 
 /// Answers a call with an error. The connection stays open.
 fn err_and_stay<V: BusView, G: Gate>(
-    hands: &mut Hands<V, G>,
+    context: &mut Context<V, G>,
     message: &Message,
     sender: Conn,
     error: ErrorKind,
 ) -> Option<CloseCause>
-    requires room { 0 < hands.old.room }
-    requires crowds { 0 < hands.old.crowds }
+    requires room { 0 < context.old.room }
+    requires crowds { 0 < context.old.crowds }
     ensures comes { Comes V.told V.registry_of G.passes V.alone
-        (and_stays (err_if_call (said message.now) sender error)) hands.old.world result
-        hands.new.world }
-    ensures room { hands.old.room ≤ hands.new.room + 1 }
+        (and_stays (err_if_call (said message.now) sender error)) context.old.world result
+        context.new.world }
+    ensures room { context.old.room ≤ context.new.room + 1 }
 {
-    hands.err_if_call(message, sender, error);
+    context.err_if_call(message, sender, error);
     None
 }
 
 /// What becomes of a connection whose message was not put.
 fn not_put<V: BusView, G: Gate>(
-    hands: &mut Hands<V, G>,
+    context: &mut Context<V, G>,
     message: &Message,
     sender: Conn,
     fault: RelayFault,
 ) -> Option<CloseCause>
-    requires room { 0 < hands.old.room }
-    requires crowds { 0 < hands.old.crowds }
+    requires room { 0 < context.old.room }
+    requires crowds { 0 < context.old.crowds }
     ensures comes { Comes V.told V.registry_of G.passes V.alone
-        (unput fault (said message.now) sender) hands.old.world result hands.new.world }
-    ensures room { hands.old.room ≤ hands.new.room + 1 }
+        (unput fault (said message.now) sender) context.old.world result context.new.world }
+    ensures room { context.old.room ≤ context.new.room + 1 }
 {
     match fault {
         RelayFault::TooLong => Some(CloseCause::TooLong),
-        RelayFault::NoMemory => err_and_stay(hands, message, sender, ErrorKind::NoMemory),
+        RelayFault::NoMemory => err_and_stay(context, message, sender, ErrorKind::NoMemory),
     }
 }
 
 /// Relays a message that has recipients.
 fn relay_plainly<V: BusView, G: Gate>(
-    hands: &mut Hands<V, G>,
+    context: &mut Context<V, G>,
     message: &Message,
     sender: Conn,
     verdict: Box<Verdict>,
 ) -> Option<CloseCause>
-    requires room { 1 < hands.old.room }
-    requires crowds { 0 < hands.old.crowds }
+    requires room { 1 < context.old.room }
+    requires crowds { 0 < context.old.crowds }
     requires plain { verdict.value.kind ≡ VerdictKind.Plain }
     ensures comes { Comes V.told V.registry_of G.passes V.alone
-        (relaying (said message.now) sender verdict.value verdict.value.kind) hands.old.world result
-        hands.new.world }
-    ensures room { hands.old.room ≤ hands.new.room + 2 }
+        (relaying (said message.now) sender verdict.value verdict.value.kind) context.old.world result
+        context.new.world }
+    ensures room { context.old.room ≤ context.new.room + 2 }
 {
-    match hands.relay(message, sender, verdict) {
+    match context.relay(message, sender, verdict) {
         Ok(()) => None,
-        Err(fault) => not_put(hands, message, sender, fault),
+        Err(fault) => not_put(context, message, sender, fault),
     }
 }
 
 /// Shows the monitors a message that nobody gets. A call is answered so.
 fn relay_to_nobody<V: BusView, G: Gate>(
-    hands: &mut Hands<V, G>,
+    context: &mut Context<V, G>,
     message: &Message,
     sender: Conn,
     verdict: Box<Verdict>,
 ) -> Option<CloseCause>
-    requires room { 1 < hands.old.room }
-    requires crowds { 0 < hands.old.crowds }
+    requires room { 1 < context.old.room }
+    requires crowds { 0 < context.old.crowds }
     requires nobody { verdict.value.kind ≡ VerdictKind.Nobody }
     ensures comes { Comes V.told V.registry_of G.passes V.alone
-        (relaying (said message.now) sender verdict.value verdict.value.kind) hands.old.world result
-        hands.new.world }
-    ensures room { hands.old.room ≤ hands.new.room + 2 }
+        (relaying (said message.now) sender verdict.value verdict.value.kind) context.old.world result
+        context.new.world }
+    ensures room { context.old.room ≤ context.new.room + 2 }
 {
-    match hands.relay_to_monitors(message, sender, verdict) {
-        Ok(()) => err_and_stay(hands, message, sender, ErrorKind::ServiceUnknown),
-        Err(fault) => not_put(hands, message, sender, fault),
+    match context.relay_to_monitors(message, sender, verdict) {
+        Ok(()) => err_and_stay(context, message, sender, ErrorKind::ServiceUnknown),
+        Err(fault) => not_put(context, message, sender, fault),
     }
 }
 
 /// Shows the monitors a message to the bus, and serves it.
 fn relay_to_bus<V: BusView, G: Gate>(
     alloc: Global,
-    hands: &mut Hands<V, G>,
+    context: &mut Context<V, G>,
     right: &V::Right,
     message: &Message,
     sender: Conn,
     verdict: Box<Verdict>,
 ) -> Option<CloseCause>
-    requires room { 2 < hands.old.room }
-    requires crowds { 0 < hands.old.crowds }
+    requires room { 2 < context.old.room }
+    requires crowds { 0 < context.old.crowds }
     requires bus { verdict.value.kind ≡ VerdictKind.Bus }
     ensures comes { Comes V.told V.registry_of G.passes V.alone
-        (relaying (said message.now) sender verdict.value verdict.value.kind) hands.old.world result
-        hands.new.world }
-    ensures room { hands.old.room ≤ hands.new.room + 3 }
+        (relaying (said message.now) sender verdict.value verdict.value.kind) context.old.world result
+        context.new.world }
+    ensures room { context.old.room ≤ context.new.room + 3 }
 {
-    match hands.show(message, sender, verdict) {
-        Ok(()) => serve_bus(alloc, hands, right, message, sender),
-        Err(fault) => not_put(hands, message, sender, fault),
+    match context.show(message, sender, verdict) {
+        Ok(()) => serve_bus(alloc, context, right, message, sender),
+        Err(fault) => not_put(context, message, sender, fault),
     }
 }
 
 /// Shows the monitors a call to a service that is to be started.
 fn relay_to_service<V: BusView, G: Gate>(
-    hands: &mut Hands<V, G>,
+    context: &mut Context<V, G>,
     message: &Message,
     sender: Conn,
     verdict: Box<Verdict>,
 ) -> Option<CloseCause>
-    requires room { 1 < hands.old.room }
-    requires crowds { 0 < hands.old.crowds }
+    requires room { 1 < context.old.room }
+    requires crowds { 0 < context.old.crowds }
     requires start { verdict.value.kind ≡ VerdictKind.Start }
     ensures comes { Comes V.told V.registry_of G.passes V.alone
-        (relaying (said message.now) sender verdict.value verdict.value.kind) hands.old.world result
-        hands.new.world }
-    ensures room { hands.old.room ≤ hands.new.room + 2 }
+        (relaying (said message.now) sender verdict.value verdict.value.kind) context.old.world result
+        context.new.world }
+    ensures room { context.old.room ≤ context.new.room + 2 }
 {
-    match hands.relay_to_monitors(message, sender, verdict) {
-        Ok(()) => hold(hands, message, sender),
-        Err(fault) => not_put(hands, message, sender, fault),
+    match context.relay_to_monitors(message, sender, verdict) {
+        Ok(()) => hold(context, message, sender),
+        Err(fault) => not_put(context, message, sender, fault),
     }
 }
 
 /// Relays a message by where it goes. Why its sender is to be closed then; none where it stays open.
 fn relay<V: BusView, G: Gate>(
     alloc: Global,
-    hands: &mut Hands<V, G>,
+    context: &mut Context<V, G>,
     right: &V::Right,
     message: &Message,
     sender: Conn,
     verdict: Box<Verdict>,
 ) -> Option<CloseCause>
-    requires room { 2 < hands.old.room }
-    requires crowds { 0 < hands.old.crowds }
+    requires room { 2 < context.old.room }
+    requires crowds { 0 < context.old.crowds }
     ensures comes { Comes V.told V.registry_of G.passes V.alone
-        (relaying (said message.now) sender verdict.value verdict.value.kind) hands.old.world result
-        hands.new.world }
-    ensures room { hands.old.room ≤ hands.new.room + 3 }
+        (relaying (said message.now) sender verdict.value verdict.value.kind) context.old.world result
+        context.new.world }
+    ensures room { context.old.room ≤ context.new.room + 3 }
 {
     match verdict.kind {
         VerdictKind::Absent => Some(CloseCause::Left),
-        VerdictKind::Bus => relay_to_bus(alloc, hands, right, message, sender, verdict),
-        VerdictKind::Plain => relay_plainly(hands, message, sender, verdict),
-        VerdictKind::Nobody => relay_to_nobody(hands, message, sender, verdict),
-        VerdictKind::Start => relay_to_service(hands, message, sender, verdict),
+        VerdictKind::Bus => relay_to_bus(alloc, context, right, message, sender, verdict),
+        VerdictKind::Plain => relay_plainly(context, message, sender, verdict),
+        VerdictKind::Nobody => relay_to_nobody(context, message, sender, verdict),
+        VerdictKind::Start => relay_to_service(context, message, sender, verdict),
     }
 }
 
 /// Relays a message once the bus has said where it goes. Where it says nothing, a call is answered so.
 fn routed<V: BusView, G: Gate>(
     alloc: Global,
-    hands: &mut Hands<V, G>,
+    context: &mut Context<V, G>,
     right: &V::Right,
     message: &Message,
     sender: Conn,
     verdict: Box<Verdict>,
     heard: Result<(), Gone>,
 ) -> Option<CloseCause>
-    requires room { 2 < hands.old.room }
-    requires crowds { 0 < hands.old.crowds }
+    requires room { 2 < context.old.room }
+    requires crowds { 0 < context.old.crowds }
     ensures comes { Comes V.told V.registry_of G.passes V.alone
-        (routing (said message.now) sender (heard_verdict heard verdict.value)) hands.old.world
-        result hands.new.world }
-    ensures room { hands.old.room ≤ hands.new.room + 3 }
+        (routing (said message.now) sender (heard_verdict heard verdict.value)) context.old.world
+        result context.new.world }
+    ensures room { context.old.room ≤ context.new.room + 3 }
 {
     match heard {
-        Ok(()) => relay(alloc, hands, right, message, sender, verdict),
-        Err(_) => err_and_stay(hands, message, sender, ErrorKind::Failed),
+        Ok(()) => relay(alloc, context, right, message, sender, verdict),
+        Err(_) => err_and_stay(context, message, sender, ErrorKind::Failed),
     }
 }
 
 /// Asks the bus where a message goes, and relays it.
 fn route_message<V: BusView, G: Gate>(
     alloc: Global,
-    hands: &mut Hands<V, G>,
+    context: &mut Context<V, G>,
     right: &V::Right,
     message: &Message,
     sender: Conn,
 ) -> Option<CloseCause>
-    requires room { 2 < hands.old.room }
-    requires crowds { 1 < hands.old.crowds }
+    requires room { 2 < context.old.room }
+    requires crowds { 1 < context.old.crowds }
     requires known { is_unknown (kind_of (said message.now).kind) ≡ false }
     ensures comes { Comes V.told V.registry_of G.passes V.alone (serving (said message.now) sender)
-        hands.old.world result hands.new.world }
-    ensures room { hands.old.room ≤ hands.new.room + 3 }
+        context.old.world result context.new.world }
+    ensures room { context.old.room ≤ context.new.room + 3 }
 {
     // Made where they stay, and with the sender's number, as the bus takes them: they are too large to be copied.
     let mut facts = Facts {
@@ -218,9 +218,9 @@ fn route_message<V: BusView, G: Gate>(
         arguments: ArrayVec::new(),
     };
     put_arguments(message, &mut facts.arguments);
-    let mut verdict = hands.take_verdict();
-    let heard = hands.route(sender.number, &facts, &mut verdict);
-    routed(alloc, hands, right, message, sender, verdict, heard)
+    let mut verdict = context.take_verdict();
+    let heard = context.route(sender.number, &facts, &mut verdict);
+    routed(alloc, context, right, message, sender, verdict, heard)
 }
 
 /// Serves a message of a connection that has its name ("Message Bus Message Routing" of the D-Bus Specification). A message of a
@@ -229,22 +229,22 @@ fn route_message<V: BusView, G: Gate>(
 /// Why the connection is to be closed then; none where it stays open.
 pub fn serve<V: BusView, G: Gate>(
     alloc: Global,
-    hands: &mut Hands<V, G>,
+    context: &mut Context<V, G>,
     right: &V::Right,
     message: &Message,
     sender: Conn,
 ) -> Option<CloseCause>
-    requires room { 2 < hands.old.room }
-    requires crowds { 1 < hands.old.crowds }
+    requires room { 2 < context.old.room }
+    requires crowds { 1 < context.old.crowds }
     ensures comes { Comes V.told V.registry_of G.passes V.alone (serving (said message.now) sender)
-        hands.old.world result hands.new.world }
-    ensures room { hands.old.room ≤ hands.new.room + 3 }
+        context.old.world result context.new.world }
+    ensures room { context.old.room ≤ context.new.room + 3 }
 {
     match message.kind() {
         MessageKind::Unknown(_) => None,
         MessageKind::MethodCall
         | MessageKind::MethodReturn
         | MessageKind::Error
-        | MessageKind::Signal => route_message(alloc, hands, right, message, sender),
+        | MessageKind::Signal => route_message(alloc, context, right, message, sender),
     }
 }

@@ -1,4 +1,4 @@
-use Rattle.router_hands.specs.Hearing.{heard_change}
+use Rattle.router_steps.specs.Hearing.{heard_change}
 use Rattle.router_serving.proofs.calls.make.Goals as goal
 
 pub returns-clause-comes : goal.returns-clause-comes

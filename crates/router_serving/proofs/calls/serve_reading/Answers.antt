@@ -5,9 +5,9 @@ use Rattle.router_serving.proofs.calls.serve_reading.Goals as goal
 pub returns-in-Ok-clause-comes : goal.returns-in-Ok-clause-comes
 returns-in-Ok-clause-comes g c =
     reads_call g.V.BusView.told g.V.BusView.registry_of g.G.Gate.passes g.V.BusView.alone (said c.args.message.now) c.args.caller c.args.reading.now c.in-Ok.call
-    c.args.hands.now.world c.pass.new.self.world c.serve_request.new.hands.world c.serve_request.result c.in-Ok.is c.pass.ensures.passes c.serve_request.ensures.comes
+    c.args.context.now.world c.pass.new.self.world c.serve_request.new.context.world c.serve_request.result c.in-Ok.is c.pass.ensures.passes c.serve_request.ensures.comes
 
 pub returns-in-Err-clause-comes : goal.returns-in-Err-clause-comes
 returns-in-Err-clause-comes g c =
     reads_fault g.V.BusView.told g.V.BusView.registry_of g.G.Gate.passes g.V.BusView.alone (said c.args.message.now) c.args.caller c.args.reading.now c.in-Err.fault c.error.result
-    c.args.hands.now.world c.refuse.new.hands.world c.refuse.result c.in-Err.is c.error.ensures c.refuse.ensures.comes
+    c.args.context.now.world c.refuse.new.context.world c.refuse.result c.in-Err.is c.error.ensures c.refuse.ensures.comes

@@ -1,15 +1,15 @@
 use Rattle.std.proofs.Common.{◌≡◌, ◌∙◌, refl, subst, []}
 use Rattle.router_core.specs.Standing.{Peer}
-use Rattle.router_hands.specs.declared.front.Front.{Front}
-use Rattle.router_hands.specs.Reading.{HasFront}
-use Rattle.router_hands.proofs.Nexts.{reads_waiting, reads_faulty, reads_named}
+use Rattle.router_steps.specs.declared.front.Front.{Front}
+use Rattle.router_steps.specs.Reading.{HasFront}
+use Rattle.router_steps.proofs.Nexts.{reads_waiting, reads_faulty, reads_named}
 use Rattle.router_serving.proofs.next.serve_next.Goals as goal
 
 pub returns-in-Waits-clause-comes : goal.returns-in-Waits-clause-comes
 returns-in-Waits-clause-comes g c s there =
     let p : Peer = c.args.peer.now in
     let r : Peer = c.take_next.new.self in
-    let w = c.args.hands.now.world in
+    let w = c.args.context.now.world in
     let front = subst (λ (f : Front). HasFront f p.unread r.unread) c.in-Waits.is c.in_ok-take_next.ensures.front in
     let same : r ≡ p = c.in_ok-take_next.ensures.rest ∙ (λ i. record p { unread = front.1 i }) in
     reads_waiting g.V.BusView.told g.V.BusView.registry_of g.G.Gate.passes g.V.BusView.alone c.args.key p w w s r same there front.0 refl
@@ -20,12 +20,12 @@ returns-in-Faulty-clause-comes g c s there =
     let r : Peer = c.take_next.new.self in
     let front = subst (λ (f : Front). HasFront f p.unread r.unread) c.in-Faulty.is c.in_ok-take_next.ensures.front in
     let same : r ≡ record p { unread = [] } = c.in_ok-take_next.ensures.rest ∙ (λ i. record p { unread = front.1 i }) in
-    reads_faulty g.V.BusView.told g.V.BusView.registry_of g.G.Gate.passes g.V.BusView.alone c.args.key p c.args.hands.now.world c.close_peer.new.self.world s c.in-Faulty.fault r c.close_peer.new.peer front.0 same c.close_peer.ensures.comes
+    reads_faulty g.V.BusView.told g.V.BusView.registry_of g.G.Gate.passes g.V.BusView.alone c.args.key p c.args.context.now.world c.close_peer.new.self.world s c.in-Faulty.fault r c.close_peer.new.peer front.0 same c.close_peer.ensures.comes
 
 pub returns-in-Whole-clause-comes : goal.returns-in-Whole-clause-comes
 returns-in-Whole-clause-comes g c s there =
     let p : Peer = c.args.peer.now in
     let r : Peer = c.take_next.new.self in
     let front = subst (λ (f : Front). HasFront f p.unread r.unread) c.in-Whole.is c.in_ok-take_next.ensures.front in
-    reads_named g.V.BusView.told g.V.BusView.registry_of g.G.Gate.passes g.V.BusView.alone c.args.key p c.args.hands.now.world c.close_if.new.self.world s c.in-Whole.message r c.close_if.new.peer c.args.conn c.serve-fate.result c.serve-fate.new.hands.world
+    reads_named g.V.BusView.told g.V.BusView.registry_of g.G.Gate.passes g.V.BusView.alone c.args.key p c.args.context.now.world c.close_if.new.self.world s c.in-Whole.message r c.close_if.new.peer c.args.conn c.serve-fate.result c.serve-fate.new.context.world
     front c.in_ok-take_next.ensures.rest c.requires.named c.serve-fate.ensures.comes c.close_if.ensures.comes

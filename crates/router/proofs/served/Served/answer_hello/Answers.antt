@@ -3,7 +3,7 @@ use Rattle.message_core.specs.Said.{said}
 use Rattle.router_core.specs.Events.{close_former, welcome}
 use Rattle.router_core.specs.Standing.{Standing}
 use Rattle.router.proofs.Greetings.{is_welcome}
-use Rattle.router_hands.proofs.Sequels.{comes_then}
+use Rattle.router_steps.proofs.Sequels.{comes_then}
 use Rattle.router.proofs.served.Served.answer_hello.Goals as goal
 
 pub returns-in-Some : goal.returns-in-Some

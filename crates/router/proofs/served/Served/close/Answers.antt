@@ -24,7 +24,7 @@ returns-clause-comes g c =
     let s : Standing = record { peers = c.self.inside.peers.items; leaves = c.self.inside.leaves.items; login = c.self.inside.login } in
     let n : Standing = record s { peers = c.take_peer.new.peers.items } in
     let t : Standing = record n { leaves = c.leave_of.new.leaves.items } in
-    let w = c.self.inside.hands.world in
+    let w = c.self.inside.context.world in
     let v = c.leave_of.new.self.world in
     let conn : c.conn.result ≡ conn_of p.stage = c.conn.ensures ∙ ap conn_of c.stage.ensures in
     let gone : n ≡ with_peer s key None = λ i. record s { peers = c.take_peer.ensures.rest i } in

@@ -18,7 +18,7 @@ returns-in-Some-clause-comes g c =
     let test = has_slot conn.slot in
     let key = c.in-Some.key in
     let s : Standing = record { peers = c.self.inside.peers.items; leaves = c.self.inside.leaves.items; login = c.self.inside.login } in
-    let w = c.self.inside.hands.world in
+    let w = c.self.inside.context.world in
     let v = c.close_left.new.self.world in
     let q = c.close_left.new.slot in
     let some : position test s.peers ≡ Some key = sym (c.in-Some.ensures ∙ ap (position test) c.deref.ensures.value) in
@@ -35,7 +35,7 @@ returns-in-Some-clause-vacant g c =
     let peers = c.self.inside.peers.items in
     let some : position test peers ≡ Some key = sym (c.in-Some.ensures ∙ ap (position test) c.deref.ensures.value) in
     let has = (position-Some test peers key None some).1 in
-    let gone = closed_has_none g.V.BusView.told g.V.BusView.registry_of g.G.Gate.passes g.V.BusView.alone c.self.inside.hands.world c.close_left.new.self.world key Left c.index_mut.result.now c.close_left.new.slot c.close_left.ensures.comes in
+    let gone = closed_has_none g.V.BusView.told g.V.BusView.registry_of g.G.Gate.passes g.V.BusView.alone c.self.inside.context.world c.close_left.new.self.world key Left c.index_mut.result.now c.close_left.new.slot c.close_left.ensures.comes in
     vacant_closed conn.slot key c.close_left.new.slot peers c.self.inside.places c.self.invariant has gone
 
 pub returns-in-None-clause-vacant : goal.returns-in-None-clause-vacant

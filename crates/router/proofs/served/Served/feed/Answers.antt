@@ -4,7 +4,7 @@ use Rattle.std.proofs.lemmas.Result.{on_ok_weaker}
 use Rattle.router_core.specs.Events.{for_peer, for_slot, hear}
 use Rattle.router_core.specs.Scripts.{Gives, World, Comes}
 use Rattle.router_core.specs.Standing.{Peer, Standing, peer_at, with_peer}
-use Rattle.router_hands.proofs.Sequels.{comes_then}
+use Rattle.router_steps.proofs.Sequels.{comes_then}
 use Rattle.router.specs.Tables.{Table}
 use Rattle.router.proofs.Indexing.{index_at, same_keeps, either_way}
 use Rattle.router.proofs.Keeping.{feed_keeps}
@@ -33,7 +33,7 @@ returns-clause-comes g c =
     let key = c.args.key in
     let work = λ (p : Peer). hear key c.args.piece.now.items p p.stage in
     let s : Standing = record { peers = c.self.inside.peers.items; leaves = c.self.inside.leaves.items; login = c.self.inside.login } in
-    let w = c.self.inside.hands.world in
+    let w = c.self.inside.context.world in
     let v = c.hear_slot.new.self.world in
     let q = c.hear_slot.new.slot in
     let t : Standing = record s { peers = slice_set s.peers key q } in

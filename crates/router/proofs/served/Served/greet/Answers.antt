@@ -2,7 +2,7 @@ use Rattle.std.proofs.Common.{subst}
 use Rattle.message_core.specs.Said.{said}
 use Rattle.router_core.specs.Events.{greet}
 use Rattle.router_core.specs.Scripts.{Comes}
-use Rattle.router_hands.specs.Hearing.{heard_change}
+use Rattle.router_steps.specs.Hearing.{heard_change}
 use Rattle.router.specs.Tables.{Table}
 use Rattle.router.proofs.served.Served.greet.Goals as goal
 

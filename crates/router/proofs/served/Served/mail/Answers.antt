@@ -6,7 +6,7 @@ use Rattle.outbox_core.specs.Contents.{said_of}
 use Rattle.router_core.specs.Events.{write, for_slot, mail_found, noted}
 use Rattle.router_core.specs.Scripts.{Comes}
 use Rattle.router_core.specs.Standing.{Standing, is_conn, peer_at}
-use Rattle.router_hands.specs.Noting.{once_noted, IsHeeded}
+use Rattle.router_steps.specs.Noting.{once_noted, IsHeeded}
 use Rattle.router.specs.Tables.{Table}
 use Rattle.router.proofs.FoundMail.{dropped, delivered}
 use Rattle.router.proofs.Indexing.{index_at, same_keeps, either_way}
@@ -27,7 +27,7 @@ returns-in-None-clause-comes g c =
     let none : position test s.peers ≡ None = sym (c.in-None.ensures ∙ ap (position test) c.deref.ensures.value) in
     let heeds = subst (λ k. IsHeeded alone held k m) c.reserve.ensures.world c.heed.ensures.heeds in
     subst (λ (k : Table g.row.V-Note.Denot g.row.G.Denot). Comes told registry_of passes alone (noted held (mail_found k.standing said (position test k.standing.peers))) k.work.world s m) c.self.view_is
-    (dropped told registry_of passes alone held c.self.inside.hands.world m s s said (position test s.peers) none refl heeds)
+    (dropped told registry_of passes alone held c.self.inside.context.world m s s said (position test s.peers) none refl heeds)
 
 pub returns-in-Some-clause-comes : goal.returns-in-Some-clause-comes
 returns-in-Some-clause-comes g c =
@@ -40,7 +40,7 @@ returns-in-Some-clause-comes g c =
     let test = is_conn c.args.slot c.args.envelope.now.number in
     let key = c.in-Some.key in
     let s : Standing = record { peers = c.self.inside.peers.items; leaves = c.self.inside.leaves.items; login = c.self.inside.login } in
-    let w = c.self.inside.hands.world in
+    let w = c.self.inside.context.world in
     let v = c.bring_to.new.self.world in
     let q = c.bring_to.new.slot in
     let t : Standing = record s { peers = slice_set s.peers key q } in

@@ -1,5 +1,5 @@
 use Rattle.std.proofs.Common.{◌∷◌, ◌++◌, [], Some, sym, subst}
-use Rattle.router_hands.specs.Stages.{stage_of}
+use Rattle.router_steps.specs.Stages.{stage_of}
 use Rattle.router.specs.Indexed.{IsIndexed}
 use Rattle.router.proofs.Indexing.{index_kept, index_without, push_keeps}
 use Rattle.router.proofs.Openings.{newcomer_keeps}

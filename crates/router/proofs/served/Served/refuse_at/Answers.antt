@@ -16,7 +16,7 @@ returns g c =
     let p = c.args.peer in
     let q = c.refuse_for.new.peer in
     let s : Standing = record { peers = c.self.inside.peers.items; leaves = c.self.inside.leaves.items; login = c.self.inside.login } in
-    let w = c.self.inside.hands.world in
+    let w = c.self.inside.context.world in
     let v = c.refuse_for.new.self.world in
     subst (λ (k : Table g.row.V-Note.Denot g.row.G.Denot). Comes g.V.BusView.told g.V.BusView.registry_of g.G.Gate.passes g.V.BusView.alone (for_peer k.standing key (Some p) (refuse_with c.args.key (said c.args.hello.now) (error_for (refusal_of c.args.why)))) k.work.world (with_peer s key (Some q)) v) c.self.view_is
     (for_some g.V.BusView.told g.V.BusView.registry_of g.G.Gate.passes g.V.BusView.alone s key p q (refuse_with c.args.key (said c.args.hello.now) (error_for (refusal_of c.args.why))) w v c.refuse_for.ensures)
@@ -25,5 +25,5 @@ pub invariant_of-self : goal.invariant_of-self
 invariant_of-self g c =
     let p = c.args.peer in
     let q = c.refuse_for.new.peer in
-    let like = refused_is_like g.V.BusView.told g.V.BusView.registry_of g.G.Gate.passes g.V.BusView.alone c.self.inside.hands.world c.refuse_for.new.self.world c.args.key (said c.args.hello.now) (error_for (refusal_of c.args.why)) p q c.refuse_for.ensures in
+    let like = refused_is_like g.V.BusView.told g.V.BusView.registry_of g.G.Gate.passes g.V.BusView.alone c.self.inside.context.world c.refuse_for.new.self.world c.args.key (said c.args.hello.now) (error_for (refusal_of c.args.why)) p q c.refuse_for.ensures in
     index_without c.self.inside.peers.items c.self.inside.places c.args.key (Some q) (unnamed_keeps p q c.requires.unnamed like) c.self.invariant

@@ -19,7 +19,7 @@ returns-clause-comes g c =
     let s : Standing = record { peers = c.self.inside.peers.items; leaves = c.self.inside.leaves.items; login = c.self.inside.login } in
     let kept = c.leave_all.new.leaves.items in
     let ys = c.look_at_all.new.peers in
-    let w = c.self.inside.hands.world in
+    let w = c.self.inside.context.world in
     let m = c.leave_all.new.self.world in
     let v = c.look_at_all.new.self.world in
     let before : Standing = record s { leaves = [] } in

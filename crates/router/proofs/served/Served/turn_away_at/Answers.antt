@@ -15,7 +15,7 @@ returns g c =
     let p = c.args.peer in
     let q = c.turn_away.new.peer in
     let s : Standing = record { peers = c.self.inside.peers.items; leaves = c.self.inside.leaves.items; login = c.self.inside.login } in
-    let w = c.self.inside.hands.world in
+    let w = c.self.inside.context.world in
     let v = c.turn_away.new.self.world in
     subst (λ (k : Table g.row.V-Note.Denot g.row.G.Denot). Comes g.V.BusView.told g.V.BusView.registry_of g.G.Gate.passes g.V.BusView.alone (for_peer k.standing key (Some p) (turn_away c.args.key (said c.args.hello.now))) k.work.world (with_peer s key (Some q)) v) c.self.view_is
     (for_some g.V.BusView.told g.V.BusView.registry_of g.G.Gate.passes g.V.BusView.alone s key p q (turn_away c.args.key (said c.args.hello.now)) w v c.turn_away.ensures)
@@ -23,5 +23,5 @@ returns g c =
 pub invariant_of-self : goal.invariant_of-self
 invariant_of-self g c =
     let q = c.turn_away.new.peer in
-    let without = turned_away_has_none g.V.BusView.told g.V.BusView.registry_of g.G.Gate.passes g.V.BusView.alone c.self.inside.hands.world c.turn_away.new.self.world c.args.key (said c.args.hello.now) c.args.peer q c.turn_away.ensures in
+    let without = turned_away_has_none g.V.BusView.told g.V.BusView.registry_of g.G.Gate.passes g.V.BusView.alone c.self.inside.context.world c.turn_away.new.self.world c.args.key (said c.args.hello.now) c.args.peer q c.turn_away.ensures in
     index_without c.self.inside.peers.items c.self.inside.places c.args.key (Some q) without c.self.invariant

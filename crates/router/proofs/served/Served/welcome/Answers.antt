@@ -6,7 +6,7 @@ use Rattle.router_core.specs.Scripts.{Gives, Announcing, Comes}
 use Rattle.router_core.specs.Serving.{reply_with}
 use Rattle.router_core.specs.Standing.{Peer, Standing, Named, with_peer}
 use Rattle.router.specs.Tables.{Table}
-use Rattle.router_hands.proofs.Sequels.{comes_then}
+use Rattle.router_steps.proofs.Sequels.{comes_then}
 use Rattle.std.proofs.Common.{set}
 use Rattle.router.specs.Indexed.{IsIndexed, IsVacant}
 use Rattle.router.proofs.Greetings.{speaks}
@@ -25,7 +25,7 @@ returns g c =
     let conn = c.args.conn in
     let s : Standing = record { peers = c.self.inside.peers.items; leaves = c.self.inside.leaves.items; login = c.self.inside.login } in
     let named : Peer = record p { stage = Named conn } in
-    let w = c.self.inside.hands.world in
+    let w = c.self.inside.context.world in
     let v = c.announce.new.self.world in
     let done =
     comes_then g.V.BusView.told g.V.BusView.registry_of g.G.Gate.passes g.V.BusView.alone (λ (done : Unit {0}). Announcing o.signals (Gives (with_peer s key (Some named)))) tt c.reply_with.new.self.world (with_peer s key (Some named)) v (v, c.announce.ensures.announces, (refl, refl))

@@ -1,5 +1,0 @@
-use Rattle.std.proofs.Common.{vec_len}
-use Rattle.router_hands.proofs.room.clear_actions.Given as goal
-
-abbrev pub decreases-loop-action : goal.decreases-loop-action
-decreases-loop-action g l = vec_len l.actions

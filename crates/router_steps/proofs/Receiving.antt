@@ -1,0 +1,33 @@
+-- Mail is written once its note was taken.
+use Rattle.std.proofs.Common.{◌≡◌, ℕ, Bool, Option, Some, None, refl, sym, subst}
+use Rattle.seq_bus_core.specs.Histories.{History}
+use Rattle.router_core.specs.Deeds.{GatedCall}
+use Rattle.router_core.specs.Events.{OfPeer, for_slot}
+use Rattle.router_core.specs.Scripts.{Script, Gives, World, Comes}
+use Rattle.router_core.specs.Standing.{Peer}
+use Rattle.router_steps.specs.Noting.{once_noted, IsHeeded}
+use Rattle.router_steps.proofs.Sequels.{comes_then}
+
+module _ {N G : Type 0} (told : N → History) (registry_of : N → ℕ) (passes : G → GatedCall → G → Type 0) (alone : Bool) (w m v : World N G) where
+  -- what is done for a connection that is there
+  pub for_one : (slot : Option Peer) (p q : Peer) (work : Peer → OfPeer) → slot ≡ Some p → Comes told registry_of passes alone (work p) w q v → Comes told registry_of passes alone (for_slot slot work) w (Some q) v
+  for_one slot p q work is done =
+      subst (λ o. Comes told registry_of passes alone (for_slot o work) w (Some q) v) (sym is)
+      (comes_then told registry_of passes alone (λ r. Gives (Some r)) q v (Some q) v (refl, refl) (work p) w done)
+
+  pub heeded : {X : Type 0} (held : Option History) (s : Script X) (x : X) → IsHeeded alone held w m → Comes told registry_of passes alone s m x v → Comes told registry_of passes alone (once_noted held s) w x v
+  heeded None s x same done = subst (λ (k : World N G). Comes told registry_of passes alone s k x v) same done
+  heeded (Some history) s x takes done = (m, takes, done)
+
+module _ {N G : Type 0} (told : N → History) (registry_of : N → ℕ) (passes : G → GatedCall → G → Type 0) (alone : Bool) (held : Option History) (w m : World N G) where
+  -- nobody has the key
+  pub for_nobody : (slot : Option Peer) (work : Peer → OfPeer) → slot ≡ None → IsHeeded alone held w m → Comes told registry_of passes alone (once_noted held (for_slot slot work)) w slot m
+  for_nobody slot work none heeds =
+      subst (λ o. Comes told registry_of passes alone (once_noted held (for_slot o work)) w o m) (sym none)
+      (heeded told registry_of passes alone w m m held (Gives None) None heeds (refl, refl))
+
+module _ {N G : Type 0} (told : N → History) (registry_of : N → ℕ) (passes : G → GatedCall → G → Type 0) (alone : Bool) (w v : World N G) where
+  pub for_one_noted : (held : Option History) (slot : Option Peer) (p q : Peer) (work : Peer → OfPeer) → slot ≡ Some p →
+      Comes told registry_of passes alone (once_noted held (work p)) w q v → Comes told registry_of passes alone (once_noted held (for_slot slot work)) w (Some q) v
+  for_one_noted None slot p q work is done = for_one told registry_of passes alone w w v slot p q work is done
+  for_one_noted (Some history) slot p q work is done = (done.0, done.1, for_one told registry_of passes alone done.0 w v slot p q work is done.2)

@@ -1,0 +1,32 @@
+-- One turn of what is done for each of several.
+use Rattle.std.proofs.Common.{ℕ, ◌+◌, ◌<◌, ◌≤◌, Bool, Option, None, List, [], ◌∷◌, ◌++◌, length, get_or, set, take, drop, sym, subst, arith}
+use Rattle.std.proofs.lemmas.List.{drop_more, length-take-le, take_more_set, drop-set-lt}
+use Rattle.seq_bus_core.specs.Histories.{History}
+use Rattle.router_core.specs.Deeds.{GatedCall}
+use Rattle.router_core.specs.Events.{leave, leave_all, for_slot, look, look_all}
+use Rattle.router_core.specs.Scripts.{World, Comes}
+use Rattle.router_core.specs.Standing.{Peer, Standing}
+use Rattle.router_steps.proofs.Sequels.{comes_then}
+
+module _ {N G : Type 0} (told : N → History) (registry_of : N → ℕ) (passes : G → GatedCall → G → Type 0) (alone : Bool) (w m v : World N G) where
+  -- the Leave of the next number, then those of the rest
+  pub leaves_more : (numbers : List ℕ) (i : ℕ) → i < length numbers → (before after end : Standing) →
+      Comes told registry_of passes alone (leave before (get_or numbers i 0)) w after m → Comes told registry_of passes alone (leave_all (drop (i + 1) numbers) after) m end v →
+      Comes told registry_of passes alone (leave_all (drop i numbers) before) w end v
+  leaves_more numbers i inside before after end this later =
+      subst (λ ns. Comes told registry_of passes alone (leave_all ns before) w end v) (sym (drop_more numbers i 0 inside))
+      (comes_then told registry_of passes alone (λ t. leave_all (drop (i + 1) numbers) t) after m end v later (leave before (get_or numbers i 0)) w this)
+
+  -- the next connection is looked for, then the rest
+  pub looks_more : (xs : List (Option Peer)) (k : ℕ) → k < length xs → (q : Option Peer) (ys : List (Option Peer)) →
+      Comes told registry_of passes alone (for_slot (get_or xs k None) (λ p. look k p p.stage)) w q m →
+      Comes told registry_of passes alone (look_all (take (k + 1) (set xs k q)) (drop (k + 1) (set xs k q))) m ys v →
+      Comes told registry_of passes alone (look_all (take k xs) (drop k xs)) w ys v
+  looks_more xs k inside q ys this later =
+      let within : k ≤ length xs = omega arith in
+      let next : k < k + 1 = omega arith in
+      let here = subst (λ n. Comes told registry_of passes alone (for_slot (get_or xs k None) (λ p. look n p p.stage)) w q m) (sym (length-take-le k xs within)) this in
+      let done = subst (λ ds. Comes told registry_of passes alone (look_all ds (drop (k + 1) (set xs k q))) m ys v) (take_more_set xs k q inside) later in
+      let rest = subst (λ ds. Comes told registry_of passes alone (look_all (take k xs ++ q ∷ []) ds) m ys v) (drop-set-lt (k + 1) xs k q next) done in
+      subst (λ ds. Comes told registry_of passes alone (look_all (take k xs) ds) w ys v) (sym (drop_more xs k None inside))
+      (comes_then told registry_of passes alone (λ o. look_all (take k xs ++ o ∷ []) (drop (k + 1) xs)) q m ys v rest (for_slot (get_or xs k None) (λ p. look (length (take k xs)) p p.stage)) w here)

@@ -1,0 +1,15 @@
+use Rattle.std.proofs.Common.{rules, ◌≡◌, true, false, refl, subst}
+use Rattle.router_core.specs.Answers.{Says}
+use Rattle.router_core.specs.Scripts.{Looks}
+use Rattle.router_steps.specs.Hearing.{heard_present}
+use Rattle.router_steps.proofs.context.Context.look_at.Goals as goal
+
+pub returns-in-Ok-true-clause-comes : goal.returns-in-Ok-true-clause-comes
+returns-in-Ok-true-clause-comes g c =
+    let heard : heard_present c.look.result ≡ Says true = search rules in
+    (Says true, c.look.new.self.world, subst (λ h. Looks g.V.BusView.alone c.args.conn.number c.args.self.now.world h c.look.new.self.world) heard c.look.ensures.looks, (refl, refl))
+
+pub returns-in-Ok-false-clause-comes : goal.returns-in-Ok-false-clause-comes
+returns-in-Ok-false-clause-comes g c =
+    let heard : heard_present c.look.result ≡ Says false = search rules in
+    (Says false, c.look.new.self.world, subst (λ h. Looks g.V.BusView.alone c.args.conn.number c.args.self.now.world h c.look.new.self.world) heard c.look.ensures.looks, c.close_peer.ensures.comes)

@@ -1,0 +1,212 @@
+//! One connection.
+
+ghost use Rattle.std.specs.Prelude.{◌≡◌, ◌<◌, ◌≤◌, ◌+◌, true, false, OnOk, OnErr};
+ghost use Rattle.router_core.specs.Events.{closing, fed, look};
+ghost use Rattle.router_core.specs.Fronts.{Waits, IsFront};
+ghost use Rattle.router_core.specs.Scripts.{Comes};
+ghost use Rattle.router_core.specs.Standing.{Named, SpeaksDBus, newcomer, next_serial, conn_of, shut};
+ghost use Rattle.router_steps.specs.Hearing.{heard_present};
+ghost use Rattle.router_steps.specs.Quiet.{IsQuiet};
+ghost use Rattle.router_steps.specs.Stages.{stage_of, IsFirst};
+
+use crate::context::Context;
+use crate::mail::serial_after;
+use bus_view::BusView;
+use message::Framer;
+use message_core::Message;
+use router_core::{CloseCause, Gate};
+use sasl::Server;
+use seq_bus_core::Conn;
+use std::alloc::{AllocError, Global};
+use std::marker::Model;
+
+/// How far a connection has come.
+#[derive(Drop)]
+pub enum Stage {
+    /// It says who it is.
+    Authenticating(Box<Server>),
+    /// It has no name yet. It is privileged where it proved to be its user's.
+    Unnamed { privileged: bool },
+    /// Its Hello gave it a number and a slot.
+    Named(Conn),
+    /// The bus closed it, and it is not gone yet.
+    Shut(Option<Conn>),
+}
+
+impl Stage {
+    /// What its Hello gave it.
+    pub fn conn(&self) -> Option<Conn>
+        ensures { result ≡ conn_of (stage_of self.now) }
+    {
+        match self {
+            Stage::Authenticating(_) => None,
+            Stage::Unnamed { privileged: _ } => None,
+            Stage::Named(conn) => Some(*conn),
+            Stage::Shut(conn) => *conn,
+        }
+    }
+}
+
+/// A connection: how far it has come, its bytes that were not served, and the serial of the last message of the bus to it.
+#[derive(Drop)]
+pub struct Peer {
+    pub(crate) alloc: Global,
+    pub(crate) stage: Stage,
+    /// A message that was taken off its bytes, and for whose serving there was no memory.
+    pub(crate) pending: Option<Message>,
+    pub(crate) unread: Framer,
+    pub(crate) serial: u32,
+}
+
+impl Model for Peer {
+    ghost use Rattle.std.specs.Prelude.{◌≡◌, ◌++◌, None, IfSome};
+    ghost use Rattle.router_core.specs.Standing.{Peer as Standing_peer};
+    ghost use Rattle.router_steps.specs.Stages.{stage_of, unread_at, IsSilentAt};
+    ghost use Rattle.router_steps.specs.Pending.{IsWithin, pending_bytes};
+
+    ghost Value = { Standing_peer };
+
+    ghost view = { λ p. record {
+      stage = stage_of p.stage;
+      unread = unread_at p.stage
+          (pending_bytes p.pending ++ p.unread.bytes);
+      serial = p.serial;
+    } };
+
+    ghost invariant = { λ p. (p.unread.fault ≡ None) × IfSome p.pending IsWithin ×
+        IsSilentAt p.stage (pending_bytes p.pending ++ p.unread.bytes) };
+}
+
+impl Peer {
+    /// A connection that has sent nothing.
+    #[tactic(auto, using(crate::proofs::Stages::first_unread, crate::proofs::Stages::nothing_silent))]
+    pub fn new(alloc: Global, stage: Stage) -> Peer
+        requires { IsFirst stage }
+        ensures { result ≡ newcomer (stage_of stage) }
+    {
+        Peer {
+            alloc,
+            stage,
+            pending: None,
+            unread: Framer::new(alloc),
+            serial: 0,
+        }
+    }
+
+    /// How far it has come.
+    pub fn stage(&self) -> &Stage
+        ensures { stage_of result.now ≡ self.now.stage }
+    {
+        &self.stage
+    }
+
+    /// Takes a piece of the bytes of its messages. Once it was closed it takes none. Without memory nothing changes, and the piece stays
+    /// where it was.
+    pub(crate) fn feed(&mut self, piece: &mut Vec<u8>) -> Result<(), AllocError>
+        requires { SpeaksDBus self.old.stage }
+        ensures ok { OnOk result (self.new ≡ fed piece.old.items self.old self.old.stage) }
+        ensures err { OnErr result (self.new ≡ self.old) }
+        ensures kept { OnErr result (piece.new ≡ piece.old) }
+    {
+        match self.stage {
+            Stage::Shut(_) => Ok(()),
+            Stage::Unnamed { privileged: _ } | Stage::Named(_) => self.unread.feed_owned(piece),
+            Stage::Authenticating(_) => Ok(()),
+        }
+    }
+
+    /// Whether there is something of it to be served: a whole message at the front of its bytes, or what is none.
+    pub fn has_next(&self) -> bool
+        ensures quiet { result ≡ false → IsQuiet self.now }
+        ensures ready { result ≡ true → IsQuiet self.now → ⊥ }
+    {
+        match self.stage {
+            Stage::Authenticating(_) | Stage::Shut(_) => false,
+            Stage::Unnamed { privileged: _ } => self.has_front(),
+            Stage::Named(_) => self.has_front(),
+        }
+    }
+
+    /// Whether a message stands at the front of its bytes, or what is none.
+    #[tactic(auto, using(crate::proofs::Waiting::pending_is_whole, crate::proofs::Stages::messages_unread))]
+    fn has_front(&self) -> bool
+        requires { SpeaksDBus self.now.stage }
+        ensures waits { result ≡ false → IsFront self.now.unread Waits }
+        ensures there { result ≡ true → IsFront self.now.unread Waits → ⊥ }
+    {
+        self.pending.is_some() || !self.unread.is_waiting()
+    }
+
+    /// The serial of the last message of the bus that was written to it.
+    pub fn serial(&self) -> u32
+        ensures { result ≡ self.now.serial }
+    {
+        self.serial
+    }
+
+    /// One more message of the bus is written to it.
+    pub fn count(&mut self)
+        ensures { self.new ≡ record self.old { serial = next_serial self.old.serial } }
+    {
+        self.serial = serial_after(self.serial);
+    }
+
+    /// Its Hello gave it this number and this slot.
+    #[tactic(auto, using(crate::proofs::Stages::messages_unread))]
+    pub fn welcome(&mut self, conn: Conn)
+        requires { SpeaksDBus self.old.stage }
+        ensures { self.new ≡ record self.old { stage = Named conn } }
+    {
+        self.stage = Stage::Named(conn);
+    }
+
+    /// Closes it: its bytes are let go.
+    pub fn shut(&mut self)
+        ensures { self.new ≡ shut self.old }
+    {
+        self.stage = Stage::Shut(self.stage.conn());
+        self.pending = None;
+        self.unread = Framer::new(self.alloc);
+    }
+}
+
+impl<V: BusView, G: Gate> Context<V, G> {
+    /// Closes a connection.
+    pub fn close_peer(&mut self, key: usize, peer: &mut Peer, cause: CloseCause)
+        requires { 0 < self.old.room }
+        ensures comes { Comes V.told V.registry_of G.passes V.alone (closing key cause peer.old)
+            self.old.world peer.new self.new.world }
+        ensures room { self.old.room ≤ self.new.room + 1 }
+        ensures crowds { self.new.crowds ≡ self.old.crowds }
+    {
+        peer.shut();
+        self.close(key, cause);
+    }
+
+    /// Closes a connection that has a name, if it has left.
+    fn look_at(&mut self, key: usize, peer: &mut Peer, conn: Conn)
+        requires { 0 < self.old.room }
+        ensures comes { Comes V.told V.registry_of G.passes V.alone (look key peer.old (Named conn))
+            self.old.world peer.new self.new.world }
+        ensures room { self.old.room ≤ self.new.room + 1 }
+    {
+        match self.look(conn.number) {
+            Ok(false) => self.close_peer(key, peer, CloseCause::Left),
+            Ok(true) => {}
+            Err(_) => {}
+        }
+    }
+
+    /// Closes a connection that has left.
+    pub fn look_after(&mut self, key: usize, peer: &mut Peer)
+        requires { 0 < self.old.room }
+        ensures comes { Comes V.told V.registry_of G.passes V.alone
+            (look key peer.old peer.old.stage) self.old.world peer.new self.new.world }
+        ensures room { self.old.room ≤ self.new.room + 1 }
+    {
+        if let Stage::Named(conn) = peer.stage() {
+            let conn = *conn;
+            self.look_at(key, peer, conn);
+        }
+    }
+}

@@ -1,0 +1,134 @@
+//! Messages that connections send one another. (D-Bus Specification: "Message Bus Message Routing")
+
+ghost use Rattle.std.specs.Prelude.{◌≡◌, ◌<◌, ◌≤◌, ◌+◌, Option, IfOk};
+ghost use Rattle.outbox_core.specs.Contents.{Relays, said_of};
+ghost use Rattle.message_core.specs.Said.{said};
+ghost use Rattle.message.specs.MessageBytes.{message_bytes, is_too_long};
+ghost use Rattle.router_core.specs.Deeds.{all_of};
+ghost use Rattle.router_core.specs.Scripts.{World, Comes};
+ghost use Rattle.router_core.specs.Serving.{Fated, signed, relayed, shown};
+ghost use Rattle.router_core.specs.declared.cause.CloseCause.{CloseCause as Cause};
+ghost use Rattle.router_steps.specs.OncePut.{is_long, once_put};
+
+use crate::context::Context;
+use crate::verdicts::{is_for_nobody, tell_monitors_alone};
+use bus_view::BusView;
+use message::{RelayFault, relayed_length, with_sender};
+use message_core::Message;
+use names::UniqueName;
+use outbox_core::Content;
+use router_core::Gate;
+use seq_bus_core::{Conn, SharedBytes, Verdict};
+use std::sync::Arc;
+
+impl<V: BusView, G: Gate> Context<V, G> {
+    /// The message as it is passed on, with its sender's name.
+    #[tactic(auto, using(crate::proofs::Signing::long_is))]
+    fn sign(&self, message: &Message, sender: Conn) -> Result<Content, RelayFault>
+        ensures bytes { IfOk result
+            (λ content. said_of content ≡ Relays
+            (message_bytes (signed (said message.now) sender))) }
+        ensures too_long { is_too_long (signed (said message.now) sender) ≡ is_long result }
+    {
+        let mut bytes = Vec::new(self.alloc);
+        if let Err(fault) = with_sender(message, &UniqueName::of(sender.number), &mut bytes) {
+            return Err(fault);
+        }
+        match Arc::new(self.alloc, bytes) {
+            Ok(bytes) => Ok(Content::Relayed(SharedBytes::new(bytes))),
+            Err(_) => Err(RelayFault::NoMemory),
+        }
+    }
+
+    /// Puts a message to the recipients and to the monitors of its verdict, each once, with its sender's name. To nobody it
+    /// is not put, only measured.
+    ///
+    /// # Errors
+    ///
+    /// It would be too long with that name, or there is no memory for it: then it is dropped whole.
+    pub fn relay(
+        &mut self,
+        message: &Message,
+        sender: Conn,
+        verdict: Box<Verdict>,
+    ) -> Result<(), RelayFault>
+        requires { 0 < self.old.room }
+        ensures comes { (goes_on : Fated) (fate : Option Cause) (end : World V.Note G) →
+            Comes V.told V.registry_of G.passes V.alone
+            (once_put result (said message.now) sender goes_on) self.new.world fate end →
+            Comes V.told V.registry_of G.passes V.alone
+            (relayed (said message.now) sender (all_of verdict.value.to verdict.value.monitors)
+            goes_on) self.old.world fate end }
+        ensures room { self.old.room ≤ self.new.room + 1 }
+        ensures crowds { self.old.crowds ≤ self.new.crowds }
+    {
+        if is_for_nobody(&verdict) {
+            self.keep_verdict(verdict);
+            return match relayed_length(message, &UniqueName::of(sender.number)) {
+                Ok(_) => Ok(()),
+                Err(fault) => Err(fault),
+            };
+        }
+        match self.sign(message, sender) {
+            Ok(content) => {
+                self.put_to(verdict, content);
+                Ok(())
+            }
+            Err(fault) => Err(fault),
+        }
+    }
+
+    /// Puts a message to the monitors of its verdict, with its sender's name. To nobody it is not put, only measured.
+    ///
+    /// # Errors
+    ///
+    /// As those of `relay`.
+    pub fn relay_to_monitors(
+        &mut self,
+        message: &Message,
+        sender: Conn,
+        verdict: Box<Verdict>,
+    ) -> Result<(), RelayFault>
+        requires { 0 < self.old.room }
+        ensures comes { (goes_on : Fated) (fate : Option Cause) (end : World V.Note G) →
+            Comes V.told V.registry_of G.passes V.alone
+            (once_put result (said message.now) sender goes_on) self.new.world fate end →
+            Comes V.told V.registry_of G.passes V.alone
+            (relayed (said message.now) sender verdict.value.monitors goes_on) self.old.world fate
+            end }
+        ensures room { self.old.room ≤ self.new.room + 1 }
+        ensures crowds { self.old.crowds ≤ self.new.crowds }
+    {
+        let mut verdict = verdict;
+        tell_monitors_alone(&mut verdict);
+        self.relay(message, sender, verdict)
+    }
+
+    /// Puts a message to the bus to the monitors of its verdict. Where there is none, it is not even measured.
+    ///
+    /// # Errors
+    ///
+    /// As those of `relay`.
+    pub fn show(
+        &mut self,
+        message: &Message,
+        sender: Conn,
+        verdict: Box<Verdict>,
+    ) -> Result<(), RelayFault>
+        requires { 0 < self.old.room }
+        ensures comes { (goes_on : Fated) (fate : Option Cause) (end : World V.Note G) →
+            Comes V.told V.registry_of G.passes V.alone
+            (once_put result (said message.now) sender goes_on) self.new.world fate end →
+            Comes V.told V.registry_of G.passes V.alone
+            (shown (said message.now) sender verdict.value.monitors goes_on) self.old.world fate
+            end }
+        ensures room { self.old.room ≤ self.new.room + 1 }
+        ensures crowds { self.old.crowds ≤ self.new.crowds }
+    {
+        if verdict.monitors.as_slice().is_empty() {
+            self.keep_verdict(verdict);
+            return Ok(());
+        }
+        self.relay_to_monitors(message, sender, verdict)
+    }
+}

@@ -1,0 +1,105 @@
+//! Keys that a connection may have, or none.
+
+ghost use Rattle.std.specs.Prelude.{◌≡◌, ◌<◌, ◌≤◌, ◌+◌, [], length, option_map, OnOk, OnErr};
+ghost use Rattle.outbox_core.specs.Contents.{said_of};
+ghost use Rattle.router_core.specs.Deeds.{IsOwnNote};
+ghost use Rattle.router_core.specs.Events.{closing, hear, for_slot, look, look_all as looking_at_all, write as writing};
+ghost use Rattle.router_core.specs.Scripts.{Comes};
+ghost use Rattle.router_steps.specs.Noting.{once_noted};
+
+use crate::context::Context;
+use crate::peer::Peer;
+use bus_view::BusView;
+use outbox_core::Envelope;
+use router_core::{CloseCause, Gate};
+use std::alloc::{AllocError, Global};
+
+impl<V: BusView, G: Gate> Context<V, G> {
+    /// Takes a piece of the bytes of a connection, if it is there. Without memory nothing changes, and the piece stays where it was.
+    pub fn hear_slot(
+        &mut self,
+        key: usize,
+        slot: &mut Option<Peer>,
+        piece: &mut Vec<u8>,
+    ) -> Result<(), AllocError>
+        requires { 1 < self.old.room }
+        ensures comes { OnOk result
+            (Comes V.told V.registry_of G.passes V.alone
+            (for_slot slot.old (λ p. hear key piece.old.items p p.stage)) self.old.world slot.new
+            self.new.world) }
+        ensures err { OnErr result (slot.new ≡ slot.old) }
+        ensures world { OnErr result (self.new.world ≡ self.old.world) }
+        ensures kept { OnErr result (piece.new ≡ piece.old) }
+    {
+        match slot {
+            None => Ok(()),
+            Some(peer) => self.hear(key, peer, piece),
+        }
+    }
+
+    /// Takes the note of an envelope, and writes to the connection of a key what it brings, if it is there. Without memory
+    /// nothing changes.
+    pub fn bring_to(
+        &mut self,
+        alloc: Global,
+        key: usize,
+        slot: &mut Option<Peer>,
+        envelope: &Envelope<V::Note>,
+    ) -> Result<(), AllocError>
+        requires room { 0 < self.old.room }
+        requires own { IsOwnNote V.registry_of self.old.world.view.registry envelope.now.note }
+        ensures comes { OnOk result
+            (Comes V.told V.registry_of G.passes V.alone
+            (once_noted (option_map V.told envelope.now.note)
+            (for_slot slot.old (writing key (said_of envelope.now.content)))) self.old.world
+            slot.new self.new.world) }
+        ensures err { OnErr result (slot.new ≡ slot.old) }
+        ensures world { OnErr result (self.new.world ≡ self.old.world) }
+    {
+        match slot {
+            None => {
+                self.heed(&envelope.note);
+                Ok(())
+            }
+            Some(peer) => self.bring(alloc, key, peer, envelope),
+        }
+    }
+
+    /// Closes a connection that has left, if it is there.
+    pub fn close_left(&mut self, key: usize, slot: &mut Option<Peer>)
+        requires { 0 < self.old.room }
+        ensures comes { Comes V.told V.registry_of G.passes V.alone
+            (for_slot slot.old (λ p. closing key CloseCause.Left p)) self.old.world slot.new
+            self.new.world }
+        ensures room { self.old.room ≤ self.new.room + 1 }
+        ensures crowds { self.new.crowds ≡ self.old.crowds }
+    {
+        if let Some(peer) = slot {
+            self.close_peer(key, peer, CloseCause::Left);
+        }
+    }
+
+    /// Closes the connection of a key, if it is there and has left.
+    fn look_into(&mut self, key: usize, slot: &mut Option<Peer>)
+        requires { 0 < self.old.room }
+        ensures comes { Comes V.told V.registry_of G.passes V.alone
+            (for_slot slot.old (λ p. look key p p.stage)) self.old.world slot.new self.new.world }
+        ensures room { self.old.room ≤ self.new.room + 1 }
+    {
+        match slot {
+            None => {}
+            Some(peer) => self.look_after(key, peer),
+        }
+    }
+
+    /// Closes those that have left, by rising key.
+    pub fn look_at_all(&mut self, peers: &mut [Option<Peer>])
+        requires { length peers.old ≤ self.old.room }
+        ensures { Comes V.told V.registry_of G.passes V.alone (looking_at_all [] peers.old)
+            self.old.world peers.new self.new.world }
+    {
+        for key in 0..peers.len() {
+            self.look_into(key, &mut peers[key]);
+        }
+    }
+}

@@ -1,0 +1,156 @@
+//! Messages of the bus to one connection.
+
+ghost use Rattle.std.specs.Prelude.{◌≡◌, ◌<◌, ◌≤◌, ◌+◌};
+ghost use Rattle.seq_bus_core.specs.declared.verdict.Verdict.{Verdict as Told};
+ghost use Rattle.message_core.specs.Said.{said};
+ghost use Rattle.message.specs.FactsOf.{facts_of};
+ghost use Rattle.outbox_core.specs.Contents.{carried_of, own_of, own_message};
+ghost use Rattle.router_core.specs.Answers.{Heard};
+ghost use Rattle.router_core.specs.Scripts.{Routes, Comes};
+ghost use Rattle.router_core.specs.Serving.{answer_with as answering, call_of as call_in, err_if_call as erring_if_call, err_with as erring, is_method_call as is_method_call_in, monitors_in, reply_with as replying, tell as telling};
+ghost use Rattle.router_steps.specs.Carrying.{answer_of};
+
+use crate::context::Context;
+use crate::verdicts::{tell_no_monitors, tell_one};
+use arrayvec::ArrayVec;
+use bus_view::BusView;
+use driver::{ReplyTo, expects_reply};
+use match_rules::{Facts, MessageKind};
+use message_core::Message;
+use outbox_core::{CallToAnswer, Content, OwnMessage, ReplyContent};
+use router_core::Gate;
+use seq_bus_core::{Conn, ErrorKind, Verdict};
+
+/// The call, as it is answered.
+fn call_of(message: &Message, caller: Conn) -> CallToAnswer
+    ensures { result ≡ call_in (said message.now) caller }
+{
+    let _bytes = message.as_bytes();
+    CallToAnswer::new(ReplyTo {
+        caller: Some(caller.number),
+        call: message.serial(),
+    })
+}
+
+/// Whether the message calls a method.
+pub fn is_method_call(message: &Message) -> bool
+    ensures { result ≡ is_method_call_in (said message.now) }
+{
+    message.kind() == MessageKind::MethodCall
+}
+
+impl<V: BusView, G: Gate> Context<V, G> {
+    /// Asks which monitors are shown a message of the bus. Where the bus does not say, it is shown to none; where there are no
+    /// monitors, what they would see of it is not made.
+    pub(crate) fn ask_monitors(&mut self, own: &OwnMessage) -> Box<Verdict>
+        requires { 0 < self.old.crowds }
+        ensures routes { (heard : Heard Told) ×
+            Routes V.alone 0 (facts_of (own_message 1 (own_of own.now))) self.old.world heard
+            self.new.world × (result.value.monitors ≡ monitors_in heard) }
+        ensures room { self.new.room ≡ self.old.room }
+        ensures crowds { self.new.crowds + 1 ≡ self.old.crowds }
+    {
+        let mut verdict = self.take_verdict();
+        if !self.is_watched() {
+            tell_no_monitors(&mut verdict);
+            return verdict;
+        }
+        let names = own.names();
+        // Made where they stay: they are too large to be copied.
+        let mut facts = Facts {
+            kind: MessageKind::Signal,
+            auto_start: true,
+            sender: 0,
+            path: None,
+            interface: None,
+            member: None,
+            destination: None,
+            arguments: ArrayVec::new(),
+        };
+        own.put_facts(&names, &mut facts);
+        match self.route(0, &facts, &mut verdict) {
+            Ok(()) => {}
+            Err(_) => tell_no_monitors(&mut verdict),
+        }
+        verdict
+    }
+
+    /// Tells a connection a message of the bus. The monitors are shown it too.
+    pub fn tell(&mut self, conn: Conn, own: OwnMessage)
+        requires room { 0 < self.old.room }
+        requires crowds { 0 < self.old.crowds }
+        ensures comes { Comes V.told V.registry_of G.passes V.alone (telling conn (own_of own))
+            self.old.world tt self.new.world }
+        ensures room { self.old.room ≤ self.new.room + 1 }
+        ensures crowds { self.old.crowds ≤ self.new.crowds + 1 }
+    {
+        let mut verdict = self.ask_monitors(&own);
+        tell_one(&mut verdict, conn);
+        self.put_to(verdict, Content::Own(own));
+    }
+
+    /// Replies to a call. One that wants no reply gets none.
+    pub fn reply_with(&mut self, call: &Message, caller: Conn, content: ReplyContent)
+        requires room { 0 < self.old.room }
+        requires crowds { 0 < self.old.crowds }
+        ensures comes { Comes V.told V.registry_of G.passes V.alone
+            (replying (said call.now) caller (carried_of content)) self.old.world tt
+            self.new.world }
+        ensures room { self.old.room ≤ self.new.room + 1 }
+        ensures crowds { self.old.crowds ≤ self.new.crowds + 1 }
+    {
+        if expects_reply(call) {
+            let to = call_of(call, caller);
+            self.tell(caller, OwnMessage::Reply { to, content });
+        }
+    }
+
+    /// Answers a call an error. One that wants no reply gets none.
+    pub fn err_with(&mut self, call: &Message, caller: Conn, error: ErrorKind)
+        requires room { 0 < self.old.room }
+        requires crowds { 0 < self.old.crowds }
+        ensures comes { Comes V.told V.registry_of G.passes V.alone
+            (erring (said call.now) caller error) self.old.world tt self.new.world }
+        ensures room { self.old.room ≤ self.new.room + 1 }
+        ensures crowds { self.old.crowds ≤ self.new.crowds + 1 }
+    {
+        if expects_reply(call) {
+            let to = call_of(call, caller);
+            self.tell(caller, OwnMessage::Error { to, error });
+        }
+    }
+
+    /// Answers a call an error; another message is dropped.
+    pub fn err_if_call(&mut self, message: &Message, sender: Conn, error: ErrorKind)
+        requires room { 0 < self.old.room }
+        requires crowds { 0 < self.old.crowds }
+        ensures comes { Comes V.told V.registry_of G.passes V.alone
+            (erring_if_call (said message.now) sender error) self.old.world tt self.new.world }
+        ensures room { self.old.room ≤ self.new.room + 1 }
+        ensures crowds { self.old.crowds ≤ self.new.crowds + 1 }
+    {
+        if is_method_call(message) {
+            self.err_with(message, sender, error);
+        }
+    }
+
+    /// Answers a call: a reply, or an error.
+    pub fn answer_with(
+        &mut self,
+        call: &Message,
+        caller: Conn,
+        answer: Result<ReplyContent, ErrorKind>,
+    )
+        requires room { 0 < self.old.room }
+        requires crowds { 0 < self.old.crowds }
+        ensures comes { Comes V.told V.registry_of G.passes V.alone
+            (answering (said call.now) caller (answer_of answer)) self.old.world tt self.new.world }
+        ensures room { self.old.room ≤ self.new.room + 1 }
+        ensures crowds { self.old.crowds ≤ self.new.crowds + 1 }
+    {
+        match answer {
+            Ok(content) => self.reply_with(call, caller, content),
+            Err(error) => self.err_with(call, caller, error),
+        }
+    }
+}
