@@ -1,6 +1,6 @@
 //! The rules of a monitor.
 
-ghost use Rattle.std.specs.Prelude.{◌≡◌, ◌<◌, ◌↔◌, [], ◌∷◌, ◌++◌, length, IsTrue, IfOk, OnOk, OnErr};
+ghost use Rattle.std.specs.Prelude.{◌≡◌, ◌<◌, ◌≤◌, ◌↔◌, [], ◌∷◌, ◌++◌, length, IsTrue, IfOk, OnOk, OnErr};
 
 use crate::limits::MAX_RULES_OF_MONITOR;
 use match_rules::Rule;
@@ -65,7 +65,8 @@ impl MonitorRules {
 
     /// The rules, in order.
     pub fn as_slice(&self) -> &[Rule]
-        ensures { result.now ≡ self.now }
+        ensures value { result.now ≡ self.now }
+        ensures few { length self.now ≤ Self.MAX }
     {
         self.rules.as_slice()
     }
