@@ -1,0 +1,3 @@
+pub mod CallLists
+pub mod Settlings
+pub mod Following
