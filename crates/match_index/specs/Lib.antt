@@ -1,0 +1,10 @@
+pub mod PlaceIndexes
+pub mod Sets
+pub mod Indexed
+pub mod Near
+pub mod Buckets
+pub mod Entries
+pub mod Indexes
+pub mod RulesOf
+pub mod Collecting
+pub mod Laws

@@ -1,0 +1,41 @@
+-- Which rules a message is tested by.
+use Rattle.std.specs.Prelude.{ℕ, ◌==◌, Bool, true, ◌&&◌, Option, Some, None, List, count_by, if◌then◌else◌}
+use Rattle.std.specs.Option.{option_and_then}
+use Rattle.names.specs.Texts.{Text, text_eq}
+use Rattle.names.specs.BusName.{is_unique}
+use Rattle.names.specs.UniqueName.{unique_text}
+use Rattle.match_rules.specs.Facts.{Facts}
+use Rattle.match_rules.specs.Fitting.{is_text}
+use Rattle.match_rules.specs.Kinds.{kind_named, kind_number}
+use Rattle.match_rules.specs.Rules.{Rule, value_at}
+use Rattle.match_rules.specs.declared.kind.MessageKind.{MessageKind}
+use Rattle.match_rules.specs.declared.key.Key.TheVariants.{«Type» as MessageType, Sender, Interface, Member}
+use Rattle.match_index.specs.Indexed.{OwnedRule}
+
+-- the type of message that a rule asks for
+abbrev pub kind_asked : Rule → Option MessageKind
+kind_asked rule = option_and_then kind_named (value_at MessageType rule)
+
+abbrev pub is_kind : Option MessageKind → MessageKind → Bool
+is_kind None kind = true
+is_kind (Some asked) kind = kind_number asked == kind_number kind
+
+-- a key that is not there, or has what the message has
+abbrev pub agrees : Option Text → Option Text → Bool
+agrees None text = true
+agrees (Some value) text = is_text value text
+
+-- no sender, the sender's unique name, any well-known name or the bus
+abbrev pub is_near_sender : Option Text → ℕ → Bool
+is_near_sender None sender = true
+is_near_sender (Some name) sender = if is_unique name then text_eq name (unique_text sender) else true
+
+-- a rule whose type, interface and member, where they are there, are the message's, and whose sender may be
+abbrev pub is_near : Facts → Rule → Bool
+is_near facts rule =
+    is_kind (kind_asked rule) facts.kind && agrees (value_at Interface rule) facts.interface && agrees (value_at Member rule) facts.member
+    && is_near_sender (value_at Sender rule) facts.sender
+
+-- how many rules a message may be tested by
+abbrev pub near_rules : Facts → List OwnedRule → ℕ
+near_rules facts rules = count_by (λ r. is_near facts r.rule) rules

@@ -1,0 +1,242 @@
+//! Buckets of rules that ask for the same type, interface, member and sender.
+
+ghost use Rattle.std.specs.Prelude.{◌≡◌, ◌<◌, ◌==◌, option_map, is_some};
+ghost use Rattle.match_index.specs.Buckets.{asked, bit, bucket_of, code_of, kind_part, message_parts, mixed, part_if, part_of, rule_parts, sender_class, sender_if, sender_part, shape_of, text_part};
+ghost use Rattle.names.specs.Texts.{text_eq};
+ghost use Rattle.names.specs.BusName.{is_unique};
+ghost use Rattle.names.specs.UniqueName.{unique_text};
+ghost use Rattle.match_rules.specs.Fitting.{is_text};
+ghost use Rattle.match_index.specs.Near.{agrees, is_kind, is_near, is_near_sender, kind_asked};
+
+use match_rules::{Facts, MessageKind, Rule};
+use names::UniqueName;
+
+/// How many shapes of rules there are: each asks for a type or does not, for an interface, for a
+/// member, and for no sender, for a well-known name or the bus, or for a unique name.
+pub(crate) const SHAPES: usize = 24;
+
+/// What stands for the well-known names and the bus, which are one class of senders.
+const NAMED: u64 = 1;
+
+/// The bucket that a rule is in.
+#[derive(Clone, Copy, Drop)]
+pub(crate) struct Bucket {
+    /// Which parts the rules ask for.
+    pub shape: usize,
+    /// The code of what they ask for. Rules that ask for other texts may have it too.
+    pub code: u64,
+}
+
+/// Numbers for the parts that a rule asks for, or that a message has.
+#[derive(Clone, Copy, Drop)]
+pub(crate) struct Parts {
+    kind: u64,
+    interface: u64,
+    member: u64,
+    sender: u64,
+}
+
+impl Parts {
+    /// What a message has.
+    pub(crate) fn of(facts: &Facts<'_>) -> Parts
+        ensures { result ≡ message_parts facts.now }
+    {
+        Parts {
+            kind: kind_part(Some(facts.kind)),
+            interface: part_of(facts.interface),
+            member: part_of(facts.member),
+            sender: text_part(UniqueName::of(facts.sender).as_str()),
+        }
+    }
+
+    /// The code of the rules of a shape that a message with these parts may be for.
+    pub(crate) fn code_for(self, shape: usize) -> u64
+        ensures { result ≡ code_of (asked shape self) }
+    {
+        let parts = Parts {
+            kind: part_if(shape % 2 == 1, self.kind),
+            interface: part_if(shape / 2 % 2 == 1, self.interface),
+            member: part_if(shape / 4 % 2 == 1, self.member),
+            sender: sender_if(shape / 8, self.sender),
+        };
+        parts.code()
+    }
+
+    fn code(self) -> u64
+        ensures { result ≡ code_of self }
+    {
+        let code = mixed(self.kind, self.interface);
+        mixed(mixed(code, self.member), self.sender)
+    }
+}
+
+/// The bucket of a rule.
+pub(crate) fn bucket_of(rule: &Rule) -> Bucket
+    ensures value { result ≡ bucket_of rule.now }
+    ensures bound { result.shape < SHAPES }
+{
+    let parts = Parts {
+        kind: kind_part(rule.kind()),
+        interface: part_of(rule.interface()),
+        member: part_of(rule.member()),
+        sender: sender_part(rule.sender()),
+    };
+    Bucket {
+        shape: shape_of(rule),
+        code: parts.code(),
+    }
+}
+
+/// Whether a message may be one that a rule asks for, by its type, interface, member and sender.
+pub(crate) fn is_near(rule: &Rule, facts: &Facts<'_>) -> bool
+    ensures { result ≡ is_near facts.now rule.now }
+{
+    is_kind(rule.kind(), facts.kind)
+        && agrees(rule.interface(), facts.interface)
+        && agrees(rule.member(), facts.member)
+        && is_near_sender(rule.sender(), facts.sender)
+}
+
+fn is_kind(asked: Option<MessageKind>, kind: MessageKind) -> bool
+    ensures { result ≡ is_kind asked kind }
+{
+    match asked {
+        Some(asked) => asked.number() == kind.number(),
+        None => true,
+    }
+}
+
+fn agrees(value: Option<&str>, text: Option<&str>) -> bool
+    ensures { result ≡ agrees (option_map (λ t. t.now) value.entry) (option_map
+        (λ t. t.now) text.entry) }
+{
+    match value {
+        Some(value) => is_text(value, text),
+        None => true,
+    }
+}
+
+fn is_text(value: &str, text: Option<&str>) -> bool
+    ensures { result ≡ is_text value.now (option_map (λ t. t.now) text.entry) }
+{
+    match text {
+        Some(text) => text.as_bytes() == value.as_bytes(),
+        None => false,
+    }
+}
+
+fn is_near_sender(name: Option<&str>, sender: u64) -> bool
+    ensures { result ≡ is_near_sender (option_map (λ t. t.now) name.entry) sender }
+{
+    match name {
+        Some(name) => !is_unique(name) || is_name_of(name, sender),
+        None => true,
+    }
+}
+
+/// Whether the name is the one that the bus gives to the connection of a number.
+fn is_name_of(name: &str, number: u64) -> bool
+    ensures { result ≡ text_eq name.now (unique_text number) }
+{
+    UniqueName::of(number).as_str().as_bytes() == name.as_bytes()
+}
+
+fn is_unique(name: &str) -> bool
+    ensures { result ≡ is_unique name.now }
+{
+    match name.as_bytes().first() {
+        Some(byte) => *byte == b':',
+        None => false,
+    }
+}
+
+/// Which parts a rule asks for.
+fn shape_of(rule: &Rule) -> usize
+    ensures value { result ≡ shape_of rule.now }
+    ensures bound { result < SHAPES }
+{
+    bit(rule.kind().is_some())
+        + 2 * bit(rule.interface().is_some())
+        + 4 * bit(rule.member().is_some())
+        + 8 * sender_class(rule.sender())
+}
+
+fn bit(is_there: bool) -> usize
+    ensures value { result ≡ bit is_there }
+    ensures bound { result < 2 }
+{
+    if is_there { 1 } else { 0 }
+}
+
+fn sender_class(name: Option<&str>) -> usize
+    ensures value { result ≡ sender_class (option_map (λ t. t.now) name.entry) }
+    ensures bound { result < 3 }
+{
+    match name {
+        Some(name) => { if is_unique(name) { 2 } else { 1 } }
+        None => 0,
+    }
+}
+
+fn kind_part(kind: Option<MessageKind>) -> u64
+    ensures { result ≡ kind_part kind }
+{
+    match kind {
+        Some(kind) => u64::from(kind.number()) + 1,
+        None => 0,
+    }
+}
+
+fn part_of(text: Option<&str>) -> u64
+    ensures { result ≡ part_of (option_map (λ t. t.now) text.entry) }
+{
+    match text {
+        Some(text) => text_part(text),
+        None => 0,
+    }
+}
+
+fn sender_part(name: Option<&str>) -> u64
+    ensures { result ≡ sender_part (option_map (λ t. t.now) name.entry) }
+{
+    match name {
+        Some(name) => {
+            if is_unique(name) {
+                text_part(name)
+            } else {
+                NAMED
+            }
+        }
+        None => 0,
+    }
+}
+
+fn part_if(asked: bool, part: u64) -> u64
+    ensures { result ≡ part_if asked part }
+{
+    if asked { part } else { 0 }
+}
+
+fn sender_if(class: usize, part: u64) -> u64
+    ensures { result ≡ sender_if class part }
+{
+    if class == 2 { part } else { class as u64 }
+}
+
+fn text_part(text: &str) -> u64
+    ensures { result ≡ text_part text.now }
+{
+    let mut code = 14695981039346656037;
+    for byte in text.as_bytes() {
+        code = mixed(code, u64::from(*byte));
+    }
+    code
+}
+
+/// A number goes into a code.
+#[tactic(auto, unfolding(crate::specs::Buckets::mixed))]
+fn mixed(code: u64, number: u64) -> u64
+    ensures { result ≡ mixed code number }
+{
+    code.wrapping_mul(1099511628211).wrapping_add(number)
+}

@@ -1,0 +1,90 @@
+//! Which connections have a rule that fits, of those that stand at some places.
+
+ghost use Rattle.std.specs.Prelude.{◌≡◌, ◌≤◌, ◌<◌, ◌+◌, ◌||◌, ℕ, [], length, count_by};
+ghost use Rattle.std.specs.List.{AllByRecursion, list_any};
+ghost use Rattle.match_index.specs.Collecting.{AreAmong, AreOwned, connections_of, entries_at, is_tested, is_wanting};
+ghost use Rattle.match_index.specs.Entries.{ArePlaced, by_code, live};
+ghost use Rattle.match_index.specs.Indexed.{has_fitting};
+ghost use Rattle.match_index.specs.Indexes.{AreFiled, AreShaped};
+ghost use Rattle.match_index.specs.Near.{near_rules};
+ghost use Rattle.match_index.specs.PlaceIndexes.{places_in};
+ghost use Rattle.match_index.specs.Sets.{AreRising, is_in};
+
+use crate::buckets::{Parts, SHAPES, is_near};
+use crate::conn_set::ConnSet;
+use crate::entries::Entry;
+use crate::place_index::{Place, PlaceIndex};
+use crate::steps::Steps;
+use match_rules::{Facts, Owners};
+use std::sync::ledger::Ledger;
+
+/// Adds the connections that have a rule that fits a message. Only the rules of the buckets that the
+/// message may be for are looked at, and each that is tested is a step.
+pub(crate) fn collect<O: Owners, L: Ledger>(
+    entries: &[Entry],
+    by_bucket: &PlaceIndex,
+    shapes: &[bool],
+    facts: &Facts<'_>,
+    owners: &O,
+    found: &mut ConnSet,
+    steps: &mut Steps<L>,
+)
+    requires coded { ArePlaced by_code entries.now by_bucket.now.places }
+    requires filed { AreFiled entries.now }
+    requires shaped { AreShaped shapes.now entries.now }
+    requires all_shapes { length shapes.now ≡ SHAPES }
+    requires empty { found.old ≡ [] }
+    requires few { length (connections_of (live entries.now)) ≤ ConnSet.MAX }
+    ensures found { (c : ℕ) → is_in c found.new
+        ≡ has_fitting (O.heads owners.now) (live entries.now) facts.now c }
+    ensures rising { AreRising found.new }
+    ensures cost { steps.new ≤ steps.old + near_rules facts.now (live entries.now) }
+{
+    let parts = Parts::of(facts);
+    for shape in 0..SHAPES {
+        if shapes[shape] {
+            let places = by_bucket.of(parts.code_for(shape));
+            collect_at(entries, places, shape, facts, owners, found, steps);
+        }
+    }
+}
+
+/// Adds the connections that have a rule of this shape at these places that fits.
+pub(crate) fn collect_at<O: Owners, L: Ledger>(
+    entries: &[Entry],
+    places: &[Place],
+    shape: usize,
+    facts: &Facts<'_>,
+    owners: &O,
+    found: &mut ConnSet,
+    steps: &mut Steps<L>,
+)
+    requires there { AllByRecursion (λ p. p.place < length entries.now) places.now }
+    requires few { length (connections_of (live entries.now)) ≤ ConnSet.MAX }
+    requires owned { AreOwned (live entries.now) (entries_at entries.now (places_in places.now)) }
+    requires among { AreAmong (live entries.now) found.old }
+    ensures found { (c : ℕ) → is_in c found.new
+        ≡ (is_in c found.old || list_any (is_wanting (O.heads owners.now) shape facts.now c)
+        (entries_at entries.now (places_in places.now))) }
+    ensures among { AreAmong (live entries.now) found.new }
+    ensures cost { steps.new
+        ≤ steps.old + count_by (is_tested shape facts.now) (entries_at entries.now
+        (places_in places.now)) }
+{
+    for place in places {
+        let entry = &entries[place.place];
+        if is_tested(entry, shape, facts) {
+            steps.tick();
+            if entry.rule.fits(facts, owners) {
+                found.insert(entry.connection);
+            }
+        }
+    }
+}
+
+/// Whether a rule is of this shape and near.
+fn is_tested(entry: &Entry, shape: usize, facts: &Facts<'_>) -> bool
+    ensures { result ≡ is_tested shape facts.now entry.now }
+{
+    entry.bucket.shape == shape && is_near(&entry.rule, facts)
+}
