@@ -1,0 +1,2 @@
+pub mod Monitors
+pub mod Laws
