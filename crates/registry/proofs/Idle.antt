@@ -8,7 +8,6 @@ use Rattle.seq_bus_core.specs.Tickets.{WholeBus, bus_step, new_ticket, settled_t
 use Rattle.seq_bus_core.specs.declared.change.Change.{Change}
 use Rattle.seq_bus_core.specs.declared.change.Change.TheVariants.{Hello, Leave, Request, Release, AddMatch, RemoveMatch, BecomeMonitor, Start, Hold, ChildEnded, StartTimedOut}
 use Rattle.seq_bus_core.specs.declared.outcome.NumberedOutcome.{NumberedOutcome}
-use Rattle.seq_bus_core.specs.declared.outcome.Outcome.{Outcome}
 use Rattle.seq_bus_core.specs.declared.outcome.Reply.{Reply}
 use Rattle.seq_bus_core.specs.declared.ticket.Fate.TheVariants.{Served}
 use Rattle.seq_bus_core.specs.declared.ticket.SettledNumber.{SettledNumber}

@@ -1,3 +1,4 @@
+pub mod Along
 pub mod Openings
 pub mod Idle
 pub mod Lists
@@ -10,4 +11,8 @@ pub mod ListeningLemmas
 pub mod HelloLemmas
 pub mod MatchLemmas
 pub mod RequestLemmas
+pub mod StartLemmas
 pub mod LeaveLemmas
+pub mod MonitorLemmas
+pub mod AfterLemmas
+pub mod MemberLemmas

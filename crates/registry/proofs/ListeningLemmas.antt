@@ -3,23 +3,19 @@ use Rattle.std.proofs.Common.{◌≡◌, ℕ, ◌<◌, ◌==◌, ◌&&◌, ◌||
 use Rattle.std.specs.List.{AllByRecursion as Each, list_any, find}
 use Rattle.std.specs.Option.{option_to_list}
 use Rattle.std.proofs.lemmas.Bool.Decides.{nat_tests}
-use Rattle.names.specs.Texts.{Text}
 use Rattle.match_rules.specs.Facts.{Facts}
 use Rattle.match_rules.specs.Fitting.{Heads, fits}
 use Rattle.match_rules.specs.Rules.{Rule}
 use Rattle.seq_bus_core.specs.BusState.{BusState, Connection, AddedRule, conn_of, connection_of, head_of, is_client, is_monitor}
 use Rattle.seq_bus_core.specs.Consistency.{IsGiven, IsConsistent, Pairwise}
-use Rattle.seq_bus_core.specs.Recipients.{all_that_want, conn_at, monitors_shown, watches}
-use Rattle.seq_bus_core.specs.Steps.{addressed, facts_of, is_among}
+use Rattle.seq_bus_core.specs.Recipients.{conn_at, monitors_shown, watches}
 use Rattle.seq_bus_core.specs.declared.connection.Conn.{Conn}
-use Rattle.seq_bus_core.specs.declared.signal.AddressedSignal.{AddressedSignal}
-use Rattle.seq_bus_core.specs.declared.signal.BusSignal.TheVariants.{NameOwnerChanged}
-use Rattle.seq_bus_core.proofs.Lists.{any_having, each_filter, each_map, each_weaker}
-use Rattle.seq_bus_core.proofs.MonitorLaws.{nobody_gets_a_message_twice}
-use Rattle.registry_core.specs.Listening.{conns_that, has_fitting, watches_by}
+use Rattle.seq_bus_core.proofs.Lists.{any_having, each_weaker}
+use Rattle.registry_core.specs.declared.member.Member.{Member}
+use Rattle.registry_core.specs.Listening.{conns_that, has_fitting, member_wants, stays, wants_by, watches_by}
+use Rattle.registry_core.specs.MemberTables.{member_of}
 use Rattle.registry_core.proofs.Members.{filter_alike}
 use Rattle.registry_core.proofs.Places.{one_done}
-use Rattle.registry.proofs.Lists.{filter_all}
 
 pub watches_same : (s : BusState) (facts : Facts) (c : Connection) → watches s facts c ≡ watches_by (head_of s) facts c
 watches_same s facts c = by_rules c.monitor
@@ -35,23 +31,6 @@ watches_same s facts c = by_rules c.monitor
 
 pub shown_same : (s : BusState) (facts : Facts) → monitors_shown s facts ≡ conns_that (watches_by (head_of s) facts) s.connections
 shown_same s facts = ap (map conn_of) (filter_alike (watches s facts) (watches_by (head_of s) facts) s.connections (watches_same s facts))
-
--- a signal NameOwnerChanged has no destination, and no monitor wants it
-pub announced : (s : BusState) (name : Text) (old new : Option ℕ) → IsConsistent s →
-    addressed s (NameOwnerChanged name old new)
-    ≡ record {
-      signal = NameOwnerChanged name old new;
-      to = all_that_want s (facts_of (NameOwnerChanged name old new));
-      monitors = monitors_shown s (facts_of (NameOwnerChanged name old new));
-    }
-announced s name old new h =
-    let signal = NameOwnerChanged name old new in
-    let facts = facts_of signal in
-    let to : List Conn = all_that_want s facts in
-    let shown : List Conn = monitors_shown s facts in
-    let sent : List Conn → AddressedSignal = λ monitors. record { signal = signal; to = to; monitors = monitors } in
-    let apart : Each (λ m. is_among to m ≡ false) shown = nobody_gets_a_message_twice s 0 facts h in
-    ap sent (filter_all (λ m. not (is_among to m)) shown (each_weaker (λ m. is_among to m ≡ false) (λ m. not (is_among to m) ≡ true) (λ m is. ap not is) shown apart))
 
 -- ## A connection that has just come
 
@@ -75,10 +54,6 @@ none_fits heads facts n (r ∷ rules) h = let other : (r.connection == n) ≡ fa
 
 pub push_none : (test : Connection → Bool) (cs : List Connection) (c : Connection) → test c ≡ false → conns_that test (cs ++ c ∷ []) ≡ conns_that test cs
 push_none test cs c fails = one_done conn_of test cs c ∙ ap (λ b. conns_that test cs ++ (if b then conn_of c ∷ [] else [])) fails ∙ append-nil (conns_that test cs)
-
--- the connections that pass a test are of those that there are
-pub each_that : (P : ℕ → Type 0) (test : Connection → Bool) (cs : List Connection) → Each (λ c. P c.number) cs → Each (λ m. P m.number) (conns_that test cs)
-each_that P test cs h = each_map (λ c. P c.number) (λ m. P m.number) conn_of (λ c p. p) (filter test cs) (each_filter (λ c. P c.number) test cs h)
 
 -- ## The connection of a number
 
@@ -104,3 +79,20 @@ conn_at_is s n o h is = ap option_to_list is ∙ by_found (find (λ c. c.number 
     by_found : (found : Option Connection) → option_to_list (option_map conn_of found) ≡ map conn_of (option_to_list found)
     by_found None = refl
     by_found (Some c) = refl
+
+-- ## In their table
+
+pub members_that_want : (heads : Heads) (rules : List AddedRule) (facts : Facts) (leaver : Option ℕ) (cs : List Connection) →
+    map (λ m. m.conn) (filter (λ m. stays leaver m.conn.number && member_wants heads rules facts m) (map member_of cs))
+    ≡ conns_that (λ c. stays leaver c.number && wants_by heads rules facts c) cs
+members_that_want heads rules facts leaver [] = refl
+members_that_want heads rules facts leaver (c ∷ cs) = by_test (stays leaver c.number && wants_by heads rules facts c) (members_that_want heads rules facts leaver cs)
+  where
+    others : List Member
+    others = filter (λ m. stays leaver m.conn.number && member_wants heads rules facts m) (map member_of cs)
+
+    by_test : (b : Bool) → map (λ (m : Member). m.conn) others ≡ conns_that (λ d. stays leaver d.number && wants_by heads rules facts d) cs →
+        map (λ (m : Member). m.conn) (cond b (member_of c ∷ others) others)
+        ≡ map conn_of (cond b (c ∷ filter (λ d. stays leaver d.number && wants_by heads rules facts d) cs) (filter (λ d. stays leaver d.number && wants_by heads rules facts d) cs))
+    by_test true rest = ap (λ conns. conn_of c ∷ conns) rest
+    by_test false rest = rest

@@ -1,5 +1,5 @@
 -- Lists of names, and how many they have.
-use Rattle.std.proofs.Common.{◌≡◌, ℕ, suc, ◌+◌, ◌≤◌, Bool, true, false, not, cond, Some, None, List, [], ◌∷◌, ◌++◌, filter, map, flat_map, length, length-append, refl, ap, ◌∙◌, sym, arith, if◌then◌else◌}
+use Rattle.std.proofs.Common.{◌≡◌, suc, ◌+◌, ◌≤◌, Bool, true, false, not, cond, Some, None, List, [], ◌∷◌, ◌++◌, filter, map, flat_map, length, length-append, refl, ap, arith, if◌then◌else◌}
 use Rattle.std.specs.List.{list_all}
 use Rattle.std.proofs.lemmas.List.{length-map}
 use Rattle.names.specs.Texts.{Text}
@@ -8,12 +8,12 @@ use Rattle.names.specs.UniqueName.{unique_text}
 use Rattle.owner_queues.specs.Queues.{IsQueue}
 use Rattle.owner_queues.specs.declared.owner.QueuedOwner.{QueuedOwner}
 use Rattle.seq_bus_core.specs.Answers.{names_there}
-use Rattle.seq_bus_core.specs.BusState.{AddedRule, BusState, Connection, OwnedName, is_client, is_monitor, max_connections, queue_of}
+use Rattle.seq_bus_core.specs.BusState.{BusState, Connection, OwnedName, is_client, is_monitor, max_connections, queue_of}
 use Rattle.seq_bus_core.specs.Consistency.{IsConsistent, IsOwned, IsWithinLimits}
 use Rattle.seq_bus_core.specs.Histories.{max_services}
 use Rattle.seq_bus_core.proofs.Lists.{each_weaker}
 use Rattle.seq_bus_core.proofs.OwnedLemmas.{queue_of_each}
-use Rattle.registry_core.specs.Listening.{connection_of_member}
+use Rattle.registry_core.specs.MemberTables.{member_of}
 use Rattle.registry_core.specs.declared.member.Member.{Member}
 use Rattle.registry.specs.NamesListed.{only, names_in}
 use Rattle.registry.specs.declared.listed.NamesOf.{NamesOf}
@@ -68,19 +68,19 @@ same_listed [] = refl
 same_listed (text ∷ texts) = ap (λ rest. text ∷ rest) (same_listed texts)
 
 -- the unique names of the connections that are no monitors
-pub clients_listed : (rules : List AddedRule) (members : List Member)
-    → flat_map (λ m. only (if m.is_monitor then None else Some (unique_text m.conn.number))) members
-    ≡ map (λ c. unique_text c.number) (filter (λ c. not (is_monitor c)) (map (connection_of_member rules) members))
-clients_listed rules [] = refl
-clients_listed rules (m ∷ members) = by_test m.is_monitor refl (clients_listed rules members)
+pub clients_listed : (cs : List Connection)
+    → flat_map (λ m. only (if m.is_monitor then None else Some (unique_text m.conn.number))) (map member_of cs)
+    ≡ map (λ c. unique_text c.number) (filter (λ c. not (is_monitor c)) cs)
+clients_listed [] = refl
+clients_listed (c ∷ cs) = by_test (is_monitor c) (clients_listed cs)
   where
-    by_test : (b : Bool) → m.is_monitor ≡ b
-        → flat_map (λ (n : Member). only (if n.is_monitor then None else Some (unique_text n.conn.number))) members
-        ≡ map (λ (c : Connection). unique_text c.number) (filter (λ c. not (is_monitor c)) (map (connection_of_member rules) members))
-        → flat_map (λ (n : Member). only (if n.is_monitor then None else Some (unique_text n.conn.number))) (m ∷ members)
-        ≡ map (λ (c : Connection). unique_text c.number) (filter (λ c. not (is_monitor c)) (map (connection_of_member rules) (m ∷ members)))
-    by_test true e rest = rw e rest
-    by_test false e rest = rw e (ap (λ names. unique_text m.conn.number ∷ names) rest)
+    by_test : (b : Bool)
+        → flat_map (λ (m : Member). only (if m.is_monitor then None else Some (unique_text m.conn.number))) (map member_of cs)
+        ≡ map (λ (d : Connection). unique_text d.number) (filter (λ d. not (is_monitor d)) cs)
+        → only (if b then None else Some (unique_text c.number)) ++ flat_map (λ (m : Member). only (if m.is_monitor then None else Some (unique_text m.conn.number))) (map member_of cs)
+        ≡ map (λ (d : Connection). unique_text d.number) (cond (not b) (c ∷ filter (λ d. not (is_monitor d)) cs) (filter (λ d. not (is_monitor d)) cs))
+    by_test true rest = rest
+    by_test false rest = ap (λ names. unique_text c.number ∷ names) rest
 
 -- the names of entries of a table
 pub owned_listed : {X : Type 0} (text : X → Text) (owned : X → OwnedName) (entries : List X) → ((x : X) → text x ≡ (owned x).name)

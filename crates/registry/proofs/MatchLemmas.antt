@@ -11,7 +11,7 @@ use Rattle.seq_bus_core.specs.declared.change.Change.TheVariants.{AddMatch, Remo
 use Rattle.seq_bus_core.specs.declared.outcome.Reply.TheVariants.{Gone, LimitsExceeded, Done, RuleNotFound}
 use Rattle.registry.specs.Matches.{reply_to_add, reply_to_remove}
 
-some_found : {X : Type 0} (test : X → Bool) (xs : List X) → is_some (find test xs) ≡ list_any test xs
+pub some_found : {X : Type 0} (test : X → Bool) (xs : List X) → is_some (find test xs) ≡ list_any test xs
 some_found test [] = refl
 some_found test (x ∷ xs) = by_test (test x) (some_found test xs)
   where

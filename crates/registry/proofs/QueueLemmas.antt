@@ -14,7 +14,7 @@ use Rattle.seq_bus_core.proofs.Lists.{all_passing, each_always, each_passing, ea
 use Rattle.seq_bus_core.proofs.OwnedLemmas.{queue_of_unowned}
 use Rattle.seq_bus_core.proofs.TextLemmas.{text_eq-true, text_eq-swapped, text_lt-itself, text_lt-other, text_lt-trans}
 use Rattle.registry_core.specs.NameTables.{NamesRise}
-use Rattle.registry.specs.OwnerSignals.{requeued}
+use Rattle.registry.specs.Requests.{requeued}
 use Rattle.registry.proofs.HeadLemmas.{head_of_unique, head_of_other, is_itself}
 
 below_differs : (a b : Text) → text_lt a b ≡ true → text_eq a b ≡ false

@@ -3,8 +3,11 @@ pub mod Hellos
 pub mod Idle
 pub mod NamesListed
 pub mod Matches
+pub mod Monitors
 pub mod Openings
-pub mod OwnerSignals
+pub mod Partings
+pub mod Pendings
 pub mod PreparedChanges
 pub mod Requests
+pub mod Starts
 pub mod Tables

@@ -1,18 +1,27 @@
 -- The queue of a name after a request or a release. (D-Bus Specification: "org.freedesktop.DBus.RequestName",
 -- "org.freedesktop.DBus.ReleaseName")
-use Rattle.std.specs.Prelude.{ℕ, not, Result, Ok, Err, if◌then◌else◌}
+use Rattle.std.specs.Prelude.{ℕ, not, List, map, Result, Ok, Err, if◌then◌else◌}
 use Rattle.names.specs.Texts.{Text}
-use Rattle.owner_queues.specs.Queues.{Queue, requested, released}
+use Rattle.owner_queues.specs.Queues.{Queue, queue_head, requested, released}
 use Rattle.owner_queues.specs.declared.reply.Reply.{Reply as QueueReply}
 use Rattle.owner_queues.specs.declared.request.RequestFlags.{RequestFlags}
-use Rattle.seq_bus_core.specs.BusState.{BusState, is_client, queue_of, with_queue}
-use Rattle.seq_bus_core.specs.Steps.{is_reserved, replied}
+use Rattle.seq_bus_core.specs.BusState.{BusState, is_client, queue_of, start_of, with_queue}
+use Rattle.seq_bus_core.specs.Steps.{addressed, is_reserved, owner_signals, replied, settled, with_owned}
 use Rattle.seq_bus_core.specs.declared.outcome.NumberedOutcome.{NumberedOutcome}
 use Rattle.seq_bus_core.specs.declared.outcome.Reply.{Reply}
 use Rattle.seq_bus_core.specs.declared.outcome.Reply.TheVariants.{Gone, LimitsExceeded, InvalidName, OfQueue}
+use Rattle.seq_bus_core.specs.declared.signal.AddressedSignal.{AddressedSignal}
+use Rattle.seq_bus_core.specs.declared.ticket.Fate.TheVariants.{Served}
 use Rattle.registry_core.specs.NameTables.{are_within}
 use Rattle.registry.specs.declared.requests.QueueChange.{QueueChange}
-use Rattle.registry.specs.OwnerSignals.{requeued, signals_of_owners}
+
+-- the state once a name has this queue
+abbrev pub requeued : BusState → Text → Queue → BusState
+requeued s name queue = record s { names = with_queue name queue s.names }
+
+-- the signals of a name that has another queue
+abbrev pub signals_of_owners : BusState → Text → Queue → List AddressedSignal
+signals_of_owners s name queue = map (addressed (requeued s name queue)) (owner_signals name (queue_head (queue_of s.names name)) (queue_head queue))
 
 abbrev pub queue_change : Queue × QueueReply → QueueChange
 queue_change result = record { queue = result.0; reply = result.1 }
@@ -34,7 +43,7 @@ when_released s number name =
     else if is_reserved name then Err InvalidName
     else Ok (queue_change (released number (queue_of s.names name)))
 
--- the state after such a change
+-- the state after a release
 abbrev pub requeue_state : BusState → Text → Result QueueChange Reply → BusState
 requeue_state s name (Ok change) = requeued s name change.queue
 requeue_state s name (Err reply) = s
@@ -43,3 +52,13 @@ requeue_state s name (Err reply) = s
 abbrev pub requeue_outcome : BusState → Text → Result QueueChange Reply → NumberedOutcome
 requeue_outcome s name (Ok change) = record (replied (OfQueue change.reply)) { signals = signals_of_owners s name change.queue }
 requeue_outcome s name (Err reply) = replied reply
+
+-- the state after a request
+abbrev pub request_state : BusState → Text → Result QueueChange Reply → BusState
+request_state s name (Ok change) = with_owned s name change.queue
+request_state s name (Err reply) = s
+
+-- what it is told
+abbrev pub request_outcome : BusState → Text → Result QueueChange Reply → NumberedOutcome
+request_outcome s name (Ok change) = record (requeue_outcome s name (Ok change)) { tickets = settled Served (start_of s name) }
+request_outcome s name (Err reply) = replied reply

@@ -1,17 +1,16 @@
 //! Hello.
 
-ghost use Rattle.std.specs.Prelude.{◌≡◌, ◌==◌, IfOk};
-ghost use Rattle.std.specs.List.{list_any};
+ghost use Rattle.std.specs.Prelude.{◌≡◌, IfOk};
 ghost use Rattle.seq_bus_core.specs.Steps.{free_slot, is_taken, step};
 ghost use Rattle.seq_bus_core.specs.declared.change.Change.TheVariants.{Hello};
 ghost use Rattle.registry.specs.Hellos.{next_conn};
 ghost use Rattle.registry.specs.PreparedChanges.{prepared_on};
 
-use crate::owners::Joined;
+use crate::after::{After, Pending};
 use crate::prepared::{Act, Prepared, replied};
 use crate::registry::Registry;
+use audience::push_owner_signals;
 use names::{BusName, UniqueName};
-use registry_core::Member;
 use seq_bus_core::limits::{MAX_CONNECTIONS, MAX_NUMBER};
 use seq_bus_core::{Conn, NumberedOutcome, Reply};
 use std::alloc::{AllocError, Global};
@@ -23,7 +22,8 @@ impl Registry {
         seat: u8,
         privileged: bool,
     ) -> Result<Prepared, AllocError>
-        ensures { IfOk result (λ prepared. prepared ≡ prepared_on self.now seat (Hello privileged)) }
+        ensures { IfOk result (λ prepared. prepared
+            ≡ prepared_on self.now seat (Hello privileged)) }
     {
         Ok(Prepared {
             seat,
@@ -45,16 +45,21 @@ impl Registry {
         };
         let _ = &self.members;
         let name = BusName::from(UniqueName::of(conn.number));
-        let joined = Joined {
+        let after = After {
             registry: self,
-            conn,
-            privileged,
+            pending: Pending::Joined { conn, privileged },
         };
         let mut outcome = replied(alloc, Reply::Welcome(conn));
-        let announced = self.announced(alloc, &joined, None, name, None, Some(conn.number))?;
-        outcome.signals.push(announced)?;
-        let acquired = self.acquired(alloc, &joined, None, name, conn)?;
-        outcome.signals.push(acquired)?;
+        let signals = &mut outcome.signals;
+        push_owner_signals(
+            &after,
+            alloc,
+            signals,
+            name,
+            None,
+            Some(conn.number),
+            &mut (),
+        )?;
         Ok(outcome)
     }
 
@@ -65,11 +70,7 @@ impl Registry {
         let Some(conn) = self.next_conn(seat) else {
             return;
         };
-        self.members.push_reserved(Member {
-            conn,
-            privileged,
-            is_monitor: false,
-        });
+        self.members.join(conn, privileged);
         self.next_number += 1;
     }
 
@@ -108,13 +109,6 @@ impl Registry {
     fn is_taken(&self, slot: u16) -> bool
         ensures { result ≡ is_taken self.now slot }
     {
-        has_slot(&self.members, slot)
+        self.members.is_taken(slot)
     }
-}
-
-/// Whether one of the connections has this slot.
-fn has_slot(members: &[Member], slot: u16) -> bool
-    ensures { result ≡ list_any (λ m. m.conn.slot == slot) members.now }
-{
-    members.iter().any(|member| member.conn.slot == slot)
 }

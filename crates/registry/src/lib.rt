@@ -6,9 +6,13 @@
 //! copies of a registry, one after the other. What stands of a bus is read without taking memory.
 #![tactic(auto)]
 
+mod after;
+mod batches;
+mod becoming;
 mod hello;
 mod leave;
 mod listed;
+mod listening;
 mod matches;
 mod owners;
 mod prepared;
@@ -17,7 +21,7 @@ mod registry;
 mod requests;
 mod routing;
 mod services;
-mod signals;
+mod starts;
 
 pub use prepared::{Prepared, without_tickets};
 pub use registry::Registry;

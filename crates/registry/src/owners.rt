@@ -1,8 +1,11 @@
 //! Who has which names.
 
-ghost use Rattle.std.specs.Prelude.{◌≡◌};
+ghost use Rattle.std.specs.Prelude.{◌≡◌, Bool};
 ghost use Rattle.names.specs.BusName.{is_unique};
-ghost use Rattle.seq_bus_core.specs.BusState.{client_named};
+ghost use Rattle.seq_bus_core.specs.BusState.{client_named, head_of};
+ghost use Rattle.seq_bus_core.specs.Steps.{with_connection};
+ghost use Rattle.registry.specs.Hellos.{client_at};
+ghost use Rattle.registry.specs.Requests.{requeued};
 
 use crate::registry::Registry;
 use match_rules::Owners;
@@ -48,62 +51,38 @@ impl Registry {
             None => None,
         }
     }
-}
 
-/// The registry as it will be once a name has another queue.
-#[derive(Drop)]
-pub struct Requeued<'a> {
-    pub registry: &'a Registry,
-    pub name: BusName,
-    pub queue: &'a Queue,
-}
-
-impl<'a> Owners for Requeued<'a> {
-    ghost use Rattle.seq_bus_core.specs.BusState.{head_of};
-    ghost use Rattle.registry.specs.OwnerSignals.{requeued};
-
-    ghost heads = { λ o. head_of (requeued o.registry.now o.name o.queue.now) };
-
-    fn head(&self, name: &str) -> Option<u64> {
-        if is_unique(name) {
-            return self.registry.head(name);
-        }
-        if name == BUS {
-            return None;
-        }
-        if name == self.name.as_str() {
-            return self.queue.head();
-        }
-        self.registry.head(name)
-    }
-}
-
-/// The registry as it will be once a connection has said Hello.
-#[derive(Drop)]
-pub struct Joined<'a> {
-    pub registry: &'a Registry,
-    pub conn: Conn,
-    pub privileged: bool,
-}
-
-impl<'a> Owners for Joined<'a> {
-    ghost use Rattle.seq_bus_core.specs.BusState.{head_of};
-    ghost use Rattle.seq_bus_core.specs.Steps.{with_connection};
-    ghost use Rattle.registry.specs.Hellos.{client_at};
-
-    ghost heads = { λ j. head_of (with_connection j.registry.now (client_at j.conn j.privileged)) };
-
-    fn head(&self, name: &str) -> Option<u64> {
-        match self.registry.head(name) {
+    /// The head of a name once a connection has said Hello.
+    pub(crate) fn head_joined(&self, conn: Conn, name: &str) -> Option<u64>
+        ensures { (privileged : Bool) → result
+            ≡ head_of (with_connection self.now (client_at conn privileged)) name.now }
+    {
+        match self.head(name) {
             Some(number) => Some(number),
             None => {
-                if name == UniqueName::of(self.conn.number).as_str() {
-                    Some(self.conn.number)
+                if name == UniqueName::of(conn.number).as_str() {
+                    Some(conn.number)
                 } else {
                     None
                 }
             }
         }
+    }
+
+    /// The head of a name once a name has another queue.
+    pub(crate) fn head_requeued(&self, changed: &BusName, queue: &Queue, name: &str) -> Option<u64>
+        ensures { result ≡ head_of (requeued self.now changed.now queue.now) name.now }
+    {
+        if is_unique(name) {
+            return self.head(name);
+        }
+        if name == BUS {
+            return None;
+        }
+        if name == changed.as_str() {
+            return queue.head();
+        }
+        self.head(name)
     }
 }
 

@@ -6,7 +6,9 @@ ghost use Rattle.registry.specs.Idle.{told_without};
 use match_rules::Rule;
 use names::BusName;
 use owner_queues::RequestFlags;
-use seq_bus_core::{NumberedOutcome, Outcome, Reply, Signals, TicketNumbers, Tickets};
+use seq_bus_core::{
+    Ending, MonitorRules, NumberedOutcome, Outcome, Reply, Signals, TicketNumbers, Tickets,
+};
 use std::alloc::Global;
 use std::marker::Model;
 use std::mem::replace;
@@ -36,6 +38,27 @@ pub enum Act {
     RemoveMatch {
         connection: u64,
         rule: Rule,
+    },
+    BecomeMonitor {
+        connection: u64,
+        rules: MonitorRules,
+    },
+    Start {
+        connection: u64,
+        name: BusName,
+    },
+    Hold {
+        connection: u64,
+        name: BusName,
+    },
+    ChildEnded {
+        name: BusName,
+        start: u64,
+        how: Ending,
+    },
+    StartTimedOut {
+        name: BusName,
+        start: u64,
     },
 }
 
@@ -69,7 +92,15 @@ impl Prepared {
     /// Takes the outcome out. What is left of it is its reply.
     pub fn take_outcome(&mut self, alloc: Global) -> NumberedOutcome
         ensures taken { result ≡ self.old.outcome }
-        ensures kept { self.new ≡ record self.old { outcome = record { reply = self.old.outcome.reply; signals = []; tickets = []; start = None } } }
+        ensures kept { self.new
+            ≡ record self.old {
+              outcome = record {
+                reply = self.old.outcome.reply;
+                signals = [];
+                tickets = [];
+                start = None;
+              };
+            } }
     {
         let reply = self.outcome.reply;
         replace(&mut self.outcome, replied(alloc, reply))

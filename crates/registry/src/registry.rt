@@ -10,21 +10,17 @@ ghost use Rattle.registry_core.specs.Listening.{connection_of_member};
 ghost use Rattle.registry_core.specs.NameTables.{owned_name};
 ghost use Rattle.registry_core.specs.RulesOf.{rules_by, rules_left};
 ghost use Rattle.registry.specs.PreparedChanges.{prepared_on};
-ghost use Rattle.seq_bus_core.specs.Served.{IsServedChange};
 
 use crate::prepared::{Act, Prepared};
 use crate::services::sorted;
 use match_rules::Owners;
 use names::{BusName, WellKnown};
 use owner_queues::{Profile, QueuedOwner};
-use registry_core::{Member, NameEntry, NameTable, RuleTable, RulesOf, find_place};
-use seq_bus_core::limits::{MAX_CONNECTIONS, MAX_RULES, MAX_RULES_OF_MONITOR};
+use registry_core::{Member, MemberTable, NameEntry, NameTable, RuleTable, RulesOf, StartTable};
+use seq_bus_core::limits::MAX_RULES;
 use seq_bus_core::{Change, Conn};
 use std::alloc::{AllocError, Global};
 use std::marker::Model;
-
-/// The most rules of all monitors: as many for each connection as a monitor may have.
-const MAX_MONITOR_RULES: usize = MAX_CONNECTIONS * MAX_RULES_OF_MONITOR;
 
 /// The state of a message bus, in tables whose room is made when the bus is opened.
 ///
@@ -36,13 +32,13 @@ pub struct Registry {
     /// By rising bytes.
     pub(crate) services: Vec<WellKnown>,
     /// By rising number.
-    pub(crate) members: Vec<Member>,
-    /// How many of them are monitors.
-    pub(crate) monitors: usize,
+    pub(crate) members: MemberTable,
     pub(crate) names: NameTable,
     pub(crate) rules: RuleTable,
-    pub(crate) monitor_rules: RuleTable,
+    pub(crate) starts: StartTable,
     pub(crate) next_number: u64,
+    pub(crate) next_ticket: u64,
+    pub(crate) next_start: u64,
 }
 
 impl Model for Registry {
@@ -74,21 +70,20 @@ impl Registry {
             profile,
             routers,
             services: sorted(alloc, services)?,
-            members: Vec::with_capacity(alloc, MAX_CONNECTIONS)?,
-            monitors: 0,
+            members: MemberTable::new(alloc)?,
             names: NameTable::new(alloc)?,
             rules: RuleTable::new(alloc, MAX_RULES)?,
-            monitor_rules: RuleTable::new(alloc, MAX_MONITOR_RULES)?,
+            starts: StartTable::new(alloc)?,
             next_number: 1,
+            next_ticket: 1,
+            next_start: 1,
         })
     }
 
     /// Prepares a change of a seat: says what it would be told, and makes all that needs memory. Nothing changes.
     ///
-    /// Seat 0 is the main thread's, the others are those of the routers, from 1. Today Hello, Leave, Request, Release,
-    /// AddMatch and RemoveMatch are served.
+    /// Seat 0 is the main thread's, the others are those of the routers, from 1.
     pub fn prepare(&self, alloc: Global, seat: u8, change: &Change) -> Result<Prepared, AllocError>
-        requires { IsServedChange change.now }
         ensures { IfOk result (λ prepared. prepared ≡ prepared_on self.now seat change.now) }
     {
         match change {
@@ -108,7 +103,25 @@ impl Registry {
             Change::RemoveMatch { connection, rule } => {
                 Ok(self.prepare_remove_match(alloc, seat, *connection, rule))
             }
-            _ => Err(AllocError),
+            Change::BecomeMonitor { connection, rules } => {
+                self.prepare_become_monitor(alloc, seat, *connection, rules)
+            }
+            Change::Start {
+                connection,
+                name,
+                ..
+            } => Ok(self.prepare_start(alloc, seat, *connection, name)),
+            Change::Hold {
+                connection,
+                name,
+                ..
+            } => Ok(self.prepare_hold(alloc, seat, *connection, name)),
+            Change::ChildEnded { name, start, how } => {
+                self.prepare_child_ended(alloc, seat, name, *start, *how)
+            }
+            Change::StartTimedOut { name, start } => {
+                self.prepare_start_timed_out(alloc, seat, name, *start)
+            }
         }
     }
 
@@ -131,6 +144,15 @@ impl Registry {
             Act::RemoveMatch { connection, rule } => {
                 self.remove_match(prepared.seat, *connection, rule);
             }
+            Act::BecomeMonitor { connection, rules } => {
+                self.become_monitor(prepared.seat, *connection, rules);
+            }
+            Act::Start { connection, name } => self.start(prepared.seat, *connection, name),
+            Act::Hold { connection, name } => self.hold(prepared.seat, *connection, name),
+            Act::ChildEnded { name, start, how } => {
+                self.child_ended(prepared.seat, name, *start, *how);
+            }
+            Act::StartTimedOut { name, start } => self.fail(name, *start),
         }
     }
 
@@ -138,10 +160,7 @@ impl Registry {
     pub fn conn(&self, number: u64) -> Option<Conn>
         ensures { result ≡ option_map conn_of (connection_of self.now number) }
     {
-        match find_place(&self.members, number) {
-            Some(place) => Some(self.members[place].conn),
-            None => None,
-        }
+        self.members.conn(number)
     }
 
     /// Whether there is a connection of this number.
@@ -155,20 +174,14 @@ impl Registry {
     pub fn is_client(&self, number: u64) -> bool
         ensures { result ≡ is_client self.now.connections number }
     {
-        match find_place(&self.members, number) {
-            Some(place) => !self.members[place].is_monitor,
-            None => false,
-        }
+        self.members.is_client(number)
     }
 
     /// Whether any connection is a monitor.
     pub fn has_monitors(&self) -> bool
         ensures { result ≡ list_any is_monitor self.now.connections }
     {
-        if self.monitors == 0 {
-            return false;
-        }
-        true
+        self.members.has_monitors()
     }
 
     /// The connection that messages to a name are delivered to: the owner of a well-known name, the holder of a unique
@@ -205,7 +218,8 @@ impl Registry {
 
     /// The connections, by rising number.
     pub fn members(&self) -> &[Member]
-        ensures { (rules : List AddedRule) × (map (connection_of_member rules) result.now ≡ self.now.connections) }
+        ensures { (rules : List AddedRule) × (map (connection_of_member rules) result.now
+            ≡ self.now.connections) }
     {
         self.members.as_slice()
     }

@@ -2,18 +2,19 @@
 
 ghost use Rattle.std.specs.Prelude.{◌≡◌, [], IfOk, OnOk};
 ghost use Rattle.seq_bus_core.specs.BusState.{queue_of};
-ghost use Rattle.seq_bus_core.specs.Steps.{is_owner, is_reserved, step};
+ghost use Rattle.seq_bus_core.specs.Steps.{is_reserved, step};
 ghost use Rattle.seq_bus_core.specs.declared.change.Change.TheVariants.{Request, Release};
-ghost use Rattle.registry.specs.OwnerSignals.{signals_of_owners};
 ghost use Rattle.registry.specs.PreparedChanges.{prepared_on};
-ghost use Rattle.registry.specs.Requests.{when_requested, when_released, requeue_outcome};
+ghost use Rattle.registry.specs.Requests.{when_requested, when_released, request_outcome, requeue_outcome, signals_of_owners};
 
-use crate::owners::{BUS, Requeued, is_unique};
+use crate::after::{After, Pending};
+use crate::owners::is_unique;
 use crate::prepared::{Act, Prepared, replied};
 use crate::registry::Registry;
+use audience::push_owner_signals;
 use names::BusName;
 use owner_queues::{Queue, Reply as QueueReply, RequestFlags};
-use seq_bus_core::{NumberedOutcome, Reply, Signals};
+use seq_bus_core::{Fate, NumberedOutcome, Reply, Signals};
 use std::alloc::{AllocError, Global};
 
 /// The queue of a name after a request or a release, and what that is told.
@@ -32,7 +33,8 @@ impl Registry {
         name: &BusName,
         flags: RequestFlags,
     ) -> Result<Prepared, AllocError>
-        ensures { IfOk result (λ prepared. prepared ≡ prepared_on self.now seat (Request connection name.now flags)) }
+        ensures { IfOk result (λ prepared. prepared
+            ≡ prepared_on self.now seat (Request connection name.now flags)) }
     {
         let _ = &self.members;
         let change = self.when_requested(connection, name, flags);
@@ -43,7 +45,7 @@ impl Registry {
                 name: *name,
                 flags,
             },
-            outcome: self.outcome_of_requeue(alloc, name, &change)?,
+            outcome: self.outcome_of_request(alloc, name, &change)?,
         })
     }
 
@@ -54,7 +56,8 @@ impl Registry {
         connection: u64,
         name: &BusName,
     ) -> Result<Prepared, AllocError>
-        ensures { IfOk result (λ prepared. prepared ≡ prepared_on self.now seat (Release connection name.now)) }
+        ensures { IfOk result (λ prepared. prepared
+            ≡ prepared_on self.now seat (Release connection name.now)) }
     {
         let _ = &self.members;
         let change = self.when_released(connection, name);
@@ -68,12 +71,15 @@ impl Registry {
         })
     }
 
-    /// A connection requests a name.
+    /// A connection requests a name. Where it gets into the queue, the start of the name ends.
     pub(crate) fn request(&mut self, seat: u8, connection: u64, name: &BusName, flags: RequestFlags)
         ensures { self.new ≡ (step self.old seat (Request connection name.now flags)).0 }
     {
         match self.when_requested(connection, name, flags) {
-            Ok(change) => self.names.set_queue(name, &change.queue),
+            Ok(change) => {
+                self.names.set_queue(name, &change.queue);
+                self.starts.end(name);
+            }
             Err(_) => {}
         }
     }
@@ -139,6 +145,27 @@ impl Registry {
         copy
     }
 
+    /// What a request is told: where it gets into the queue, the calls that wait for the name are
+    /// served.
+    fn outcome_of_request(
+        &self,
+        alloc: Global,
+        name: &BusName,
+        change: &Result<QueueChange, Reply>,
+    ) -> Result<NumberedOutcome, AllocError>
+        ensures { IfOk result (λ outcome. outcome ≡ request_outcome self.now name.now change.now) }
+    {
+        let mut outcome = self.outcome_of_requeue(alloc, name, change)?;
+        match change {
+            Ok(_) => {
+                self.starts
+                    .settle(name, Fate::Served, &mut outcome.tickets)?;
+                Ok(outcome)
+            }
+            Err(_) => Ok(outcome),
+        }
+    }
+
     fn outcome_of_requeue(
         &self,
         alloc: Global,
@@ -170,30 +197,11 @@ impl Registry {
     {
         let old_owner = self.names.head(name.as_str());
         let new_owner = queue.head();
-        if is_owner(old_owner, new_owner) {
-            return Ok(());
-        }
-        let owners = Requeued {
+        let after = After {
             registry: self,
-            name,
-            queue,
+            pending: Pending::Requeued { name, queue },
         };
-        self.push_lost(alloc, &owners, name, old_owner, signals)?;
-        signals.push(self.announced(alloc, &owners, None, name, old_owner, new_owner)?)?;
-        self.push_acquired(alloc, &owners, None, name, new_owner, signals)
-    }
-}
-
-/// Whether two owners of a name are one.
-pub(crate) fn is_owner(old_owner: Option<u64>, new_owner: Option<u64>) -> bool
-    ensures { result ≡ is_owner old_owner new_owner }
-{
-    match old_owner {
-        Some(old_owner) => match new_owner {
-            Some(new_owner) => old_owner == new_owner,
-            None => false,
-        },
-        None => new_owner.is_none(),
+        push_owner_signals(&after, alloc, signals, name, old_owner, new_owner, &mut ())
     }
 }
 

@@ -1,15 +1,17 @@
 //! Where messages go. (D-Bus Specification: "Message Bus Message Routing")
 
-ghost use Rattle.std.specs.Prelude.{◌≡◌, [], Some, is_some};
+ghost use Rattle.std.specs.Prelude.{◌≡◌, [], Some};
 ghost use Rattle.seq_bus_core.specs.BusState.{is_service};
-ghost use Rattle.seq_bus_core.specs.Recipients.{recipients, conn_at, verdict, verdict_of, is_call, is_signal, may_send, is_for_bus, destination_head, may_start};
+ghost use Rattle.seq_bus_core.specs.Consistency.{IsConsistent};
+ghost use Rattle.seq_bus_core.specs.Recipients.{recipients, conn_at, verdict, verdict_of};
 ghost use Rattle.seq_bus_core.specs.declared.verdict.VerdictKind.TheVariants.{Absent};
 
-use crate::owners::BUS;
+use crate::after::{After, Pending};
 use crate::registry::Registry;
 use arrayvec::ArrayVec;
-use match_rules::{Facts, MessageKind, Owners};
-use seq_bus_core::{Recipients, Verdict, VerdictKind};
+use audience::judge;
+use match_rules::Facts;
+use seq_bus_core::{Recipients, Verdict};
 
 impl Registry {
     /// Where a message from this connection goes, 0 being the bus, whatever sender its facts name; and which monitors are
@@ -49,74 +51,23 @@ impl Registry {
         requires { told.old ≡ verdict Absent [] [] }
         ensures { told.new ≡ verdict_of self.now facts.now }
     {
-        if !self.may_send(facts.sender) {
-            return;
-        }
-        self.add_monitors_shown(facts, self, None, &mut told.monitors);
-        if is_for_bus(facts) {
-            told.kind = VerdictKind::Bus;
-            return;
-        }
-        let head = self.destination_head(facts);
-        if let Some(head) = head {
-            told.kind = VerdictKind::Plain;
-            self.add_conn(head, &mut told.to);
-            return;
-        }
-        if self.may_start(facts) {
-            told.kind = VerdictKind::Start;
-            return;
-        }
-        if has_destination(facts) {
-            told.kind = VerdictKind::Nobody;
-            return;
-        }
-        if !is_signal(facts.kind) {
-            told.kind = VerdictKind::Nobody;
-            return;
-        }
-        told.kind = VerdictKind::Plain;
-        self.add_those_that_want(facts, self, None, &mut told.to);
+        let after = After {
+            registry: self,
+            pending: Pending::Nothing,
+        };
+        judge(&after, facts, told, &mut ());
     }
 
     /// Adds the connection of a number.
     pub(crate) fn add_conn(&self, number: u64, to: &mut Recipients)
         requires { to.old ≡ [] }
-        ensures { to.new ≡ conn_at self.now (Some number) }
+        ensures value { to.new ≡ conn_at self.now (Some number) }
+        ensures consistent { IsConsistent self.now }
     {
         let _ = &self.members;
         match self.conn(number) {
             Some(conn) => to.push(conn),
             None => {}
-        }
-    }
-
-    /// Whether a message may come from here: from the bus, or from a connection that is no monitor.
-    fn may_send(&self, sender: u64) -> bool
-        ensures { result ≡ may_send self.now sender }
-    {
-        sender == 0 || self.is_client(sender)
-    }
-
-    fn destination_head(&self, facts: &Facts<'_>) -> Option<u64>
-        ensures { result ≡ destination_head self.now facts.now }
-    {
-        match facts.destination {
-            Some(name) => self.head(name),
-            None => None,
-        }
-    }
-
-    /// Whether a message may start the service that it goes to.
-    fn may_start(&self, facts: &Facts<'_>) -> bool
-        ensures { result ≡ may_start self.now facts.now }
-    {
-        if !is_call(facts.kind) || !facts.auto_start {
-            return false;
-        }
-        match facts.destination {
-            Some(name) => self.is_service(name),
-            None => false,
         }
     }
 
@@ -143,35 +94,5 @@ fn with_sender<'a>(facts: &Facts<'a>, sender: u64) -> Facts<'a>
         member: facts.member,
         destination: facts.destination,
         arguments,
-    }
-}
-
-fn has_destination(facts: &Facts<'_>) -> bool
-    ensures { result ≡ is_some facts.now.destination }
-{
-    match facts.destination {
-        Some(_) => true,
-        None => false,
-    }
-}
-
-fn is_call(kind: MessageKind) -> bool
-    ensures { result ≡ is_call kind }
-{
-    matches!(kind, MessageKind::MethodCall)
-}
-
-fn is_signal(kind: MessageKind) -> bool
-    ensures { result ≡ is_signal kind }
-{
-    matches!(kind, MessageKind::Signal)
-}
-
-fn is_for_bus(facts: &Facts<'_>) -> bool
-    ensures { result ≡ is_for_bus facts.now }
-{
-    match facts.destination {
-        Some(name) => name == BUS,
-        None => is_call(facts.kind),
     }
 }

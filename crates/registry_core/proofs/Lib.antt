@@ -8,3 +8,7 @@ pub mod IndexLemmas
 pub mod RuleIndexLemmas
 pub mod RuleTableLemmas
 pub mod TableIndex
+pub mod StartLemmas
+pub mod MemberTableLemmas
+pub mod BecomingMonitor
+pub mod CopiedTable

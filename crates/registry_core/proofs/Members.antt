@@ -12,7 +12,7 @@ use Rattle.seq_bus_core.specs.Consistency.{Pairwise}
 use Rattle.seq_bus_core.proofs.Lists.{each_weaker}
 use Rattle.seq_bus_core.specs.declared.connection.Conn.{Conn}
 use Rattle.registry_core.specs.declared.member.Member.{Member}
-use Rattle.registry_core.specs.Listening.{stays, wants_by, watches_by, watched, conns_that, connection_of_member, member_wants, member_watches, rules_of_monitor, Rising}
+use Rattle.registry_core.specs.Listening.{stays, wants_by, conns_that, connection_of_member, member_wants, rules_of_monitor, Rising}
 use Rattle.registry_core.proofs.Places.{first_place, filter-map, list_any-map}
 
 pub filter_alike : {X : Type 0} (p q : X → Bool) (xs : List X) → ((x : X) → p x ≡ q x) → filter p xs ≡ filter q xs
@@ -158,10 +158,6 @@ client_nowhere number (m ∷ ms) e = by_test (λ none. client_nowhere number ms 
 wants_flag : (b c : Bool) (rules : List Rule) → (not (is_some (if b then Some rules else None)) && c) ≡ (not b && c)
 wants_flag b c rules = ap (λ d. not d && c) (monitor_flag b rules)
 
-watches_flag : (heads : Heads) (facts : Facts) (b : Bool) (rules : List Rule) → option_map_or (watched heads facts) (if b then Some rules else None) false ≡ (b && watched heads facts rules)
-watches_flag heads facts true rules = refl
-watches_flag heads facts false rules = refl
-
 pub those_that_want : (heads : Heads) (rules : List AddedRule) (facts : Facts) (leaver : Option ℕ) (mr : List AddedRule) (ms : List Member) →
     map (λ m. m.conn) (filter (λ m. stays leaver m.conn.number && member_wants heads rules facts m) ms)
     ≡ conns_that (λ c. stays leaver c.number && wants_by heads rules facts c) (map (connection_of_member mr) ms)
@@ -173,15 +169,3 @@ those_that_want heads rules facts leaver mr ms =
     ∙ map-map conn_of (connection_of_member mr) (filter (λ m. test (connection_of_member mr m)) ms)
     ∙ ap (map conn) (filter_alike (λ m. test (connection_of_member mr m)) member_test ms
     (λ m. ap (λ b. stays leaver m.conn.number && b) (wants_flag m.is_monitor _ (rules_of_monitor m.conn.number mr)))))
-
-pub those_that_watch : (heads : Heads) (facts : Facts) (leaver : Option ℕ) (mr : List AddedRule) (ms : List Member) →
-    map (λ m. m.conn) (filter (λ m. stays leaver m.conn.number && member_watches heads mr facts m) ms)
-    ≡ conns_that (λ c. stays leaver c.number && watches_by heads facts c) (map (connection_of_member mr) ms)
-those_that_watch heads facts leaver mr ms =
-    let test : Connection → Bool = λ c. stays leaver c.number && watches_by heads facts c in
-    let member_test : Member → Bool = λ m. stays leaver m.conn.number && member_watches heads mr facts m in
-    let conn : Member → Conn = λ m. m.conn in
-    sym (ap (map conn_of) (filter-map test (connection_of_member mr) ms)
-    ∙ map-map conn_of (connection_of_member mr) (filter (λ m. test (connection_of_member mr m)) ms)
-    ∙ ap (map conn) (filter_alike (λ m. test (connection_of_member mr m)) member_test ms
-    (λ m. ap (λ b. stays leaver m.conn.number && b) (watches_flag heads facts m.is_monitor (rules_of_monitor m.conn.number mr)))))

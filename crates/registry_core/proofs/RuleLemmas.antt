@@ -9,7 +9,7 @@ use Rattle.match_rules.specs.Fitting.{Heads, fits}
 use Rattle.match_rules.specs.Rules.{Rule, same_rule}
 use Rattle.seq_bus_core.specs.BusState.{AddedRule, rules_of}
 use Rattle.seq_bus_core.specs.Steps.{is_rule_of, rules_without, without_first}
-use Rattle.registry_core.specs.Listening.{watched, rules_of_monitor, has_fitting}
+use Rattle.registry_core.specs.Listening.{has_fitting}
 use Rattle.registry_core.specs.RuleEntries.{added_rule, has_rule, is_of, is_there, live, marked, marked_all, next_place, numbered, places_in, positions, rule_at}
 use Rattle.registry_core.specs.RulesOf.{rules_by}
 use Rattle.registry_core.specs.declared.rule_entries.RuleEntry.{RuleEntry}
@@ -454,46 +454,6 @@ swept_length n (e ∷ es) = by_test e.is_gone refl (swept_length n es) (swept_le
     by_test : (g : Bool) → e.is_gone ≡ g → length (swept n es) ≡ length (live es) → length (swept (suc n) es) ≡ length (live es) → length (swept n (e ∷ es)) ≡ length (live (e ∷ es))
     by_test true gone one more = rw gone one
     by_test false gone one more = rw gone (ap suc more)
-
--- ## Monitors
-
--- whether a monitor is shown a message, where some of its rules did not fit
-abbrev pub watched_from : Heads → Facts → Bool → List Rule → Bool
-watched_from heads facts has_rules [] = not has_rules
-watched_from heads facts has_rules (rule ∷ rules) = fits heads rule facts || watched_from heads facts true rules
-
-fits_one : (heads : Heads) (facts : Facts) (rules : List Rule) → watched_from heads facts true rules ≡ list_any (λ r. fits heads r facts) rules
-fits_one heads facts [] = refl
-fits_one heads facts (rule ∷ rules) = ap (λ more. fits heads rule facts || more) (fits_one heads facts rules)
-
-pub watched_is : (heads : Heads) (facts : Facts) (rules : List Rule) → watched heads facts rules ≡ watched_from heads facts false rules
-watched_is heads facts [] = refl
-watched_is heads facts (rule ∷ rules) = ap (λ more. fits heads rule facts || more) (sym (fits_one heads facts rules))
-
--- one entry of a table less
-pub watched_next : (heads : Heads) (facts : Facts) (n : ℕ) (has_rules : Bool) (e : RuleEntry) (es : List RuleEntry) →
-    watched_from heads facts has_rules (rules_of_monitor n (live (e ∷ es)))
-    ≡ (if is_of n e then fits heads e.rule facts || watched_from heads facts true (rules_of_monitor n (live es)) else watched_from heads facts has_rules (rules_of_monitor n (live es)))
-watched_next heads facts n has_rules e es = by_test e.is_gone refl (e.connection == n) refl
-  where
-    by_test : (g : Bool) → e.is_gone ≡ g → (s : Bool) → (e.connection == n) ≡ s →
-        watched_from heads facts has_rules (rules_of_monitor n (live (e ∷ es)))
-        ≡ (if is_of n e then fits heads e.rule facts || watched_from heads facts true (rules_of_monitor n (live es)) else watched_from heads facts has_rules (rules_of_monitor n (live es)))
-    by_test true gone s same = rw gone refl
-    by_test false gone true same = rw (gone, same) refl
-    by_test false gone false same = rw (gone, same) refl
-
-pub shown_fits : (heads : Heads) (facts : Facts) (n : ℕ) (has_rules : Bool) (e : RuleEntry) (es : List RuleEntry) → is_of n e ≡ true → fits heads e.rule facts ≡ true →
-    watched_from heads facts has_rules (rules_of_monitor n (live (e ∷ es))) ≡ true
-shown_fits heads facts n has_rules e es its fit = watched_next heads facts n has_rules e es ∙ rw (its, fit) refl
-
-pub shown_on : (heads : Heads) (facts : Facts) (n : ℕ) (has_rules : Bool) (e : RuleEntry) (es : List RuleEntry) → is_of n e ≡ true → fits heads e.rule facts ≡ false →
-    watched_from heads facts has_rules (rules_of_monitor n (live (e ∷ es))) ≡ watched_from heads facts true (rules_of_monitor n (live es))
-shown_on heads facts n has_rules e es its unfit = watched_next heads facts n has_rules e es ∙ rw (its, unfit) refl
-
-pub shown_other : (heads : Heads) (facts : Facts) (n : ℕ) (has_rules : Bool) (e : RuleEntry) (es : List RuleEntry) → is_of n e ≡ false →
-    watched_from heads facts has_rules (rules_of_monitor n (live (e ∷ es))) ≡ watched_from heads facts has_rules (rules_of_monitor n (live es))
-shown_other heads facts n has_rules e es other = watched_next heads facts n has_rules e es ∙ rw other refl
 
 -- ## Rules that fit
 

@@ -3,6 +3,7 @@ pub mod RuleEntries
 pub mod RuleIndexes
 pub mod RuleTables
 pub mod RulesOf
+pub mod StartTables
 pub mod Listening
-pub mod Signals
 pub mod NameIndexes
+pub mod MemberTables

@@ -55,9 +55,6 @@ connection_of_member monitor_rules m = record {
 abbrev pub member_wants : Heads → List AddedRule → Facts → Member → Bool
 member_wants heads rules facts m = not m.is_monitor && has_fitting heads rules facts m.conn.number
 
-abbrev pub member_watches : Heads → List AddedRule → Facts → Member → Bool
-member_watches heads monitor_rules facts m = m.is_monitor && watched heads facts (rules_of_monitor m.conn.number monitor_rules)
-
 abbrev pub Rising : List Member → Type 0
 Rising members = Pairwise (λ a b. a.conn.number < b.conn.number) members
 

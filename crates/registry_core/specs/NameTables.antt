@@ -1,5 +1,5 @@
 -- Tables of the names that have an owner.
-use Rattle.std.specs.Prelude.{◌≡◌, ◌==◌, ℕ, ◌+◌, ◌≤◌, nat_lt, nat_le, sum_by, if◌then◌else◌, Box, ◌&&◌, Bool, true, false, Result, Ok, Err, List, [], ◌∷◌, ◌++◌, length, filter}
+use Rattle.std.specs.Prelude.{◌≡◌, ◌==◌, ℕ, ◌+◌, ◌≤◌, nat_lt, nat_le, sum_by, if◌then◌else◌, Box, ◌&&◌, Bool, true, false, Result, Ok, Err, List, [], ◌∷◌, ◌++◌, length, map, filter}
 use Rattle.std.specs.List.{AllByRecursion}
 use Rattle.std.specs.Global.{Global}
 use Rattle.names.specs.Texts.{Text, text_lt}
@@ -33,6 +33,13 @@ pub record AreInTable (names : List OwnedName) (spare queued room spare_room : �
 
 abbrev pub Entry : Type 0
 Entry = Box NameEntry Global
+
+-- what lies in entries
+abbrev pub values_of : List Entry → List NameEntry
+values_of entries = map (λ e. e.value) entries
+
+abbrev pub numbers_of : List Entry → List ℕ
+numbers_of entries = map (λ e. e.value.id) entries
 
 -- how often a number is that of an entry
 abbrev pub numbered : ℕ → List Entry → ℕ

@@ -3,7 +3,7 @@
 ghost use Rattle.std.specs.Prelude.{◌≡◌, ℕ, ◌<◌, ◌≤◌, ◌&&◌, ◌==◌, true, false, not, [], length, map, filter, get_or, replicate};
 ghost use Rattle.std.specs.List.{list_any};
 ghost use Rattle.match_rules.specs.Fitting.{fits};
-ghost use Rattle.registry_core.specs.Listening.{stays, has_fitting, member_wants, member_watches, number_at, rules_of_monitor, watched, Rising};
+ghost use Rattle.registry_core.specs.Listening.{stays, has_fitting, member_wants, number_at, Rising};
 ghost use Rattle.registry_core.specs.RuleEntries.{live};
 
 use crate::member::{Member, find_place};
@@ -69,44 +69,4 @@ fn mark<O: Owners>(
             }
         }
     }
-}
-
-/// Adds the monitors, by rising number, that are shown the message: those that have no rules or one that fits. A
-/// connection that leaves is not among them.
-pub fn add_monitors_shown<O: Owners>(
-    members: &[Member],
-    rules: &[RuleEntry],
-    facts: &Facts<'_>,
-    owners: &O,
-    leaver: Option<u64>,
-    shown: &mut Recipients,
-)
-    requires few { length members.now ≤ MAX_CONNECTIONS }
-    requires empty { shown.old ≡ [] }
-    ensures { shown.new ≡ map (λ m. m.conn) (filter (λ m. stays leaver m.conn.number && member_watches (O.heads owners.now) (live rules.now) facts.now m) members.now) }
-{
-    for member in members {
-        if member.is_monitor
-            && leaver != Some(member.conn.number)
-            && is_shown(member.conn.number, rules, facts, owners)
-        {
-            shown.push(member.conn);
-        }
-    }
-}
-
-/// Whether a monitor is shown a message, by the rules of all monitors.
-fn is_shown<O: Owners>(number: u64, rules: &[RuleEntry], facts: &Facts<'_>, owners: &O) -> bool
-    ensures { result ≡ watched (O.heads owners.now) facts.now (rules_of_monitor number (live rules.now)) }
-{
-    let mut has_rules = false;
-    for entry in rules {
-        if entry.is_of(number) {
-            if entry.rule.fits(facts, owners) {
-                return true;
-            }
-            has_rules = true;
-        }
-    }
-    !has_rules
 }

@@ -12,7 +12,7 @@ use std::alloc::{AllocError, Global};
 use std::marker::Model;
 
 /// The place of a connection in the queue of a name.
-#[derive(Drop)]
+#[derive(Clone, Copy)]
 pub struct Holding {
     /// The number of the connection.
     pub connection: u64,
@@ -125,6 +125,16 @@ impl NameIndex {
         for owner in queue {
             self.take(id, owner.connection);
         }
+    }
+
+    /// The same names and holdings as there.
+    pub fn copy_from(&mut self, other: &NameIndex)
+        requires few { length other.now.holdings ≤ MAX_QUEUED }
+        ensures { self.new ≡ other.now }
+    {
+        self.holdings.clear();
+        let _ = self.holdings.extend_from_slice(&other.holdings);
+        self.names.copy_from_slice(&other.names);
     }
 
     /// A connection has the name.

@@ -6,7 +6,7 @@ ghost use Rattle.names.specs.Texts.{text_lt};
 ghost use Rattle.owner_queues.specs.Queues.{queue_head, without, is_free, is_in};
 ghost use Rattle.seq_bus_core.specs.BusState.{OwnedName, queue_of, with_queue, kept_name, queued_in, names_of, max_names, max_queued, max_names_of_one};
 ghost use Rattle.seq_bus_core.specs.Steps.{names_without};
-ghost use Rattle.registry_core.specs.NameTables.{owned_name, NamesRise, SearchGives, are_within};
+ghost use Rattle.registry_core.specs.NameTables.{owned_name, numbers_of, values_of, NamesRise, SearchGives, are_within};
 
 use crate::name_index::NameIndex;
 use names::BusName;
@@ -240,6 +240,17 @@ impl NameTable {
         }
     }
 
+    /// The same names and queues as there.
+    pub fn copy_from(&mut self, other: &NameTable)
+        ensures { self.new ≡ other.now }
+    {
+        set_aside(&mut self.entries, &mut self.spare);
+        fill_all(&mut self.entries, &mut self.spare, &other.entries);
+        renumber(&mut self.spare, &other.spare);
+        self.queued = other.queued;
+        self.index.copy_from(&other.index);
+    }
+
     /// How many names a connection owns or waits for.
     pub fn count_of(&self, connection: u64) -> usize
         ensures { result ≡ names_of connection self.now }
@@ -278,6 +289,57 @@ fn filled(mut entry: Box<NameEntry>, name: &BusName, queue: &Queue) -> Box<NameE
     entry.name = *name;
     entry.queue.copy_from(queue);
     entry
+}
+
+/// From now on all entries are spare.
+fn set_aside(entries: &mut Vec<Box<NameEntry>>, spare: &mut Vec<Box<NameEntry>>)
+    requires { length entries.old.items + length spare.old.items ≤ vec_capacity spare.old }
+    ensures empty { entries.new.items ≡ [] }
+    ensures all { length spare.new.items ≡ length entries.old.items + length spare.old.items }
+    ensures room { vec_capacity entries.new ≡ vec_capacity entries.old }
+    ensures spare_room { vec_capacity spare.old ≤ vec_capacity spare.new }
+{
+    let _ = spare.append(entries);
+}
+
+/// Makes spare entries the same as these, and puts them behind one another.
+fn fill_all(
+    entries: &mut Vec<Box<NameEntry>>,
+    spare: &mut Vec<Box<NameEntry>>,
+    others: &[Box<NameEntry>],
+)
+    requires empty { entries.old.items ≡ [] }
+    requires has_room { length others.now ≤ vec_capacity entries.old }
+    requires enough { length others.now ≤ length spare.old.items }
+    ensures values { values_of entries.new.items ≡ values_of others.now }
+    ensures fewer { length spare.new.items + length others.now ≡ length spare.old.items }
+    ensures room { vec_capacity entries.new ≡ vec_capacity entries.old }
+    ensures spare_room { vec_capacity spare.new ≡ vec_capacity spare.old }
+{
+    for other in others {
+        let entry = spare.take_last();
+        entries.push_reserved(same_as(entry, other));
+    }
+}
+
+/// An entry that is the same as another.
+fn same_as(mut entry: Box<NameEntry>, other: &NameEntry) -> Box<NameEntry>
+    ensures { result.value ≡ other.now }
+{
+    entry.name = other.name;
+    entry.queue.copy_from(&other.queue);
+    entry.id = other.id;
+    entry
+}
+
+/// Gives entries the numbers of others.
+fn renumber(entries: &mut [Box<NameEntry>], others: &[Box<NameEntry>])
+    requires { length entries.old ≡ length others.now }
+    ensures { numbers_of entries.new ≡ numbers_of others.now }
+{
+    for (place, other) in others.iter().enumerate() {
+        entries[place].id = other.id;
+    }
 }
 
 /// Puts an entry at its place, where there is room for it.

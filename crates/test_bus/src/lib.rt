@@ -8,6 +8,8 @@ mod buses;
 #[cfg(test)]
 mod limits;
 #[cfg(test)]
+mod monitors;
+#[cfg(test)]
 mod openings;
 #[cfg(test)]
 mod queues;
@@ -15,5 +17,7 @@ mod queues;
 mod rules;
 #[cfg(test)]
 mod runs;
+#[cfg(test)]
+mod starts;
 #[cfg(test)]
 mod tables;

@@ -12,7 +12,7 @@ use std::process::Abort;
 
 /// A signal of the bus, its name as a text.
 #[derive(Clone, Copy)]
-enum Signal {
+pub(crate) enum Signal {
     /// A name has another owner than the first: the second, if any.
     Passed(&'static str, Option<u64>, Option<u64>),
     Lost(&'static str, u64),
@@ -44,19 +44,19 @@ struct Run {
     rows: &'static [Row],
 }
 
-const FIRST: Conn = Conn {
+pub(crate) const FIRST: Conn = Conn {
     number: 1,
     slot: 0,
     router: 1,
 };
 
-const SECOND: Conn = Conn {
+pub(crate) const SECOND: Conn = Conn {
     number: 2,
     slot: 1,
     router: 1,
 };
 
-const THIRD: Conn = Conn {
+pub(crate) const THIRD: Conn = Conn {
     number: 3,
     slot: 2,
     router: 1,
@@ -387,7 +387,7 @@ const RUNS: [Run; 11] = [
     },
 ];
 
-fn is_signal(found: &BusSignal, expected: Signal) -> bool {
+pub(crate) fn is_signal(found: &BusSignal, expected: Signal) -> bool {
     match (found, expected) {
         (
             BusSignal::NameOwnerChanged {

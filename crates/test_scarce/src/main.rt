@@ -1,7 +1,8 @@
 //! What calls answer where memory is refused.
 //!
 //! The program reads and writes bodies and messages, lets a client in, opens a plain bus and a registry of two routers with
-//! its outboxes, makes the same changes on both buses, and serves clients as the host of a router. It says of each whether the calls answered as they should: with what was wanted; or that memory ran out, all as it was
+//! its outboxes, makes the same changes on both buses, starts services in a registry, and serves clients as the host of
+//! a router. It says of each whether the calls answered as they should: with what was wanted; or that memory ran out, all as it was
 //! before, and with what was wanted once they are made again. It prints the same whichever one allocation is refused: `make memory`
 //! refuses each in turn.
 #![tactic(auto)]
@@ -13,6 +14,7 @@ mod hosts;
 mod messages;
 mod plain;
 mod seats;
+mod starts;
 mod ways;
 
 use marshal::Order;
@@ -76,6 +78,8 @@ fn main(rt: HostRuntime) -> io::Result<()> {
     println!(rt; "made: {made}")?;
     let plain = told(plain::is_answered(rt.alloc()).unwrap_or(false));
     println!(rt; "plain bus: {plain}")?;
+    let starts = told(starts::are_made(rt.alloc()).unwrap_or(false));
+    println!(rt; "starts: {starts}")?;
     let seats = told(seats::are_answered(&rt, rt.alloc()).unwrap_or(false));
     println!(rt; "seats: {seats}")?;
     let ways = told(ways::are_opened(&rt, rt.alloc()).unwrap_or(false));

@@ -1,4 +1,4 @@
-use Rattle.std.proofs.Common.{◌≡◌, ◌+◌, ◌<◌, ◌≤◌, ◌++◌, ◌∷◌, ◌∙◌, ℕ, List, [], flat_map, length, take, append-nil, append_assoc, ap, sym, subst, refl, arith}
+use Rattle.std.proofs.Common.{◌≡◌, ◌+◌, ◌<◌, ◌++◌, ◌∷◌, ◌∙◌, List, [], flat_map, length, take, append-nil, append_assoc, ap, sym, subst, refl, arith}
 use Rattle.std.proofs.lemmas.List.{take_more}
 use Rattle.names.specs.Texts.{Text}
 use Rattle.bus_view.specs.Bodies.{AreListed}

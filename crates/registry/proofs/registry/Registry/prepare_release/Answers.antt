@@ -1,6 +1,5 @@
-use Rattle.std.proofs.Common.{sym, ap, ◌∙◌, subst}
+use Rattle.std.proofs.Common.{sym, ap, ◌∙◌}
 use Rattle.seq_bus_core.specs.BusState.{BusState}
-use Rattle.seq_bus_core.specs.Consistency.{IsConsistent}
 use Rattle.seq_bus_core.specs.declared.change.Change.TheVariants.{Release}
 use Rattle.seq_bus_core.specs.declared.outcome.NumberedOutcome.{NumberedOutcome}
 use Rattle.registry.specs.PreparedChanges.{PreparedChange}
@@ -13,4 +12,4 @@ returns c =
     let s : BusState = c.args.self.now in
     let told : NumberedOutcome → PreparedChange = λ o. record { seat = c.args.seat; change = Release c.args.connection c.args.name.now; outcome = o } in
     ap told (c.in_ok-outcome_of_requeue.ensures ∙ ap (requeue_outcome s c.args.name.now) c.when_released-change.ensures
-    ∙ sym (release_told s c.args.seat c.args.connection c.args.name.now (subst IsConsistent c.self.view_is c.self.invariant.consistent)))
+    ∙ sym (release_told s c.args.seat c.args.connection c.args.name.now))

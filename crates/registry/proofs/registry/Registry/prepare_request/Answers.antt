@@ -1,10 +1,9 @@
-use Rattle.std.proofs.Common.{sym, ap, ◌∙◌, subst}
+use Rattle.std.proofs.Common.{sym, ap, ◌∙◌}
 use Rattle.seq_bus_core.specs.BusState.{BusState}
-use Rattle.seq_bus_core.specs.Consistency.{IsConsistent}
 use Rattle.seq_bus_core.specs.declared.change.Change.TheVariants.{Request}
 use Rattle.seq_bus_core.specs.declared.outcome.NumberedOutcome.{NumberedOutcome}
 use Rattle.registry.specs.PreparedChanges.{PreparedChange}
-use Rattle.registry.specs.Requests.{requeue_outcome}
+use Rattle.registry.specs.Requests.{request_outcome}
 use Rattle.registry.proofs.RequestLemmas.{request_told}
 use Rattle.registry.proofs.registry.Registry.prepare_request.Goals as goal
 
@@ -12,5 +11,5 @@ pub returns : goal.returns
 returns c =
     let s : BusState = c.args.self.now in
     let told : NumberedOutcome → PreparedChange = λ o. record { seat = c.args.seat; change = Request c.args.connection c.args.name.now c.args.flags; outcome = o } in
-    ap told (c.in_ok-outcome_of_requeue.ensures ∙ ap (requeue_outcome s c.args.name.now) c.when_requested-change.ensures
-    ∙ sym (request_told s c.args.seat c.args.connection c.args.name.now c.args.flags (ap (λ (t : BusState). t.starts) (sym c.self.view_is)) (subst IsConsistent c.self.view_is c.self.invariant.consistent)))
+    ap told (c.in_ok-outcome_of_request.ensures ∙ ap (request_outcome s c.args.name.now) c.when_requested-change.ensures
+    ∙ sym (request_told s c.args.seat c.args.connection c.args.name.now c.args.flags))

@@ -23,7 +23,7 @@ returns-in_ok-push_all-in-All-clause-listed c =
     let member : Member → List Text = λ m. only (if m.is_monitor then None else Some (unique_text m.conn.number)) in
     let entry : Box NameEntry Global → List Text = λ b. only (Some b.value.name) in
     let clients : flat_map member c.as_slice.result.now ≡ map (λ (d : Connection). unique_text d.number) (filter (λ d. not (is_monitor d)) s.connections) =
-    ap (flat_map member) c.as_slice.ensures.value ∙ clients_listed c.self.inside.monitor_rules.rules c.self.inside.members.items in
+    ap (flat_map member) c.as_slice.ensures ∙ clients_listed s.connections in
     let owned : flat_map entry c.as_slice-in-All.result.now ≡ map (λ (n : OwnedName). n.name) s.names =
     owned_listed (λ b. b.value.name) (λ b. owned_name b.value) c.as_slice-in-All.result.now (λ b. refl) ∙ ap (map (λ (n : OwnedName). n.name)) c.as_slice-in-All.ensures.value in
     let all : c.bus.result ∷ (flat_map member c.as_slice.result.now ++ flat_map entry c.as_slice-in-All.result.now) ≡ bus_text ∷ names_there s = λ i. c.bus.ensures i ∷ (clients i ++ owned i) in

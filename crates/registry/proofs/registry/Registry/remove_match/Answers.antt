@@ -28,8 +28,8 @@ after c =
 pub invariant_of-self : goal.invariant_of-self
 unfolding next
 invariant_of-self c =
-    kept c.self.inside (next c) c.self.invariant c.args.seat (RemoveMatch c.args.connection c.args.rule.now) (after c) refl c.self.invariant.members_room
-    (ap (λ (t : RulesInRoom). t.room) c.remove_first.ensures ∙ c.self.invariant.rules_room) c.self.invariant.monitors
+    kept c.self.inside (next c) c.self.invariant c.args.seat (RemoveMatch c.args.connection c.args.rule.now) (after c) refl
+    (ap (λ (t : RulesInRoom). t.room) c.remove_first.ensures ∙ c.self.invariant.rules_room)
 
 pub returns-in-Done : goal.returns-in-Done
 unfolding next

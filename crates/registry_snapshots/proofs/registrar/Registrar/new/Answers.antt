@@ -27,3 +27,14 @@ invariant_of-result g c =
     let kept = just_opened g.J.Naming.book g.J.Naming.opening c.in_ok-first.first c.args.seats book log bus last in
     let idle : IsIdle (bus_after g.J.Naming.opening c.in_ok-writer.writer.desk.shown.value.front.log) = search rules in
     (c.requires.front.0, subst (λ (t : SnapView). IsSnapOf g.J.Naming.book g.J.Naming.opening t) (sym shown) kept, idle, λ _. search rules)
+
+pub warm-requires-clause-kept : goal.warm-requires-clause-kept
+warm-requires-clause-kept g c =
+    let s : SnapView = c.in_ok-new.field-0.desk.shown.value in
+    let shown : s ≡ c.in_ok-first.first = search rules in
+    let log : c.in_ok-first.first.front.log ≡ [] = search rules in
+    let book : c.in_ok-first.first.front.book ≡ g.J.Naming.book = search rules in
+    let bus : c.in_ok-first.first.bus ≡ g.J.Naming.opening.state = search rules in
+    let last : c.in_ok-first.first.last ≡ replicate c.args.seats 0 = search rules in
+    let kept = just_opened g.J.Naming.book g.J.Naming.opening c.in_ok-first.first c.args.seats book log bus last in
+    subst (λ (t : SnapView). IsSnapOf g.J.Naming.book g.J.Naming.opening t) (sym shown) kept

@@ -1,0 +1,51 @@
+//! A bus, as far as it is asked who gets a message.
+
+ghost use Rattle.std.specs.Prelude.{◌≡◌, ◌≤◌, [], Some, length};
+ghost use Rattle.seq_bus_core.specs.BusState.{BusState, head_of, is_client, is_service};
+ghost use Rattle.seq_bus_core.specs.Recipients.{all_that_want, conn_at, monitors_shown};
+ghost use Rattle.match_rules.specs.Facts.{Facts as Parts};
+
+use match_rules::{Facts, Owners};
+use seq_bus_core::Recipients;
+
+/// A bus, as far as it is asked who gets a message: as it is, or as it will be once a change is made.
+pub trait Audience: Owners {
+    ghost use Rattle.std.specs.Prelude.{◌≡◌};
+
+    /// What counts how many rules are looked at.
+    type Count;
+
+    /// The state of the bus.
+    ghost state: { Self → BusState };
+
+    /// How much is counted for a message.
+    ghost spends: { Self → Parts → Self.Count → Self.Count → Type 0 };
+
+    /// Adds the connections that want a message, by rising number.
+    fn add_wanting(&self, facts: &Facts<'_>, to: &mut Recipients, count: &mut Self::Count)
+        requires { to.old ≡ [] }
+        ensures value { to.new ≡ all_that_want (state self.now) facts.now }
+        ensures spent { spends self.now facts.now count.old count.new };
+
+    /// Adds the monitors that are shown a message, by rising number.
+    fn add_shown(&self, facts: &Facts<'_>, shown: &mut Recipients)
+        requires { shown.old ≡ [] }
+        ensures value { shown.new ≡ monitors_shown (state self.now) facts.now }
+        ensures few { length shown.new ≤ Recipients.MAX };
+
+    /// Adds the connection of a number, if it is there.
+    fn add_conn(&self, number: u64, to: &mut Recipients)
+        requires { to.old ≡ [] }
+        ensures { to.new ≡ conn_at (state self.now) (Some number) };
+
+    /// Whether there is a connection of this number that is no monitor.
+    fn is_client(&self, number: u64) -> bool
+        ensures { result ≡ is_client (state self.now).connections number };
+
+    /// Whether a name is that of a service.
+    fn is_service(&self, name: &str) -> bool
+        ensures { result ≡ is_service (state self.now) name.now };
+
+    /// The heads of its names are those of its state.
+    ghost owns: { (x : Self) → Self.heads x ≡ head_of (state x) };
+}

@@ -1,0 +1,107 @@
+//! Where messages go. (D-Bus Specification: "Message Bus Message Routing")
+
+ghost use Rattle.std.specs.Prelude.{◌≡◌, ◌⊎◌, [], is_some};
+ghost use Rattle.seq_bus_core.specs.Recipients.{destination_head, is_call, is_for_bus, is_signal, may_send, may_start, verdict, verdict_of};
+ghost use Rattle.seq_bus_core.specs.declared.verdict.VerdictKind.TheVariants.{Absent};
+
+use crate::audience::Audience;
+use match_rules::{Facts, MessageKind, Owners};
+use seq_bus_core::{Verdict, VerdictKind};
+
+/// The name of the bus itself.
+const BUS: &str = "org.freedesktop.DBus";
+
+/// Where a message goes, and which monitors are shown it, told where nothing was told yet. Rules are
+/// looked at only where it goes to all that want it.
+pub fn judge<A: Audience>(audience: &A, facts: &Facts<'_>, told: &mut Verdict, count: &mut A::Count)
+    requires { told.old ≡ verdict Absent [] [] }
+    ensures verdict { told.new ≡ verdict_of (A.state audience.now) facts.now }
+    ensures spent { (count.new ≡ count.old) ⊎ A.spends audience.now facts.now count.old count.new }
+{
+    if !may_send(audience, facts.sender) {
+        return;
+    }
+    audience.add_shown(facts, &mut told.monitors);
+    if is_for_bus(facts) {
+        told.kind = VerdictKind::Bus;
+        return;
+    }
+    if let Some(head) = destination_head(audience, facts) {
+        told.kind = VerdictKind::Plain;
+        audience.add_conn(head, &mut told.to);
+        return;
+    }
+    if may_start(audience, facts) {
+        told.kind = VerdictKind::Start;
+        return;
+    }
+    if has_destination(facts) {
+        told.kind = VerdictKind::Nobody;
+        return;
+    }
+    if !is_signal(facts.kind) {
+        told.kind = VerdictKind::Nobody;
+        return;
+    }
+    told.kind = VerdictKind::Plain;
+    audience.add_wanting(facts, &mut told.to, count);
+}
+
+/// Whether a message may come from here: from the bus, or from a connection that is no monitor.
+fn may_send<A: Audience>(audience: &A, sender: u64) -> bool
+    ensures { result ≡ may_send (A.state audience.now) sender }
+{
+    sender == 0 || audience.is_client(sender)
+}
+
+fn destination_head<A: Audience>(audience: &A, facts: &Facts<'_>) -> Option<u64>
+    ensures { result ≡ destination_head (A.state audience.now) facts.now }
+{
+    match facts.destination {
+        Some(name) => audience.head(name),
+        None => None,
+    }
+}
+
+/// Whether a message may start the service that it goes to.
+fn may_start<A: Audience>(audience: &A, facts: &Facts<'_>) -> bool
+    ensures { result ≡ may_start (A.state audience.now) facts.now }
+{
+    if !is_call(facts.kind) || !facts.auto_start {
+        return false;
+    }
+    match facts.destination {
+        Some(name) => audience.is_service(name),
+        None => false,
+    }
+}
+
+fn has_destination(facts: &Facts<'_>) -> bool
+    ensures { result ≡ is_some facts.now.destination }
+{
+    match facts.destination {
+        Some(_) => true,
+        None => false,
+    }
+}
+
+fn is_call(kind: MessageKind) -> bool
+    ensures { result ≡ is_call kind }
+{
+    matches!(kind, MessageKind::MethodCall)
+}
+
+fn is_signal(kind: MessageKind) -> bool
+    ensures { result ≡ is_signal kind }
+{
+    matches!(kind, MessageKind::Signal)
+}
+
+fn is_for_bus(facts: &Facts<'_>) -> bool
+    ensures { result ≡ is_for_bus facts.now }
+{
+    match facts.destination {
+        Some(name) => name == BUS,
+        None => is_call(facts.kind),
+    }
+}

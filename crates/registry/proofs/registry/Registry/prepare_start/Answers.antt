@@ -1,0 +1,16 @@
+use Rattle.std.proofs.Common.{sym, ap, ◌∙◌}
+use Rattle.seq_bus_core.specs.BusState.{BusState}
+use Rattle.seq_bus_core.specs.Changes.{no_call}
+use Rattle.seq_bus_core.specs.declared.change.Change.TheVariants.{Start}
+use Rattle.seq_bus_core.specs.declared.outcome.NumberedOutcome.{NumberedOutcome}
+use Rattle.registry.specs.PreparedChanges.{PreparedChange}
+use Rattle.registry.specs.Starts.{told_to_wait}
+use Rattle.registry.proofs.StartLemmas.{start_by}
+use Rattle.registry.proofs.registry.Registry.prepare_start.Goals as goal
+
+pub returns : goal.returns
+returns c =
+    let s : BusState = c.args.self.now in
+    let name = c.args.name.now in
+    let told : NumberedOutcome → PreparedChange = λ o. record { seat = c.args.seat; change = Start c.args.connection name no_call; outcome = o } in
+    ap told (c.told_to_wait.ensures ∙ ap (told_to_wait s name) c.reply_to_start-reply.ensures ∙ sym (ap (λ r. r.1) (start_by s c.args.seat c.args.connection name no_call)))

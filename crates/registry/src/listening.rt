@@ -1,0 +1,99 @@
+//! Who listens to a message, where names are owned as others say.
+
+ghost use Rattle.std.specs.Prelude.{◌≡◌, ◌≤◌, ◌&&◌, true, [], length};
+ghost use Rattle.std.specs.List.{list_any};
+ghost use Rattle.match_rules.specs.Fitting.{fits};
+ghost use Rattle.seq_bus_core.specs.BusState.{is_client};
+ghost use Rattle.seq_bus_core.specs.Consistency.{IsConsistent};
+ghost use Rattle.seq_bus_core.specs.Steps.{with_monitor};
+ghost use Rattle.registry_core.specs.Listening.{conns_that, stays, wants_by, watched, watches_by};
+
+use crate::registry::Registry;
+use match_rules::{Facts, Owners, Rule};
+use registry_core::listening::add_those_that_want;
+use seq_bus_core::Recipients;
+
+impl Registry {
+    /// Adds the connections that want a message. A connection that leaves is not among them.
+    pub(crate) fn add_those_that_want<O: Owners>(
+        &self,
+        facts: &Facts<'_>,
+        owners: &O,
+        leaver: Option<u64>,
+        to: &mut Recipients,
+    )
+        requires { to.old ≡ [] }
+        ensures value { to.new ≡ conns_that
+            (λ c. stays leaver c.number
+            && wants_by (O.heads owners.now) self.now.rules facts.now c)
+            self.now.connections }
+        ensures consistent { IsConsistent self.now }
+    {
+        add_those_that_want(
+            self.members.as_slice(),
+            self.rules.as_slice(),
+            facts,
+            owners,
+            leaver,
+            to,
+        );
+    }
+
+    /// Adds the monitors that are shown a message. No other connection is looked at.
+    pub(crate) fn add_monitors_shown<O: Owners>(
+        &self,
+        facts: &Facts<'_>,
+        owners: &O,
+        shown: &mut Recipients,
+    )
+        requires { shown.old ≡ [] }
+        ensures value { shown.new
+            ≡ conns_that (watches_by (O.heads owners.now) facts.now) self.now.connections }
+        ensures few { length self.now.connections ≤ Recipients.MAX }
+        ensures consistent { IsConsistent self.now }
+    {
+        self.members.shown(facts, owners, shown);
+    }
+
+    /// Adds the monitors that are shown a message once a connection is a monitor with these rules.
+    pub(crate) fn add_shown_with<O: Owners>(
+        &self,
+        facts: &Facts<'_>,
+        owners: &O,
+        connection: u64,
+        rules: &[Rule],
+        shown: &mut Recipients,
+    )
+        requires client { is_client self.now.connections connection ≡ true }
+        requires empty { shown.old ≡ [] }
+        ensures value { shown.new ≡ conns_that (watches_by (O.heads owners.now) facts.now)
+            (with_monitor self.now connection rules.now).connections }
+        ensures few { length self.now.connections ≤ Recipients.MAX }
+    {
+        let _ = &self.members;
+        self.add_monitors_shown(facts, owners, shown);
+        if !is_watched(rules, facts, owners) {
+            return;
+        }
+        match self.conn(connection) {
+            Some(conn) => shown.insert(conn),
+            None => {}
+        }
+    }
+}
+
+/// Whether a monitor with these rules is shown a message.
+fn is_watched<O: Owners>(rules: &[Rule], facts: &Facts<'_>, owners: &O) -> bool
+    ensures { result ≡ watched (O.heads owners.now) facts.now rules.now }
+{
+    if rules.is_empty() {
+        return true;
+    }
+    has_fitting(rules, facts, owners)
+}
+
+fn has_fitting<O: Owners>(rules: &[Rule], facts: &Facts<'_>, owners: &O) -> bool
+    ensures { result ≡ list_any (λ r. fits (O.heads owners.now) r facts.now) rules.now }
+{
+    rules.iter().any(|rule| rule.fits(facts, owners))
+}

@@ -1,0 +1,146 @@
+//! The index of match rules.
+
+ghost use Rattle.std.specs.Prelude.{Some, None, codes, if◌then◌else◌};
+ghost use Rattle.names.specs.Texts.{text_eq};
+
+use crate::listeners::Listeners;
+use match_rules::Owners;
+use std::alloc::Global;
+use std::process::Abort;
+use test_support::{once_more, signal, ticked};
+
+/// The owner of `com.example.A`; nobody owns another name.
+#[derive(Clone, Copy)]
+struct OwnedBy(u64);
+
+impl Owners for OwnedBy {
+    ghost heads = { λ owners name. if text_eq name (codes "com.example.A") then Some owners.0 else None };
+
+    fn head(&self, name: &str) -> Option<u64> {
+        if name == "com.example.A" {
+            return Some(self.0);
+        }
+        None
+    }
+}
+
+fn new(rt: &impl Abort, alloc: Global) -> Listeners {
+    once_more!(rt; Listeners::new(alloc))
+}
+
+/// 255 rules each of the connections 1 to 16, and 16 of the connection 17.
+fn fill(listeners: &mut Listeners) -> bool {
+    let mut all = true;
+    for connection in 1..17 {
+        for _ in 0..255 {
+            all = listeners.add(connection, "member='M',arg0='a'") && all;
+        }
+    }
+    for _ in 0..16 {
+        all = listeners.add(17, "member='N',interface='a.b'") && all;
+    }
+    all
+}
+
+#[test]
+fn full(rt: HostRuntime) {
+    let mut listeners = new(&rt, rt.alloc());
+    assert!(rt; fill(&mut listeners));
+    assert!(rt; listeners.len() == 4096);
+    assert!(rt; !listeners.add(1, ""));
+    assert!(rt; listeners.count_of(3) == 255);
+    let owners = OwnedBy(1);
+    assert!(rt; listeners.hear(&signal("/", "a.b", "N"), &owners, &[17]));
+    assert!(rt; listeners.hear(&signal("/", "a.c", "N"), &owners, &[]));
+    assert!(rt; listeners.hear(&signal("/", "a.c", "M"), &owners, &[]));
+    listeners.drop_owner(17);
+    assert!(rt; listeners.hear(&signal("/", "a.b", "N"), &owners, &[]));
+    assert!(rt; listeners.add(1, "interface='a.b'"));
+    assert!(rt; listeners.hear(&signal("/", "a.b", "N"), &owners, &[1]));
+}
+
+/// The keys that a rule is found by, and who of the connections 1 to 9 hears what.
+const RULES: [(u64, &str); 9] = [
+    (1, "eavesdrop='true'"),
+    (2, "type='signal'"),
+    (3, "type='method_call'"),
+    (4, "interface='com.example.Clock'"),
+    (5, "member='Ticked',type='signal'"),
+    (6, "sender='com.example.A'"),
+    (7, "sender=':1.8'"),
+    (8, "sender='org.freedesktop.DBus'"),
+    (
+        9,
+        "sender='com.example.A',member='Ticked',interface='com.example.Clock',type='signal'",
+    ),
+];
+
+#[test]
+fn buckets(rt: HostRuntime) {
+    let mut listeners = new(&rt, rt.alloc());
+    for (connection, text) in RULES {
+        assert!(rt; listeners.add(connection, text));
+    }
+    let mut facts = ticked();
+    assert!(rt; listeners.hear(&facts, &OwnedBy(1), &[1, 2, 4, 5, 8]));
+    facts.sender = 8;
+    assert!(rt; listeners.hear(&facts, &OwnedBy(1), &[1, 2, 4, 5, 7]));
+    assert!(rt; listeners.hear(&facts, &OwnedBy(8), &[1, 2, 4, 5, 6, 7, 9]));
+    facts.member = None;
+    assert!(rt; listeners.hear(&facts, &OwnedBy(8), &[1, 2, 4, 6, 7]));
+    facts.interface = None;
+    assert!(rt; listeners.hear(&facts, &OwnedBy(8), &[1, 2, 6, 7]));
+}
+
+const A: &str = "member='A'";
+
+const B: &str = "member='B'";
+
+#[test]
+fn equal_rules(rt: HostRuntime) {
+    let mut listeners = new(&rt, rt.alloc());
+    for (connection, text) in [(1, A), (2, A), (1, B), (1, A)] {
+        assert!(rt; listeners.add(connection, text));
+    }
+    assert!(rt; listeners.remove(1, A));
+    assert!(rt; listeners.has_rules(1, &[B, A]));
+    assert!(rt; listeners.has_rules(2, &[A]));
+    assert!(rt; listeners.remove(1, A));
+    assert!(rt; !listeners.remove(1, A));
+    assert!(rt; listeners.hear(&signal("/", "a.b", "A"), &OwnedBy(1), &[2]));
+}
+
+/// So many rules are taken out that those that are left close ranks.
+#[test]
+fn sweeps(rt: HostRuntime) {
+    let mut listeners = new(&rt, rt.alloc());
+    for _ in 0..100 {
+        assert!(rt; listeners.add(1, A));
+        assert!(rt; listeners.add(2, B));
+        assert!(rt; listeners.add(3, A));
+        assert!(rt; listeners.remove(1, A));
+    }
+    listeners.drop_owner(3);
+    assert!(rt; listeners.len() == 100);
+    assert!(rt; listeners.hear(&signal("/", "a.b", "A"), &OwnedBy(1), &[]));
+    assert!(rt; listeners.hear(&signal("/", "a.b", "B"), &OwnedBy(1), &[2]));
+    assert!(rt; listeners.add(4, A));
+    assert!(rt; listeners.hear(&signal("/", "a.b", "A"), &OwnedBy(1), &[4]));
+}
+
+#[test]
+fn copies(rt: HostRuntime) {
+    let mut listeners = new(&rt, rt.alloc());
+    let mut copy = new(&rt, rt.alloc());
+    for (connection, text) in [(1, A), (2, B), (1, B), (3, A)] {
+        assert!(rt; listeners.add(connection, text));
+    }
+    assert!(rt; listeners.remove(1, A));
+    assert!(rt; copy.add(9, A));
+    copy.copy_from(&listeners);
+    assert!(rt; copy.len() == 3);
+    assert!(rt; copy.has_rules(1, &[B]));
+    assert!(rt; copy.hear(&signal("/", "a.b", "A"), &OwnedBy(1), &[3]));
+    assert!(rt; copy.remove(3, A));
+    assert!(rt; listeners.hear(&signal("/", "a.b", "A"), &OwnedBy(1), &[3]));
+}
