@@ -1,0 +1,5 @@
+pub mod Beginnings
+pub mod SeenLists
+pub mod ToldLemmas
+pub mod Keeping
+pub mod Schedules
