@@ -1,23 +1,24 @@
 #!/usr/bin/env bash
-# Refuses each allocation of busd and of test_scarce in turn, and stops where one answers otherwise than it
-# should.
+# Refuses each allocation of busd and of test_scarce in turn, on all processors, and fails where one answers otherwise
+# than it should.
 set -euo pipefail
 cd "$(dirname "$0")/../.."
 crates=$PWD/crates
 room=$(mktemp -d)
 trap 'rm -rf "$room"' EXIT
 cc -O2 -shared -fPIC -o "$room/refuse.so" tools/memory/refuse.c
+workers=$(nproc)
 
-# with NUMBER PROGRAM ARGUMENT..: runs a program whose allocation of that number is refused
+# with NUMBER PROGRAM ARGUMENT..: runs a program whose allocation of that number is refused; each worker has a folder.
 with() {
-    local number=$1
+    number=$1
     shift
     status=0
-    REFUSE=$number LD_PRELOAD=$room/refuse.so "$@" > "$room/out" 2> "$room/err" 9> "$room/count" || status=$?
+    REFUSE=$number LD_PRELOAD=$room/refuse.so "$@" > "$own/out" 2> "$own/err" 9> "$own/count" || status=$?
 }
 
 wrong() {
-    echo "allocation $number refused: status $status, $(wc -c < "$room/out") bytes, $(cat "$room/err")"
+    echo "allocation $number refused: status $status, $(wc -c < "$own/out") bytes, $(< "$own/err")"
     exit 1
 }
 
@@ -30,44 +31,59 @@ printf 'l\3\1\1\22\0\0\0\1\0\0\0_\0\0\0\4\1s\0#\0\0\0org.freedesktop.DBus.Error.
     printf 'l\3\1\1\22\0\0\0\3\0\0\0o\0\0\0\4\1s\0#\0\0\0org.freedesktop.DBus.Error.NoMemory\0\0\0\0\0\5\1u\0\2\0\0\0\6\1s\0\4\0\0\0:1.1\0\0\0\0\7\1s\0\24\0\0\0org.freedesktop.DBus\0\0\0\0\10\1g\0\1s\0\0\15\0\0\0Out of memory\0'
 } > "$room/no_owner"
 
-# counted: how many allocations the program made that was run last; it makes some.
-counted() {
-    count=$(cat "$room/count")
-    [[ $count =~ ^[1-9][0-9]*$ ]] || wrong
-}
-
 said() {
-    [ "$status" = "$1" ] && cmp -s "$room/out" "$2" && [ "$(cat "$room/err")" = "$3" ]
+    [ "$status" = "$1" ] && cmp -s "$own/out" "$2" && [ "$(< "$own/err")" = "$3" ]
 }
 
 run_busd() {
     with "$1" "$crates/busd/out/busd" run < examples/hello-get-name-owner.stream
 }
 
-number=0
-run_busd 0
-said 0 "$crates/busd/stdout" "" || wrong
-counted
-for number in $(seq "$count"); do
-    run_busd "$number"
+judge_busd() {
     said 0 "$crates/busd/stdout" "" || said 0 "$room/no_owner" "" ||
         said 3 "$room/no_hello" "busd: closed: 64" ||
         said 5 /dev/null "busd: memory" || said 5 "$room/named" "busd: memory" ||
-        said 5 "$room/welcome" "busd: memory" || said 5 "$crates/busd/stdout" "busd: memory" || wrong
-done
-echo "busd: $count allocations refused in turn, each answered as it should be"
-
-# same PROGRAM: whichever allocation of it is refused, it writes what its file stdout has.
-same() {
-    number=0
-    with 0 "$crates/$1/out/$1"
-    said 0 "$crates/$1/stdout" "" || wrong
-    counted
-    for number in $(seq "$count"); do
-        with "$number" "$crates/$1/out/$1"
-        said 0 "$crates/$1/stdout" "" || wrong
-    done
-    echo "$1: $count allocations refused in turn, each answered as it should be"
+        said 5 "$room/welcome" "busd: memory" || said 5 "$crates/busd/stdout" "busd: memory"
 }
 
-same test_scarce
+run_scarce() {
+    with "$1" "$crates/test_scarce/out/test_scarce"
+}
+
+# whichever allocation is refused, it writes what its file stdout has
+judge_scarce() {
+    said 0 "$crates/test_scarce/stdout" ""
+}
+
+# worker NAME FIRST COUNT: refuses the allocations from FIRST to COUNT that are this worker's
+worker() {
+    local at
+    own=$room/$2
+    mkdir -p "$own"
+    for ((at = $2; at <= $3; at += workers)); do
+        "run_$1" "$at"
+        "judge_$1" || wrong
+    done
+}
+
+# each NAME PROGRAM: counts the allocations of a run in which none is refused, of which there are some, and refuses each
+each() {
+    local first count failed=0 running=()
+    own=$room
+    "run_$1" 0
+    said 0 "$crates/$2/stdout" "" || wrong
+    count=$(< "$room/count")
+    [[ $count =~ ^[1-9][0-9]*$ ]] || wrong
+    for ((first = 1; first <= workers; first++)); do
+        worker "$1" "$first" "$count" &
+        running+=($!)
+    done
+    for worker in "${running[@]}"; do
+        wait "$worker" || failed=1
+    done
+    [ "$failed" = 0 ]
+    echo "$2: $count allocations refused in turn, each answered as it should be"
+}
+
+each busd busd
+each scarce test_scarce
