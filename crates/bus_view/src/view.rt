@@ -1,6 +1,6 @@
 //! The view of a bus.
 
-ghost use Rattle.std.specs.Prelude.{◌≡◌, true, false, [], Some};
+ghost use Rattle.std.specs.Prelude.{◌≡◌, ◌≤◌, true, false, Some, length};
 ghost use Rattle.std.specs.Prelude.{is_some, option_map, IfOk, IfErr, IfSome, OnOk, OnErr};
 ghost use Rattle.seq_bus_core.specs.Answers.{answer};
 ghost use Rattle.std.specs.List.{list_any};
@@ -9,6 +9,7 @@ ghost use Rattle.seq_bus_core.specs.Histories.{History};
 ghost use Rattle.seq_bus_core.specs.Recipients.{recipients};
 ghost use Rattle.bus_view.specs.Bodies.{Answers};
 ghost use Rattle.seq_bus_core.specs.Served.{IsServedChange};
+ghost use Rattle.seq_bus_core.specs.declared.limits.TheConstants.{MAX_TICKETS};
 ghost use Rattle.bus_view.specs.declared.answer.AskFault.TheVariants.{Gone as AskGone, NoMemory as AskNoMemory};
 ghost use Rattle.bus_view.specs.Views.{Knowledge, bus_seen, IsChanged, IsRead, IsUnread, IsNoted};
 ghost use Rattle.bus_view.specs.declared.refusal.Cause.TheVariants.{NoMemory};
@@ -45,8 +46,8 @@ pub trait BusView {
 
     /// Makes a change, and tells of it in a note.
     ///
-    /// A change that is refused is handed back, and is not made, then or later. Today no call waits for a service, so no
-    /// tickets are settled.
+    /// A change that is refused is handed back, and is not made, then or later. One that is made settles 512 tickets at
+    /// most, which is how many can wait.
     fn change(
         &mut self,
         right: &Self::Right,
@@ -55,7 +56,7 @@ pub trait BusView {
         requires { IsServedChange change }
         ensures made { IfOk result (λ r.
             IsChanged alone (knows self.old) change r.0 (knows self.new)) }
-        ensures settled { IfOk result (λ r. r.0.tickets ≡ []) }
+        ensures few { IfOk result (λ r. length r.0.tickets ≤ MAX_TICKETS) }
         ensures note { IfOk result (λ r. registry_of r.1 ≡ (knows self.new).registry) }
         ensures told { alone ≡ false →
             IfOk result (λ r. told r.1 ≡ (knows self.new).seen) }

@@ -12,6 +12,7 @@ use bus_view::BusView;
 use router_core::Gate;
 use router_serving::next_in;
 use router_steps::{Greeting, Peer};
+use seq_bus_core::limits::MAX_TICKETS;
 use std::alloc::AllocError;
 
 /// Whether there is something of a connection to be served, if it is there.
@@ -52,7 +53,8 @@ impl<V: BusView, G: Gate> Served<V, G> {
         if key >= self.peers.len() {
             return Ok(());
         }
-        self.context.reserve(4)?;
+        // What is shown to monitors, the signals, the answer and a close, and each call that waited for the name.
+        self.context.reserve(MAX_TICKETS + 4)?;
         self.context.reserve_crowds(2)?;
         match next_in(
             self.alloc,

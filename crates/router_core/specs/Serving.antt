@@ -99,10 +99,15 @@ call_of_ticket t = record { caller = Some t.caller.number; call = t.call.serial 
 abbrev pub started : Carried
 started = Number 1
 
+-- Without memory the reply is dropped whole.
+abbrev pub started_if : Conn → ReplyTo → Bool → Work
+started_if caller call true = tell caller (Replies call started)
+started_if caller call false = nothing
+
 -- A call that waited is delivered to the owner of the name; StartServiceByName is answered.
 abbrev pub release : Conn → Ticket → Option (List ℕ) → Work
 release owner t (Some bytes) = putting (owner ∷ []) (Relays bytes) nothing
-release owner t None = if ticket_wants_reply t then tell t.caller (Replies (call_of_ticket t) started) else nothing
+release owner t None = if ticket_wants_reply t then Wanting (λ granted. started_if t.caller (call_of_ticket t) granted) else nothing
 
 abbrev pub release_all : Conn → List SettledTicket → Work
 release_all owner [] = nothing

@@ -1,5 +1,5 @@
 -- What a call is answered that asks the bus, or has it changed.
-use Rattle.std.proofs.Common.{◌≡◌, ℕ, Bool, List, [], Option, Some, None, Result, Ok, Err, inl, inr, true, false, refl, sym, subst}
+use Rattle.std.proofs.Common.{◌≡◌, ℕ, Bool, List, Option, Some, None, Result, Ok, Err, inl, inr, true, false, refl, sym, subst}
 use Rattle.seq_bus_core.specs.Answers.{Answer, answer}
 use Rattle.seq_bus_core.specs.BusState.{BusState}
 use Rattle.seq_bus_core.specs.Histories.{History}
@@ -10,7 +10,6 @@ use Rattle.seq_bus_core.specs.declared.outcome.Outcome.{Outcome}
 use Rattle.seq_bus_core.specs.declared.outcome.Reply.{Reply}
 use Rattle.seq_bus_core.specs.declared.outcome.Reply.TheVariants as reply
 use Rattle.seq_bus_core.specs.declared.query.Query.{Query}
-use Rattle.seq_bus_core.specs.declared.ticket.SettledTicket.{SettledTicket}
 use Rattle.bus_view.specs.declared.answer.Asked.{Asked}
 use Rattle.bus_view.specs.declared.answer.Asked.TheVariants.{Body, NameHasNoOwner}
 use Rattle.bus_view.specs.declared.answer.AskFault.{AskFault}
@@ -35,13 +34,12 @@ module _ {N G : Type 0} (told : N → History) (registry_of : N → ℕ) (passes
   stays work w v comes = comes_then told registry_of passes alone (λ done. stays_open) tt v None v (refl, refl) work w comes
 
   module _ (m : Message) (caller : Conn) where
-    -- where no ticket was settled
-    pub tells_change : (o : Outcome) (answered_so : Result Carried ErrorKind) (w n v : World N G) → o.tickets ≡ [] → Announces told registry_of alone o.signals w n → answered_so ≡ answer_told o.reply →
-        Comes told registry_of passes alone (answer_with m caller answered_so) n tt v → Comes told registry_of passes alone (tell_change m caller o) w tt v
-    tells_change o answered_so w n v none announces is comes =
-        let last : Comes told registry_of passes alone (release_all caller o.tickets) v tt v = subst (λ (tickets : List SettledTicket). Comes told registry_of passes alone (release_all caller tickets) v tt v) (sym none) (refl, refl) in
-        let first = subst (λ (a : Result Carried ErrorKind). Comes told registry_of passes alone (answer_with m caller a) n tt v) is comes in
-        (n, announces, comes_then told registry_of passes alone (λ done. release_all caller o.tickets) tt v tt v last (answer_with m caller (answer_told o.reply)) n first)
+    -- the signals come first, then the answer, then the calls that waited
+    pub tells_change : (o : Outcome) (answered_so : Result Carried ErrorKind) (w n k v : World N G) → Announces told registry_of alone o.signals w n → answered_so ≡ answer_told o.reply →
+        Comes told registry_of passes alone (answer_with m caller answered_so) n tt k → Comes told registry_of passes alone (release_all caller o.tickets) k tt v → Comes told registry_of passes alone (tell_change m caller o) w tt v
+    tells_change o answered_so w n k v announces is comes last =
+        let first = subst (λ (a : Result Carried ErrorKind). Comes told registry_of passes alone (answer_with m caller a) n tt k) is comes in
+        (n, announces, comes_then told registry_of passes alone (λ done. release_all caller o.tickets) tt k tt v last (answer_with m caller (answer_told o.reply)) n first)
 
     pub made_still : (o : Outcome) (told_so : Reply) (w v : World N G) → (told_so ≡ reply.Gone → ⊥) →
         Comes told registry_of passes alone (tell_change m caller o) w tt v → Comes told registry_of passes alone (made_by m caller o told_so) w None v

@@ -1,9 +1,10 @@
 //! Calls to the bus.
 
-ghost use Rattle.std.specs.Prelude.{◌≡◌, ◌<◌, ◌≤◌, ◌+◌, [], Ok, Some, IfOk};
+ghost use Rattle.std.specs.Prelude.{◌≡◌, ◌<◌, ◌≤◌, ◌+◌, Ok, Some, length, IfOk};
 ghost use Rattle.message_core.specs.Said.{said};
 ghost use Rattle.seq_bus_core.specs.Answers.{Answer};
 ghost use Rattle.seq_bus_core.specs.Served.{IsServedChange};
+ghost use Rattle.seq_bus_core.specs.declared.limits.TheConstants.{MAX_TICKETS};
 ghost use Rattle.driver.specs.declared.call.Call.TheVariants.{RequestName, ReleaseName, AddMatch, RemoveMatch};
 ghost use Rattle.outbox_core.specs.Answers.{IsAnswerTo};
 ghost use Rattle.router_core.specs.Answers.{Says, error_for as error_for_refusal, refusal_of, unanswered_for};
@@ -85,22 +86,23 @@ fn refuse<V: BusView, G: Gate>(
     None
 }
 
-/// Tells of a change: its signals come first, then what the caller is answered.
+/// Tells of a change: its signals come first, then what the caller is answered, and then the calls that waited for the
+/// name are released.
 fn tell_change<V: BusView, G: Gate>(
     context: &mut Context<V, G>,
     call: &Message,
     caller: Conn,
     outcome: Outcome,
 )
-    requires room { 1 < context.old.room }
+    requires room { length outcome.tickets + 1 < context.old.room }
     requires crowds { 0 < context.old.crowds }
-    requires settled { outcome.tickets ≡ [] }
     ensures comes { Comes V.told V.registry_of G.passes V.alone
         (telling_change (said call.now) caller outcome) context.old.world tt context.new.world }
-    ensures room { context.old.room ≤ context.new.room + 2 }
+    ensures room { context.old.room ≤ context.new.room + length outcome.tickets + 2 }
 {
     context.announce(outcome.signals);
     context.answer_with(call, caller, answer_told(outcome.reply));
+    context.release_all(caller, outcome.tickets);
 }
 
 /// Tells of a change, where the caller has not left in the meantime. If it has it is to be closed.
@@ -110,12 +112,11 @@ fn made_by<V: BusView, G: Gate>(
     caller: Conn,
     outcome: Outcome,
 ) -> Option<CloseCause>
-    requires room { 1 < context.old.room }
+    requires room { length outcome.tickets + 1 < context.old.room }
     requires crowds { 0 < context.old.crowds }
-    requires settled { outcome.tickets ≡ [] }
     ensures comes { Comes V.told V.registry_of G.passes V.alone
         (made_in (said call.now) caller (Says outcome)) context.old.world result context.new.world }
-    ensures room { context.old.room ≤ context.new.room + 2 }
+    ensures room { context.old.room ≤ context.new.room + length outcome.tickets + 2 }
 {
     match outcome.reply {
         Reply::Gone => Some(CloseCause::Left),
@@ -133,13 +134,13 @@ fn made<V: BusView, G: Gate>(
     caller: Conn,
     told: Result<Outcome, Cause>,
 ) -> Option<CloseCause>
-    requires room { 1 < context.old.room }
+    requires room { MAX_TICKETS + 1 < context.old.room }
     requires crowds { 0 < context.old.crowds }
-    requires settled { IfOk told (λ outcome. outcome.tickets ≡ []) }
+    requires few { IfOk told (λ outcome. length outcome.tickets ≤ MAX_TICKETS) }
     ensures comes { Comes V.told V.registry_of G.passes V.alone
         (made_in (said call.now) caller (heard_change told)) context.old.world result
         context.new.world }
-    ensures room { context.old.room ≤ context.new.room + 2 }
+    ensures room { context.old.room ≤ context.new.room + MAX_TICKETS + 2 }
 {
     match told {
         Ok(outcome) => made_by(context, call, caller, outcome),
@@ -208,13 +209,13 @@ fn make<V: BusView, G: Gate>(
     caller: Conn,
     change: Change,
 ) -> Option<CloseCause>
-    requires room { 1 < context.old.room }
+    requires room { MAX_TICKETS + 1 < context.old.room }
     requires crowds { 0 < context.old.crowds }
     requires served { IsServedChange change }
     ensures comes { Comes V.told V.registry_of G.passes V.alone
         (serving_request (said call.now) caller (Ok (Makes change))) context.old.world result
         context.new.world }
-    ensures room { context.old.room ≤ context.new.room + 2 }
+    ensures room { context.old.room ≤ context.new.room + MAX_TICKETS + 2 }
 {
     let told = context.change(right, change);
     made(context, call, caller, told)
@@ -232,13 +233,13 @@ fn request_name<V: BusView, G: Gate>(
     name: &BusName,
     flags: RequestFlags,
 ) -> Option<CloseCause>
-    requires room { 1 < context.old.room }
+    requires room { MAX_TICKETS + 1 < context.old.room }
     requires crowds { 0 < context.old.crowds }
     ensures comes { Comes V.told V.registry_of G.passes V.alone
         (serving_request (said call.now) caller
         (request_in caller.number (RequestName name.now flags))) context.old.world result
         context.new.world }
-    ensures room { context.old.room ≤ context.new.room + 2 }
+    ensures room { context.old.room ≤ context.new.room + MAX_TICKETS + 2 }
 {
     let change = Change::Request {
         connection: caller.number,
@@ -256,12 +257,12 @@ fn release_name<V: BusView, G: Gate>(
     caller: Conn,
     name: &BusName,
 ) -> Option<CloseCause>
-    requires room { 1 < context.old.room }
+    requires room { MAX_TICKETS + 1 < context.old.room }
     requires crowds { 0 < context.old.crowds }
     ensures comes { Comes V.told V.registry_of G.passes V.alone
         (serving_request (said call.now) caller (request_in caller.number (ReleaseName name.now)))
         context.old.world result context.new.world }
-    ensures room { context.old.room ≤ context.new.room + 2 }
+    ensures room { context.old.room ≤ context.new.room + MAX_TICKETS + 2 }
 {
     let change = Change::Release {
         connection: caller.number,
@@ -278,12 +279,12 @@ fn add_match<V: BusView, G: Gate>(
     caller: Conn,
     rule: &Rule,
 ) -> Option<CloseCause>
-    requires room { 1 < context.old.room }
+    requires room { MAX_TICKETS + 1 < context.old.room }
     requires crowds { 0 < context.old.crowds }
     ensures comes { Comes V.told V.registry_of G.passes V.alone
         (serving_request (said call.now) caller (request_in caller.number (AddMatch rule.now)))
         context.old.world result context.new.world }
-    ensures room { context.old.room ≤ context.new.room + 2 }
+    ensures room { context.old.room ≤ context.new.room + MAX_TICKETS + 2 }
 {
     let change = Change::AddMatch {
         connection: caller.number,
@@ -300,12 +301,12 @@ fn remove_match<V: BusView, G: Gate>(
     caller: Conn,
     rule: &Rule,
 ) -> Option<CloseCause>
-    requires room { 1 < context.old.room }
+    requires room { MAX_TICKETS + 1 < context.old.room }
     requires crowds { 0 < context.old.crowds }
     ensures comes { Comes V.told V.registry_of G.passes V.alone
         (serving_request (said call.now) caller (request_in caller.number (RemoveMatch rule.now)))
         context.old.world result context.new.world }
-    ensures room { context.old.room ≤ context.new.room + 2 }
+    ensures room { context.old.room ≤ context.new.room + MAX_TICKETS + 2 }
 {
     let change = Change::RemoveMatch {
         connection: caller.number,
@@ -323,12 +324,12 @@ fn serve_request<V: BusView, G: Gate>(
     caller: Conn,
     call: &Call,
 ) -> Option<CloseCause>
-    requires room { 1 < context.old.room }
+    requires room { MAX_TICKETS + 1 < context.old.room }
     requires crowds { 0 < context.old.crowds }
     ensures comes { Comes V.told V.registry_of G.passes V.alone
         (serving_request (said message.now) caller (request_in caller.number call.now))
         context.old.world result context.new.world }
-    ensures room { context.old.room ≤ context.new.room + 2 }
+    ensures room { context.old.room ≤ context.new.room + MAX_TICKETS + 2 }
 {
     match call {
         Call::Hello => refuse(context, message, caller, ErrorKind::Failed),
@@ -381,12 +382,12 @@ fn serve_reading<V: BusView, G: Gate>(
     caller: Conn,
     reading: &Result<Call, DriverFault>,
 ) -> Option<CloseCause>
-    requires room { 1 < context.old.room }
+    requires room { MAX_TICKETS + 1 < context.old.room }
     requires crowds { 0 < context.old.crowds }
     ensures comes { Comes V.told V.registry_of G.passes V.alone
         (serving_reading (said message.now) caller reading.now) context.old.world result
         context.new.world }
-    ensures room { context.old.room ≤ context.new.room + 2 }
+    ensures room { context.old.room ≤ context.new.room + MAX_TICKETS + 2 }
 {
     match reading {
         Ok(call) => {
@@ -405,11 +406,11 @@ fn serve_call<V: BusView, G: Gate>(
     message: &Message,
     caller: Conn,
 ) -> Option<CloseCause>
-    requires room { 1 < context.old.room }
+    requires room { MAX_TICKETS + 1 < context.old.room }
     requires crowds { 0 < context.old.crowds }
     ensures comes { Comes V.told V.registry_of G.passes V.alone
         (serving_call (said message.now) caller) context.old.world result context.new.world }
-    ensures room { context.old.room ≤ context.new.room + 2 }
+    ensures room { context.old.room ≤ context.new.room + MAX_TICKETS + 2 }
 {
     let reading = read_call(alloc, message);
     serve_reading(alloc, context, right, message, caller, &reading)
@@ -425,11 +426,11 @@ pub fn serve_bus<V: BusView, G: Gate>(
     message: &Message,
     sender: Conn,
 ) -> Option<CloseCause>
-    requires room { 1 < context.old.room }
+    requires room { MAX_TICKETS + 1 < context.old.room }
     requires crowds { 0 < context.old.crowds }
     ensures comes { Comes V.told V.registry_of G.passes V.alone
         (serving_bus (said message.now) sender) context.old.world result context.new.world }
-    ensures room { context.old.room ≤ context.new.room + 2 }
+    ensures room { context.old.room ≤ context.new.room + MAX_TICKETS + 2 }
 {
     if is_method_call(message) {
         serve_call(alloc, context, right, message, sender)

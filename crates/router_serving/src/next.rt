@@ -1,6 +1,7 @@
 //! The next message of a connection.
 
 ghost use Rattle.std.specs.Prelude.{◌≡◌, ◌<◌, ◌≤◌, ◌+◌, Some, IfOk, IfSome, OnOk, OnErr};
+ghost use Rattle.seq_bus_core.specs.declared.limits.TheConstants.{MAX_TICKETS};
 ghost use Rattle.router_core.specs.Events.{next_at};
 ghost use Rattle.router_core.specs.Scripts.{Comes};
 ghost use Rattle.router_core.specs.Standing.{Standing, Named, peer_at, with_peer};
@@ -23,7 +24,7 @@ fn serve_next<V: BusView, G: Gate>(
     peer: &mut Peer,
     conn: Conn,
 ) -> Result<(), AllocError>
-    requires room { 3 < context.old.room }
+    requires room { MAX_TICKETS + 3 < context.old.room }
     requires crowds { 1 < context.old.crowds }
     requires named { peer.old.stage ≡ Named conn }
     ensures comes { OnOk result ((s : Standing) → peer_at s key ≡ Some peer.old →
@@ -52,7 +53,7 @@ pub fn next_in<V: BusView, G: Gate>(
     key: usize,
     slot: &mut Option<Peer>,
 ) -> Result<Option<Greeting>, AllocError>
-    requires room { 3 < context.old.room }
+    requires room { MAX_TICKETS + 3 < context.old.room }
     requires crowds { 1 < context.old.crowds }
     ensures next { IfOk result
         (λ greeting. ComesOfNext V.told V.registry_of G.passes V.alone key greeting slot.old

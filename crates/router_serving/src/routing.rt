@@ -3,6 +3,7 @@
 ghost use Rattle.std.specs.Prelude.{◌≡◌, ◌<◌, ◌≤◌, ◌+◌, false};
 ghost use Rattle.match_rules.specs.Kinds.{kind_of};
 ghost use Rattle.message_core.specs.Said.{said};
+ghost use Rattle.seq_bus_core.specs.declared.limits.TheConstants.{MAX_TICKETS};
 ghost use Rattle.router_core.specs.Scripts.{Comes};
 ghost use Rattle.router_core.specs.Serving.{and_stays, err_if_call, is_unknown, relay as relaying, routed as routing, serve as serving};
 ghost use Rattle.router_steps.specs.Hearing.{heard_verdict};
@@ -108,13 +109,13 @@ fn relay_to_bus<V: BusView, G: Gate>(
     sender: Conn,
     verdict: Box<Verdict>,
 ) -> Option<CloseCause>
-    requires room { 2 < context.old.room }
+    requires room { MAX_TICKETS + 2 < context.old.room }
     requires crowds { 0 < context.old.crowds }
     requires bus { verdict.value.kind ≡ VerdictKind.Bus }
     ensures comes { Comes V.told V.registry_of G.passes V.alone
         (relaying (said message.now) sender verdict.value verdict.value.kind) context.old.world result
         context.new.world }
-    ensures room { context.old.room ≤ context.new.room + 3 }
+    ensures room { context.old.room ≤ context.new.room + MAX_TICKETS + 3 }
 {
     match context.show(message, sender, verdict) {
         Ok(()) => serve_bus(alloc, context, right, message, sender),
@@ -152,12 +153,12 @@ fn relay<V: BusView, G: Gate>(
     sender: Conn,
     verdict: Box<Verdict>,
 ) -> Option<CloseCause>
-    requires room { 2 < context.old.room }
+    requires room { MAX_TICKETS + 2 < context.old.room }
     requires crowds { 0 < context.old.crowds }
     ensures comes { Comes V.told V.registry_of G.passes V.alone
         (relaying (said message.now) sender verdict.value verdict.value.kind) context.old.world result
         context.new.world }
-    ensures room { context.old.room ≤ context.new.room + 3 }
+    ensures room { context.old.room ≤ context.new.room + MAX_TICKETS + 3 }
 {
     match verdict.kind {
         VerdictKind::Absent => Some(CloseCause::Left),
@@ -178,12 +179,12 @@ fn routed<V: BusView, G: Gate>(
     verdict: Box<Verdict>,
     heard: Result<(), Gone>,
 ) -> Option<CloseCause>
-    requires room { 2 < context.old.room }
+    requires room { MAX_TICKETS + 2 < context.old.room }
     requires crowds { 0 < context.old.crowds }
     ensures comes { Comes V.told V.registry_of G.passes V.alone
         (routing (said message.now) sender (heard_verdict heard verdict.value)) context.old.world
         result context.new.world }
-    ensures room { context.old.room ≤ context.new.room + 3 }
+    ensures room { context.old.room ≤ context.new.room + MAX_TICKETS + 3 }
 {
     match heard {
         Ok(()) => relay(alloc, context, right, message, sender, verdict),
@@ -199,12 +200,12 @@ fn route_message<V: BusView, G: Gate>(
     message: &Message,
     sender: Conn,
 ) -> Option<CloseCause>
-    requires room { 2 < context.old.room }
+    requires room { MAX_TICKETS + 2 < context.old.room }
     requires crowds { 1 < context.old.crowds }
     requires known { is_unknown (kind_of (said message.now).kind) ≡ false }
     ensures comes { Comes V.told V.registry_of G.passes V.alone (serving (said message.now) sender)
         context.old.world result context.new.world }
-    ensures room { context.old.room ≤ context.new.room + 3 }
+    ensures room { context.old.room ≤ context.new.room + MAX_TICKETS + 3 }
 {
     // Made where they stay, and with the sender's number, as the bus takes them: they are too large to be copied.
     let mut facts = Facts {
@@ -234,11 +235,11 @@ pub fn serve<V: BusView, G: Gate>(
     message: &Message,
     sender: Conn,
 ) -> Option<CloseCause>
-    requires room { 2 < context.old.room }
+    requires room { MAX_TICKETS + 2 < context.old.room }
     requires crowds { 1 < context.old.crowds }
     ensures comes { Comes V.told V.registry_of G.passes V.alone (serving (said message.now) sender)
         context.old.world result context.new.world }
-    ensures room { context.old.room ≤ context.new.room + 3 }
+    ensures room { context.old.room ≤ context.new.room + MAX_TICKETS + 3 }
 {
     match message.kind() {
         MessageKind::Unknown(_) => None,

@@ -1,10 +1,13 @@
 -- One turn of what is done for each of several.
-use Rattle.std.proofs.Common.{ℕ, ◌+◌, ◌<◌, ◌≤◌, Bool, Option, None, List, [], ◌∷◌, ◌++◌, length, get_or, set, take, drop, sym, subst, arith}
+use Rattle.std.proofs.Common.{◌≡◌, ℕ, ◌+◌, ◌<◌, ◌≤◌, Bool, Option, None, List, [], ◌∷◌, ◌++◌, length, get_or, set, take, drop, sym, subst, arith}
 use Rattle.std.proofs.lemmas.List.{drop_more, length-take-le, take_more_set, drop-set-lt}
 use Rattle.seq_bus_core.specs.Histories.{History}
+use Rattle.seq_bus_core.specs.declared.connection.Conn.{Conn}
+use Rattle.seq_bus_core.specs.declared.ticket.SettledTicket.{SettledTicket}
 use Rattle.router_core.specs.Deeds.{GatedCall}
 use Rattle.router_core.specs.Events.{leave, leave_all, for_slot, look, look_all}
 use Rattle.router_core.specs.Scripts.{World, Comes}
+use Rattle.router_core.specs.Serving.{release, release_all}
 use Rattle.router_core.specs.Standing.{Peer, Standing}
 use Rattle.router_steps.proofs.Sequels.{comes_then}
 
@@ -16,6 +19,14 @@ module _ {N G : Type 0} (told : N → History) (registry_of : N → ℕ) (passes
   leaves_more numbers i inside before after end this later =
       subst (λ ns. Comes told registry_of passes alone (leave_all ns before) w end v) (sym (drop_more numbers i 0 inside))
       (comes_then told registry_of passes alone (λ t. leave_all (drop (i + 1) numbers) t) after m end v later (leave before (get_or numbers i 0)) w this)
+
+  -- the next call that waited is released, then the rest
+  pub releases_more : (owner : Conn) (t : SettledTicket) (rest tickets : List SettledTicket) → tickets ≡ t ∷ rest →
+      Comes told registry_of passes alone (release owner t.ticket t.ticket.message) w tt m → Comes told registry_of passes alone (release_all owner rest) m tt v →
+      Comes told registry_of passes alone (release_all owner tickets) w tt v
+  releases_more owner t rest tickets is this later =
+      subst (λ ts. Comes told registry_of passes alone (release_all owner ts) w tt v) (sym is)
+      (comes_then told registry_of passes alone (λ done. release_all owner rest) tt m tt v later (release owner t.ticket t.ticket.message) w this)
 
   -- the next connection is looked for, then the rest
   pub looks_more : (xs : List (Option Peer)) (k : ℕ) → k < length xs → (q : Option Peer) (ys : List (Option Peer)) →

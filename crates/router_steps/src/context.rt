@@ -1,8 +1,9 @@
 //! What serves connections: the view of the bus, the gate, and the actions so far.
 
-ghost use Rattle.std.specs.Prelude.{◌≡◌, ◌↔◌, ◌<◌, ◌≤◌, ◌+◌, ◌++◌, ◌∷◌, [], Option, IfOk, IfSome, IsTrue, false, OnOk, OnErr};
+ghost use Rattle.std.specs.Prelude.{◌≡◌, ◌↔◌, ◌<◌, ◌≤◌, ◌+◌, ◌++◌, ◌∷◌, [], length, Option, IfOk, IfSome, IsTrue, false, OnOk, OnErr};
 ghost use Rattle.message_core.specs.Messages.{Message, IsWritten};
 ghost use Rattle.seq_bus_core.specs.Served.{IsServedChange};
+ghost use Rattle.seq_bus_core.specs.declared.limits.TheConstants.{MAX_TICKETS};
 ghost use Rattle.std.specs.List.{list_any};
 ghost use Rattle.seq_bus_core.specs.Answers.{Answer};
 ghost use Rattle.seq_bus_core.specs.BusState.{is_monitor};
@@ -88,11 +89,12 @@ impl<V: BusView, G: Gate> Context<V, G> {
         Ok(())
     }
 
-    /// Makes room for so many of the actions to have several recipients.
+    /// Makes room for so many of the actions to have several recipients. What there was stays.
     pub fn reserve_crowds(&mut self, count: usize) -> Result<(), AllocError>
         ensures world { self.new.world ≡ self.old.world }
         ensures room { self.new.room ≡ self.old.room }
         ensures crowds { OnOk result (count ≤ self.new.crowds) }
+        ensures kept { self.old.crowds ≤ self.new.crowds }
     {
         while self.verdicts.len() < count {
             let verdict = blank_verdict(self.alloc)?;
@@ -245,13 +247,13 @@ impl<V: BusView, G: Gate> Context<V, G> {
         }
     }
 
-    /// Makes a change of the bus.
+    /// Makes a change of the bus. One that is made settles 512 tickets at most.
     #[tactic(auto, using(crate::proofs::Refusals::is_lost))]
     pub fn change(&mut self, right: &V::Right, change: Change) -> Result<Outcome, Cause>
         requires { IsServedChange change }
         ensures changes { Changes V.alone change self.old.world (heard_change result)
             self.new.world }
-        ensures settled { IfOk result (λ outcome. outcome.tickets ≡ []) }
+        ensures few { IfOk result (λ outcome. length outcome.tickets ≤ MAX_TICKETS) }
         ensures room { self.new.room ≡ self.old.room }
         ensures crowds { self.new.crowds ≡ self.old.crowds }
     {

@@ -14,6 +14,7 @@ mod leaving;
 mod mail;
 mod peer;
 mod relaying;
+mod releasing;
 mod room;
 mod slot;
 mod telling;

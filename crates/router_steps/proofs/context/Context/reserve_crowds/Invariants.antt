@@ -1,4 +1,4 @@
-use Rattle.std.proofs.Common.{◌≡◌, ◌-◌}
+use Rattle.std.proofs.Common.{◌≡◌, ◌≤◌, ◌-◌, vec_len}
 use Rattle.router_steps.proofs.context.Context.reserve_crowds.Given as goal
 
 abbrev pub invariant-loop-self : goal.invariant-loop-self
@@ -8,6 +8,7 @@ invariant-loop-self g l = record {
   actions : l.self-inside.actions ≡ l.initial.self-inside.actions;
   spare : l.self-inside.spare ≡ l.initial.self-inside.spare;
   room : l.self-inside.room ≡ l.initial.self-inside.room;
+  kept : vec_len l.initial.self-inside.verdicts ≤ vec_len l.self-inside.verdicts;
 }
 
 abbrev pub decreases-loop-self : goal.decreases-loop-self
