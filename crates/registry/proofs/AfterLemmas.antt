@@ -8,7 +8,7 @@ use Rattle.registry_core.specs.Listening.{conns_that, stays, wants_by}
 use Rattle.registry.specs.Hellos.{client_at}
 use Rattle.registry.specs.Pendings.{IsDue, leaver_of, state_after}
 use Rattle.registry.specs.declared.after.Pending.{Pending}
-use Rattle.registry.specs.declared.after.Pending.TheVariants.{Nothing, Joined, Requeued, Left, Becoming}
+use Rattle.registry.specs.declared.after.Pending.TheVariants.{Joined, Requeued, Left, Becoming}
 use Rattle.registry.proofs.HelloLemmas.{joined_want}
 use Rattle.registry.proofs.LeaveLemmas.{left_want}
 use Rattle.registry.proofs.MonitorLemmas.{becoming_want}
@@ -16,7 +16,6 @@ use Rattle.registry.proofs.MonitorLemmas.{becoming_want}
 -- those of before the change that want a message after it
 pub wanting_after : (s : BusState) (p : Pending) (facts : Facts) → IsConsistent s → IsDue p s →
     conns_that (λ c. stays (leaver_of p) c.number && wants_by (head_of (state_after p s)) s.rules facts c) s.connections ≡ all_that_want (state_after p s) facts
-wanting_after s Nothing facts h next = refl
 wanting_after s (Joined conn privileged) facts h next = sym (joined_want s (client_at conn privileged) facts h next)
 wanting_after s (Requeued name queue) facts h next = refl
 wanting_after s (Left connection) facts h next = sym (left_want s connection facts)

@@ -5,7 +5,7 @@ use Rattle.seq_bus_core.specs.Changes.{as_seen}
 use Rattle.seq_bus_core.specs.Steps.{Stepped, step}
 use Rattle.seq_bus_core.specs.declared.change.Change.{Change}
 use Rattle.seq_bus_core.proofs.ChangeLaws.{steps_see_no_more}
-use Rattle.registry.specs.PreparedChanges.{PreparedChange, prepared_along, prepared_on, state_along}
+use Rattle.registry.specs.PreparedChanges.{prepared_along, prepared_on, state_along}
 
 pub prepared_more : (s : BusState) (seat : ℕ) (changes : List Change) (change : Change) → prepared_along s seat (changes ++ change ∷ []) ≡ prepared_along s seat changes ++ prepared_on (state_along s seat changes) seat change ∷ []
 prepared_more s seat [] change = refl

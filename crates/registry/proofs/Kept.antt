@@ -3,7 +3,7 @@ use Rattle.std.proofs.Common.{◌≡◌, ℕ, ◌<◌, ◌≤◌, ◌^◌, List,
 use Rattle.std.specs.List.{AllByRecursion as Each}
 use Rattle.names.specs.Texts.{Text}
 use Rattle.seq_bus_core.specs.Histories.{max_services}
-use Rattle.seq_bus_core.specs.BusState.{BusState, Connection, max_rules}
+use Rattle.seq_bus_core.specs.BusState.{BusState, Connection}
 use Rattle.seq_bus_core.specs.Consistency.{IsGiven, IsConsistent, IsWithinLimits, Pairwise}
 use Rattle.seq_bus_core.specs.Steps.{step}
 use Rattle.seq_bus_core.specs.declared.change.Change.{Change}
@@ -18,14 +18,13 @@ use Rattle.registry.specs.Tables.{state_of, IsKept}
 
 -- tables that stand for the state after a step
 pub kept : (r next : Inside) → IsKept r → (seat : ℕ) (change : Change) → (step (state_of r) seat change).0 ≡ state_of next →
-    next.routers ≡ r.routers → next.rules.room ≡ max_rules → IsKept next
-kept r next h seat change is routers rules_room = record {
+    next.routers ≡ r.routers → IsKept next
+kept r next h seat change is routers = record {
   routed = omega (arith, h.routed, routers);
   few_routers = rw routers h.few_routers;
   consistent = subst IsConsistent is (steps_keep_consistency (state_of r) seat change h.consistent);
   within_limits = subst IsWithinLimits is (steps_keep_limits (state_of r) seat change h.consistent h.within_limits);
   few_services = subst (λ (t : BusState). length t.services ≤ max_services) is (subst (λ (services : List Text). length services ≤ max_services) (sym (services_stay (state_of r) seat change)) h.few_services);
-  rules_room = rules_room;
 }
 
 pub given_below : (r : Inside) → IsKept r → Each (λ c. c.number < 2 ^ 64) (state_of r).connections

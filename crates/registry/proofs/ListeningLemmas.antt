@@ -10,9 +10,9 @@ use Rattle.seq_bus_core.specs.BusState.{BusState, Connection, AddedRule, conn_of
 use Rattle.seq_bus_core.specs.Consistency.{IsGiven, IsConsistent, Pairwise}
 use Rattle.seq_bus_core.specs.Recipients.{conn_at, monitors_shown, watches}
 use Rattle.seq_bus_core.specs.declared.connection.Conn.{Conn}
-use Rattle.seq_bus_core.proofs.Lists.{any_having, each_weaker}
+use Rattle.seq_bus_core.proofs.Lists.{any_having, any_map, each_weaker}
 use Rattle.registry_core.specs.declared.member.Member.{Member}
-use Rattle.registry_core.specs.Listening.{conns_that, has_fitting, member_wants, stays, wants_by, watches_by}
+use Rattle.registry_core.specs.Listening.{conns_that, has_fitting, has_number, member_wants, stays, wants_by, watches_by}
 use Rattle.registry_core.specs.MemberTables.{member_of}
 use Rattle.registry_core.proofs.Members.{filter_alike}
 use Rattle.registry_core.proofs.Places.{one_done}
@@ -96,3 +96,14 @@ members_that_want heads rules facts leaver (c ∷ cs) = by_test (stays leaver c.
         ≡ map conn_of (cond b (c ∷ filter (λ d. stays leaver d.number && wants_by heads rules facts d) cs) (filter (λ d. stays leaver d.number && wants_by heads rules facts d) cs))
     by_test true rest = ap (λ conns. conn_of c ∷ conns) rest
     by_test false rest = rest
+
+-- each rule is of a connection that stands there
+pub rules_owned : (s : BusState) → IsConsistent s → Each (λ r. has_number (map member_of s.connections) r.connection ≡ true) s.rules
+rules_owned s h = each_weaker (λ (r : AddedRule). is_client s.connections r.connection ≡ true) (λ (r : AddedRule). has_number (map member_of s.connections) r.connection ≡ true) (λ r is. there r.connection s.connections is) s.rules h.rules_of_clients
+  where
+    there : (n : ℕ) (cs : List Connection) → is_client cs n ≡ true → has_number (map member_of cs) n ≡ true
+    there n cs is = any_map (λ c. (c.number == n) && not (is_monitor c)) (λ m. m.conn.number == n) member_of (λ c both. first (c.number == n) (not (is_monitor c)) both) cs is
+      where
+        first : (a b : Bool) → (a && b) ≡ true → a ≡ true
+        first true b e = refl
+        first false b e = e

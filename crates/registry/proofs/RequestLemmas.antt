@@ -1,7 +1,7 @@
 -- What RequestName and ReleaseName do.
 use Rattle.std.proofs.Common.{◌≡◌, ℕ, Bool, true, false, not, Result, Ok, Err, refl, ap, ◌∙◌, if◌then◌else◌}
 use Rattle.names.specs.Texts.{Text}
-use Rattle.owner_queues.specs.Queues.{Queue, queue_head, requested, released}
+use Rattle.owner_queues.specs.Queues.{queue_head, requested, released}
 use Rattle.owner_queues.specs.declared.request.RequestFlags.{RequestFlags}
 use Rattle.seq_bus_core.specs.BusState.{BusState, is_client, queue_of}
 use Rattle.seq_bus_core.specs.Steps.{Stepped, announced, is_reserved, owned_outcome, owner_signals, release, request, request_with_queue, step, unchanged, with_owned}

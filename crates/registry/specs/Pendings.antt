@@ -5,10 +5,9 @@ use Rattle.seq_bus_core.specs.Steps.{with_connection, with_monitor, without_conn
 use Rattle.registry.specs.Hellos.{client_at}
 use Rattle.registry.specs.Requests.{requeued}
 use Rattle.registry.specs.declared.after.Pending.{Pending}
-use Rattle.registry.specs.declared.after.Pending.TheVariants.{Nothing, Joined, Requeued, Left, Becoming}
+use Rattle.registry.specs.declared.after.Pending.TheVariants.{Joined, Requeued, Left, Becoming}
 
 abbrev pub state_after : Pending → BusState → BusState
-state_after Nothing s = s
 state_after (Joined conn privileged) s = with_connection s (client_at conn privileged)
 state_after (Requeued name queue) s = requeued s name queue.now
 state_after (Left connection) s = without_connection s connection
@@ -16,7 +15,6 @@ state_after (Becoming connection rules) s = with_monitor s connection rules.now
 
 -- whose names and rules go
 abbrev pub leaver_of : Pending → Option ℕ
-leaver_of Nothing = None
 leaver_of (Joined conn privileged) = None
 leaver_of (Requeued name queue) = None
 leaver_of (Left connection) = Some connection
@@ -24,7 +22,6 @@ leaver_of (Becoming connection rules) = Some connection
 
 -- Who says Hello has the next number, and who leaves or becomes a monitor is a client.
 abbrev pub IsDue : Pending → BusState → Type 0
-IsDue Nothing s = Unit {0}
 IsDue (Joined conn privileged) s = conn.number ≡ s.next_number
 IsDue (Requeued name queue) s = Unit {0}
 IsDue (Left connection) s = is_client s.connections connection ≡ true

@@ -1,6 +1,6 @@
 -- What the tables of the registry stand for.
-use Rattle.std.specs.Prelude.{◌≡◌, ◌≤◌, length}
-use Rattle.seq_bus_core.specs.BusState.{BusState, max_rules}
+use Rattle.std.specs.Prelude.{◌≤◌, length}
+use Rattle.seq_bus_core.specs.BusState.{BusState}
 use Rattle.seq_bus_core.specs.Consistency.{IsConsistent, IsWithinLimits}
 use Rattle.seq_bus_core.specs.Histories.{max_routers, max_services}
 use Rattle.registry.specs.declared.registry.Registry.TheInside.{Inside}
@@ -13,7 +13,7 @@ state_of r = record {
   services = r.services.items;
   connections = r.members;
   names = r.names;
-  rules = r.rules.rules;
+  rules = r.rules;
   starts = r.starts;
   next_number = r.next_number;
   next_ticket = r.next_ticket;
@@ -26,4 +26,3 @@ pub record IsKept (r : Inside) : Type 0 where
   pub consistent : IsConsistent (state_of r)
   pub within_limits : IsWithinLimits (state_of r)
   pub few_services : length r.services.items ≤ max_services
-  pub rules_room : r.rules.room ≡ max_rules

@@ -14,8 +14,6 @@ use std::marker::Model;
 /// A change that is about to be made, by what becomes of connections, names and rules.
 #[derive(Drop)]
 pub enum Pending<'a> {
-    /// There is none: the registry stays as it is.
-    Nothing,
     /// A connection says Hello.
     Joined { conn: Conn, privileged: bool },
     /// A name has another queue.
@@ -34,7 +32,6 @@ impl<'a> Pending<'a> {
         match self {
             Pending::Left { connection } => Some(*connection),
             Pending::Becoming { connection, .. } => Some(*connection),
-            Pending::Nothing => None,
             Pending::Joined { .. } => None,
             Pending::Requeued { .. } => None,
         }
@@ -68,7 +65,6 @@ impl<'a> Owners for After<'a> {
 
     fn head(&self, name: &str) -> Option<u64> {
         match &self.pending {
-            Pending::Nothing => self.registry.head(name),
             Pending::Joined { conn, .. } => self.registry.head_joined(*conn, name),
             Pending::Requeued {
                 name: changed,
@@ -98,7 +94,6 @@ impl<'a> Audience for After<'a> {
 
     fn add_shown(&self, facts: &Facts<'_>, shown: &mut Recipients) {
         match &self.pending {
-            Pending::Nothing => self.registry.add_monitors_shown(facts, self, shown),
             Pending::Joined { .. } => self.registry.add_monitors_shown(facts, self, shown),
             Pending::Requeued { .. } => { self.registry.add_monitors_shown(facts, self, shown) }
             Pending::Left { .. } => { self.registry.add_monitors_shown(facts, self, shown) }
@@ -121,7 +116,6 @@ impl<'a> Audience for After<'a> {
                     to.push(*conn);
                 }
             }
-            Pending::Nothing => self.registry.add_conn(number, to),
             Pending::Requeued { .. } => self.registry.add_conn(number, to),
             Pending::Becoming { .. } => self.registry.add_conn(number, to),
         }
@@ -136,7 +130,6 @@ impl<'a> Audience for After<'a> {
             Pending::Joined { conn, .. } => {
                 conn.number == number || self.registry.is_client(number)
             }
-            Pending::Nothing => self.registry.is_client(number),
             Pending::Requeued { .. } => self.registry.is_client(number),
         }
     }

@@ -9,6 +9,7 @@
 mod after;
 mod batches;
 mod becoming;
+mod current;
 mod hello;
 mod leave;
 mod listed;

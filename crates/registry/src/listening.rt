@@ -1,17 +1,19 @@
 //! Who listens to a message, where names are owned as others say.
 
-ghost use Rattle.std.specs.Prelude.{◌≡◌, ◌≤◌, ◌&&◌, true, [], length};
+ghost use Rattle.std.specs.Prelude.{◌≡◌, ◌≤◌, ◌+◌, ◌&&◌, true, [], length};
 ghost use Rattle.std.specs.List.{list_any};
 ghost use Rattle.match_rules.specs.Fitting.{fits};
 ghost use Rattle.seq_bus_core.specs.BusState.{is_client};
 ghost use Rattle.seq_bus_core.specs.Consistency.{IsConsistent};
 ghost use Rattle.seq_bus_core.specs.Steps.{with_monitor};
-ghost use Rattle.registry_core.specs.Listening.{conns_that, stays, wants_by, watched, watches_by};
+ghost use Rattle.registry_core.specs.Listening.{conns_that, near_rules, stays, wants_by, watched, watches_by};
 
 use crate::registry::Registry;
+use match_index::Steps;
 use match_rules::{Facts, Owners, Rule};
-use registry_core::listening::add_those_that_want;
+use registry_core::listening::{add_all_that_want, add_those_that_want};
 use seq_bus_core::Recipients;
+use std::sync::ledger::Ledger;
 
 impl Registry {
     /// Adds the connections that want a message. A connection that leaves is not among them.
@@ -31,12 +33,29 @@ impl Registry {
     {
         add_those_that_want(
             self.members.as_slice(),
-            self.rules.as_slice(),
+            &self.rules,
             facts,
             owners,
             leaver,
             to,
         );
+    }
+
+    /// The same where nobody leaves, and each rule that is tested is a step.
+    pub(crate) fn add_all_that_want<O: Owners, L: Ledger>(
+        &self,
+        facts: &Facts<'_>,
+        owners: &O,
+        to: &mut Recipients,
+        steps: &mut Steps<L>,
+    )
+        requires { to.old ≡ [] }
+        ensures value { to.new ≡ conns_that
+            (wants_by (O.heads owners.now) self.now.rules facts.now) self.now.connections }
+        ensures cost { steps.new ≤ steps.old + near_rules facts.now self.now.rules }
+    {
+        let members = self.members.as_slice();
+        add_all_that_want(members, &self.rules, facts, owners, to, steps);
     }
 
     /// Adds the monitors that are shown a message. No other connection is looked at.

@@ -17,7 +17,6 @@ use match_rules::Owners;
 use names::{BusName, WellKnown};
 use owner_queues::{Profile, QueuedOwner};
 use registry_core::{Member, MemberTable, NameEntry, NameTable, RuleTable, RulesOf, StartTable};
-use seq_bus_core::limits::MAX_RULES;
 use seq_bus_core::{Change, Conn};
 use std::alloc::{AllocError, Global};
 use std::marker::Model;
@@ -72,7 +71,7 @@ impl Registry {
             services: sorted(alloc, services)?,
             members: MemberTable::new(alloc)?,
             names: NameTable::new(alloc)?,
-            rules: RuleTable::new(alloc, MAX_RULES)?,
+            rules: RuleTable::new(alloc)?,
             starts: StartTable::new(alloc)?,
             next_number: 1,
             next_ticket: 1,

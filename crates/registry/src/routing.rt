@@ -1,17 +1,21 @@
 //! Where messages go. (D-Bus Specification: "Message Bus Message Routing")
 
-ghost use Rattle.std.specs.Prelude.{◌≡◌, [], Some};
+ghost use Rattle.std.specs.Prelude.{◌≡◌, ◌≤◌, ◌<◌, ◌+◌, [], Some};
+ghost use Rattle.registry_core.specs.Listening.{near_rules};
 ghost use Rattle.seq_bus_core.specs.BusState.{is_service};
 ghost use Rattle.seq_bus_core.specs.Consistency.{IsConsistent};
 ghost use Rattle.seq_bus_core.specs.Recipients.{recipients, conn_at, verdict, verdict_of};
 ghost use Rattle.seq_bus_core.specs.declared.verdict.VerdictKind.TheVariants.{Absent};
 
-use crate::after::{After, Pending};
+use crate::current::Current;
 use crate::registry::Registry;
 use arrayvec::ArrayVec;
 use audience::judge;
+use match_index::Steps;
 use match_rules::Facts;
 use seq_bus_core::{Recipients, Verdict};
+use std::marker::Brand;
+use std::sync::ledger::{Blank, Ledger};
 
 impl Registry {
     /// Where a message from this connection goes, 0 being the bus, whatever sender its facts name; and which monitors are
@@ -28,34 +32,55 @@ impl Registry {
     pub fn route_into(&self, from: u64, facts: &Facts<'_>, told: &mut Verdict)
         ensures { told.new ≡ recipients self.now from facts.now }
     {
+        route_with::<Brand>(self, from, facts, told, Blank::new(1));
+    }
+
+    /// The same as `route_into`, where each rule that is tested is a step. Only rules are tested whose
+    /// type, interface and member are the message's, and whose sender may be its own.
+    pub fn route_counted<L: Ledger>(
+        &self,
+        from: u64,
+        facts: &Facts<'_>,
+        told: &mut Verdict,
+        steps: &mut Steps<L>,
+    )
+        ensures verdict { told.new ≡ recipients self.now from facts.now }
+        ensures cost { steps.new
+            ≤ steps.old + near_rules (record facts.now { sender = from }) self.now.rules }
+    {
         told.clear();
         if facts.sender == from {
-            self.judge(facts, told);
+            self.judge(facts, told, steps);
         } else {
-            self.judge_as(from, facts, told);
+            self.judge_as(from, facts, told, steps);
         }
     }
 
     /// Where a message goes as from this sender, told where nothing was told yet. The facts are copied, with room for all their
     /// arguments: that is kept out of the way of those that name their sender.
     #[inline(never)]
-    fn judge_as(&self, sender: u64, facts: &Facts<'_>, told: &mut Verdict)
+    fn judge_as<L: Ledger>(
+        &self,
+        sender: u64,
+        facts: &Facts<'_>,
+        told: &mut Verdict,
+        steps: &mut Steps<L>,
+    )
         requires { told.old ≡ verdict Absent [] [] }
-        ensures { told.new ≡ verdict_of self.now (record facts.now { sender = sender }) }
+        ensures verdict { told.new ≡ verdict_of self.now (record facts.now { sender = sender }) }
+        ensures cost { steps.new
+            ≤ steps.old + near_rules (record facts.now { sender = sender }) self.now.rules }
     {
-        self.judge(&with_sender(facts, sender), told);
+        self.judge(&with_sender(facts, sender), told, steps);
     }
 
     /// Where a message goes, told where nothing was told yet.
-    fn judge(&self, facts: &Facts<'_>, told: &mut Verdict)
+    fn judge<L: Ledger>(&self, facts: &Facts<'_>, told: &mut Verdict, steps: &mut Steps<L>)
         requires { told.old ≡ verdict Absent [] [] }
-        ensures { told.new ≡ verdict_of self.now facts.now }
+        ensures verdict { told.new ≡ verdict_of self.now facts.now }
+        ensures cost { steps.new ≤ steps.old + near_rules facts.now self.now.rules }
     {
-        let after = After {
-            registry: self,
-            pending: Pending::Nothing,
-        };
-        judge(&after, facts, told, &mut ());
+        judge(&Current::new(self), facts, told, steps);
     }
 
     /// Adds the connection of a number.
@@ -77,6 +102,22 @@ impl Registry {
     {
         self.services.iter().any(|service| service.as_str() == name)
     }
+}
+
+/// Where a message goes, with a counter of its own.
+fn route_with<L: Ledger>(
+    registry: &Registry,
+    from: u64,
+    facts: &Facts<'_>,
+    told: &mut Verdict,
+    blank: Blank,
+)
+    requires name { blank.name ≡ L.name }
+    requires parts { (blank.parts ≡ L.parts) × (0 < L.parts) }
+    ensures { told.new ≡ recipients registry.now from facts.now }
+{
+    let mut steps = Steps::<L>::new(blank);
+    registry.route_counted(from, facts, told, &mut steps);
 }
 
 /// The facts of a message as from this sender.

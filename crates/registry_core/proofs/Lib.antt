@@ -1,12 +1,9 @@
 pub mod Places
-pub mod RuleLemmas
 pub mod CountLemmas
 pub mod NameTableLemmas
-pub mod Marks
+pub mod AddedRules
 pub mod Members
 pub mod IndexLemmas
-pub mod RuleIndexLemmas
-pub mod RuleTableLemmas
 pub mod TableIndex
 pub mod StartLemmas
 pub mod MemberTableLemmas

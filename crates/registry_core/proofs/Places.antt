@@ -2,6 +2,7 @@
 use Rattle.std.proofs.Common.{◌≡◌, ℕ, zero, suc, ◌+◌, ◌<◌, ◌≤◌, nat_lt, Bool, true, false, cond, ◌||◌, Option, Some, None, is_some, option_map, List, [], ◌∷◌, map, filter, length, take, drop, refl, sym, ap, ◌∙◌, arith, if◌then◌else◌}
 use Rattle.std.proofs.Common.{◌++◌, get_or, add-one}
 use Rattle.std.proofs.Math.Seq.{drop-cons, take-suc}
+use Rattle.std.proofs.lemmas.List.{take_at}
 use Rattle.std.specs.List.{list_any, find, position, position_or_len}
 use Rattle.std.proofs.lemmas.Bool.Decides.{nat_tests}
 
@@ -86,3 +87,7 @@ one_done f test (y ∷ xs) x = by_test (test y) (one_done f test xs x)
         map f (cond b (y ∷ filter test (xs ++ x ∷ [])) (filter test (xs ++ x ∷ []))) ≡ map f (cond b (y ∷ filter test xs) (filter test xs)) ++ (if test x then f x ∷ [] else [])
     by_test true h = ap (λ rest. f y ∷ rest) h
     by_test false h = h
+
+-- what is written back into a vector through a slice of it
+pub written_back : {X : Type 0} (n : ℕ) (xs ys : List X) → length ys ≡ n → take n (ys ++ drop (length ys) xs) ≡ ys
+written_back n xs ys size = take_at ys (drop (length ys) xs) n size

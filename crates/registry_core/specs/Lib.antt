@@ -1,6 +1,4 @@
 pub mod NameTables
-pub mod RuleEntries
-pub mod RuleIndexes
 pub mod RuleTables
 pub mod RulesOf
 pub mod StartTables

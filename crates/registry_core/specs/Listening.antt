@@ -1,11 +1,12 @@
 -- Who listens to a message, whoever has which names.
 -- (D-Bus Specification: "Message Bus Message Routing", "org.freedesktop.DBus.Monitoring.BecomeMonitor")
-use Rattle.std.specs.Prelude.{ℕ, zero, suc, ◌<◌, Bool, true, false, ◌&&◌, not, ◌==◌, Option, Some, None, List, [], ◌∷◌, map, filter, if◌then◌else◌}
+use Rattle.std.specs.Prelude.{ℕ, ◌<◌, Bool, true, false, ◌&&◌, not, ◌==◌, Option, Some, None, List, [], ◌∷◌, map, filter, count_by, if◌then◌else◌}
 use Rattle.std.specs.List.{list_any}
 use Rattle.std.specs.Option.{option_map_or}
 use Rattle.match_rules.specs.Facts.{Facts}
 use Rattle.match_rules.specs.Fitting.{Heads, fits}
 use Rattle.match_rules.specs.Rules.{Rule}
+use Rattle.match_index.specs.Near.{is_near}
 use Rattle.seq_bus_core.specs.BusState.{Connection, AddedRule, is_monitor, conn_of}
 use Rattle.seq_bus_core.specs.Consistency.{Pairwise}
 use Rattle.seq_bus_core.specs.declared.connection.Conn.{Conn}
@@ -33,6 +34,10 @@ watched heads facts (rule ∷ rules) = list_any (λ r. fits heads r facts) (rule
 abbrev pub watches_by : Heads → Facts → Connection → Bool
 watches_by heads facts c = option_map_or (watched heads facts) c.monitor false
 
+-- how many rules a message may be tested by
+abbrev pub near_rules : Facts → List AddedRule → ℕ
+near_rules facts rules = count_by (λ r. is_near facts r.rule) rules
+
 -- the connections that pass a test, by rising number
 abbrev pub conns_that : (Connection → Bool) → List Connection → List Conn
 conns_that test connections = map conn_of (filter test connections)
@@ -55,11 +60,9 @@ connection_of_member monitor_rules m = record {
 abbrev pub member_wants : Heads → List AddedRule → Facts → Member → Bool
 member_wants heads rules facts m = not m.is_monitor && has_fitting heads rules facts m.conn.number
 
+-- whether a connection of this number is among them
+abbrev pub has_number : List Member → ℕ → Bool
+has_number members number = list_any (λ m. m.conn.number == number) members
+
 abbrev pub Rising : List Member → Type 0
 Rising members = Pairwise (λ a b. a.conn.number < b.conn.number) members
-
--- the number of the connection at a place
-abbrev pub number_at : List Member → ℕ → ℕ
-number_at [] k = 0
-number_at (m ∷ members) zero = m.conn.number
-number_at (m ∷ members) (suc k) = number_at members k

@@ -1,10 +1,9 @@
 -- The rules of one connection.
 use Rattle.std.specs.Prelude.{ℕ, ◌==◌, List, map, filter}
-use Rattle.std.specs.List.{flat_map}
 use Rattle.match_rules.specs.Rules.{Rule}
+use Rattle.match_index.specs.RulesOf.{rules_left as rules_left_in}
+use Rattle.match_index.specs.declared.index.RulesOf.{RulesOf}
 use Rattle.seq_bus_core.specs.BusState.{AddedRule}
-use Rattle.registry_core.specs.RuleEntries.{places_in, rule_at}
-use Rattle.registry_core.specs.declared.rule_table.RulesOf.{RulesOf}
 
 -- in order of arrival
 abbrev pub rules_by : ℕ → List AddedRule → List Rule
@@ -12,4 +11,4 @@ rules_by number rules = map (λ r. r.rule) (filter (λ r. r.connection == number
 
 -- those that are not lent yet
 abbrev pub rules_left : RulesOf → List Rule
-rules_left r = flat_map (rule_at r.entries.now) (places_in r.places.now)
+rules_left r = rules_left_in r

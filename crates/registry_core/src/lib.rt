@@ -1,10 +1,10 @@
 //! The tables of the registry, and who listens to a message.
 //!
 //! A [`MemberTable`] holds the connections of a bus, monitors among them, a [`NameTable`] the names that have an owner,
-//! with their queues, a [`RuleTable`] the match rules that connections added, and a [`StartTable`] the starts of services
-//! that run, with the calls that wait for them. All room is made with a table. [`listening`] finds those connections that
-//! a message is for by its facts. Where the heads of names are asked for, any `Owners` will do: those of the bus as it is,
-//! or as it will be after a change.
+//! with their queues, a [`RuleTable`] the match rules that connections added, in an index, and a [`StartTable`] the
+//! starts of services that run, with the calls that wait for them. All room is made with a table. [`listening`] finds
+//! those connections that a message is for by its facts. Where the heads of names are asked for, any `Owners` will do:
+//! those of the bus as it is, or as it will be after a change.
 #![tactic(auto)]
 
 pub mod listening;
@@ -12,14 +12,12 @@ mod member;
 mod member_table;
 mod name_index;
 mod name_table;
-mod rule_entries;
-mod rule_index;
 mod rule_table;
 mod start_table;
 
+pub use match_index::RulesOf;
 pub use member::{Member, find_place, number_of};
 pub use member_table::MemberTable;
 pub use name_table::{NameEntry, NameTable};
-pub use rule_entries::RuleEntry;
-pub use rule_table::{RuleTable, RulesOf};
+pub use rule_table::RuleTable;
 pub use start_table::{StartTable, WaitingTicket};

@@ -1,22 +1,23 @@
 //! Who listens to a message.
 
-ghost use Rattle.std.specs.Prelude.{◌≡◌, ℕ, ◌<◌, ◌≤◌, ◌&&◌, ◌==◌, true, false, not, [], length, map, filter, get_or, replicate};
-ghost use Rattle.std.specs.List.{list_any};
-ghost use Rattle.match_rules.specs.Fitting.{fits};
-ghost use Rattle.registry_core.specs.Listening.{stays, has_fitting, member_wants, number_at, Rising};
-ghost use Rattle.registry_core.specs.RuleEntries.{live};
+ghost use Rattle.std.specs.Prelude.{◌≡◌, ◌≤◌, ◌+◌, ◌&&◌, true, not, [], length, map, filter};
+ghost use Rattle.std.specs.List.{AllByRecursion};
+ghost use Rattle.match_index.specs.Sets.{is_in};
+ghost use Rattle.registry_core.specs.Listening.{has_number, member_wants, near_rules, stays, Rising};
 
-use crate::member::{Member, find_place};
-use crate::rule_entries::RuleEntry;
+use crate::member::Member;
+use crate::rule_table::RuleTable;
+use match_index::{ConnSet, Steps};
 use match_rules::{Facts, Owners};
 use seq_bus_core::Recipients;
 use seq_bus_core::limits::MAX_CONNECTIONS;
+use std::sync::ledger::Ledger;
 
-/// Adds the connections, by rising number, that are no monitors and have added a rule that fits the message. A connection
-/// that leaves is not among them.
+/// Adds the connections, by rising number, that are no monitors and have added a rule that fits the
+/// message. A connection that leaves is not among them.
 pub fn add_those_that_want<O: Owners>(
     members: &[Member],
-    rules: &[RuleEntry],
+    rules: &RuleTable,
     facts: &Facts<'_>,
     owners: &O,
     leaver: Option<u64>,
@@ -24,49 +25,56 @@ pub fn add_those_that_want<O: Owners>(
 )
     requires rising { Rising members.now }
     requires few { length members.now ≤ MAX_CONNECTIONS }
+    requires owned { AllByRecursion (λ r. has_number members.now r.connection ≡ true) rules.now }
     requires empty { to.old ≡ [] }
-    ensures { to.new ≡ map (λ m. m.conn) (filter (λ m. stays leaver m.conn.number && member_wants (O.heads owners.now) (live rules.now) facts.now m) members.now) }
+    ensures { to.new ≡ map (λ m. m.conn) (filter (λ m. stays leaver m.conn.number
+        && member_wants (O.heads owners.now) rules.now facts.now m) members.now) }
 {
-    let mut marks = no_marks();
-    mark(members, rules, facts, owners, &mut marks);
-    for (place, member) in members.iter().enumerate() {
-        if is_recipient(member, marks[place], leaver) {
+    let mut found = ConnSet::new();
+    rules.index().gather(facts, owners, &mut found);
+    add_found(members, &found, leaver, to);
+}
+
+/// The same where nobody leaves, and each rule that is tested is a step.
+pub fn add_all_that_want<O: Owners, L: Ledger>(
+    members: &[Member],
+    rules: &RuleTable,
+    facts: &Facts<'_>,
+    owners: &O,
+    to: &mut Recipients,
+    steps: &mut Steps<L>,
+)
+    requires rising { Rising members.now }
+    requires few { length members.now ≤ MAX_CONNECTIONS }
+    requires owned { AllByRecursion (λ r. has_number members.now r.connection ≡ true) rules.now }
+    requires empty { to.old ≡ [] }
+    ensures value { to.new ≡ map (λ m. m.conn)
+        (filter (member_wants (O.heads owners.now) rules.now facts.now) members.now) }
+    ensures cost { steps.new ≤ steps.old + near_rules facts.now rules.now }
+{
+    let mut found = ConnSet::new();
+    rules.index().collect(facts, owners, &mut found, steps);
+    add_found(members, &found, None, to);
+}
+
+/// Adds the connections that are found, are no monitors and don't leave.
+fn add_found(members: &[Member], found: &ConnSet, leaver: Option<u64>, to: &mut Recipients)
+    requires few { length members.now ≤ MAX_CONNECTIONS }
+    requires empty { to.old ≡ [] }
+    ensures { to.new ≡ map (λ m. m.conn) (filter (λ m. stays leaver m.conn.number
+        && (not m.is_monitor && is_in m.conn.number found.now)) members.now) }
+{
+    for member in members {
+        if is_recipient(member, found, leaver) {
             to.push(member.conn);
         }
     }
 }
 
-/// Whether a connection gets a message that one of its rules fits or not.
-fn is_recipient(member: &Member, fits: bool, leaver: Option<u64>) -> bool
-    ensures { result ≡ (stays leaver member.now.conn.number && (not member.now.is_monitor && fits)) }
+/// Whether a connection gets a message.
+fn is_recipient(member: &Member, found: &ConnSet, leaver: Option<u64>) -> bool
+    ensures { result ≡ (stays leaver member.now.conn.number
+        && (not member.now.is_monitor && is_in member.now.conn.number found.now)) }
 {
-    fits && !member.is_monitor && leaver != Some(member.conn.number)
-}
-
-fn no_marks() -> [bool; MAX_CONNECTIONS]
-    ensures { result ≡ replicate MAX_CONNECTIONS false }
-{
-    [false; MAX_CONNECTIONS]
-}
-
-/// Marks the place of each connection that has added a rule that fits the message.
-fn mark<O: Owners>(
-    members: &[Member],
-    rules: &[RuleEntry],
-    facts: &Facts<'_>,
-    owners: &O,
-    marks: &mut [bool],
-)
-    requires rising { Rising members.now }
-    requires few { length members.now ≤ length marks.old }
-    requires unmarked { (k : ℕ) → get_or marks.old k false ≡ false }
-    ensures { (k : ℕ) → k < length members.now → get_or marks.new k false ≡ has_fitting (O.heads owners.now) (live rules.now) facts.now (number_at members.now k) }
-{
-    for entry in rules {
-        if entry.fits(facts, owners) {
-            if let Some(place) = find_place(members, entry.connection) {
-                marks[place] = true;
-            }
-        }
-    }
+    leaver != Some(member.conn.number) && !member.is_monitor && found.contains(member.conn.number)
 }

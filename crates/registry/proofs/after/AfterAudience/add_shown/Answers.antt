@@ -7,11 +7,8 @@ use Rattle.registry.proofs.LeaveLemmas.{left_shown}
 use Rattle.registry.proofs.MonitorLemmas.{client_out, few_with, no_more_than}
 use Rattle.registry.proofs.after.AfterAudience.add_shown.Goals as goal
 
-pub returns-in-Nothing-clause-few : goal.returns-in-Nothing-clause-few
-returns-in-Nothing-clause-few c = rw c.add_monitors_shown.ensures.value (no_more_than _ _ 256 c.add_monitors_shown.ensures.few)
-
 pub returns-in-Joined-clause-few : goal.returns-in-Joined-clause-few
-returns-in-Joined-clause-few c = rw c.add_monitors_shown-in-Joined.ensures.value (no_more_than _ _ 256 c.add_monitors_shown-in-Joined.ensures.few)
+returns-in-Joined-clause-few c = rw c.add_monitors_shown.ensures.value (no_more_than _ _ 256 c.add_monitors_shown.ensures.few)
 
 pub returns-in-Requeued-clause-few : goal.returns-in-Requeued-clause-few
 returns-in-Requeued-clause-few c = rw c.add_monitors_shown-in-Requeued.ensures.value (no_more_than _ _ 256 c.add_monitors_shown-in-Requeued.ensures.few)

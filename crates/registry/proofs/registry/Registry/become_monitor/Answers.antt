@@ -4,7 +4,6 @@ use Rattle.seq_bus_core.specs.Consistency.{IsConsistent}
 use Rattle.seq_bus_core.specs.Steps.{names_without, rules_without, step}
 use Rattle.seq_bus_core.specs.declared.change.Change.TheVariants.{BecomeMonitor}
 use Rattle.seq_bus_core.specs.declared.outcome.Reply.TheVariants.{Done}
-use Rattle.registry_core.specs.RuleTables.{RulesInRoom}
 use Rattle.registry.specs.declared.registry.Registry.TheInside.{Inside}
 use Rattle.registry.specs.Monitors.{reply_to_monitor}
 use Rattle.registry.specs.Tables.{state_of}
@@ -26,13 +25,12 @@ after c =
     ap (λ r. r.0) (monitor_made s c.args.seat n c.args.rules.now c.self.invariant.consistent done)
     ∙ ap (λ connections. with_parts connections (names_without n s.names) (rules_without n s.rules)) (sym c.become_monitor.ensures)
     ∙ ap (λ names. with_parts c.become_monitor.new.self names (rules_without n s.rules)) (sym c.leave.ensures)
-    ∙ ap (λ (t : RulesInRoom). with_parts c.become_monitor.new.self c.leave.new.self t.rules) (sym c.remove_all.ensures)
+    ∙ ap (λ rules. with_parts c.become_monitor.new.self c.leave.new.self rules) (sym c.remove_all.ensures)
 
 pub invariant_of-self : goal.invariant_of-self
 unfolding next
 invariant_of-self c =
     kept c.self.inside (next c) c.self.invariant c.args.seat (BecomeMonitor c.args.connection c.args.rules.now) (after c) refl
-    (ap (λ (t : RulesInRoom). t.room) c.remove_all.ensures ∙ c.self.invariant.rules_room)
 
 pub returns-in-Done : goal.returns-in-Done
 unfolding next

@@ -24,7 +24,7 @@ after c =
 
 pub invariant_of-self : goal.invariant_of-self
 unfolding next
-invariant_of-self c = kept c.self.inside (next c) c.self.invariant 0 (StartTimedOut c.args.name.now c.args.start) (after c) refl c.self.invariant.rules_room
+invariant_of-self c = kept c.self.inside (next c) c.self.invariant 0 (StartTimedOut c.args.name.now c.args.start) (after c) refl
 
 pub returns-then-is_running : goal.returns-then-is_running
 unfolding next

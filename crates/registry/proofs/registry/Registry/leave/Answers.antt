@@ -2,7 +2,6 @@ use Rattle.std.proofs.Common.{◌≡◌, true, is_some, List, refl, sym, ap, ◌
 use Rattle.seq_bus_core.specs.BusState.{BusState, Connection, OwnedName, AddedRule, connection_of}
 use Rattle.seq_bus_core.specs.Steps.{names_without, rules_without, step}
 use Rattle.seq_bus_core.specs.declared.change.Change.TheVariants.{Leave}
-use Rattle.registry_core.specs.RuleTables.{RulesInRoom}
 use Rattle.registry.specs.declared.registry.Registry.TheInside.{Inside}
 use Rattle.registry.specs.Tables.{state_of}
 use Rattle.registry.proofs.Kept.{kept}
@@ -26,13 +25,12 @@ after c =
     leave_state s c.args.seat n present
     ∙ ap (λ connections. with_parts connections (names_without n s.names) (rules_without n s.rules)) (sym c.leave.ensures)
     ∙ ap (λ names. with_parts c.leave.new.self names (rules_without n s.rules)) (sym c.leave-2.ensures)
-    ∙ ap (λ (t : RulesInRoom). with_parts c.leave.new.self c.leave-2.new.self t.rules) (sym c.remove_all.ensures)
+    ∙ ap (λ rules. with_parts c.leave.new.self c.leave-2.new.self rules) (sym c.remove_all.ensures)
 
 pub invariant_of-self : goal.invariant_of-self
 unfolding next
 invariant_of-self c =
     kept c.self.inside (next c) c.self.invariant c.args.seat (Leave c.args.connection) (after c) refl
-    (ap (λ (t : RulesInRoom). t.room) c.remove_all.ensures ∙ c.self.invariant.rules_room)
 
 pub returns : goal.returns
 unfolding next

@@ -25,7 +25,7 @@ after c =
 
 pub invariant_of-self : goal.invariant_of-self
 unfolding next
-invariant_of-self c = kept c.self.inside (next c) c.self.invariant c.args.seat (Release c.args.connection c.args.name.now) (after c) refl c.self.invariant.rules_room
+invariant_of-self c = kept c.self.inside (next c) c.self.invariant c.args.seat (Release c.args.connection c.args.name.now) (after c) refl
 
 pub returns-in-Ok : goal.returns-in-Ok
 unfolding next

@@ -3,7 +3,6 @@ use Rattle.seq_bus_core.specs.BusState.{BusState}
 use Rattle.seq_bus_core.specs.Steps.{step}
 use Rattle.seq_bus_core.specs.declared.change.Change.TheVariants.{RemoveMatch}
 use Rattle.seq_bus_core.specs.declared.outcome.Reply.TheVariants.{Done}
-use Rattle.registry_core.specs.RuleTables.{RulesInRoom}
 use Rattle.registry.specs.declared.registry.Registry.TheInside.{Inside}
 use Rattle.registry.specs.Matches.{reply_to_remove}
 use Rattle.registry.specs.Tables.{state_of}
@@ -23,13 +22,12 @@ after c =
     let rule = c.args.rule.now in
     let seat = c.args.seat in
     let done : reply_to_remove s n rule ≡ Done = ap (λ (t : BusState). reply_to_remove t n rule) c.self.view_is ∙ sym c.reply_to_remove.ensures ∙ c.in-Done.is in
-    remove_made s seat n rule done ∙ ap (λ (t : RulesInRoom). record s { rules = t.rules }) (sym c.remove_first.ensures)
+    remove_made s seat n rule done ∙ ap (λ rules. record s { rules = rules }) (sym c.remove_first.ensures)
 
 pub invariant_of-self : goal.invariant_of-self
 unfolding next
 invariant_of-self c =
     kept c.self.inside (next c) c.self.invariant c.args.seat (RemoveMatch c.args.connection c.args.rule.now) (after c) refl
-    (ap (λ (t : RulesInRoom). t.room) c.remove_first.ensures ∙ c.self.invariant.rules_room)
 
 pub returns-in-Done : goal.returns-in-Done
 unfolding next

@@ -35,7 +35,7 @@ after c =
 
 pub invariant_of-self : goal.invariant_of-self
 unfolding next
-invariant_of-self c = kept c.self.inside (next c) c.self.invariant c.args.seat (Hello c.args.privileged) (after c) refl c.self.invariant.rules_room
+invariant_of-self c = kept c.self.inside (next c) c.self.invariant c.args.seat (Hello c.args.privileged) (after c) refl
 
 pub returns : goal.returns
 unfolding next

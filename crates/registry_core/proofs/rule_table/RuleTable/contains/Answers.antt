@@ -1,21 +1,11 @@
-use Rattle.std.proofs.Common.{Bool, is_some, List, sym, ap, ◌∙◌}
-use Rattle.std.specs.List.{list_any, position}
+use Rattle.std.proofs.Common.{ap, ◌∙◌}
+use Rattle.std.specs.List.{list_any}
 use Rattle.seq_bus_core.specs.Steps.{is_rule_of}
-use Rattle.registry_core.specs.RuleEntries.{has_rule}
-use Rattle.registry_core.specs.RuleTables.{RulesInRoom}
-use Rattle.registry_core.specs.declared.rule_entries.RuleEntry.{RuleEntry}
-use Rattle.registry_core.specs.declared.rule_index.Place.{Place}
-use Rattle.registry_core.proofs.Places.{position_is, any_place, list_any-map}
-use Rattle.registry_core.proofs.RuleLemmas.{any_position}
+use Rattle.registry_core.proofs.AddedRules.{any_added}
 use Rattle.registry_core.proofs.rule_table.RuleTable.contains.Goals as goal
 
 pub returns : goal.returns
 returns c =
-    let entries = c.self.inside.entries.items in
     let n = c.args.connection in
     let rule = c.args.rule.now in
-    let places : List Place = c.of.result.now in
-    let test : Place → Bool = λ p. has_rule rule entries p.place in
-    c.is_some.ensures ∙ ap is_some (c.place_of.ensures ∙ ap (λ (es : List RuleEntry). position (λ p. has_rule rule es p.place) places) c.deref.ensures.value ∙ position_is test places) ∙ any_place test places
-    ∙ sym (list_any-map (has_rule rule entries) (λ (p : Place). p.place) places) ∙ ap (list_any (has_rule rule entries)) (c.of.ensures ∙ c.self.invariant.placed.places_are n) ∙ any_position n rule entries
-    ∙ ap (λ (x : RulesInRoom). list_any (is_rule_of n rule) x.rules) c.self.view_is
+    c.contains.ensures ∙ any_added n rule c.self.inside.index ∙ ap (list_any (is_rule_of n rule)) c.self.view_is

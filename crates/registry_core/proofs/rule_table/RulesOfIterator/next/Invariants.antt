@@ -1,9 +1,0 @@
-use Rattle.std.proofs.Common.{◌≡◌, length}
-use Rattle.registry_core.specs.RulesOf.{rules_left}
-use Rattle.registry_core.proofs.rule_table.RulesOfIterator.next.Given as goal
-
-abbrev pub invariant-loop-place : goal.invariant-loop-place
-invariant-loop-place l = (l.self.entries ≡ l.initial.self.entries) × (rules_left l.self ≡ rules_left l.initial.self)
-
-abbrev pub decreases-loop-place : goal.decreases-loop-place
-decreases-loop-place l = length l.self.places.now
