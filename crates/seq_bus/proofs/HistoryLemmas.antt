@@ -1,22 +1,51 @@
 -- The history of a bus with one seat.
-use Rattle.std.proofs.Common.{◌≡◌, ℕ, ◌+◌, ◌==◌, true, false, Bool, cond, List, [], ◌∷◌, ◌++◌, length, map, filter, refl, sym, ap, ◌∙◌, arith, subst, suc}
-use Rattle.std.specs.List.{range_with_len, AllByRecursion}
-use Rattle.std.proofs.Common.{length-append}
-use Rattle.std.proofs.lemmas.List.{map-append}
-use Rattle.seq_bus_core.specs.BusState.{BusState}
+use Rattle.std.proofs.Common.{◌≡◌, ℕ, ◌+◌, ◌≤◌, List, [], ◌∷◌, ◌++◌, length, refl, sym, ap, ◌∙◌, subst, suc}
+use Rattle.std.specs.Prelude.{Option, option_map, option_and_then}
+use Rattle.std.specs.List.{AllByRecursion}
+use Rattle.names.specs.Texts.{Text}
+use Rattle.owner_queues.specs.declared.request.Profile.{Profile}
+use Rattle.seq_bus_core.specs.BusState.{BusState, conn_of, connection_of}
+use Rattle.seq_bus_core.specs.Batches.{entries_of}
 use Rattle.seq_bus_core.specs.Changes.{as_seen}
-use Rattle.seq_bus_core.specs.Histories.{History, IsLegal, numbers_of, has_whole_publications}
-use Rattle.seq_bus_core.specs.Served.{IsServedChange}
+use Rattle.seq_bus_core.specs.Consistency.{IsConsistent, IsWithinLimits}
+use Rattle.seq_bus_core.specs.Histories.{History, opening, numbers_of}
 use Rattle.seq_bus_core.specs.Steps.{Stepped, step}
 use Rattle.seq_bus_core.specs.Tickets.{WholeBus, bus_step, bus_after}
 use Rattle.seq_bus_core.specs.declared.change.Change.{Change}
+use Rattle.seq_bus_core.specs.declared.connection.Conn.{Conn}
 use Rattle.seq_bus_core.specs.declared.entry.Entry.{Entry}
+use Rattle.seq_bus_core.specs.declared.outcome.NumberedOutcome.{NumberedOutcome}
+use Rattle.seq_bus_core.proofs.ConsistencyLaws.{buses_are_consistent}
 use Rattle.seq_bus_core.proofs.ChangeLaws.{steps_see_no_more}
-use Rattle.seq_bus_core.proofs.Extending.{after_more, range_more}
-use Rattle.registry.specs.Idle.{IsIdle, without_tickets}
-use Rattle.registry.proofs.Idle.{idle_step}
+use Rattle.seq_bus_core.proofs.Extending.{after_more, legal_more}
+use Rattle.seq_bus_core.proofs.LimitLaws.{steps_keep_limits, buses_are_within_limits}
+use Rattle.seq_bus.proofs.FewTickets.{few_settled}
+use Rattle.held_calls.specs.Holdings.{Calls, IsHolding}
+use Rattle.held_calls.specs.Settling.{IsAtStep, caller_of}
 use Rattle.registry.proofs.Openings.{opened_still}
-use Rattle.seq_bus.specs.PlainBus.{AreOwnEntries, opened_as}
+use Rattle.seq_bus.specs.PlainBus.{AreOwnEntries, IsKept, opened_as}
+
+-- ## Entries of one seat
+
+all_more : (P : Entry → Type 0) (history more : History) → AllByRecursion P history → AllByRecursion P more → AllByRecursion P (history ++ more)
+all_more P [] more all these = these
+all_more P (x ∷ history) more all these = (all.0, all_more P history more all.1 these)
+
+own_seats : (number : ℕ) (changes : List Change) → AllByRecursion (λ e. e.seat ≡ 1) (entries_of 1 number changes)
+own_seats number [] = tt
+own_seats number (change ∷ changes) = (refl, own_seats (number + 1) changes)
+
+-- each entry has a number of the seat
+count_numbers : (history : History) → AllByRecursion (λ e. e.seat ≡ 1) history → length (numbers_of 1 history) ≡ length history
+count_numbers [] own = refl
+count_numbers (e ∷ history) own = rw own.0 (ap suc (count_numbers history own.1))
+
+-- a batch of its own more
+pub own_more : (history : History) (number : ℕ) (changes : List Change) → AreOwnEntries history → number ≡ length history + 1 → AreOwnEntries (history ++ entries_of 1 number changes)
+own_more history number changes own next = record {
+  seats = all_more (λ e. e.seat ≡ 1) history (entries_of 1 number changes) own.seats (own_seats number changes);
+  legal = legal_more history 1 number changes own.legal (next ∙ ap (λ n. n + 1) (sym (count_numbers history own.seats)));
+}
 
 -- ## A change that was absorbed
 
@@ -24,71 +53,46 @@ use Rattle.seq_bus.specs.PlainBus.{AreOwnEntries, opened_as}
 pub absorbed : (s t : BusState) (change : Change) → t ≡ (step s 1 (as_seen change)).0 → t ≡ (step s 1 change).0
 absorbed s t change is = is ∙ ap (λ (r : Stepped). r.0) (steps_see_no_more s 1 change)
 
--- the bus after it
-pub whole_after : (s t : BusState) (change : Change) → IsIdle (without_tickets s) → IsServedChange change → t ≡ (step s 1 (as_seen change)).0 → (bus_step (without_tickets s) 1 change).0 ≡ without_tickets t
-whole_after s t change idle served is =
-    let same = absorbed s t change is in
-    let waits = (idle_step (without_tickets s) 1 change idle served).nobody_waits in
-    λ i. record { state = sym same i; waiting = waits i }
-
-pub idle_after : (s t : BusState) (change : Change) → IsIdle (without_tickets s) → IsServedChange change → t ≡ (step s 1 (as_seen change)).0 → IsIdle (without_tickets t)
-idle_after s t change idle served is = subst IsIdle (whole_after s t change idle served is) (idle_step (without_tickets s) 1 change idle served)
-
 pub opened_after : (s t : BusState) (change : Change) → t ≡ (step s 1 (as_seen change)).0 → opened_as t ≡ opened_as s
-opened_after s t change is = ap opened_as is ∙ ap without_tickets (opened_still s 1 (as_seen change))
+opened_after s t change is = ap opened_as is ∙ ap (λ (o : BusState). record { state = o; waiting = [] }) (opened_still s 1 (as_seen change))
 
--- the history with it
-pub change_made : (s t : BusState) (history : History) (number : ℕ) (change : Change) →
-    bus_after (opened_as s) history ≡ without_tickets s → IsIdle (without_tickets s) → IsServedChange change → t ≡ (step s 1 (as_seen change)).0 →
-    bus_after (opened_as t) (history ++ record { seat = 1; number = number; change = change; left = 0 } ∷ []) ≡ without_tickets t
-change_made s t history number change now idle served is =
+-- the bus after it
+pub change_made : (s t : BusState) (history : History) (number : ℕ) (change : Change) → t ≡ (step s 1 (as_seen change)).0 →
+    bus_after (opened_as t) (history ++ record { seat = 1; number = number; change = change; left = 0 } ∷ []) ≡ (bus_step (bus_after (opened_as s) history) 1 change).0
+change_made s t history number change is =
     let e : Entry = record { seat = 1; number = number; change = change; left = 0 } in
     ap (λ (w : WholeBus). bus_after w (history ++ e ∷ [])) (opened_after s t change is) ∙ after_more (opened_as s) history (e ∷ [])
-    ∙ ap (λ (w : WholeBus). (bus_step w 1 change).0) now ∙ whole_after s t change idle served is
 
--- ## Entries of one seat
-
-all_more : (P : Entry → Type 0) (history : History) (e : Entry) → AllByRecursion P history → P e → AllByRecursion P (history ++ e ∷ [])
-all_more P [] e all h = (h, tt)
-all_more P (x ∷ history) e all h = (all.0, all_more P history e all.1 h)
-
-pub own_more : (history : History) (e : Entry) → AreOwnEntries history → e.seat ≡ 1 → e.number ≡ length history + 1 → e.left ≡ 0 → AreOwnEntries (history ++ e ∷ [])
-own_more history e own seat number left =
-    let place : e.number ≡ 1 + length history = omega (arith, number) in
+-- what is kept of it
+pub kept_more : (s t : BusState) (calls later : Calls) (history : History) (number : ℕ) (change : Change) → IsKept s calls history → t ≡ (step s 1 (as_seen change)).0 → number ≡ length history + 1 →
+    IsHolding (bus_step (bus_after (opened_as s) history) 1 change).0 later → IsKept t later (history ++ record { seat = 1; number = number; change = change; left = 0 } ∷ [])
+kept_more s t calls later history number change kept is count holding =
+    let made = change_made s t history number change is in
     record {
-      seats = all_more (λ x. x.seat ≡ 1) history e own.seats seat;
-      numbers = map-append (λ (x : Entry). x.number) history (e ∷ []) ∙ ap (λ front. front ++ e.number ∷ []) own.numbers
-          ∙ ap (λ n. range_with_len 1 (length history) ++ n ∷ []) place ∙ sym (range_more 1 (length history) 1)
-          ∙ ap (range_with_len 1) (sym (length-append history (e ∷ [])));
-      alone = all_more (λ x. x.left ≡ 0) history e own.alone left;
+      now = ap (λ (w : WholeBus). w.state) made ∙ ap (λ (now : BusState). (step now 1 change).0) kept.now ∙ sym (absorbed s t change is);
+      within_limits = subst IsWithinLimits (sym (absorbed s t change is)) (steps_keep_limits s 1 change (subst IsConsistent kept.now kept.holding.consistent) kept.within_limits);
+      holding = rw made holding;
+      own = own_more history number (change ∷ []) kept.own count;
     }
 
-of_seat : (seat : ℕ) (b : Bool) (history : History) → (1 == seat) ≡ b → AllByRecursion (λ e. e.seat ≡ 1) history → filter (λ e. e.seat == seat) history ≡ cond b history []
-of_seat seat true [] test own = refl
-of_seat seat false [] test own = refl
-of_seat seat true (e ∷ history) test own = let same : (e.seat == seat) ≡ true = ap (λ s. s == seat) own.0 ∙ test in rw same (ap (λ rest. e ∷ rest) (of_seat seat true history test own.1))
-of_seat seat false (e ∷ history) test own = let same : (e.seat == seat) ≡ false = ap (λ s. s == seat) own.0 ∙ test in rw same (of_seat seat false history test own.1)
+-- the calls of a bus that was just opened
+pub opened_kept : (s : BusState) (profile : Profile) (routers : ℕ) (services : List Text) → s ≡ opening profile routers services → IsKept s [] []
+opened_kept s profile routers services is = rw is (record {
+  now = refl;
+  within_limits = buses_are_within_limits profile routers services [];
+  holding = record { consistent = buses_are_consistent profile routers services []; carried = refl; tickets = tt; started = tt; rise = tt; given = tt };
+  own = record { seats = tt; legal = record { numbered = λ seat. refl; whole = refl } };
+})
 
-whole : (history : History) → AllByRecursion (λ e. e.left ≡ 0) history → has_whole_publications history ≡ true
-whole [] alone = refl
-whole (e ∷ []) alone = rw alone.0 refl
-whole (e ∷ next ∷ history) alone = rw alone.0 (whole (next ∷ history) alone.1)
-
-count_numbers : (history : History) → length (map (λ (x : Entry). x.number) history) ≡ length history
-count_numbers [] = refl
-count_numbers (e ∷ history) = ap suc (count_numbers history)
-
-pub own_legal : (history : History) → AreOwnEntries history → IsLegal history
-own_legal history own = record {
-  numbered = λ seat. by_test seat (1 == seat) refl;
-  whole = whole history own.alone;
+-- a step at which calls are settled
+pub at_step : (s : BusState) (calls : Calls) (history : History) (change : Change) (caller : Option Conn) (told : NumberedOutcome) → IsKept s calls history → caller ≡ option_map conn_of (option_and_then (connection_of s) (caller_of change)) → told ≡ (step s 1 change).1 →
+    IsAtStep (bus_after (opened_as s) history) 1 change caller told calls
+at_step s calls history change caller told kept called is = record {
+  holding = kept.holding;
+  called = called ∙ ap (λ (now : BusState). option_map conn_of (option_and_then (connection_of now) (caller_of change))) (sym kept.now);
+  stepped = is ∙ ap (λ (now : BusState). (step now 1 change).1) (sym kept.now);
 }
-  where
-    by_test : (seat : ℕ) (b : Bool) → (1 == seat) ≡ b → numbers_of seat history ≡ range_with_len 1 (length (numbers_of seat history))
-    by_test seat true e =
-        let all = of_seat seat true history e own.seats in
-        let numbers : numbers_of seat history ≡ map (λ (x : Entry). x.number) history = ap (map (λ (x : Entry). x.number)) all in
-        numbers ∙ own.numbers ∙ ap (range_with_len 1) (sym (ap length numbers ∙ count_numbers history))
-    by_test seat false e =
-        let none : numbers_of seat history ≡ [] = ap (map (λ (x : Entry). x.number)) (of_seat seat false history e own.seats) in
-        none ∙ ap (λ (numbers : List ℕ). range_with_len 1 (length numbers)) (sym none)
+
+-- what it settles is no more than can wait
+pub few_settled_at : (s : BusState) (calls : Calls) (history : History) (change : Change) → IsKept s calls history → length (bus_step (bus_after (opened_as s) history) 1 change).1.tickets ≤ 512
+few_settled_at s calls history change kept = few_settled (bus_after (opened_as s) history) 1 change (subst IsWithinLimits (sym kept.now) kept.within_limits)

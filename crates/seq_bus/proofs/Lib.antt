@@ -1,2 +1,3 @@
+pub mod FewTickets
 pub mod HistoryLemmas
 pub mod PlainLemmas

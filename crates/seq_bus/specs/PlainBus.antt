@@ -1,14 +1,15 @@
 -- A bus that one thread uses: how it was opened, and every change that it has made since.
-use Rattle.std.specs.Prelude.{◌≡◌, ◌+◌, [], ◌∷◌, ◌++◌, length, map}
-use Rattle.std.specs.List.{range_with_len, AllByRecursion}
+use Rattle.std.specs.Prelude.{◌≡◌, ◌+◌, [], ◌∷◌, ◌++◌, length}
+use Rattle.std.specs.List.{AllByRecursion}
 use Rattle.seq_bus.specs.declared.TheConstants.{SEAT}
 use Rattle.seq_bus_core.specs.BusState.{BusState}
-use Rattle.seq_bus_core.specs.Histories.{History, entry_alone}
+use Rattle.seq_bus_core.specs.Consistency.{IsWithinLimits}
+use Rattle.seq_bus_core.specs.Histories.{History, IsLegal, entry_alone}
 use Rattle.seq_bus_core.specs.Tickets.{WholeBus, bus_step, bus_after}
 use Rattle.seq_bus_core.specs.declared.change.Change.{Change}
 use Rattle.seq_bus_core.specs.declared.entry.Entry.{Entry}
 use Rattle.seq_bus_core.specs.declared.outcome.Outcome.{Outcome}
-use Rattle.registry.specs.Idle.{without_tickets}
+use Rattle.held_calls.specs.Holdings.{Calls, IsHolding}
 use Rattle.registry.specs.Openings.{as_opened}
 
 pub record PlainBus : Type 0 where
@@ -30,10 +31,16 @@ pub record IsMade (before after : PlainBus) (change : Change) (outcome : Outcome
 
 -- the bus as it was opened: with its profile, its routers and its services, and nothing else
 abbrev pub opened_as : BusState → WholeBus
-opened_as s = without_tickets (as_opened s)
+opened_as s = record { state = as_opened s; waiting = [] }
 
--- the entries of a bus with one seat, each a publication of its own
+-- the entries of a bus with one seat: a legal history of its changes
 pub record AreOwnEntries (history : History) : Type 0 where
   pub seats : AllByRecursion (λ e. e.seat ≡ SEAT) history
-  pub numbers : map (λ e. e.number) history ≡ range_with_len 1 (length history)
-  pub alone : AllByRecursion (λ e. e.left ≡ 0) history
+  pub legal : IsLegal history
+
+-- What is kept of a bus: the state after its history, in a registry, the calls that it holds, and its history.
+pub record IsKept (registry : BusState) (calls : Calls) (history : History) : Type 0 where
+  pub now : (bus_after (opened_as registry) history).state ≡ registry
+  pub within_limits : IsWithinLimits registry
+  pub holding : IsHolding (bus_after (opened_as registry) history) calls
+  pub own : AreOwnEntries history

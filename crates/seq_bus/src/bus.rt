@@ -1,28 +1,30 @@
 //! The plain bus.
 
-ghost use Rattle.std.specs.Prelude.{◌≡◌, [], is_some, IfOk, OnErr, IfErr};
-ghost use Rattle.seq_bus_core.specs.BusState.{connection_of};
+ghost use Rattle.std.specs.Prelude.{◌≡◌, ◌≤◌, [], length, is_some, option_and_then, option_map, IfOk, OnErr, IfErr};
+ghost use Rattle.seq_bus_core.specs.BusState.{conn_of, connection_of};
 ghost use Rattle.seq_bus_core.specs.Answers.{answer};
 ghost use Rattle.seq_bus_core.specs.Recipients.{recipients};
 ghost use Rattle.seq_bus_core.specs.Histories.{CanOpen, IsLegal};
-ghost use Rattle.seq_bus_core.specs.Served.{IsServedChange};
 ghost use Rattle.seq_bus_core.specs.Tickets.{opening_bus};
+ghost use Rattle.seq_bus_core.specs.declared.limits.TheConstants.{MAX_TICKETS};
 ghost use Rattle.bus_view.specs.Bodies.{Answers};
 ghost use Rattle.bus_view.specs.declared.refusal.Cause.TheVariants.{NoMemory};
 ghost use Rattle.bus_view.specs.declared.answer.AskFault.TheVariants.{NoMemory as AskNoMemory};
+ghost use Rattle.held_calls.specs.Settling.{caller_of};
 ghost use Rattle.seq_bus.specs.PlainBus.{bus_now, IsMade};
 
 use crate::SEAT;
 use bus_view::{AskFault, Asked, Cause, Refused};
+use held_calls::{HeldCalls, caller_of};
 use match_rules::Facts;
 use names::WellKnown;
 use owner_queues::Profile;
-use registry::{Registry, without_tickets};
-use seq_bus_core::{Change, Entry, Outcome, Query, Verdict};
+use registry::Registry;
+use seq_bus_core::{Change, Conn, Entry, Outcome, Query, Verdict};
 use std::alloc::{AllocError, Global};
 use std::marker::Model;
 
-/// A bus for one thread. It keeps the whole list of its changes.
+/// A bus for one thread. It keeps the whole list of its changes, and what the calls carry that wait for a service.
 ///
 /// Contracts see how it was opened and what it has `seen`: every change that it made, each by its one seat, numbered
 /// 1, 2, 3 and so on. What it answers is what the definitions say of the bus after these changes.
@@ -30,22 +32,18 @@ use std::marker::Model;
 pub struct SeqBus {
     alloc: Global,
     registry: Registry,
+    calls: HeldCalls,
     seen: Vec<Entry>,
 }
 
 impl Model for SeqBus {
-    ghost use Rattle.std.specs.Prelude.{◌≡◌};
-    ghost use Rattle.seq_bus_core.specs.Tickets.{bus_after};
-    ghost use Rattle.registry.specs.Idle.{IsIdle, without_tickets};
-    ghost use Rattle.seq_bus.specs.PlainBus.{PlainBus, opened_as, AreOwnEntries};
+    ghost use Rattle.seq_bus.specs.PlainBus.{PlainBus, opened_as, IsKept};
 
     ghost Value = { PlainBus };
 
     ghost view = { λ b. record { opening = opened_as b.registry; seen = b.seen.items } };
 
-    ghost invariant = { λ b.
-        (bus_after (opened_as b.registry) b.seen.items ≡ without_tickets b.registry)
-        × AreOwnEntries b.seen.items × IsIdle (without_tickets b.registry) };
+    ghost invariant = { λ b. IsKept b.registry b.calls b.seen.items };
 }
 
 impl SeqBus {
@@ -67,18 +65,18 @@ impl SeqBus {
         Ok(SeqBus {
             alloc,
             registry,
+            calls: HeldCalls::new(alloc)?,
             seen: Vec::new(alloc),
         })
     }
 
     /// Makes a change, and says what it is told.
     ///
-    /// A change that is refused is handed back, and the bus is as it was. Today a Hello, a Leave, RequestName, ReleaseName,
-    /// AddMatch and RemoveMatch are served.
+    /// A change that is refused is handed back, and the bus is as it was. It is refused for want of memory alone, or
+    /// where too many share the bytes of a call that is to wait: the bus shares them, and does not copy them.
     pub fn change(&mut self, change: Change) -> Result<Outcome, Refused>
-        requires { IsServedChange change }
         ensures made { IfOk result (λ outcome. IsMade self.old self.new change outcome) }
-        ensures settled { IfOk result (λ outcome. outcome.tickets ≡ []) }
+        ensures few { IfOk result (λ outcome. length outcome.tickets ≤ MAX_TICKETS) }
         ensures handed_back { IfErr result (λ refused.
             refused ≡ record { change = change; cause = NoMemory }) }
         ensures unchanged { OnErr result (self.new ≡ self.old) }
@@ -89,8 +87,13 @@ impl SeqBus {
         let Ok(mut prepared) = self.registry.prepare(self.alloc, SEAT, &change) else {
             return Err(without_memory(change));
         };
+        let Ok(room) = HeldCalls::room_for(self.alloc, &change, prepared.outcome()) else {
+            return Err(without_memory(change));
+        };
+        let caller = caller_in(&self.registry, &change);
         let told = prepared.take_outcome(self.alloc);
         self.registry.absorb(&prepared);
+        let outcome = self.calls.settle(&change, caller, told, room);
         let number = self.seen.len() as u64 + 1;
         self.seen
             .push(Entry {
@@ -100,7 +103,7 @@ impl SeqBus {
                 left: 0,
             })
             .unwrap();
-        Ok(without_tickets(self.alloc, told))
+        Ok(outcome)
     }
 
     /// Answers a query: appends the body of the reply, in little-endian order as from offset 0 on, or says that the
@@ -152,6 +155,17 @@ impl SeqBus {
         ensures { result ≡ SEAT }
     {
         SEAT
+    }
+}
+
+/// Where the caller of a change is reached, if it is one that may make a call wait.
+fn caller_in(registry: &Registry, change: &Change) -> Option<Conn>
+    ensures { result ≡ option_map conn_of
+        (option_and_then (connection_of registry.now) (caller_of change.now)) }
+{
+    match caller_of(change) {
+        Some(number) => registry.conn(number),
+        None => None,
     }
 }
 

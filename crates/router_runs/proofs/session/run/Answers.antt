@@ -55,3 +55,8 @@ returns-clause-run g c =
     let ended = course_ends g.G.Gate.passes start c.loop-index.session.engine done c.loop-index.session.outlets c.loop-index.invariant in
     subst (λ (bytes : List (List ℕ)). IsRunOf g.G.Gate.passes c.args.gate (fresh_over c.args.login c.args.bus) (occasions_of events) bytes) (sym c.in_ok-into_bytes.ensures)
     (subst (λ (es : List (Event (Unit {0}))). IsRunOf g.G.Gate.passes c.args.gate (fresh_over c.args.login c.args.bus) (occasions_of es) c.loop-index.session.outlets.written) all ended)
+
+pub returns-in_err-into_bytes-clause-fault : goal.returns-in_err-into_bytes-clause-fault
+returns-in_err-into_bytes-clause-fault g c =
+    let p = err_from_is_err_and c.from_residual-in_err-into_bytes.result c.from_residual-in_err-into_bytes.ensures.1 in
+    rw (p.1, p.2) tt
