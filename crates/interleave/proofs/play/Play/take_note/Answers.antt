@@ -1,0 +1,28 @@
+use Rattle.std.proofs.Common.{◌≡◌, ◌∙◌, ◌<◌, ◌≤◌, true, false, List, Some, length, map, take, drop, slice_get, sym, refl, subst, rules}
+use Rattle.std.proofs.lemmas.Option.{slice_get_read}
+use Rattle.interleave.specs.declared.seat.Made.{Made}
+use Rattle.interleave.specs.Playing.{bus_along, making}
+use Rattle.interleave_core.specs.Worlds.{may_read}
+use Rattle.interleave.proofs.PlayLemmas.{no_note, one_note}
+use Rattle.interleave.proofs.play.Play.take_note.Goals as goal
+
+pub returns-then-not-may_read : goal.returns-then-not-may_read
+returns-then-not-may_read c m log beginnings played =
+    let none : c.may_read.result ≡ false = search rules in
+    let is : may_read m c.args.place (slice_get m.seen c.args.seat) ≡ false = sym (c.may_read.ensures.right m log played) ∙ none in
+    no_note m log c.args.self.now c.args.seat c.args.place beginnings played (slice_get m.seen c.args.seat) refl is
+
+pub returns : goal.returns
+returns c m log beginnings played =
+    let play = c.args.self.now in
+    let seats = play.seats.items in
+    let seat = c.args.seat in
+    let place = c.args.place in
+    let s = c.index_mut.result.now in
+    let now = c.catch_up.new.self in
+    let lt : seat < length seats = search rules in
+    let there : slice_get seats seat ≡ Some s = slice_get_read seats (length seats) seat s refl lt c.index_mut.ensures.value in
+    let caught : s.seen ≤ place → place ≤ length play.published.items → now ≡ record { seen = place; bus = bus_along s.bus (map making (drop s.seen (take place play.published.items))) } =
+    subst (λ (all : List Made). s.seen ≤ place → place ≤ length all → now ≡ record { seen = place; bus = bus_along s.bus (map making (drop s.seen (take place all))) }) c.as_slice.ensures.value c.in_ok-catch_up.ensures in
+    let is : may_read m place (slice_get m.seen seat) ≡ true = sym (c.if-not-may_read.ensures.right m log played) in
+    one_note m log play _ seat place s now beginnings played there caught refl refl refl refl (slice_get m.seen seat) refl is

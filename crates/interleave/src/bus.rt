@@ -1,0 +1,119 @@
+//! A bus that is stepped through a history.
+
+ghost use Rattle.std.specs.Prelude.{◌≡◌, IfOk, OnOk, option_and_then, option_map};
+ghost use Rattle.owner_queues.specs.declared.request.Profile.TheVariants.{Two};
+ghost use Rattle.seq_bus_core.specs.Histories.{CanOpen};
+ghost use Rattle.seq_bus_core.specs.BusState.{conn_of, connection_of};
+ghost use Rattle.held_calls.specs.Settling.{caller_of};
+ghost use Rattle.seq_bus_core.specs.Tickets.{opening_bus, bus_step};
+ghost use Rattle.interleave_core.specs.Worlds.{said_of};
+ghost use Rattle.interleave.specs.Logs.{Says};
+
+use crate::log::Answer;
+use held_calls::{HeldCalls, caller_of};
+use interleave_core::Question;
+use names::WellKnown;
+use owner_queues::Profile;
+use registry::Registry;
+use seq_bus_core::{Change, Conn, Outcome};
+use std::alloc::{AllocError, Global};
+use std::marker::Model;
+
+/// A bus that is stepped through a history. Contracts see the bus that the definitions speak of.
+#[derive(Drop)]
+pub(crate) struct SteppedBus {
+    registry: Registry,
+    calls: HeldCalls,
+}
+
+impl Model for SteppedBus {
+    ghost use Rattle.seq_bus_core.specs.Tickets.{WholeBus};
+    ghost use Rattle.held_calls.specs.Holdings.{IsHolding};
+    ghost use Rattle.interleave.specs.Stepping.{whole_of};
+
+    ghost Value = { WholeBus };
+
+    ghost view = { λ b. whole_of b.registry b.calls };
+
+    ghost invariant = { λ b. IsHolding (whole_of b.registry b.calls) b.calls };
+}
+
+impl SteppedBus {
+    /// A bus that was just opened.
+    pub(crate) fn open(
+        alloc: Global,
+        services: &[WellKnown],
+        routers: u8,
+    ) -> Result<SteppedBus, AllocError>
+        requires { CanOpen routers services.now }
+        ensures { IfOk result (λ bus. bus ≡ opening_bus Two routers services.now) }
+    {
+        let registry = Registry::new(alloc, services, routers, Profile::Two)?;
+        let calls = HeldCalls::new(alloc)?;
+        Ok(SteppedBus { registry, calls })
+    }
+
+    /// The change that this seat makes: what it is told.
+    pub(crate) fn make(
+        &mut self,
+        alloc: Global,
+        seat: u8,
+        change: &Change,
+    ) -> Result<Outcome, AllocError>
+        ensures made { OnOk result (self.new ≡ (bus_step self.old seat change.now).0) }
+        ensures told { IfOk result (λ outcome.
+            outcome ≡ (bus_step self.old seat change.now).1) }
+    {
+        let mut prepared = self.registry.prepare(alloc, seat, change)?;
+        let room = HeldCalls::room_for(alloc, change, prepared.outcome())?;
+        let caller = caller_in(&self.registry, change);
+        let told = prepared.take_outcome(alloc);
+        self.registry.absorb(&prepared);
+        Ok(self.calls.settle(change, caller, told, room))
+    }
+
+    /// What the bus says to a question.
+    pub(crate) fn answer<'a>(
+        &self,
+        alloc: Global,
+        question: &'a Question<'a>,
+    ) -> Result<Answer<'a>, AllocError>
+        ensures { IfOk result (λ answer. Says answer (said_of self.now question.now)) }
+    {
+        match question {
+            Question::Ask(query) => {
+                let mut body = Vec::new(alloc);
+                let Ok(asked) = self.registry.ask(query, &mut body) else {
+                    return Err(AllocError);
+                };
+                Ok(Answer::Body { query, asked, body })
+            }
+            Question::Route { from, facts } => {
+                let verdict = self.registry.route(*from, facts);
+                let Ok(verdict) = Box::new(alloc, verdict) else {
+                    return Err(AllocError);
+                };
+                Ok(Answer::Verdict {
+                    from: *from,
+                    facts,
+                    verdict,
+                })
+            }
+            Question::Present(number) => Ok(Answer::Presence {
+                number: *number,
+                present: self.registry.present(*number),
+            }),
+        }
+    }
+}
+
+/// The connection that a change may make wait, where it is there.
+fn caller_in(registry: &Registry, change: &Change) -> Option<Conn>
+    ensures { result ≡ option_map conn_of
+        (option_and_then (connection_of registry.now) (caller_of change.now)) }
+{
+    match caller_of(change) {
+        Some(number) => registry.conn(number),
+        None => None,
+    }
+}
