@@ -1,0 +1,29 @@
+-- How contracts see what is lent to be written.
+use Rattle.std.specs.Prelude.{Option, Some, None, List, [], ◌∷◌, map, codes}
+use Rattle.std.specs.Borrow.{Bor}
+use Rattle.names.specs.Texts.{Text}
+use Rattle.match_rules.specs.FactsView.{argument_of}
+use Rattle.match_rules.specs.declared.facts.Argument.{Argument}
+use Rattle.seq_bus_core.specs.Answers.{Answer as Given, OneName as GivenName, HasOwner as GivenOwner, NameList as GivenNames}
+use Rattle.trace_lines.specs.declared.answer.Answer.{Answer}
+use Rattle.trace_lines.specs.declared.answer.Answer.TheVariants.{OneName, HasOwner, NameList}
+use Rattle.trace_lines.specs.Texts.{argument_text, separated}
+
+abbrev pub lent_text : Bor Text → Text
+lent_text text = text.now
+
+abbrev pub lent_argument_text : Argument → Text
+lent_argument_text argument = argument_text (argument_of argument)
+
+abbrev pub lent_arguments_text : List Argument → Text
+lent_arguments_text [] = codes "."
+lent_arguments_text (first ∷ others) = separated (codes ",") lent_argument_text (first ∷ others)
+
+abbrev pub answer_given : Answer → Given
+answer_given (OneName name) = GivenName name.now
+answer_given (HasOwner has) = GivenOwner has
+answer_given (NameList names) = GivenNames (map lent_text names.now)
+
+abbrev pub given_answer : Option Answer → Option Given
+given_answer None = None
+given_answer (Some answer) = Some (answer_given answer)

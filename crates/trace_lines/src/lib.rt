@@ -1,0 +1,53 @@
+//! The lines of a trace: what the routers of a bus record of each change, query and route.
+//!
+//! [`read_profile`], [`read_routers`] and [`read_service`] read the lines of its head, [`read_line`]
+//! any line behind them. [`profile_line`], [`routers_line`] and [`service_line`] write its head,
+//! [`ChangeWords::line`], [`query_line`] and [`route_line`] the lines behind. What lines read as what
+//! is defined in `specs/`, by the words between their spaces; `specs/Texts.antt` says how each is
+//! written.
+//!
+//! ```
+//! use std::alloc::{AllocError, Global};
+//! use trace_lines::{Deed, read_line};
+//!
+//! fn asks_at_place_1(alloc: Global) -> Result<bool, AllocError> {
+//!     let line = read_line(alloc, 1, "q 1 1 owner :1.1 => :1.1")?;
+//!     Ok(match line {
+//!         Some(line) => line.place == 1 && matches!(line.deed, Deed::Query(_)),
+//!         None => false,
+//!     })
+//! }
+//! ```
+#![tactic(auto)]
+
+mod answer;
+mod arguments;
+mod changes;
+mod cutting;
+mod deeds;
+mod draft;
+mod heads;
+mod kept;
+mod lending;
+mod line;
+mod lines;
+mod parts;
+mod queries;
+mod recorded;
+mod records;
+mod route;
+mod routes;
+mod rules;
+mod texts;
+mod told;
+mod words;
+mod writing;
+mod written;
+
+pub use answer::Answer;
+pub use heads::{read_profile, read_routers, read_service};
+pub use kept::KeptArgument;
+pub use line::{Deed, Line};
+pub use lines::read_line;
+pub use route::Route;
+pub use writing::{ChangeWords, profile_line, query_line, route_line, routers_line, service_line};

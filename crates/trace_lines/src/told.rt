@@ -1,0 +1,98 @@
+//! How what is recorded of a change, a query and a message is written.
+
+ghost use Rattle.std.specs.Prelude.{◌≡◌, ◌++◌, OnOk};
+ghost use Rattle.trace_lines.specs.Texts.{answer_text, bit_text, kind_text, outcome_text, reply_text, verdict_text};
+ghost use Rattle.trace_lines.specs.TextViews.{given_answer};
+
+use crate::answer::Answer;
+use crate::draft::Draft;
+use crate::written::{write_list, write_number, write_separated};
+use seq_bus_core::{NumberedOutcome, Reply, Verdict, VerdictKind};
+use std::alloc::AllocError;
+
+/// Writes a bit.
+pub(crate) fn write_bit(draft: &mut Draft, bit: bool) -> Result<(), AllocError>
+    ensures { OnOk result (draft.new ≡ draft.old ++ bit_text bit) }
+{
+    if bit {
+        draft.push("1")
+    } else {
+        draft.push("0")
+    }
+}
+
+fn write_reply(draft: &mut Draft, reply: Reply) -> Result<(), AllocError>
+    ensures { OnOk result (draft.new ≡ draft.old ++ reply_text reply) }
+{
+    match reply {
+        Reply::Gone => draft.push("gone"),
+        Reply::LimitsExceeded => draft.push("limits"),
+        Reply::Done => draft.push("ok"),
+        Reply::Welcome(conn) => draft.push_number(conn.number),
+        Reply::OfQueue(reply) => draft.push_number(u64::from(reply.code())),
+        Reply::InvalidName => draft.push("invalid"),
+        Reply::RuleNotFound => draft.push("notfound"),
+        Reply::AccessDenied => draft.push("denied"),
+        Reply::AlreadyRunning => draft.push("2"),
+        Reply::Held(ticket) => {
+            draft.push("held/")?;
+            draft.push_number(ticket)
+        }
+        Reply::ServiceUnknown => draft.push("unknown"),
+        Reply::Pass(conn) => {
+            draft.push("pass/")?;
+            draft.push_number(conn.number)
+        }
+        Reply::Ignored => draft.push("ignored"),
+    }
+}
+
+/// Writes what a change is told.
+pub(crate) fn write_outcome(draft: &mut Draft, outcome: &NumberedOutcome) -> Result<(), AllocError>
+    ensures { OnOk result (draft.new ≡ draft.old ++ outcome_text outcome.now) }
+{
+    draft.push("r=")?;
+    write_reply(draft, outcome.reply)?;
+    draft.push(" g=")?;
+    write_list(draft, ",", outcome.signals.as_slice())?;
+    draft.push(" t=")?;
+    write_list(draft, ",", outcome.tickets.as_slice())?;
+    draft.push(" b=")?;
+    write_number(draft, outcome.start)
+}
+
+/// Writes what a query is answered.
+#[tactic(auto, using(crate::proofs::WrittenLists::lent_names))]
+pub(crate) fn write_answer(draft: &mut Draft, answer: Option<Answer<'_>>) -> Result<(), AllocError>
+    ensures { OnOk result (draft.new ≡ draft.old ++ answer_text (given_answer answer.entry)) }
+{
+    match answer {
+        None => draft.push("none"),
+        Some(Answer::OneName(name)) => draft.push(name),
+        Some(Answer::HasOwner(has)) => write_bit(draft, has),
+        Some(Answer::NameList(names)) => write_separated(draft, ",", names),
+    }
+}
+
+fn write_kind(draft: &mut Draft, kind: VerdictKind) -> Result<(), AllocError>
+    ensures { OnOk result (draft.new ≡ draft.old ++ kind_text kind) }
+{
+    match kind {
+        VerdictKind::Plain => draft.push("plain"),
+        VerdictKind::Bus => draft.push("bus"),
+        VerdictKind::Start => draft.push("start"),
+        VerdictKind::Nobody => draft.push("nobody"),
+        VerdictKind::Absent => draft.push("absent"),
+    }
+}
+
+/// Writes where a message goes.
+pub(crate) fn write_verdict(draft: &mut Draft, verdict: &Verdict) -> Result<(), AllocError>
+    ensures { OnOk result (draft.new ≡ draft.old ++ verdict_text verdict.now) }
+{
+    write_kind(draft, verdict.kind)?;
+    draft.push(" ")?;
+    write_list(draft, "+", verdict.to.as_slice())?;
+    draft.push(" ")?;
+    write_list(draft, "+", verdict.monitors.as_slice())
+}
