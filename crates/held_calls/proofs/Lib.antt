@@ -1,3 +1,4 @@
 pub mod CallLists
 pub mod Settlings
 pub mod Following
+pub mod FewTickets

@@ -1,3 +1,2 @@
-pub mod FewTickets
 pub mod HistoryLemmas
 pub mod PlainLemmas
