@@ -1,6 +1,5 @@
 pub mod Along
 pub mod Openings
-pub mod Idle
 pub mod Lists
 pub mod Slots
 pub mod Kept

@@ -1,6 +1,5 @@
 pub mod Acts
 pub mod Hellos
-pub mod Idle
 pub mod NamesListed
 pub mod Matches
 pub mod Monitors

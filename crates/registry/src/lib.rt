@@ -24,5 +24,5 @@ mod routing;
 mod services;
 mod starts;
 
-pub use prepared::{Prepared, without_tickets};
+pub use prepared::Prepared;
 pub use registry::Registry;

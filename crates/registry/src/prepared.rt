@@ -1,14 +1,11 @@
 //! Changes that are prepared.
 
 ghost use Rattle.std.specs.Prelude.{◌≡◌, [], None};
-ghost use Rattle.registry.specs.Idle.{told_without};
 
 use match_rules::Rule;
 use names::BusName;
 use owner_queues::RequestFlags;
-use seq_bus_core::{
-    Ending, MonitorRules, NumberedOutcome, Outcome, Reply, Signals, TicketNumbers, Tickets,
-};
+use seq_bus_core::{Ending, MonitorRules, NumberedOutcome, Reply, Signals, TicketNumbers};
 use std::alloc::Global;
 use std::marker::Model;
 use std::mem::replace;
@@ -116,23 +113,5 @@ pub(crate) fn replied(alloc: Global, reply: Reply) -> NumberedOutcome
         signals: Signals::new(alloc),
         tickets: TicketNumbers::new(alloc),
         start: None,
-    }
-}
-
-/// What a change is told where no call waits.
-pub fn without_tickets(alloc: Global, told: NumberedOutcome) -> Outcome
-    ensures { result ≡ told_without told }
-{
-    let NumberedOutcome {
-        reply,
-        signals,
-        tickets: _,
-        start,
-    } = told;
-    Outcome {
-        reply,
-        signals,
-        tickets: Tickets::new(alloc),
-        start,
     }
 }

@@ -2,6 +2,7 @@
 
 ghost use Rattle.std.specs.Prelude.{◌≡◌, ◌≤◌, IfOk, List, length, is_some, map, option_map};
 ghost use Rattle.std.specs.List.{list_any};
+ghost use Rattle.monitor.specs.Laws.{monitors_of};
 ghost use Rattle.seq_bus_core.specs.BusState.{AddedRule, connection_of, conn_of, head_of, is_client, is_monitor, queue_of};
 ghost use Rattle.seq_bus_core.specs.Consistency.{IsConsistent, IsWithinLimits};
 ghost use Rattle.seq_bus_core.specs.Histories.{CanOpen, max_services, opening};
@@ -14,6 +15,7 @@ ghost use Rattle.registry.specs.PreparedChanges.{prepared_on};
 use crate::prepared::{Act, Prepared};
 use crate::services::sorted;
 use match_rules::Owners;
+use monitor::Monitor;
 use names::{BusName, WellKnown};
 use owner_queues::{Profile, QueuedOwner};
 use registry_core::{Member, MemberTable, NameEntry, NameTable, RuleTable, RulesOf, StartTable};
@@ -221,6 +223,13 @@ impl Registry {
             ≡ self.now.connections) }
     {
         self.members.as_slice()
+    }
+
+    /// The monitors, by rising number, with their rules.
+    pub fn monitors(&self) -> &[Monitor]
+        ensures { result.now ≡ monitors_of self.now.connections }
+    {
+        self.members.monitors()
     }
 
     /// The names that programs can be started for, by rising bytes.

@@ -4,6 +4,7 @@ ghost use Rattle.std.specs.Prelude.{◌≡◌, ◌==◌, ◌<◌, ◌≤◌, ◌
 ghost use Rattle.std.specs.Prelude.{option_map, IfOk, IsTrue};
 ghost use Rattle.std.specs.List.{AllByRecursion, find, list_any};
 ghost use Rattle.std.specs.Option.{option_map_or};
+ghost use Rattle.monitor.specs.Laws.{monitors_of};
 ghost use Rattle.seq_bus_core.specs.BusState.{conn_of, is_client, is_monitor};
 ghost use Rattle.seq_bus_core.specs.Steps.{monitor_if};
 ghost use Rattle.registry_core.specs.Listening.{conns_that, watches_by};
@@ -11,7 +12,7 @@ ghost use Rattle.registry_core.specs.MemberTables.{member_of, newcomer, those_wi
 
 use crate::member::{Member, find_place};
 use match_rules::{Facts, Owners};
-use monitor::Monitors;
+use monitor::{Monitor, Monitors};
 use seq_bus_core::limits::MAX_CONNECTIONS;
 use seq_bus_core::{Conn, MonitorRules, Recipients};
 use std::alloc::{AllocError, Global};
@@ -117,6 +118,13 @@ impl MemberTable {
         ensures { result ≡ list_any (λ c. c.slot == slot) self.now }
     {
         has_slot(self.as_slice(), slot)
+    }
+
+    /// The monitors, by rising number, with their rules.
+    pub fn monitors(&self) -> &[Monitor]
+        ensures { result.now ≡ monitors_of self.now }
+    {
+        self.monitors.as_slice()
     }
 
     /// Whether any connection is a monitor.
