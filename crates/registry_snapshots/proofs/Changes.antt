@@ -1,22 +1,35 @@
--- What a seat has seen after its change.
-use Rattle.std.proofs.Common.{◌≡◌, ℕ, ◌+◌, List, [], ◌∷◌, ◌++◌, length, refl, ap, sym, ◌∙◌, subst}
+-- What a seat has seen after its change, and which calls wait then.
+use Rattle.std.proofs.Common.{◌≡◌, ℕ, ◌+◌, ◌≤◌, List, [], ◌∷◌, ◌++◌, length, refl, ap, sym, ◌∙◌, subst}
 use Rattle.std.specs.List.{range_with_len}
 use Rattle.logbook.specs.Pages.{Book}
+use Rattle.names.specs.Texts.{Text}
+use Rattle.owner_queues.specs.declared.request.Profile.{Profile}
+use Rattle.held_calls.specs.Holdings.{Calls, IsHolding}
+use Rattle.held_calls.proofs.FewTickets.{few_settled}
 use Rattle.seq_bus_core.specs.BusState.{BusState}
+use Rattle.seq_bus_core.specs.Changes.{as_seen}
+use Rattle.seq_bus_core.specs.Consistency.{IsWithinLimits}
 use Rattle.seq_bus_core.specs.Histories.{History, HasJust, IsLegal, Begins, entry_alone, numbers_of}
-use Rattle.seq_bus_core.specs.Steps.{step}
-use Rattle.seq_bus_core.specs.Tickets.{WholeBus, bus_step, bus_after}
+use Rattle.seq_bus_core.specs.Tickets.{WholeBus, bus_step, bus_after, opening_bus}
 use Rattle.seq_bus_core.specs.declared.change.Change.{Change}
 use Rattle.seq_bus_core.specs.declared.entry.Entry.{Entry}
-use Rattle.seq_bus_core.specs.declared.outcome.NumberedOutcome.{NumberedOutcome}
 use Rattle.seq_bus_core.specs.declared.outcome.Outcome.{Outcome}
-use Rattle.seq_bus_core.specs.Served.{IsServedChange}
-use Rattle.registry.specs.Idle.{IsIdle, told_without}
-use Rattle.registry.proofs.Idle.{idle_step, idle_told}
+use Rattle.seq_bus_core.proofs.ConsistencyLaws.{buses_are_consistent}
 use Rattle.seq_bus_core.proofs.Extending.{after_more, just_more}
-use Rattle.registry_snapshots_core.specs.Copies.{FrontView, SnapView, IsSnapOf}
-use Rattle.registry_snapshots_core.proofs.Steps.{next_legal}
+use Rattle.seq_bus_core.proofs.LimitLaws.{buses_are_within_limits, steps_keep_limits}
+use Rattle.registry.specs.PreparedChanges.{PreparedChange}
+use Rattle.registry_snapshots_core.specs.Copies.{FrontView, SnapView, IsSnapOf, absorbed, front_of}
+use Rattle.registry_snapshots_core.proofs.Steps.{next_legal, snap_next}
 use Rattle.registry_snapshots.specs.Seats.{IsChanged}
+use Rattle.registry_snapshots.specs.Settlings.{AreCallsAfter, SettlesAt}
+use Rattle.registry_snapshots.specs.declared.settling.Settling.{Settling}
+
+-- The copy that is shown once an entry is published, where `front` was all of the history and `next` goes on with the entry.
+pub shown_next : (book : Book) (opening : WholeBus) (s : SnapView) (front : FrontView) (e : Entry) (p : PreparedChange) (next copy : FrontView) → IsSnapOf book opening s → front ≡ s.front → e.left ≡ 0
+    → e.number ≡ length (numbers_of e.seat front.log) + 1 → p.seat ≡ e.seat → p.change ≡ as_seen e.change → next ≡ front_of front.book (front.log ++ e ∷ []) → copy ≡ next → IsSnapOf book opening (absorbed s e.seat e.number p copy)
+shown_next book opening s front e p next copy kept same alone number seat change next_is copy_is =
+    snap_next book opening s e p copy kept alone (number ∙ ap (λ (f : FrontView). length (numbers_of e.seat f.log) + 1) same) seat change
+    (copy_is ∙ next_is ∙ ap (λ (f : FrontView). front_of f.book (f.log ++ e ∷ [])) same ∙ ap (λ (b : Book). front_of b (s.front.log ++ e ∷ [])) kept.book_is)
 
 -- what the seat has seen after its change
 pub changed : (opening : WholeBus) (known log next : History) (seat made : ℕ) (change : Change) (outcome : Outcome) → Begins known log → IsLegal log → made ≡ length (numbers_of seat log)
@@ -26,24 +39,32 @@ changed opening known log next seat made change outcome begun legal made_is told
   begun = begun;
   told = told;
   added = is;
-  legal = subst IsLegal (sym is) (next_legal log seat made change legal made_is);
+  legal = subst IsLegal (sym is) (next_legal log (entry_alone seat (made + 1) change) legal refl (ap (λ n. n + 1) made_is));
   own = subst (HasJust seat (made + 1)) (sym is) (just_more seat made log (change ∷ []) (legal.numbered seat ∙ ap (range_with_len 1) (sym made_is)));
 }
 
--- where no call waits before a change, none waits after it
-pub idle_after : (opening : WholeBus) (log next : History) (seat made : ℕ) (change : Change) → IsIdle (bus_after opening log) → IsServedChange change
-    → next ≡ log ++ entry_alone seat (made + 1) change ∷ [] → IsIdle (bus_after opening next)
-idle_after opening log next seat made change idle served is =
-    let e : Entry = entry_alone seat (made + 1) change in
-    let now : bus_after opening next ≡ (bus_step (bus_after opening log) seat change).0 = ap (bus_after opening) is ∙ after_more opening log (e ∷ []) in
-    subst IsIdle (sym now) (idle_step (bus_after opening log) seat change idle served)
+-- no call waits on a bus that was just opened
+pub no_calls : (profile : Profile) (routers : ℕ) (services : List Text) → AreCallsAfter (opening_bus profile routers services) [] []
+no_calls profile routers services = record {
+  holding = record { consistent = buses_are_consistent profile routers services []; carried = refl; tickets = tt; started = tt; rise = tt; given = tt };
+  within_limits = buses_are_within_limits profile routers services [];
+}
 
--- what the seat has seen after its change, where it was told what was prepared on this copy
-pub changed_here : (book : Book) (opening : WholeBus) (s : SnapView) (known next : History) (front : FrontView) (seat made : ℕ) (change : Change) (told : NumberedOutcome) (outcome : Outcome) → IsSnapOf book opening s
-    → IsIdle (bus_after opening s.front.log) → IsServedChange change → front ≡ s.front → Begins known front.log → IsLegal front.log → made ≡ length (numbers_of seat front.log)
-    → told ≡ (step s.bus seat change).1 → outcome ≡ told_without told → next ≡ front.log ++ entry_alone seat (made + 1) change ∷ [] → IsChanged opening known seat made change outcome next
-changed_here book opening s known next front seat made change told outcome kept idle served same begun legal made_is told_is outcome_is next_is =
-    let b : WholeBus = bus_after opening s.front.log in
-    let answered : outcome ≡ (bus_step b seat change).1 =
-    outcome_is ∙ ap told_without (told_is ∙ ap (λ (t : BusState). (step t seat change).1) kept.bus_is) ∙ idle_told b seat change idle served in
-    changed opening known front.log next seat made change outcome begun legal made_is (answered ∙ ap (λ (f : FrontView). (bus_step (bus_after opening f.log) seat change).1) (sym same)) next_is
+-- what settles a change on a copy settles it after the copy's history
+pub settles_after : (book : Book) (opening : WholeBus) (s : SnapView) (t : BusState) (seat : ℕ) (change : Change) (settling : Settling) → IsSnapOf book opening s → t ≡ s.bus → SettlesAt t seat change settling
+    → SettlesAt (bus_after opening s.front.log).state seat change settling
+settles_after book opening s t seat change settling kept same settles = subst (λ (b : BusState). SettlesAt b seat change settling) (same ∙ kept.bus_is) settles
+
+-- the calls that wait after one change more
+pub calls_more : (opening : WholeBus) (log next : History) (seat number : ℕ) (change : Change) (before after : Calls) → AreCallsAfter opening log before → IsHolding (bus_step (bus_after opening log) seat change).0 after
+    → next ≡ log ++ entry_alone seat number change ∷ [] → AreCallsAfter opening next after
+calls_more opening log next seat number change before after calls holding is =
+    let now : bus_after opening next ≡ (bus_step (bus_after opening log) seat change).0 = ap (bus_after opening) is ∙ after_more opening log (entry_alone seat number change ∷ []) in
+    record {
+      holding = subst (λ (b : WholeBus). IsHolding b after) (sym now) holding;
+      within_limits = subst (λ (b : WholeBus). IsWithinLimits b.state) (sym now) (steps_keep_limits (bus_after opening log).state seat change calls.holding.consistent calls.within_limits);
+    }
+
+-- a change settles no more calls than can wait
+pub few_told : (opening : WholeBus) (log : History) (seat : ℕ) (change : Change) (calls : Calls) (outcome : Outcome) → AreCallsAfter opening log calls → outcome ≡ (bus_step (bus_after opening log) seat change).1 → length outcome.tickets ≤ 512
+few_told opening log seat change calls outcome waiting told = subst (λ (o : Outcome). length o.tickets ≤ 512) (sym told) (few_settled (bus_after opening log) seat change waiting.within_limits)

@@ -1,19 +1,13 @@
 -- What a seat does, as what the view of a bus does.
-use Rattle.std.proofs.Common.{◌≡◌, ◌⊎◌, inl, inr, ℕ, ◌+◌, ◌≤◌, false, Some, List, [], length, sym, ap, ◌∙◌, subst, arith}
+use Rattle.std.proofs.Common.{◌≡◌, ◌⊎◌, inl, inr, ℕ, ◌+◌, false, Some, sym, ap, ◌∙◌, subst}
 use Rattle.logbook.specs.Pages.{Book}
 use Rattle.seq_bus_core.specs.Tickets.{WholeBus}
 use Rattle.seq_bus_core.specs.declared.change.Change.{Change}
-use Rattle.seq_bus_core.specs.declared.limits.TheConstants.{MAX_TICKETS}
 use Rattle.seq_bus_core.specs.declared.outcome.Outcome.{Outcome}
-use Rattle.seq_bus_core.specs.declared.ticket.SettledTicket.{SettledTicket}
 use Rattle.seq_bus_core.specs.Histories.{HasJust}
 use Rattle.bus_view.specs.Views.{IsChanged, IsRead, IsUnread}
 use Rattle.registry_snapshots.specs.Seats.{SeatView, IsChanged as IsSeatChanged, IsRead as IsSeatRead}
 use Rattle.registry_snapshots.specs.Desks.{knowledge_of}
-
--- a change that settles no tickets settles few
-pub none_are_few : (tickets : List SettledTicket) → tickets ≡ [] → length tickets ≤ MAX_TICKETS
-none_are_few tickets none = omega (arith, ap length none)
 
 -- what a desk knows after a change of its seat
 pub changed_here : (book : Book) (opening : WholeBus) (old new : SeatView) (change : Change) (outcome : Outcome)

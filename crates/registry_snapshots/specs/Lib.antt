@@ -1,3 +1,4 @@
 pub mod Seats
 pub mod Desks
 pub mod Refusals
+pub mod Settlings

@@ -59,7 +59,7 @@ impl<'a, J: Naming, R: Wait> BusView for Desk<'a, J, R> {
 
     ghost registry_of = { λ _. J.book.number };
 
-    #[tactic(auto, using(crate::proofs::SeatLemmas::changed_here, crate::proofs::SeatLemmas::none_are_few))]
+    #[tactic(auto, using(crate::proofs::SeatLemmas::changed_here))]
     fn change(&mut self, right: &R, change: Change) -> Result<(Outcome, Note<J>), Refused> {
         self.seat.change(right, self.shared, change)
     }

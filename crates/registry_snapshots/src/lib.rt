@@ -10,12 +10,14 @@
 //! All changes of a registry stand in one history. It exists in the proofs alone: what is kept of it is its length.
 #![tactic(auto)]
 
+mod copies;
 mod desk;
 mod opening;
 mod refusal;
 mod registrar;
 mod rule;
 mod seat;
+mod settling;
 mod shared;
 
 pub use desk::Desk;

@@ -1,6 +1,6 @@
 //! The seats of a registry, one a router.
 
-ghost use Rattle.std.specs.Prelude.{◌≡◌, ◌⊎◌, ◌+◌, false, [], Some, is_some, OnOk, OnErr, IfOk, IfErr, IfSome};
+ghost use Rattle.std.specs.Prelude.{◌≡◌, ◌⊎◌, ◌+◌, ◌≤◌, length, false, [], Some, is_some, OnOk, OnErr, IfOk, IfErr, IfSome};
 ghost use Rattle.std.specs.Fn.{FnOnceReturnsAt};
 ghost use Rattle.bus_view.specs.Bodies.{Answers};
 ghost use Rattle.bus_view.specs.declared.answer.AskFault.TheVariants.{Gone as AskGone, NoMemory as AskNoMemory};
@@ -9,11 +9,11 @@ ghost use Rattle.seq_bus_core.specs.BusState.{connection_of};
 ghost use Rattle.seq_bus_core.specs.Histories.{IsLegal, Begins, longer};
 ghost use Rattle.seq_bus_core.specs.Recipients.{recipients};
 ghost use Rattle.seq_bus_core.specs.Tickets.{bus_after};
-ghost use Rattle.seq_bus_core.specs.Served.{IsServedChange};
+ghost use Rattle.seq_bus_core.specs.declared.limits.TheConstants.{MAX_TICKETS};
 ghost use Rattle.registry_snapshots_core.specs.Copies.{SnapView};
 ghost use Rattle.registry_snapshots.specs.Seats.{fresh, IsChanged, IsRead, IsUnwatched};
 
-use crate::registrar::SnapReader;
+use crate::copies::SnapReader;
 use crate::rule::{Finds, Kept};
 use crate::shared::Shared;
 use bus_view::{Again, AskFault, Asked, Gone, Refused};
@@ -252,18 +252,17 @@ impl<J: Naming> Seat<J> {
     /// Makes a change, and tells of it in a note.
     ///
     /// It waits for the lock of the registry, and for readers of the copy that it brings up. A change that is refused is
-    /// handed back, and is not made, then or later. Today the changes that the registry serves are made.
+    /// handed back, and is not made, then or later. One that is made settles 512 tickets at most, which is how many can wait.
     pub fn change<R: Wait>(
         &mut self,
         rt: &R,
         shared: &Shared<J>,
         change: Change,
     ) -> Result<(Outcome, Note<J>), Refused>
-        requires { IsServedChange change }
         ensures changed { IfOk result (λ r.
             IsChanged J.opening self.old.seen self.old.number self.old.made
             change r.0 self.new.seen) }
-        ensures settled { IfOk result (λ r. r.0.tickets ≡ []) }
+        ensures few { IfOk result (λ r. length r.0.tickets ≤ MAX_TICKETS) }
         ensures note { IfOk result (λ r. (r.1 ≡ self.new.seen)
             × (self.new.held ≡ Some self.new.seen)) }
         ensures made { OnOk result (self.new.made ≡ self.old.made + 1) }

@@ -4,7 +4,7 @@ ghost use Rattle.std.specs.Prelude.{◌≡◌, ◌+◌, ◌<◌, ◌≤◌, ◌^
 ghost use Rattle.owner_queues.specs.declared.request.Profile.TheVariants.{Two};
 ghost use Rattle.seq_bus_core.specs.Histories.{CanOpen, max_routers};
 ghost use Rattle.seq_bus_core.specs.Tickets.{opening_bus};
-ghost use Rattle.seq_bus_core.specs.Served.{IsServedChange};
+ghost use Rattle.seq_bus_core.specs.declared.limits.TheConstants.{MAX_TICKETS};
 ghost use Rattle.registry_snapshots.specs.Seats.{fresh, fresh_to, IsChanged};
 ghost use Rattle.registry_snapshots.specs.declared.refusal.StartFault.TheVariants.{Routers, Services};
 
@@ -152,10 +152,9 @@ impl<J: Naming> Shared<J> {
         change: Change,
     ) -> Result<(Outcome, Front), Refused>
         requires book { known.now.book ≡ J.book }
-        requires served { IsServedChange change }
         ensures made { IfOk result (λ r.
             IsChanged J.opening known.now.log seat made change r.0 r.1.log) }
-        ensures settled { IfOk result (λ r. r.0.tickets ≡ []) }
+        ensures few { IfOk result (λ r. length r.0.tickets ≤ MAX_TICKETS) }
         ensures next { IfOk result (λ r. (r.1.book ≡ J.book) × (made < 2 ^ 63)) }
         ensures refused { IfErr result (λ e. e.change ≡ change) }
     {

@@ -13,7 +13,7 @@ use Rattle.seq_bus_core.specs.declared.change.Change.{Change}
 use Rattle.seq_bus_core.specs.declared.entry.Entry.{Entry}
 use Rattle.seq_bus_core.proofs.ChangeLaws.{steps_see_no_more}
 use Rattle.seq_bus_core.proofs.Extending.{after_more, legal_more, numbers_mine, numbers_others}
-use Rattle.registry.specs.PreparedChanges.{PreparedChange, prepared_on}
+use Rattle.registry.specs.PreparedChanges.{PreparedChange}
 use Rattle.registry_snapshots_core.specs.Copies.{FrontView, SnapView, front_of, put_number, absorbed, IsSnapOf, IsLastOf}
 
 put_length : (last : List ℕ) (seat number : ℕ) → length (put_number last seat number) ≡ length last
@@ -32,9 +32,13 @@ put_at last seat number i within = by_tests (ltb seat (length last)) refl (seat 
     by_tests false away true same = let e : seat ≡ i = grind (arith, nat_tests) in let le : length last ≤ seat = grind (arith, nat_tests) in absurd (omega arith)
     by_tests false away false other = refl
 
--- a seat's next change may be added
-pub next_legal : (log : History) (seat made : ℕ) (change : Change) → IsLegal log → made ≡ length (numbers_of seat log) → IsLegal (log ++ entry_alone seat (made + 1) change ∷ [])
-next_legal log seat made change legal is = legal_more log seat (made + 1) (change ∷ []) legal (ap (λ n. n + 1) is)
+-- an entry with none left is a publication of its own
+pub by_itself : (e : Entry) → e.left ≡ 0 → e ≡ entry_alone e.seat e.number e.change
+by_itself e alone = λ i. record { seat = e.seat; number = e.number; change = e.change; left = alone i }
+
+-- the next change of a seat may be added
+pub next_legal : (log : History) (e : Entry) → IsLegal log → e.left ≡ 0 → e.number ≡ length (numbers_of e.seat log) + 1 → IsLegal (log ++ e ∷ [])
+next_legal log e legal alone number = subst (λ (x : Entry). IsLegal (log ++ x ∷ [])) (sym (by_itself e alone)) (legal_more log e.seat e.number (e.change ∷ []) legal number)
 
 -- the numbers of the last changes, where the number of one more is written into them
 last_more : (last last' : List ℕ) (h : History) (seat number : ℕ) (change : Change) → IsLastOf last h → number ≡ length (numbers_of seat h) + 1 → length last' ≡ length last
@@ -62,32 +66,19 @@ last_more last last' h seat number change kept next same new other within = by_t
         let at : slice_index last' other ≡ slice_index last other = rw is at (new other there) in
         omega (arith, at, kept other there, ap length (numbers_others seat other number h (change ∷ []) differ))
 
--- the copy that has the change too
-snap_next : (book : Book) (opening : WholeBus) (s : SnapView) (seat made : ℕ) (change : Change) (p : PreparedChange) (front : FrontView) → IsSnapOf book opening s → made ≡ length (numbers_of seat s.front.log)
-    → p.seat ≡ seat → p.change ≡ as_seen change → front ≡ front_of book (s.front.log ++ entry_alone seat (made + 1) change ∷ []) → IsSnapOf book opening (absorbed s seat (made + 1) p front)
-snap_next book opening s seat made change p front kept made_is seat_is change_is is =
-    let e : Entry = entry_alone seat (made + 1) change in
-    let stepped : (step s.bus p.seat p.change).0 ≡ (step s.bus seat change).0 =
-    ap (λ k. (step s.bus k p.change).0) seat_is ∙ ap (λ d. (step s.bus seat d).0) change_is ∙ ap (λ r. r.0) (steps_see_no_more s.bus seat change) in
+-- the copy that has the change of an entry too, which was prepared for it
+pub snap_next : (book : Book) (opening : WholeBus) (s : SnapView) (e : Entry) (p : PreparedChange) (front : FrontView) → IsSnapOf book opening s → e.left ≡ 0 → e.number ≡ length (numbers_of e.seat s.front.log) + 1
+    → p.seat ≡ e.seat → p.change ≡ as_seen e.change → front ≡ front_of book (s.front.log ++ e ∷ []) → IsSnapOf book opening (absorbed s e.seat e.number p front)
+snap_next book opening s e p front kept alone number seat change is =
+    let stepped : (step s.bus p.seat p.change).0 ≡ (step s.bus e.seat e.change).0 =
+    ap (λ k. (step s.bus k p.change).0) seat ∙ ap (λ d. (step s.bus e.seat d).0) change ∙ ap (λ r. r.0) (steps_see_no_more s.bus e.seat e.change) in
     let after : (step s.bus p.seat p.change).0 ≡ (bus_after opening (s.front.log ++ e ∷ [])).state =
-    stepped ∙ ap (λ (b : BusState). (step b seat change).0) kept.bus_is ∙ sym (ap (λ (b : WholeBus). b.state) (after_more opening s.front.log (e ∷ []))) in
-    subst (λ (f : FrontView). IsSnapOf book opening (absorbed s seat (made + 1) p f)) (sym is)
+    stepped ∙ ap (λ (b : BusState). (step b e.seat e.change).0) kept.bus_is ∙ sym (ap (λ (b : WholeBus). b.state) (after_more opening s.front.log (e ∷ []))) in
+    let last : IsLastOf (put_number s.last e.seat e.number) (s.front.log ++ entry_alone e.seat e.number e.change ∷ []) =
+    last_more s.last (put_number s.last e.seat e.number) s.front.log e.seat e.number e.change kept.last_is number (put_length s.last e.seat e.number) (put_at s.last e.seat e.number) in
+    subst (λ (f : FrontView). IsSnapOf book opening (absorbed s e.seat e.number p f)) (sym is)
     (record {
       book_is = refl;
       bus_is = after;
-      last_is = last_more s.last (put_number s.last seat (made + 1)) s.front.log seat (made + 1) change kept.last_is (ap (λ n. n + 1) made_is) (put_length s.last seat (made + 1)) (put_at s.last seat (made + 1));
+      last_is = subst (λ (x : Entry). IsLastOf (put_number s.last e.seat e.number) (s.front.log ++ x ∷ [])) (sym (by_itself e alone)) last;
     })
-
--- The published copy with a change that was prepared on it, where `front` is all of the history and `next` goes on with the
--- change. The outcome was taken out of what was prepared.
-pub snap_after : (book : Book) (opening : WholeBus) (s shown : SnapView) (front : FrontView) (seat made : ℕ) (change : Change) (prepared left : PreparedChange) (next copy : FrontView) → IsSnapOf book opening s → shown ≡ s
-    → front ≡ shown.front → made ≡ length (numbers_of seat front.log) → prepared ≡ prepared_on shown.bus seat change → left.seat ≡ prepared.seat → left.change ≡ prepared.change
-    → next ≡ front_of front.book (front.log ++ entry_alone seat (made + 1) change ∷ []) → copy ≡ next → IsSnapOf book opening (absorbed s seat (made + 1) left copy)
-snap_after book opening s shown front seat made change prepared left next copy kept shown_is front_is made_is prepared_is seat_is change_is next_is copy_is =
-    let same : front ≡ s.front = front_is ∙ ap (λ (t : SnapView). t.front) shown_is in
-    let made_there : made ≡ length (numbers_of seat s.front.log) = made_is ∙ ap (λ (f : FrontView). length (numbers_of seat f.log)) same in
-    let now : copy ≡ front_of book (s.front.log ++ entry_alone seat (made + 1) change ∷ []) =
-    copy_is ∙ next_is ∙ ap (λ (f : FrontView). front_of f.book (f.log ++ entry_alone seat (made + 1) change ∷ [])) same
-    ∙ ap (λ (b : Book). front_of b (s.front.log ++ entry_alone seat (made + 1) change ∷ [])) kept.book_is in
-    snap_next book opening s seat made change left copy kept made_there (seat_is ∙ ap (λ (p : PreparedChange). p.seat) prepared_is)
-    (change_is ∙ ap (λ (p : PreparedChange). p.change) prepared_is) now

@@ -4,6 +4,7 @@ ghost use Rattle.std.specs.List.{list_any};
 ghost use Rattle.std.specs.Prelude.{◌≡◌, is_some, map, option_map, IfOk, IfErr, OnErr};
 ghost use Rattle.bus_view.specs.Bodies.{Answers};
 ghost use Rattle.bus_view.specs.declared.answer.AskFault.TheVariants.{NoMemory as AskNoMemory};
+ghost use Rattle.monitor.specs.Laws.{monitors_of};
 ghost use Rattle.seq_bus_core.specs.Answers.{answer};
 ghost use Rattle.seq_bus_core.specs.BusState.{connection_of, conn_of, head_of, is_monitor, queue_of};
 ghost use Rattle.seq_bus_core.specs.Consistency.{IsConsistent, IsWithinLimits};
@@ -14,6 +15,7 @@ ghost use Rattle.registry_core.specs.RulesOf.{rules_by, rules_left};
 use crate::snap::Snap;
 use bus_view::{AskFault, Asked};
 use match_rules::Facts;
+use monitor::Monitor;
 use names::BusName;
 use owner_queues::QueuedOwner;
 use registry_core::{NameEntry, RulesOf};
@@ -93,6 +95,13 @@ impl Snap {
         ensures { rules_left result ≡ rules_by connection self.now.bus.rules }
     {
         self.registry().rules(connection)
+    }
+
+    /// The monitors, by rising number, with their rules.
+    pub fn monitors(&self) -> &[Monitor]
+        ensures { result.now ≡ monitors_of self.now.bus.connections }
+    {
+        self.registry().monitors()
     }
 
     /// The number of routers.

@@ -3,8 +3,6 @@
 ghost use Rattle.owner_queues.specs.declared.request.Profile.TheVariants.{Two};
 ghost use Rattle.std.specs.Prelude.{◌≡◌, ◌<◌, length, IfOk, IfSome, replicate, slice_get, slice_index};
 ghost use Rattle.seq_bus_core.specs.Histories.{CanOpen, opening};
-ghost use Rattle.registry.specs.PreparedChanges.{prepared_on};
-ghost use Rattle.seq_bus_core.specs.Served.{IsServedChange};
 ghost use Rattle.registry_snapshots_core.specs.Copies.{put_number};
 
 use crate::history::Front;
@@ -12,7 +10,6 @@ use left_right::Absorb;
 use names::WellKnown;
 use owner_queues::Profile;
 use registry::{Prepared, Registry};
-use seq_bus_core::Change;
 use std::alloc::{AllocError, Global};
 use std::marker::Model;
 
@@ -114,8 +111,8 @@ impl Snap {
         })
     }
 
-    /// The tables of the bus.
-    pub(crate) fn registry(&self) -> &Registry
+    /// The tables of the bus. Changes are prepared on them.
+    pub fn registry(&self) -> &Registry
         ensures { result.now ≡ self.now.bus }
     {
         &self.registry
@@ -135,13 +132,5 @@ impl Snap {
         ensures same { result ≡ slice_get self.now.last seat }
     {
         self.last.get(usize::from(seat)).copied()
-    }
-
-    /// Makes all that a change needs, and says what it is told.
-    pub fn prepare(&self, alloc: Global, seat: u8, change: &Change) -> Result<Prepared, AllocError>
-        requires { IsServedChange change.now }
-        ensures { IfOk result (λ prepared. prepared ≡ prepared_on self.now.bus seat change.now) }
-    {
-        self.registry.prepare(alloc, seat, change)
     }
 }

@@ -1,7 +1,5 @@
 //! Two desks of one registry.
 
-ghost use Rattle.seq_bus_core.specs.Served.{IsServedChange};
-
 use bus_view::{Again, AskFault, Asked, BusView, Cause};
 use match_rules::Rule;
 use names::BusName;
@@ -29,9 +27,7 @@ fn make<J: Naming, R: Wait>(
     rt: &R,
     desk: &mut Desk<'_, J, R>,
     change: Change,
-) -> Option<(Outcome, Note<J>)>
-    requires { IsServedChange change }
-{
+) -> Option<(Outcome, Note<J>)> {
     let told = desk.note().is_some();
     match desk.change(rt, change) {
         Ok(made) => Some(made),

@@ -4,7 +4,6 @@
 ghost use Rattle.std.specs.Prelude.{◌≡◌, ◌<◌, [], IfOk};
 ghost use Rattle.owner_queues.specs.declared.request.Profile.TheVariants.{Two};
 ghost use Rattle.seq_bus_core.specs.Tickets.{opening_bus};
-ghost use Rattle.seq_bus_core.specs.Served.{IsServedChange};
 
 use crate::publishing::publish_to;
 use bus_view::Refused;
@@ -114,9 +113,7 @@ fn reply_to(told: Result<Outcome, Refused>) -> Result<Reply, Fail> {
 }
 
 /// The change that a call of AddMatch asks for.
-fn added(call: Call, connection: u64) -> Result<Change, Fail>
-    ensures { IfOk result (λ change. IsServedChange change) }
-{
+fn added(call: Call, connection: u64) -> Result<Change, Fail> {
     match call {
         Call::AddMatch { rule } => Ok(Change::AddMatch {
             connection,
@@ -127,9 +124,7 @@ fn added(call: Call, connection: u64) -> Result<Change, Fail>
 }
 
 /// The change that a message asks for, which is a call of AddMatch.
-fn change_of(alloc: Global, message: &Message, connection: u64) -> Result<Change, Fail>
-    ensures { IfOk result (λ change. IsServedChange change) }
-{
+fn change_of(alloc: Global, message: &Message, connection: u64) -> Result<Change, Fail> {
     match read_call(alloc, message) {
         Ok(call) => added(call, connection),
         Err(_) => Err(Fail::from("no call")),
@@ -176,9 +171,7 @@ fn add<J: Naming + Send + Sync, R: Threads + Wait + Sync>(
     maker: Seat<J>,
     reader: &mut Seat<J>,
     change: Change,
-) -> Result<(), Fail>
-    requires { IsServedChange change }
-{
+) -> Result<(), Fail> {
     let (_maker, told) = publish_to(rt, shared, maker, reader, change);
     match reply_to(told)? {
         Reply::Done => Ok(()),

@@ -7,6 +7,8 @@ mod desks;
 #[cfg(test)]
 mod first_path;
 #[cfg(test)]
+mod monitors;
+#[cfg(test)]
 mod players;
 #[cfg(test)]
 mod publishing;
@@ -16,3 +18,5 @@ mod rows;
 mod services;
 #[cfg(test)]
 mod threads;
+#[cfg(test)]
+mod waiting_calls;

@@ -1,6 +1,7 @@
 //! Who plays runs over the seats of a registry with two routers.
 
 use crate::desks::serve_both;
+use crate::monitors;
 use crate::rows::{Deed, RUNS, Row, count_so, make};
 use bus_view::AskFault;
 use names::{BusName, UniqueName};
@@ -51,9 +52,9 @@ impl<'a, R: Wait> Serve for Player<'a, R> {
         };
         let is_so = match play {
             Play::Rows(rows) => {
-                count_so(rt, &shared, &mut first, &mut second, rows) == rows.len()
+                count_so(rt, alloc, &shared, &mut first, &mut second, rows) == rows.len()
             }
-            Play::Notes => are_told(rt, &shared, &mut first, &mut second),
+            Play::Notes => are_told(rt, alloc, &shared, &mut first, &mut second),
             Play::MostNames => fill(rt, alloc, &shared, &mut first, &mut second) == Some(true),
             Play::NamesInOrder => list(rt, alloc, &shared, &mut first, &mut second) == Some(true),
             Play::Desks => {
@@ -98,7 +99,7 @@ fn request<J: Naming, R: Wait>(
 ) -> Option<Reply> {
     let name = numbered(alloc, number)?;
     let deed = Deed::Request(connection, name.as_str(), 0);
-    Some(make(rt, shared, seat, other, deed)?.reply)
+    Some(make(rt, alloc, shared, seat, other, deed)?.reply)
 }
 
 fn fill<J: Naming, R: Wait>(
@@ -109,7 +110,7 @@ fn fill<J: Naming, R: Wait>(
     other: &mut Seat<J>,
 ) -> Option<bool> {
     for connection in 1..=16u64 {
-        make(rt, shared, seat, other, Deed::Hello)?;
+        make(rt, alloc, shared, seat, other, Deed::Hello)?;
         for place in 0..=64u64 {
             let number = 100 * connection + place;
             let reply = request(rt, alloc, shared, seat, other, connection, number)?;
@@ -123,7 +124,7 @@ fn fill<J: Naming, R: Wait>(
             }
         }
     }
-    make(rt, shared, seat, other, Deed::Hello)?;
+    make(rt, alloc, shared, seat, other, Deed::Hello)?;
     let beyond = request(rt, alloc, shared, seat, other, 17, 0)?;
     let count = other.open(|snap| snap.names().len()).ok()?;
     Some(beyond == Reply::LimitsExceeded && count == 1024)
@@ -136,8 +137,8 @@ fn list<J: Naming, R: Wait>(
     seat: &mut Seat<J>,
     other: &mut Seat<J>,
 ) -> Option<bool> {
-    make(rt, shared, seat, other, Deed::Hello)?;
-    make(rt, shared, seat, other, Deed::Hello)?;
+    make(rt, alloc, shared, seat, other, Deed::Hello)?;
+    make(rt, alloc, shared, seat, other, Deed::Hello)?;
     for place in 0..100u64 {
         // 37 and 100 have no common divisor, so each name comes once.
         let number = 100 + place * 37 % 100;
@@ -165,12 +166,13 @@ fn number_of(name: &BusName) -> Option<u64> {
 /// Whether the connection of a number comes at a seat.
 fn comes<J: Naming, R: Wait>(
     rt: &R,
+    alloc: Global,
     shared: &Shared<J>,
     seat: &mut Seat<J>,
     other: &mut Seat<J>,
     conn: Conn,
 ) -> bool {
-    match make(rt, shared, seat, other, Deed::Hello) {
+    match make(rt, alloc, shared, seat, other, Deed::Hello) {
         Some(outcome) => outcome.reply == Reply::Welcome(conn),
         None => false,
     }
@@ -178,6 +180,7 @@ fn comes<J: Naming, R: Wait>(
 
 fn are_told<J: Naming, R: Wait>(
     rt: &R,
+    alloc: Global,
     shared: &Shared<J>,
     first: &mut Seat<J>,
     second: &mut Seat<J>,
@@ -191,7 +194,7 @@ fn are_told<J: Naming, R: Wait>(
         slot: 0,
         router: 1,
     };
-    let came = comes(rt, shared, first, second, conn);
+    let came = comes(rt, alloc, shared, first, second, conn);
     let are_watched = first.is_watched() && second.is_watched();
     let has_none = second.open(|snap| snap.has_monitors()).ok() == Some(false);
     let name = BusName::from(UniqueName::of(1));
@@ -213,7 +216,7 @@ fn are_told<J: Naming, R: Wait>(
         && is_owner
         && is_there
         && is_alone
-        && comes(rt, shared, second, first, next)
+        && comes(rt, alloc, shared, second, first, next)
 }
 
 /// A play ends as it should: once more where one allocation failed.
@@ -232,6 +235,13 @@ fn must_play<R: Wait + Abort>(rt: &R, alloc: Global, play: Play, name: &str) {
 #[test]
 fn rows_over_two_seats(rt: HostRuntime) {
     for (name, rows) in RUNS {
+        must_play(&rt, rt.alloc(), Play::Rows(rows), name);
+    }
+}
+
+#[test]
+fn monitors_over_two_seats(rt: HostRuntime) {
+    for (name, rows) in monitors::RUNS {
         must_play(&rt, rt.alloc(), Play::Rows(rows), name);
     }
 }

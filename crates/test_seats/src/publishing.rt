@@ -2,7 +2,6 @@
 
 ghost use Rattle.std.specs.Prelude.{◌≡◌, IfOk, IfErr, OnOk, OnErr};
 ghost use Rattle.seq_bus_core.specs.Histories.{Begins};
-ghost use Rattle.seq_bus_core.specs.Served.{IsServedChange};
 ghost use Rattle.registry_snapshots.specs.Seats.{IsChanged};
 
 use bus_view::Refused;
@@ -20,7 +19,6 @@ fn make<J: Naming, R: Wait>(
     mut seat: Seat<J>,
     change: Change,
 ) -> Made<J>
-    requires { IsServedChange change }
     ensures changed { IfOk result.1 (λ r. IsChanged J.opening seat.seen seat.number seat.made change r.0 result.0.seen) }
     ensures told { IfOk result.1 (λ r. r.1 ≡ result.0.seen) }
     ensures refused { IfErr result.1 (λ e. e.change ≡ change) }
@@ -38,7 +36,6 @@ pub(crate) fn publish<J: Naming + Send + Sync, R: Threads + Wait + Sync>(
     seat: Seat<J>,
     change: Change,
 ) -> (Seat<J>, Result<(Outcome, Note<J>), Refused>)
-    requires { IsServedChange change }
     ensures changed { IfOk result.1 (λ r. IsChanged J.opening seat.seen seat.number seat.made change r.0 result.0.seen) }
     ensures told { IfOk result.1 (λ r. r.1 ≡ result.0.seen) }
     ensures refused { IfErr result.1 (λ e. e.change ≡ change) }
@@ -56,7 +53,6 @@ pub(crate) fn publish_to<J: Naming + Send + Sync, R: Threads + Wait + Sync>(
     reader: &mut Seat<J>,
     change: Change,
 ) -> (Seat<J>, Result<Outcome, Refused>)
-    requires { IsServedChange change }
     ensures changed { IfOk result.1 (λ outcome. IsChanged J.opening seat.seen seat.number seat.made change outcome result.0.seen) }
     ensures told { OnOk result.1 (Begins result.0.seen reader.new.seen × Begins reader.old.seen reader.new.seen) }
     ensures kept { (reader.new.number ≡ reader.old.number) × (reader.new.made ≡ reader.old.made) }

@@ -1,24 +1,28 @@
 //! Runs over the seats of two routers, row by row. Each seat is told what the other has made.
 
-ghost use Rattle.std.specs.Prelude.{IfSome};
-ghost use Rattle.seq_bus_core.specs.Served.{IsServedChange};
-
 use arrayvec::ArrayVec;
 use match_rules::{Facts, MessageKind, Rule};
 use names::BusName;
 use owner_queues::{QueuedOwner, Reply as QueueReply, RequestFlags};
-use registry_snapshots::{Naming, Seat, Shared};
-use seq_bus_core::{BusSignal, Change, Conn, Outcome, Reply};
+use registry_snapshots::{Naming, Seat, Shared, Snap};
+use seq_bus_core::{
+    AddressedSignal, BusSignal, Change, Conn, MonitorRules, Outcome, Reply, VerdictKind,
+};
+use std::alloc::Global;
 use std::sync::Wait;
 
 /// A change. A connection stands as its number, a name and a rule as their texts, and flags as in a message.
 #[derive(Clone, Copy)]
 pub(crate) enum Deed<'a> {
     Hello,
+    /// The Hello of a connection that proved to be its user's.
+    UserHello,
     Leave(u64),
     Request(u64, &'a str, u32),
     Release(u64, &'a str),
     Add(u64, &'a str),
+    /// BecomeMonitor, without rules.
+    Watch(u64),
 }
 
 /// A signal of the bus, its name as a text.
@@ -30,8 +34,11 @@ pub(crate) enum Signal {
     Acquired(&'static str, u64),
 }
 
-/// A signal, and who gets it.
-type Addressed = (Signal, &'static [Conn]);
+/// A signal, who gets it, and which monitors are shown it.
+pub(crate) type Addressed = (Signal, &'static [Conn], &'static [Conn]);
+
+/// What becomes of a message, who gets it, and which monitors are shown it.
+pub(crate) type Way = (VerdictKind, &'static [Conn], &'static [Conn]);
 
 /// Which of the two routers.
 #[derive(Clone, Copy, PartialEq, Eq)]
@@ -47,17 +54,19 @@ pub(crate) enum Row {
     Makes(Router, Deed<'static>, Reply, &'static [Addressed]),
     /// These own a name and wait for it.
     Queue(Router, &'static str, &'static [u64]),
-    /// A message from a connection, perhaps to one of this name, goes to these.
-    Goes(Router, u64, MessageKind, Option<&'static str>, &'static [Conn]),
+    /// A message from a connection, perhaps to one of this name, goes this way.
+    Goes(Router, u64, MessageKind, Option<&'static str>, Way),
+    /// These are the monitors, and none has rules.
+    Monitors(Router, &'static [Conn]),
 }
 
-const FIRST: Conn = Conn {
+pub(crate) const FIRST: Conn = Conn {
     number: 1,
     slot: 0,
     router: 1,
 };
 
-const SECOND: Conn = Conn {
+pub(crate) const SECOND: Conn = Conn {
     number: 2,
     slot: 128,
     router: 2,
@@ -69,15 +78,15 @@ const THIRD: Conn = Conn {
     router: 1,
 };
 
-const NOBODY: &[Conn] = &[];
+pub(crate) const NOBODY: &[Conn] = &[];
 
-const OWNED: Reply = Reply::OfQueue(QueueReply::PrimaryOwner);
+pub(crate) const OWNED: Reply = Reply::OfQueue(QueueReply::PrimaryOwner);
 
-const WAITS: Reply = Reply::OfQueue(QueueReply::InQueue);
+pub(crate) const WAITS: Reply = Reply::OfQueue(QueueReply::InQueue);
 
 const RELEASED: Reply = Reply::OfQueue(QueueReply::Released);
 
-const A: &str = "com.example.A";
+pub(crate) const A: &str = "com.example.A";
 
 const Z: &str = "com.example.Z";
 
@@ -86,23 +95,23 @@ const LOWER: &str = "com.example.a";
 const LAST: &str = "com.example.b";
 
 /// A connection comes.
-const FIRST_COMES: Row = Row::Makes(
+pub(crate) const FIRST_COMES: Row = Row::Makes(
     Router::First,
     Deed::Hello,
     Reply::Welcome(FIRST),
     &[
-        (Signal::Passed(":1.1", None, Some(1)), NOBODY),
-        (Signal::Acquired(":1.1", 1), &[FIRST]),
+        (Signal::Passed(":1.1", None, Some(1)), NOBODY, NOBODY),
+        (Signal::Acquired(":1.1", 1), &[FIRST], NOBODY),
     ],
 );
 
-const SECOND_COMES: Row = Row::Makes(
+pub(crate) const SECOND_COMES: Row = Row::Makes(
     Router::Second,
     Deed::Hello,
     Reply::Welcome(SECOND),
     &[
-        (Signal::Passed(":1.2", None, Some(2)), NOBODY),
-        (Signal::Acquired(":1.2", 2), &[SECOND]),
+        (Signal::Passed(":1.2", None, Some(2)), NOBODY, NOBODY),
+        (Signal::Acquired(":1.2", 2), &[SECOND], NOBODY),
     ],
 );
 
@@ -111,22 +120,22 @@ const THIRD_COMES: Row = Row::Makes(
     Deed::Hello,
     Reply::Welcome(THIRD),
     &[
-        (Signal::Passed(":1.3", None, Some(3)), NOBODY),
-        (Signal::Acquired(":1.3", 3), &[THIRD]),
+        (Signal::Passed(":1.3", None, Some(3)), NOBODY, NOBODY),
+        (Signal::Acquired(":1.3", 3), &[THIRD], NOBODY),
     ],
 );
 
 /// What it brings that the first connection takes a free name.
 const FIRST_OWNS_A: &[Addressed] = &[
-    (Signal::Passed(A, None, Some(1)), NOBODY),
-    (Signal::Acquired(A, 1), &[FIRST]),
+    (Signal::Passed(A, None, Some(1)), NOBODY, NOBODY),
+    (Signal::Acquired(A, 1), &[FIRST], NOBODY),
 ];
 
 /// What it brings that the third connection takes the name from the first.
 const THIRD_TAKES_A: &[Addressed] = &[
-    (Signal::Lost(A, 1), &[FIRST]),
-    (Signal::Passed(A, Some(1), Some(3)), NOBODY),
-    (Signal::Acquired(A, 3), &[THIRD]),
+    (Signal::Lost(A, 1), &[FIRST], NOBODY),
+    (Signal::Passed(A, Some(1), Some(3)), NOBODY, NOBODY),
+    (Signal::Acquired(A, 3), &[THIRD], NOBODY),
 ];
 
 pub(crate) const RUNS: [(&str, &[Row]); 5] = [
@@ -184,8 +193,8 @@ pub(crate) const RUNS: [(&str, &[Row]); 5] = [
                 Deed::Release(3, A),
                 RELEASED,
                 &[
-                    (Signal::Lost(A, 3), &[THIRD]),
-                    (Signal::Passed(A, Some(3), None), NOBODY),
+                    (Signal::Lost(A, 3), &[THIRD], NOBODY),
+                    (Signal::Passed(A, Some(3), None), NOBODY, NOBODY),
                 ],
             ),
             Row::Makes(
@@ -207,7 +216,7 @@ pub(crate) const RUNS: [(&str, &[Row]); 5] = [
                 2,
                 MessageKind::MethodCall,
                 Some(A),
-                &[FIRST],
+                (VerdictKind::Plain, &[FIRST], NOBODY),
             ),
             Row::Makes(
                 Router::Second,
@@ -215,14 +224,20 @@ pub(crate) const RUNS: [(&str, &[Row]); 5] = [
                 Reply::Done,
                 &[],
             ),
-            Row::Goes(Router::Second, 1, MessageKind::Signal, None, &[SECOND]),
+            Row::Goes(
+                Router::Second,
+                1,
+                MessageKind::Signal,
+                None,
+                (VerdictKind::Plain, &[SECOND], NOBODY),
+            ),
             Row::Makes(
                 Router::First,
                 Deed::Release(1, A),
                 RELEASED,
                 &[
-                    (Signal::Lost(A, 1), &[FIRST]),
-                    (Signal::Passed(A, Some(1), None), NOBODY),
+                    (Signal::Lost(A, 1), &[FIRST], NOBODY),
+                    (Signal::Passed(A, Some(1), None), NOBODY, NOBODY),
                 ],
             ),
             Row::Makes(
@@ -230,11 +245,17 @@ pub(crate) const RUNS: [(&str, &[Row]); 5] = [
                 Deed::Request(2, A, 0),
                 OWNED,
                 &[
-                    (Signal::Passed(A, None, Some(2)), NOBODY),
-                    (Signal::Acquired(A, 2), &[SECOND]),
+                    (Signal::Passed(A, None, Some(2)), NOBODY, NOBODY),
+                    (Signal::Acquired(A, 2), &[SECOND], NOBODY),
                 ],
             ),
-            Row::Goes(Router::First, 1, MessageKind::Signal, None, &[]),
+            Row::Goes(
+                Router::First,
+                1,
+                MessageKind::Signal,
+                None,
+                (VerdictKind::Plain, NOBODY, NOBODY),
+            ),
         ],
     ),
     (
@@ -248,8 +269,8 @@ pub(crate) const RUNS: [(&str, &[Row]); 5] = [
                 Deed::Request(1, LAST, 0),
                 OWNED,
                 &[
-                    (Signal::Passed(LAST, None, Some(1)), NOBODY),
-                    (Signal::Acquired(LAST, 1), &[FIRST]),
+                    (Signal::Passed(LAST, None, Some(1)), NOBODY, NOBODY),
+                    (Signal::Acquired(LAST, 1), &[FIRST], NOBODY),
                 ],
             ),
             Row::Makes(
@@ -257,8 +278,8 @@ pub(crate) const RUNS: [(&str, &[Row]); 5] = [
                 Deed::Request(1, Z, 0),
                 OWNED,
                 &[
-                    (Signal::Passed(Z, None, Some(1)), NOBODY),
-                    (Signal::Acquired(Z, 1), &[FIRST]),
+                    (Signal::Passed(Z, None, Some(1)), NOBODY, NOBODY),
+                    (Signal::Acquired(Z, 1), &[FIRST], NOBODY),
                 ],
             ),
             Row::Makes(
@@ -266,8 +287,8 @@ pub(crate) const RUNS: [(&str, &[Row]); 5] = [
                 Deed::Request(1, LOWER, 0),
                 OWNED,
                 &[
-                    (Signal::Passed(LOWER, None, Some(1)), NOBODY),
-                    (Signal::Acquired(LOWER, 1), &[FIRST]),
+                    (Signal::Passed(LOWER, None, Some(1)), NOBODY, NOBODY),
+                    (Signal::Acquired(LOWER, 1), &[FIRST], NOBODY),
                 ],
             ),
             Row::Makes(Router::Second, Deed::Request(2, LAST, 0), WAITS, &[]),
@@ -278,13 +299,13 @@ pub(crate) const RUNS: [(&str, &[Row]); 5] = [
                 Deed::Leave(1),
                 Reply::Done,
                 &[
-                    (Signal::Passed(Z, Some(1), Some(3)), NOBODY),
-                    (Signal::Acquired(Z, 3), &[THIRD]),
-                    (Signal::Passed(LOWER, Some(1), Some(2)), NOBODY),
-                    (Signal::Acquired(LOWER, 2), &[SECOND]),
-                    (Signal::Passed(LAST, Some(1), Some(2)), NOBODY),
-                    (Signal::Acquired(LAST, 2), &[SECOND]),
-                    (Signal::Passed(":1.1", Some(1), None), NOBODY),
+                    (Signal::Passed(Z, Some(1), Some(3)), NOBODY, NOBODY),
+                    (Signal::Acquired(Z, 3), &[THIRD], NOBODY),
+                    (Signal::Passed(LOWER, Some(1), Some(2)), NOBODY, NOBODY),
+                    (Signal::Acquired(LOWER, 2), &[SECOND], NOBODY),
+                    (Signal::Passed(LAST, Some(1), Some(2)), NOBODY, NOBODY),
+                    (Signal::Acquired(LAST, 2), &[SECOND], NOBODY),
+                    (Signal::Passed(":1.1", Some(1), None), NOBODY, NOBODY),
                 ],
             ),
             Row::Queue(Router::Second, Z, &[3]),
@@ -294,11 +315,10 @@ pub(crate) const RUNS: [(&str, &[Row]); 5] = [
 ];
 
 /// The change that is meant; none where a text is no name or no rule.
-fn change_of(deed: Deed<'_>) -> Option<Change>
-    ensures { IfSome result (λ change. IsServedChange change) }
-{
+fn change_of(alloc: Global, deed: Deed<'_>) -> Option<Change> {
     Some(match deed {
         Deed::Hello => Change::Hello { privileged: false },
+        Deed::UserHello => Change::Hello { privileged: true },
         Deed::Leave(connection) => Change::Leave { connection },
         Deed::Request(connection, name, bits) => Change::Request {
             connection,
@@ -313,18 +333,23 @@ fn change_of(deed: Deed<'_>) -> Option<Change>
             connection,
             rule: Rule::parse(rule).ok()?,
         },
+        Deed::Watch(connection) => Change::BecomeMonitor {
+            connection,
+            rules: MonitorRules::new(alloc),
+        },
     })
 }
 
 /// Makes a change, of which another seat is told.
 pub(crate) fn make<J: Naming, R: Wait>(
     rt: &R,
+    alloc: Global,
     shared: &Shared<J>,
     maker: &mut Seat<J>,
     reader: &mut Seat<J>,
     deed: Deed<'_>,
 ) -> Option<Outcome> {
-    let (outcome, note) = maker.change(rt, shared, change_of(deed)?).ok()?;
+    let (outcome, note) = maker.change(rt, shared, change_of(alloc, deed)?).ok()?;
     reader.take_note(&note);
     Some(outcome)
 }
@@ -347,14 +372,22 @@ fn is_signal(found: &BusSignal, expected: Signal) -> bool {
     }
 }
 
+fn is_addressed(found: &AddressedSignal, expected: &Addressed) -> bool {
+    let (signal, to, monitors) = *expected;
+    is_signal(found.signal.get(), signal)
+        && found.to.as_slice() == to
+        && found.monitors.as_slice() == monitors
+}
+
 /// Whether a change was told this reply and these signals.
 fn is_told(outcome: &Outcome, reply: Reply, expected: &[Addressed]) -> bool {
     let signals = outcome.signals.as_slice();
     outcome.reply == reply
         && signals.len() == expected.len()
-        && signals.iter().zip(expected).all(|(found, (signal, to))| {
-            is_signal(found.signal.get(), *signal) && found.to.as_slice() == *to
-        })
+        && signals
+            .iter()
+            .zip(expected)
+            .all(|(found, signal)| is_addressed(found, signal))
 }
 
 fn are_places_of(queue: &[QueuedOwner], connections: &[u64]) -> bool {
@@ -378,8 +411,9 @@ fn goes<J: Naming>(
     from: u64,
     kind: MessageKind,
     destination: Option<&str>,
-    to: &[Conn],
+    way: Way,
 ) -> bool {
+    let (case, to, monitors) = way;
     let facts = Facts {
         kind,
         auto_start: true,
@@ -391,32 +425,52 @@ fn goes<J: Naming>(
         arguments: ArrayVec::new(),
     };
     match seat.route(from, &facts) {
-        Ok(verdict) => verdict.to.as_slice() == to,
+        Ok(verdict) => {
+            verdict.kind == case
+                && verdict.to.as_slice() == to
+                && verdict.monitors.as_slice() == monitors
+        }
         Err(_) => false,
     }
+}
+
+/// Whether a snapshot lends these monitors, each without rules.
+fn are_monitors(snap: &Snap, expected: &[Conn]) -> bool {
+    let monitors = snap.monitors();
+    snap.has_monitors() != expected.is_empty()
+        && monitors.len() == expected.len()
+        && monitors.iter().zip(expected).all(|(monitor, conn)| monitor.conn() == *conn
+            && monitor.rules().is_empty())
+}
+
+fn lends_monitors<J: Naming>(seat: &mut Seat<J>, expected: &[Conn]) -> bool {
+    seat.open(|snap| are_monitors(snap, expected)).ok() == Some(true)
 }
 
 /// Whether a seat does, and finds, as the row says; the other seat is told of it.
 fn is_so<J: Naming, R: Wait>(
     rt: &R,
+    alloc: Global,
     shared: &Shared<J>,
     seat: &mut Seat<J>,
     other: &mut Seat<J>,
     row: &Row,
 ) -> bool {
     match *row {
-        Row::Makes(_, deed, reply, signals) => match make(rt, shared, seat, other, deed) {
+        Row::Makes(_, deed, reply, signals) => match make(rt, alloc, shared, seat, other, deed) {
             Some(outcome) => is_told(&outcome, reply, signals),
             None => false,
         },
         Row::Queue(_, name, connections) => has_queue(seat, name, connections),
-        Row::Goes(_, from, kind, destination, to) => goes(seat, from, kind, destination, to),
+        Row::Goes(_, from, kind, destination, way) => goes(seat, from, kind, destination, way),
+        Row::Monitors(_, monitors) => lends_monitors(seat, monitors),
     }
 }
 
 /// How many rows are so, from the first on.
 pub(crate) fn count_so<J: Naming, R: Wait>(
     rt: &R,
+    alloc: Global,
     shared: &Shared<J>,
     first: &mut Seat<J>,
     second: &mut Seat<J>,
@@ -424,10 +478,13 @@ pub(crate) fn count_so<J: Naming, R: Wait>(
 ) -> usize {
     let mut count = 0usize;
     for row in rows {
-        let (Row::Makes(router, ..) | Row::Queue(router, ..) | Row::Goes(router, ..)) = *row;
+        let (Row::Makes(router, ..)
+        | Row::Queue(router, ..)
+        | Row::Goes(router, ..)
+        | Row::Monitors(router, ..)) = *row;
         let so = match router {
-            Router::First => is_so(rt, shared, first, second, row),
-            Router::Second => is_so(rt, shared, second, first, row),
+            Router::First => is_so(rt, alloc, shared, first, second, row),
+            Router::Second => is_so(rt, alloc, shared, second, first, row),
         };
         if !so {
             return count;

@@ -1,40 +1,10 @@
-use Rattle.std.proofs.Common.{rules, ◌≡◌, sym, subst, [], replicate}
-use Rattle.seq_bus_core.specs.Tickets.{bus_after}
-use Rattle.registry_snapshots_core.specs.Copies.{IsSnapOf, SnapView}
-use Rattle.registry.specs.Idle.{IsIdle}
-use Rattle.registry_snapshots_core.proofs.Openings.{just_opened}
+use Rattle.std.proofs.Common.{◌≡◌, []}
+use Rattle.owner_queues.specs.declared.request.Profile.TheVariants.{Two}
+use Rattle.registry_snapshots.proofs.Changes.{no_calls}
 use Rattle.registry_snapshots.proofs.registrar.Registrar.new.Goals as goal
-
-pub warm-requires-2-clause-kept : goal.warm-requires-2-clause-kept
-warm-requires-2-clause-kept g c =
-    let s : SnapView = c.in_ok-warm.field-0.desk.shown.value in
-    let shown : s ≡ c.in_ok-first.first = search rules in
-    let log : c.in_ok-first.first.front.log ≡ [] = search rules in
-    let book : c.in_ok-first.first.front.book ≡ g.J.Naming.book = search rules in
-    let bus : c.in_ok-first.first.bus ≡ g.J.Naming.opening.state = search rules in
-    let last : c.in_ok-first.first.last ≡ replicate c.args.seats 0 = search rules in
-    let kept = just_opened g.J.Naming.book g.J.Naming.opening c.in_ok-first.first c.args.seats book log bus last in
-    subst (λ (t : SnapView). IsSnapOf g.J.Naming.book g.J.Naming.opening t) (sym shown) kept
 
 pub invariant_of-result : goal.invariant_of-result
 invariant_of-result g c =
-    let s : SnapView = c.in_ok-writer.writer.desk.shown.value in
-    let shown : s ≡ c.in_ok-first.first = search rules in
-    let log : c.in_ok-first.first.front.log ≡ [] = search rules in
-    let book : c.in_ok-first.first.front.book ≡ g.J.Naming.book = search rules in
-    let bus : c.in_ok-first.first.bus ≡ g.J.Naming.opening.state = search rules in
-    let last : c.in_ok-first.first.last ≡ replicate c.args.seats 0 = search rules in
-    let kept = just_opened g.J.Naming.book g.J.Naming.opening c.in_ok-first.first c.args.seats book log bus last in
-    let idle : IsIdle (bus_after g.J.Naming.opening c.in_ok-writer.writer.desk.shown.value.front.log) = search rules in
-    (c.requires.front.0, subst (λ (t : SnapView). IsSnapOf g.J.Naming.book g.J.Naming.opening t) (sym shown) kept, idle, λ _. search rules)
-
-pub warm-requires-clause-kept : goal.warm-requires-clause-kept
-warm-requires-clause-kept g c =
-    let s : SnapView = c.in_ok-new.field-0.desk.shown.value in
-    let shown : s ≡ c.in_ok-first.first = search rules in
-    let log : c.in_ok-first.first.front.log ≡ [] = search rules in
-    let book : c.in_ok-first.first.front.book ≡ g.J.Naming.book = search rules in
-    let bus : c.in_ok-first.first.bus ≡ g.J.Naming.opening.state = search rules in
-    let last : c.in_ok-first.first.last ≡ replicate c.args.seats 0 = search rules in
-    let kept = just_opened g.J.Naming.book g.J.Naming.opening c.in_ok-first.first c.args.seats book log bus last in
-    subst (λ (t : SnapView). IsSnapOf g.J.Naming.book g.J.Naming.opening t) (sym shown) kept
+    let log : c.in_ok-copies.copies.0.front.log ≡ [] = c.in_ok-copies.ensures.0 in
+    let calls : c.in_ok-calls.calls ≡ [] = c.in_ok-calls.ensures in
+    rw (c.requires.bus.1, log, calls) (no_calls Two c.args.routers c.args.services.now)

@@ -1,4 +1,4 @@
-use Rattle.std.proofs.Common.{◌≡◌, ap, refl, sym, subst, ◌∙◌}
+use Rattle.std.proofs.Common.{ap, refl, sym, subst, ◌∙◌}
 use Rattle.std.specs.List.{list_any}
 use Rattle.seq_bus_core.specs.BusState.{BusState, is_monitor}
 use Rattle.seq_bus_core.specs.Histories.{History, HasJust, Begins}

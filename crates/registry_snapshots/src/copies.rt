@@ -1,0 +1,193 @@
+//! The copies that readers take, and what publishes changes on them.
+
+ghost use Rattle.std.specs.Prelude.{◌≡◌, ◌+◌, ◌<◌, ◌^◌, [], ◌∷◌, ◌++◌, drop, length, false, IfOk, OnOk, OnErr};
+ghost use Rattle.owner_queues.specs.declared.request.Profile.TheVariants.{Two};
+ghost use Rattle.seq_bus_core.specs.Changes.{as_seen};
+ghost use Rattle.seq_bus_core.specs.Histories.{CanOpen, IsLegal, numbers_of};
+ghost use Rattle.seq_bus_core.specs.Tickets.{opening_bus};
+ghost use Rattle.registry_snapshots_core.specs.Copies.{IsSnapOf, front_of};
+ghost use Rattle.registry_snapshots_core.specs.Pending.{IsReady, Shows};
+
+use crate::rule::{Finds, Kept};
+use bus_view::Gone;
+use core::mem::replace_with;
+use left_right::reader::Reader;
+use left_right::writer::Writer;
+use names::WellKnown;
+use registry::Prepared;
+use registry_snapshots_core::{Front, Head, Naming, Op, Snap};
+use seq_bus_core::Entry;
+use std::alloc::{AllocError, Global};
+use std::marker::Model;
+use std::sync::Wait;
+
+pub type SnapReader<J> = Reader<Snap, (), Kept<J>>;
+
+type SnapWriter<J> = Writer<Snap, Op, (), Kept<J>>;
+
+/// The two copies of the registry, and the word of its history.
+///
+/// Nothing is pending, unless they are spent: a publication failed, and there is no other. Contracts see the copy that is
+/// published, and whether they are spent.
+pub struct Copies<J: Naming> {
+    writer: SnapWriter<J>,
+    head: Head,
+    spent: bool,
+}
+
+impl<J: Naming> Model for Copies<J> {
+    ghost use Rattle.std.specs.Prelude.{◌≡◌, Bool, false, [], drop};
+    ghost use Rattle.registry_snapshots_core.specs.Copies.{SnapView, IsSnapOf};
+
+    ghost Value = { SnapView × Bool };
+
+    ghost view = { λ c. (c.writer.desk.shown.value, c.spent) };
+
+    ghost invariant = { λ c. (c.head ≡ J.book)
+        × IsSnapOf J.book J.opening c.writer.desk.shown.value
+        × (c.spent ≡ false → drop c.writer.behind c.writer.log.items ≡ []) };
+}
+
+// Shows what is pending.
+fn publish<J: Naming, R: Wait>(rt: &R, writer: SnapWriter<J>) -> (SnapWriter<J>, bool)
+    requires { IsReady J.book J.opening writer.desk.shown.value
+        (drop writer.behind writer.log.items) }
+    ensures settled { drop result.0.behind result.0.log.items ≡ [] }
+    ensures shown { Shows writer.desk.shown.value
+        (drop writer.behind writer.log.items) result.0.desk.shown.value }
+{
+    let (writer, shown) = writer.publish_as::<Finds<J>, R>(rt);
+    (writer, shown.is_ok())
+}
+
+// Makes room in the writer's queue for the operations that it ever has, so that no later one needs memory.
+fn warm<J: Naming, R: Wait>(rt: &R, mut writer: SnapWriter<J>) -> Result<SnapWriter<J>, AllocError>
+    requires kept { IsSnapOf J.book J.opening writer.desk.shown.value }
+    requires settled { drop writer.behind writer.log.items ≡ [] }
+    ensures { IfOk result (λ w. (w.desk.shown.value ≡ writer.desk.shown.value)
+        × (drop w.behind w.log.items ≡ [])) }
+{
+    match writer.append(Op::Rest) {
+        Ok(()) => Ok(publish(rt, writer).0),
+        Err(_) => {
+            drop(writer.take(rt));
+            Err(AllocError)
+        }
+    }
+}
+
+impl<J: Naming> Copies<J> {
+    /// The copies of a bus that was just opened, with so many seats.
+    pub fn new<R: Wait>(
+        rt: &R,
+        alloc: Global,
+        services: &[WellKnown],
+        routers: u8,
+        seats: usize,
+        head: Head,
+        front: &Front,
+    ) -> Result<Copies<J>, AllocError>
+        requires bus { CanOpen routers services.now
+            × (J.opening ≡ opening_bus Two routers services.now) }
+        requires seats { (0 < seats) × (seats < 2 ^ 32) }
+        requires front { (head ≡ J.book) × (front.now.book ≡ J.book) × (front.now.log ≡ []) }
+        ensures { IfOk result (λ c. (c.0.front.log ≡ []) × (c.1 ≡ false)) }
+    {
+        let first = Snap::new(alloc, services, routers, seats, front.again())?;
+        let second = Snap::new(alloc, services, routers, seats, front.again())?;
+        // An operation that one copy has and the other has not stays in the queue beside the next one, so there are two.
+        let writer = warm(rt, warm(rt, Writer::new(alloc, first, second, seats)?)?)?;
+        Ok(Copies {
+            writer,
+            head,
+            spent: false,
+        })
+    }
+
+    /// One more reader.
+    pub fn reader(&self) -> Result<SnapReader<J>, AllocError> {
+        self.writer.factory().reader()
+    }
+
+    /// The copy that is published.
+    pub fn published(&self) -> &Snap
+        ensures value { result.now ≡ self.now.0 }
+        ensures kept { IsSnapOf J.book J.opening self.now.0 }
+    {
+        self.writer.published()
+    }
+
+    /// Whether a publication failed.
+    pub fn is_spent(&self) -> bool
+        ensures { result ≡ self.now.1 }
+    {
+        self.spent
+    }
+
+    /// Publishes the next entry of a seat behind the whole history, with its change as it was prepared.
+    ///
+    /// What it gives of the history is what is published from then on. `Gone` where the publication failed: then what was
+    /// published stays, and the copies are spent.
+    pub fn publish<R: Wait>(
+        &mut self,
+        rt: &R,
+        front: &Front,
+        entry: &Entry,
+        prepared: Prepared,
+    ) -> Result<Front, Gone>
+        requires settled { self.old.1 ≡ false }
+        requires front { front.now ≡ self.old.0.front }
+        requires room { length front.now.log < 2 ^ 63 }
+        requires legal { IsLegal front.now.log }
+        requires alone { entry.now.left ≡ 0 }
+        requires number { entry.now.number ≡ length (numbers_of entry.now.seat front.now.log) + 1 }
+        requires prepared { (prepared.seat ≡ entry.now.seat)
+            × (prepared.change ≡ as_seen entry.now.change) }
+        ensures next { IfOk result (λ next.
+            next ≡ front_of J.book (front.now.log ++ entry.now ∷ [])) }
+        ensures published { IfOk result (λ next. self.new.0.front ≡ next) }
+        ensures unspent { OnOk result (self.new.1 ≡ false) }
+        ensures same { OnErr result (self.new.0 ≡ self.old.0) }
+    {
+        let Some(next) = front.add(&self.head, entry) else {
+            self.spent = true;
+            return Err(Gone);
+        };
+        let op = Op::Made {
+            seat: entry.seat,
+            number: entry.number,
+            prepared,
+            front: next.again(),
+        };
+        match self.writer.append(op) {
+            Ok(()) => {
+                replace_with(
+                    &mut self.writer,
+                    rt,
+                    |writer: SnapWriter<J>, rt: &R| -> (SnapWriter<J>, bool)
+                        requires { IsReady J.book J.opening writer.desk.shown.value
+                            (drop writer.behind writer.log.items) }
+                        ensures settled { drop result.0.behind result.0.log.items ≡ [] }
+                        ensures shown { Shows writer.desk.shown.value
+                            (drop writer.behind writer.log.items) result.0.desk.shown.value }
+                    { publish(rt, writer) },
+                );
+                Ok(next)
+            }
+            Err(_) => {
+                self.spent = true;
+                Err(Gone)
+            }
+        }
+    }
+
+    /// Ends the copies, once the readers have left.
+    pub fn end<R: Wait>(self, rt: &R) {
+        let Copies {
+            writer,
+            head: _,
+            spent: _,
+        } = self;
+        drop(writer.take(rt));
+    }
+}
