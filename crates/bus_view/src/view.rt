@@ -8,7 +8,6 @@ ghost use Rattle.seq_bus_core.specs.BusState.{connection_of, is_monitor};
 ghost use Rattle.seq_bus_core.specs.Histories.{History};
 ghost use Rattle.seq_bus_core.specs.Recipients.{recipients};
 ghost use Rattle.bus_view.specs.Bodies.{Answers};
-ghost use Rattle.seq_bus_core.specs.Served.{IsServedChange};
 ghost use Rattle.seq_bus_core.specs.declared.limits.TheConstants.{MAX_TICKETS};
 ghost use Rattle.bus_view.specs.declared.answer.AskFault.TheVariants.{Gone as AskGone, NoMemory as AskNoMemory};
 ghost use Rattle.bus_view.specs.Views.{Knowledge, bus_seen, IsChanged, IsRead, IsUnread, IsNoted};
@@ -53,7 +52,6 @@ pub trait BusView {
         right: &Self::Right,
         change: Change,
     ) -> Result<(Outcome, Self::Note), Refused>
-        requires { IsServedChange change }
         ensures made { IfOk result (λ r.
             IsChanged alone (knows self.old) change r.0 (knows self.new)) }
         ensures few { IfOk result (λ r. length r.0.tickets ≤ MAX_TICKETS) }

@@ -24,9 +24,11 @@ use Rattle.outbox_core.specs.Contents.{Said, Relays, Tells, Own, Errs, UniqueNam
 use Rattle.message.specs.FactsOf.{facts_of}
 use Rattle.router_core.specs.declared.cause.CloseCause.{CloseCause}
 use Rattle.router_core.specs.declared.cause.CloseCause.TheVariants as cause
+use Rattle.router_core.specs.declared.fate.PeerFate.{PeerFate}
+use Rattle.router_core.specs.declared.fate.PeerFate.TheVariants as fate
 use Rattle.router_core.specs.Answers.{Heard, Says, Refuses, error_for}
 use Rattle.router_core.specs.Deeds.{Deed, Closes, Sends}
-use Rattle.router_core.specs.Events.{Bytes, Mail, Next, OfPeer, Stands, hear, closing, close_if, send, write, for_slot, for_peer, fed, refuse, refuse_with, close_found, close_former, welcome, turn_away, greeted_by, greeted, greet, serve_at, read, next_at, next, mail_found}
+use Rattle.router_core.specs.Events.{Bytes, Mail, Next, OfPeer, Stands, hear, closing, fated, send, write, for_slot, for_peer, fed, refuse, refuse_with, close_found, close_former, welcome, turn_away, greeted_by, greeted, greet, serve_named, serve_at, read, next_at, next, mail_found}
 use Rattle.router_core.specs.Fronts.{Front, Waits, Whole, Faulty}
 use Rattle.router_core.specs.OneThread.{Readers, Rest, Course, alone, given, rest_of}
 use Rattle.router_core.specs.Scripts.{Script, Gives, Changing, Asking, Routing, Looking, Noting, Fronting, Calling, Gating, Wanting, Doing, Announcing, and_then, putting}
@@ -194,9 +196,19 @@ module _ (piece : List ℕ) (key : ℕ) where
   closing_natural : (k : ℕ) (why : CloseCause) → Natural (closing k why)
   closing_natural k why p = ap (λ (q : Peer). Doing (Closes k why) (Gives q)) (shut_same p p.stage)
 
-  close_if_natural : (k : ℕ) (fate : Option CloseCause) → Natural (close_if k fate)
-  close_if_natural k None p = refl
-  close_if_natural k (Some why) p = closing_natural k why p
+  abbrev watching : Peer → Peer
+  watching p = record p { watches = true }
+
+  watching_more : (p : Peer) (stage : Stage) → watching (fed piece p stage) ≡ fed piece (watching p) stage
+  watching_more p (Authenticating setting state) = refl
+  watching_more p (Unnamed privileged) = refl
+  watching_more p (Named conn) = refl
+  watching_more p (Shut conn) = refl
+
+  fated_natural : (k : ℕ) (fate : PeerFate) → Natural (fated k fate)
+  fated_natural k fate.Stays p = refl
+  fated_natural k fate.Watches p = ap (λ (q : Peer). let done : OfPeer = Gives q in done) (watching_more p p.stage)
+  fated_natural k (fate.Closes why) p = closing_natural k why p
 
   abbrev numbered : Peer → ℕ → Peer
   numbered p n = record p { serial = n }
@@ -249,10 +261,10 @@ module _ (piece : List ℕ) (key : ℕ) where
   turn_away_natural : (k : ℕ) (m : Message) → Natural (turn_away k m)
   turn_away_natural k m = then_natural (refuse_with k m LimitsExceeded) (closing k cause.LimitsExceeded) (refuse_with_natural k m LimitsExceeded) (closing_natural k cause.LimitsExceeded)
 
-  serve_natural : (k : ℕ) (m : Message) (conn : Conn) → Natural (λ p. and_then (serve m conn) (λ fate. close_if k fate p))
+  serve_natural : (k : ℕ) (m : Message) (conn : Conn) → Natural (λ p. and_then (serve m conn) (λ fate. fated k fate p))
   serve_natural k m conn p =
-      after_same (serve m conn) (λ fate. close_if k fate (more p)) (λ fate. seen_as more (close_if k fate p)) (λ fate. close_if_natural k fate p)
-      ∙ sym (and_then_assoc (serve m conn) (λ fate. close_if k fate p) (λ q. Gives (more q)))
+      after_same (serve m conn) (λ fate. fated k fate (more p)) (λ fate. seen_as more (fated k fate p)) (λ fate. fated_natural k fate p)
+      ∙ sym (and_then_assoc (serve m conn) (λ fate. fated k fate p) (λ q. Gives (more q)))
 
   -- ## What is done for the connection of a key among all
 
@@ -355,10 +367,20 @@ module _ (piece : List ℕ) (key : ℕ) where
 
   -- ## The next message
 
+  watches_same : (p : Peer) (stage : Stage) → (fed piece p stage).watches ≡ p.watches
+  watches_same p (Authenticating setting state) = refl
+  watches_same p (Unnamed privileged) = refl
+  watches_same p (Named conn) = refl
+  watches_same p (Shut conn) = refl
+
+  named_serve : (s : Standing) (m : Message) (p : Peer) (conn : Conn) (watches : Bool) → serve_named (with_more s) key m (more p) conn watches ≡ seen_as with_more (serve_named s key m p conn watches)
+  named_serve s m p conn true = here s (closing key cause.MonitorSent) (closing_natural key cause.MonitorSent) (Some p)
+  named_serve s m p conn false = here s (λ q. and_then (serve m conn) (λ fate. fated key fate q)) (serve_natural key m conn) (Some p)
+
   pub serve_more : (s : Standing) (m : Message) (p : Peer) (stage : Stage) → p.stage ≡ stage → serve_at (with_more s) key m (more p) stage ≡ seen_as with_more (serve_at s key m p stage)
   serve_more s m p (Authenticating setting state) is = refl
   serve_more s m p (Unnamed privileged) is = hello_more m p privileged is s (is_hello m)
-  serve_more s m p (Named conn) is = here s (λ q. and_then (serve m conn) (λ fate. close_if key fate q)) (serve_natural key m conn) (Some p)
+  serve_more s m p (Named conn) is = ap (serve_named (with_more s) key m (more p) conn) (watches_same p p.stage) ∙ named_serve s m p conn p.watches
   serve_more s m p (Shut conn) is = refl
 
 -- ## Over a bus of one thread

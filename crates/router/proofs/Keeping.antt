@@ -22,9 +22,11 @@ use Rattle.driver.specs.Calls.{expects_reply, is_hello}
 use Rattle.outbox_core.specs.Contents.{Said, Relays, Tells, Own, Errs, UniqueName, own_message}
 use Rattle.router_core.specs.declared.cause.CloseCause.{CloseCause}
 use Rattle.router_core.specs.declared.cause.CloseCause.TheVariants as cause
+use Rattle.router_core.specs.declared.fate.PeerFate.{PeerFate}
+use Rattle.router_core.specs.declared.fate.PeerFate.TheVariants as fate
 use Rattle.router_core.specs.Answers.{Heard, Says, Refuses, error_for}
 use Rattle.router_core.specs.Deeds.{GatedCall}
-use Rattle.router_core.specs.Events.{OfPeer, closing, close_if, close_at, close_found, close_former, write, for_slot, for_peer, hear, answering, conversed_to, converse_if, refuse, refuse_with, turn_away, welcome, greeted, greeted_by, greet, serve_at, read, next, next_at, looked, look, look_all}
+use Rattle.router_core.specs.Events.{OfPeer, closing, fated, close_at, close_found, close_former, write, for_slot, for_peer, hear, answering, conversed_to, converse_if, refuse, refuse_with, turn_away, welcome, greeted, greeted_by, greet, serve_named, serve_at, read, next, next_at, looked, look, look_all}
 use Rattle.router_core.specs.Fronts.{Front, Waits, Whole, Faulty}
 use Rattle.router_core.specs.Scripts.{Gives, Routing, Announcing, World, Comes, and_then}
 use Rattle.router_core.specs.Serving.{monitors_in, reply_with, serve}
@@ -276,15 +278,24 @@ module _ (slot key : ℕ) where
         if_give NotBoth (is_hello m) (greet s key m q privileged) (for_peer s key (Some q) (closing key cause.NotHello))
         (greeting m q privileged refl (Some (record p { stage = Unnamed privileged })) y privileged isnt has_second)
         (not_first s (Some (shut q)) (λ has. false≢true has))
-    serving p m rest (Named conn) isnt =
-        let s : Standing = standing_of (Some (record p { stage = Named conn })) in
-        let q : Peer = record p { stage = Named conn; unread = rest } in
-        for_give s key q (λ r. and_then (serve m conn) (λ fate. close_if key fate r)) (λ r. HasNot (Some r)) NotBoth (λ r hasnt. not_first s (Some r) hasnt)
-        (then_give (λ fate. Unit {0}) (λ r. HasNot (Some r)) (λ fate. close_if key fate q) (λ fate done. by_fate fate) (serve m conn) (all_give (λ fate. Unit {0}) (λ fate. tt) (serve m conn)))
+    serving p m rest (Named conn) isnt = if_watches p.watches
       where
-        by_fate : (fate : Option CloseCause) → AllGive (λ r. HasNot (Some r)) (close_if key fate (record p { stage = Named conn; unread = rest }))
-        by_fate None = λ has. false≢true (sym isnt ∙ has)
-        by_fate (Some why) = λ has. false≢true has
+        s : Standing
+        s = standing_of (Some (record p { stage = Named conn }))
+
+        q : Peer
+        q = record p { stage = Named conn; unread = rest }
+
+        by_fate : (fate : PeerFate) → AllGive (λ r. HasNot (Some r)) (fated key fate q)
+        by_fate fate.Stays = λ has. false≢true (sym isnt ∙ has)
+        by_fate fate.Watches = λ has. false≢true (sym isnt ∙ has)
+        by_fate (fate.Closes why) = λ has. false≢true has
+
+        if_watches : (watches : Bool) → AllGive NotBoth (serve_named s key m q conn watches)
+        if_watches true = not_first s (Some (shut q)) (λ has. false≢true has)
+        if_watches false =
+            for_give s key q (λ r. and_then (serve m conn) (λ fate. fated key fate r)) (λ r. HasNot (Some r)) NotBoth (λ r hasnt. not_first s (Some r) hasnt)
+            (then_give (λ fate. Unit {0}) (λ r. HasNot (Some r)) (λ fate. fated key fate q) (λ fate done. by_fate fate) (serve m conn) (all_give (λ fate. Unit {0}) (λ fate. tt) (serve m conn)))
 
     reading : (p : Peer) (stage : Stage) → has_slot slot (Some (record p { stage = stage })) ≡ false → (front : Front) → AllGive NotBoth (read (standing_of (Some (record p { stage = stage }))) key (record p { stage = stage }) front)
     reading p stage isnt Waits = as_it_was (Some (record p { stage = stage })) isnt
@@ -328,7 +339,7 @@ module _ {N G : Type 0} (told : N → History) (registry_of : N → ℕ) (passes
 pub next_keeps : {N G : Type 0} (told : N → History) (registry_of : N → ℕ) (passes : G → GatedCall → G → Type 0) (alone : Bool) (key : ℕ) (old new : Option Peer) (w v : World N G) →
     ((s : Standing) → peer_at s key ≡ old → Comes told registry_of passes alone (next s key old) w (with_peer s key new) v) → Keeps old new
 next_keeps told registry_of passes alone key old new w v comes slot has =
-    let other : Option Peer = Some (record { stage = Named (record { number = 0; slot = slot; router = 0 }); unread = []; serial = 0 }) in
+    let other : Option Peer = Some (record { stage = Named (record { number = 0; slot = slot; router = 0 }); unread = []; serial = 0; watches = false }) in
     let is : has_slot slot other ≡ true = eq-eqb slot slot refl in
     let s : Standing = record { peers = two key old other; leaves = []; login = None } in
     elim (cases_Bool (has_slot slot old)) [

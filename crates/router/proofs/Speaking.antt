@@ -15,8 +15,10 @@ use Rattle.driver.specs.Calls.{is_hello}
 use Rattle.outbox_core.specs.Contents.{Said, Relays, Tells, UniqueName}
 use Rattle.router_core.specs.declared.cause.CloseCause.{CloseCause}
 use Rattle.router_core.specs.declared.cause.CloseCause.TheVariants as cause
+use Rattle.router_core.specs.declared.fate.PeerFate.{PeerFate}
+use Rattle.router_core.specs.declared.fate.PeerFate.TheVariants as fate
 use Rattle.router_core.specs.Answers.{Heard, Says, Refuses, error_for}
-use Rattle.router_core.specs.Events.{Mail, Next, OfPeer, fed, closing, close_if, close_found, close_former, write, for_slot, for_peer, refuse_with, turn_away, welcome, greeted, greeted_by, greet, serve_at, read, next_at, next, mail_found}
+use Rattle.router_core.specs.Events.{Mail, Next, OfPeer, fed, closing, fated, close_found, close_former, write, for_slot, for_peer, refuse_with, turn_away, welcome, greeted, greeted_by, greet, serve_named, serve_at, read, next_at, next, mail_found}
 use Rattle.router_core.specs.Fronts.{Front, Waits, Whole, Faulty}
 use Rattle.router_core.specs.OneThread.{Readers, Rest, Course, alone, given}
 use Rattle.router_core.specs.Scripts.{Script, Gives, Changing, Asking, Routing, Looking, Noting, Fronting, Calling, Gating, Wanting, Doing, Announcing, and_then}
@@ -102,18 +104,23 @@ module _ (key : ℕ) where
         of_it : (q : Peer) → ◌≡◌ {A = Option Peer} (Some p) (Some q) → Speaks q
         of_it q is = subst (λ (o : Option Peer). IfSome o Speaks) is begun
 
-    close_if_speaks : (fate : Option CloseCause) (q : Peer) → Speaks q → AllGive Speaks (close_if key fate q)
-    close_if_speaks None q speaks = speaks
-    close_if_speaks (Some why) q speaks = tt
+    fated_speaks : (fate : PeerFate) (q : Peer) → Speaks q → AllGive Speaks (fated key fate q)
+    fated_speaks fate.Stays q speaks = speaks
+    fated_speaks fate.Watches q speaks = speaks
+    fated_speaks (fate.Closes why) q speaks = tt
+
+    named_speaks : (s : Standing) (conn : Conn) (watches : Bool) → SpeaksAt key s → AllGive (SpeaksAt key) (serve_named s key m p conn watches)
+    named_speaks s conn true speaks = closing_speaks s key (Some p) cause.MonitorSent speaks
+    named_speaks s conn false speaks =
+        for_speaks s key (Some p) (λ q. and_then (serve m conn) (λ fate. fated key fate q)) speaks
+        (λ q is. then_give (λ fate. Unit {0}) Speaks (λ fate. fated key fate q) (λ fate done. fated_speaks fate q (subst (λ (o : Option Peer). IfSome o Speaks) is begun)) (serve m conn)
+        (all_give (λ fate. Unit {0}) (λ fate. tt) (serve m conn)))
 
     serve_speaks : (s : Standing) (stage : Stage) → SpeaksAt key s → AllGive (SpeaksAt key) (serve_at s key m p stage)
     serve_speaks s (Authenticating setting state) speaks = speaks
     serve_speaks s (Unnamed privileged) speaks =
         if_give (SpeaksAt key) (is_hello m) (greet s key m p privileged) (for_peer s key (Some p) (closing key cause.NotHello)) (λ heard. greeted_speaks s heard speaks) (closing_speaks s key (Some p) cause.NotHello speaks)
-    serve_speaks s (Named conn) speaks =
-        for_speaks s key (Some p) (λ q. and_then (serve m conn) (λ fate. close_if key fate q)) speaks
-        (λ q is. then_give (λ fate. Unit {0}) Speaks (λ fate. close_if key fate q) (λ fate done. close_if_speaks fate q (subst (λ (o : Option Peer). IfSome o Speaks) is begun)) (serve m conn)
-        (all_give (λ fate. Unit {0}) (λ fate. tt) (serve m conn)))
+    serve_speaks s (Named conn) speaks = named_speaks s conn p.watches speaks
     serve_speaks s (Shut conn) speaks = speaks
 
   read_speaks : (s : Standing) (p : Peer) (front : Front) → SpeaksAt key s → Speaks p → AllGive (SpeaksAt key) (read s key p front)

@@ -241,6 +241,10 @@ impl<V: BusView, G: Gate> Engine<V, G> {
             Event::Mail { slot, envelope } => self.mail(*slot, envelope),
             Event::Closed { key } => self.closed(right, *key),
             Event::Full { number } => self.full(right, *number),
+            Event::Child(ended) => {
+                self.served.end_start(right, ended)?;
+                Ok(self.served.take_actions())
+            }
             Event::Tick => self.tick(right),
         }
     }

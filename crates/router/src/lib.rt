@@ -12,6 +12,7 @@ mod login;
 mod naming;
 mod next;
 mod served;
+mod starts;
 mod tick;
 
 pub use engine::Engine;

@@ -7,9 +7,9 @@ use Rattle.sasl.specs.declared.identity.Identity.{Identity}
 use Rattle.sasl.specs.declared.phase.Phase.{Phase}
 use Rattle.sasl.specs.declared.phase.Phase.TheVariants.{WaitingForNul, WaitingForAuth, WaitingForData, WaitingForBegin, Done, Closed}
 use Rattle.sasl.specs.Hearing.{Conversed, conversed}
-use Rattle.router_core.specs.Events.{next, next_at, for_peer, hear, answering, conversed_to, converse_if, is_user, closing, greet}
-use Rattle.router_core.specs.declared.cause.CloseCause.TheVariants.{NotHello}
-use Rattle.router_core.specs.Laws.{ClosedAreNotServed, ClosedTakeNothing, ClosedGetNoMail, NobodySpeaksBeforeBegin, OnlyBeginBegins, UnknownTypesBringNothing, OnlyHelloGreets}
+use Rattle.router_core.specs.Events.{next, next_at, for_peer, hear, answering, conversed_to, converse_if, is_user, closing, greet, serve_named}
+use Rattle.router_core.specs.declared.cause.CloseCause.TheVariants.{NotHello, MonitorSent}
+use Rattle.router_core.specs.Laws.{ClosedAreNotServed, ClosedTakeNothing, ClosedGetNoMail, NobodySpeaksBeforeBegin, OnlyBeginBegins, UnknownTypesBringNothing, OnlyHelloGreets, MonitorsSendNothing}
 use Rattle.router_core.specs.Scripts.{Gives, and_then, World, Comes}
 use Rattle.router_core.specs.Standing.{Authenticating, Unnamed, Shut, Peer, with_peer}
 
@@ -66,4 +66,9 @@ unknown_types_bring_nothing m sender unknown = rw unknown refl
 pub only_hello_greets : {N G : Type 0} (told : N → History) (registry_of : N → ℕ) (passes : G → GatedCall → G → Type 0) (alone : Bool) → OnlyHelloGreets told registry_of passes alone
 only_hello_greets told registry_of passes alone s t key m p privileged w v other comes =
     let closed : Comes told registry_of passes alone (for_peer s key (Some p) (closing key NotHello)) w t v = subst (λ b. Comes told registry_of passes alone (if b then greet s key m p privileged else for_peer s key (Some p) (closing key NotHello)) w t v) other comes in
+    (closed.2.0, (closed.1.action, closed.1.done, closed.2.1 ∙ closed.1.rest))
+
+pub monitors_send_nothing : {N G : Type 0} (told : N → History) (registry_of : N → ℕ) (passes : G → GatedCall → G → Type 0) (alone : Bool) → MonitorsSendNothing told registry_of passes alone
+monitors_send_nothing told registry_of passes alone s t key m p conn w v watches comes =
+    let closed : Comes told registry_of passes alone (for_peer s key (Some p) (closing key MonitorSent)) w t v = subst (λ b. Comes told registry_of passes alone (serve_named s key m p conn b) w t v) watches comes in
     (closed.2.0, (closed.1.action, closed.1.done, closed.2.1 ∙ closed.1.rest))

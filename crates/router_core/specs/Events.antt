@@ -2,7 +2,11 @@
 use Rattle.std.specs.Prelude.{◌≡◌, ℕ, Bool, true, false, Option, Some, None, is_some, is_none, option_map, List, [], ◌∷◌, ◌++◌, length, position, if◌then◌else◌}
 use Rattle.std.specs.List.{position_or_len}
 use Rattle.seq_bus_core.specs.Histories.{History}
-use Rattle.seq_bus_core.specs.declared.change.Change.TheVariants.{Hello, Leave}
+use Rattle.names.specs.Texts.{Text}
+use Rattle.seq_bus_core.specs.declared.change.Change.{Change}
+use Rattle.seq_bus_core.specs.declared.change.Change.TheVariants.{Hello, Leave, ChildEnded, StartTimedOut}
+use Rattle.seq_bus_core.specs.declared.change.Ending.{Ending}
+use Rattle.seq_bus_core.specs.declared.change.Ending.TheVariants as ending
 use Rattle.seq_bus_core.specs.declared.connection.Conn.{Conn}
 use Rattle.seq_bus_core.specs.declared.error_kind.ErrorKind.{ErrorKind}
 use Rattle.seq_bus_core.specs.declared.error_kind.ErrorKind.TheVariants as error
@@ -25,13 +29,18 @@ use Rattle.driver.specs.Calls.{expects_reply, is_hello}
 use Rattle.outbox_core.specs.Contents.{Said, Relays, Tells, Own, Errs, UniqueName, own_message, said_of}
 use Rattle.router_core.specs.declared.cause.CloseCause.{CloseCause}
 use Rattle.router_core.specs.declared.cause.CloseCause.TheVariants as cause
+use Rattle.router_core.specs.declared.fate.PeerFate.{PeerFate}
+use Rattle.router_core.specs.declared.fate.PeerFate.TheVariants as fate
 use Rattle.router_core.specs.declared.event.Event.{Event}
 use Rattle.router_core.specs.declared.event.Event.TheVariants as event
+use Rattle.router_core.specs.declared.start_end.StartEnd.{StartEnd}
+use Rattle.router_core.specs.declared.start_end.HowEnded.{HowEnded}
+use Rattle.router_core.specs.declared.start_end.HowEnded.TheVariants as how
 use Rattle.router_core.specs.Answers.{Heard, Says, Refuses, error_for}
 use Rattle.router_core.specs.Deeds.{Writes, Sends, Closes, IsOwnNote}
 use Rattle.router_core.specs.Fronts.{Front, Waits, Whole, Faulty}
 use Rattle.router_core.specs.Scripts.{Script, Gives, Changing, Routing, Looking, Noting, Fronting, Gating, Wanting, Doing, Announcing, and_then, putting}
-use Rattle.router_core.specs.Serving.{monitors_in, reply_with, serve}
+use Rattle.router_core.specs.Serving.{monitors_in, reply_with, fail_all, serve}
 use Rattle.router_core.specs.Standing.{Stage, Authenticating, Unnamed, Named, Shut, Peer, Standing, peer_at, with_peer, opened, conn_of, next_serial, shut, has_slot, is_conn}
 
 -- what happens, in the terms of the definitions; a note is there by the history that it tells
@@ -44,6 +53,8 @@ pub data Occasion : Type 0 where
   Closed : (key : ℕ) → Occasion
   -- a recipient could not be reached
   Full : (number : ℕ) → Occasion
+  -- a start of a service ended
+  Child : StartEnd → Occasion
   Tick : Occasion
 
 -- a script that leaves a connection so
@@ -58,9 +69,11 @@ Stands = Script Standing
 abbrev pub closing : ℕ → CloseCause → Peer → OfPeer
 closing key cause p = Doing (Closes key cause) (Gives (shut p))
 
-abbrev pub close_if : ℕ → Option CloseCause → Peer → OfPeer
-close_if key None p = Gives p
-close_if key (Some cause) p = closing key cause p
+-- what becomes of it once a message of it was served
+abbrev pub fated : ℕ → PeerFate → Peer → OfPeer
+fated key fate.Stays p = Gives p
+fated key fate.Watches p = Gives (record p { watches = true })
+fated key (fate.Closes cause) p = closing key cause p
 
 -- a message of the bus, numbered and written
 abbrev pub send : ℕ → Own → Peer → OfPeer
@@ -156,10 +169,15 @@ greet s key m p privileged = Gating call.Hello (Changing (Hello privileged) (λ 
 
 -- ## The next message
 
+-- A monitor that sends is closed.
+abbrev pub serve_named : Standing → ℕ → Message → Peer → Conn → (watches : Bool) → Stands
+serve_named s key m p conn true = for_peer s key (Some p) (closing key cause.MonitorSent)
+serve_named s key m p conn false = for_peer s key (Some p) (λ q. and_then (serve m conn) (λ fate. fated key fate q))
+
 abbrev pub serve_at : Standing → ℕ → Message → Peer → Stage → Stands
 serve_at s key m p (Authenticating setting state) = Gives s
 serve_at s key m p (Unnamed privileged) = if is_hello m then greet s key m p privileged else for_peer s key (Some p) (closing key cause.NotHello)
-serve_at s key m p (Named conn) = for_peer s key (Some p) (λ q. and_then (serve m conn) (λ fate. close_if key fate q))
+serve_at s key m p (Named conn) = serve_named s key m p conn p.watches
 serve_at s key m p (Shut conn) = Gives s
 
 abbrev pub read : Standing → ℕ → Peer → Front → Stands
@@ -235,6 +253,33 @@ look_at_all s = and_then (look_all [] s.peers) (λ peers. Gives (record s { peer
 abbrev pub tick : Standing → Stands
 tick s = and_then (leave_all s.leaves (record s { leaves = [] })) look_at_all
 
+-- ## Starts that end
+
+abbrev pub change_by : Text → (start : ℕ) → HowEnded → Change
+change_by name start (how.Program ending) = ChildEnded name start ending
+change_by name start how.TimedOut = StartTimedOut name start
+
+-- the end of a start, as a change of the bus
+abbrev pub change_of : StartEnd → Change
+change_of e = change_by e.name e.start e.how
+
+abbrev pub error_by : Ending → ErrorKind
+error_by (ending.Exit status) = error.ChildExited
+error_by ending.Killed = error.ChildSignaled
+error_by ending.NotRun = error.ExecFailed
+
+-- what the calls are answered that waited for the service
+abbrev pub error_of_end : HowEnded → ErrorKind
+error_of_end (how.Program ending) = error_by ending
+error_of_end how.TimedOut = error.TimedOut
+
+abbrev pub ended : Standing → HowEnded → Heard Outcome → Stands
+ended s how (Refuses refusal) = Gives s
+ended s how (Says o) = Announcing o.signals (and_then (fail_all (error_of_end how) o.tickets) (λ done. Gives s))
+
+abbrev pub child : Standing → StartEnd → Stands
+child s e = Changing (change_of e) (λ heard. ended s e.how heard)
+
 -- ## Events
 
 abbrev pub script : Standing → Occasion → Stands
@@ -244,6 +289,7 @@ script s (Next key) = next s key (peer_at s key)
 script s (Mail slot number told said) = noted told (mail_found s said (position (is_conn slot number) s.peers))
 script s (Closed key) = closed s key (peer_at s key)
 script s (Full number) = leave s number
+script s (Child e) = child s e
 script s Tick = tick s
 
 -- the event; `told` says which history a note tells
@@ -254,6 +300,7 @@ occasion_of told (event.Next key) = Next key
 occasion_of told (event.Mail slot envelope) = Mail slot envelope.number (option_map told envelope.note) (said_of envelope.content)
 occasion_of told (event.Closed key) = Closed key
 occasion_of told (event.Full number) = Full number
+occasion_of told (event.Child ended) = Child ended.value
 occasion_of told event.Tick = Tick
 
 -- ## What can happen

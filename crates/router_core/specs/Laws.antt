@@ -11,7 +11,7 @@ use Rattle.sasl.specs.Conversations.{State as AuthState}
 use Rattle.sasl.specs.Hearing.{conversed}
 use Rattle.message_core.specs.Messages.{Message}
 use Rattle.driver.specs.Calls.{is_hello}
-use Rattle.router_core.specs.declared.cause.CloseCause.TheVariants.{NotHello}
+use Rattle.router_core.specs.declared.cause.CloseCause.TheVariants.{NotHello, MonitorSent}
 use Rattle.router_core.specs.declared.action.Action.{Action}
 use Rattle.router_core.specs.declared.event.Event.{Event}
 use Rattle.router_core.specs.Acts.{State, Brings, IsServed, IsServedBy, Exchange, IsGranted}
@@ -20,7 +20,7 @@ use Rattle.router_core.specs.Events.{Occasion, Bytes, Next, IsFree, hear, is_use
 use Rattle.router_core.specs.OneThread.{Readers, Rest, given, rest_after, bus_bytes, AreReadBy, IsRun}
 use Rattle.router_core.specs.Scripts.{Gives, World, having_done, Comes}
 use Rattle.router_core.specs.Serving.{serve, is_unknown, stays_open}
-use Rattle.router_core.specs.Standing.{Authenticating, Unnamed, Shut, Peer, Standing, peer_at, with_peer, opened, shut, is_conn}
+use Rattle.router_core.specs.Standing.{Authenticating, Unnamed, Named, Shut, Peer, Standing, peer_at, with_peer, opened, shut, is_conn}
 
 -- the bus closed the connection of this key, and it is not gone yet
 abbrev pub IsShut : Standing → ℕ → Peer → Type 0
@@ -62,6 +62,12 @@ abbrev pub OnlyHelloGreets : {N G : Type 0} → (N → History) → (N → ℕ) 
 OnlyHelloGreets {N = N} {G = G} told registry_of passes alone = (s t : Standing) (key : ℕ) (m : Message) (p : Peer) (privileged : Bool) (w v : World N G) →
     is_hello m ≡ false → Comes told registry_of passes alone (serve_at s key m p (Unnamed privileged)) w t v →
     (t ≡ with_peer s key (Some (shut p))) × ((action : Action N) × IsDoneBy action (Closes key NotHello) × (v ≡ having_done w (action ∷ [])))
+
+-- A monitor that sends anything is closed for it, and nothing else is done.
+abbrev pub MonitorsSendNothing : {N G : Type 0} → (N → History) → (N → ℕ) → (G → GatedCall → G → Type 0) → Bool → Type 0
+MonitorsSendNothing {N = N} {G = G} told registry_of passes alone = (s t : Standing) (key : ℕ) (m : Message) (p : Peer) (conn : Conn) (w v : World N G) →
+    p.watches ≡ true → Comes told registry_of passes alone (serve_at s key m p (Named conn)) w t v →
+    (t ≡ with_peer s key (Some (shut p))) × ((action : Action N) × IsDoneBy action (Closes key MonitorSent) × (v ≡ having_done w (action ∷ [])))
 
 -- The table of connections grows only where each of its keys has its connection, and then each has.
 abbrev pub OnlyFullTablesGrow : Type 0

@@ -6,11 +6,13 @@ use Rattle.names.specs.UniqueName.{unique_text}
 use Rattle.match_rules.specs.declared.kind.MessageKind.{MessageKind}
 use Rattle.match_rules.specs.declared.kind.MessageKind.TheVariants.{Unknown}
 use Rattle.match_rules.specs.Kinds.{kind_of}
+use Rattle.match_rules.specs.Rules.{Rule}
 use Rattle.owner_queues.specs.Replies.{code_of}
 use Rattle.seq_bus_core.specs.Answers.{Answer}
 use Rattle.seq_bus_core.specs.Recipients.{is_call}
 use Rattle.seq_bus_core.specs.declared.change.Change.{Change}
 use Rattle.seq_bus_core.specs.declared.change.Change.TheVariants as change
+use Rattle.seq_bus_core.specs.declared.change.Call.{Call as WaitingCall}
 use Rattle.seq_bus_core.specs.declared.connection.Conn.{Conn}
 use Rattle.seq_bus_core.specs.declared.error_kind.ErrorKind.{ErrorKind}
 use Rattle.seq_bus_core.specs.declared.error_kind.ErrorKind.TheVariants as error
@@ -38,6 +40,8 @@ use Rattle.driver.specs.Calls.{Reading, expects_reply, error_of}
 use Rattle.outbox_core.specs.Contents.{Own, Replies, Errs, Carried, Nothing, Number, Answered, Relays, Tells, own_message}
 use Rattle.router_core.specs.declared.cause.CloseCause.{CloseCause}
 use Rattle.router_core.specs.declared.cause.CloseCause.TheVariants.{TooLong, Left}
+use Rattle.router_core.specs.declared.fate.PeerFate.{PeerFate}
+use Rattle.router_core.specs.declared.fate.PeerFate.TheVariants as fate
 use Rattle.router_core.specs.Answers.{Heard, Says, Refuses, error_for}
 use Rattle.router_core.specs.Deeds.{Puts, Runs, all_of}
 use Rattle.router_core.specs.Scripts.{Script, Gives, Changing, Asking, Routing, Calling, Gating, Wanting, Doing, Announcing, and_then, putting}
@@ -46,15 +50,19 @@ use Rattle.router_core.specs.Scripts.{Script, Gives, Changing, Asking, Routing, 
 abbrev pub Work : Type 0
 Work = Script (Unit {0})
 
--- why the connection is to be closed once its message was served; none where it stays open
+-- what becomes of the connection once its message was served
 abbrev pub Fated : Type 0
-Fated = Script (Option CloseCause)
+Fated = Script PeerFate
 
 abbrev pub nothing : Work
 nothing = Gives tt
 
 abbrev pub stays_open : Fated
-stays_open = Gives None
+stays_open = Gives fate.Stays
+
+-- the bus closes the connection
+abbrev pub closes_for : CloseCause → Fated
+closes_for cause = Gives (fate.Closes cause)
 
 -- a piece of work, after which the connection stays open
 abbrev pub and_stays : Work → Fated
@@ -113,14 +121,32 @@ abbrev pub release_all : Conn → List SettledTicket → Work
 release_all owner [] = nothing
 release_all owner (t ∷ tickets) = and_then (release owner t.ticket t.ticket.message) (λ done. release_all owner tickets)
 
+-- Without memory the error is dropped whole.
+abbrev pub failed_if : ErrorKind → Conn → ReplyTo → Bool → Work
+failed_if error caller call true = tell caller (Errs call error)
+failed_if error caller call false = nothing
+
+-- A call that waited is answered why the service did not come.
+abbrev pub fail : ErrorKind → Ticket → Work
+fail error t = if ticket_wants_reply t then Wanting (λ granted. failed_if error t.caller (call_of_ticket t) granted) else nothing
+
+abbrev pub fail_all : ErrorKind → List SettledTicket → Work
+fail_all error [] = nothing
+fail_all error (t ∷ tickets) = and_then (fail error t.ticket) (λ done. fail_all error tickets)
+
 -- ## Calls to the bus
 
--- what a call asks of the bus: a query, or a change
+-- what a call asks of the bus
 pub data Request : Type 0 where
   Asks : Query → Request
+  -- a change that is answered at once
   Makes : Change → Request
+  -- that the service of this name runs
+  Starts : Text → Request
+  -- that the caller becomes a monitor with these rules
+  Watches : List Rule → Request
 
--- What a call of the connection of this number asks, or the error that it is answered. Two methods are not served yet.
+-- what a call of the connection of this number asks, or the error that it is answered
 abbrev pub request_of : ℕ → Call → Result Request ErrorKind
 request_of number call.Hello = Err error.Failed
 request_of number (call.RequestName name flags) = Ok (Makes (change.Request number name flags))
@@ -132,8 +158,8 @@ request_of number call.ListActivatableNames = Ok (Asks query.ListActivatableName
 request_of number (call.ListQueuedOwners name) = Ok (Asks (query.ListQueuedOwners name))
 request_of number (call.AddMatch rule) = Ok (Makes (change.AddMatch number rule))
 request_of number (call.RemoveMatch rule) = Ok (Makes (change.RemoveMatch number rule))
-request_of number (call.StartServiceByName name) = Err error.UnknownMethod
-request_of number (call.BecomeMonitor rules) = Err error.UnknownMethod
+request_of number (call.StartServiceByName name) = Ok (Starts name)
+request_of number (call.BecomeMonitor rules) = Ok (Watches rules)
 
 -- the answer to a call whose change was told so
 abbrev pub answer_told : Reply → Result Carried ErrorKind
@@ -143,7 +169,13 @@ answer_told reply.InvalidName = Err error.InvalidArgs
 answer_told reply.RuleNotFound = Err error.MatchRuleNotFound
 answer_told reply.LimitsExceeded = Err error.LimitsExceeded
 answer_told reply.ServiceUnknown = Err error.ServiceUnknown
-answer_told other = Err error.Failed
+answer_told reply.AccessDenied = Err error.AccessDenied
+answer_told reply.AlreadyRunning = Ok (Number 2)
+answer_told reply.Gone = Err error.Failed
+answer_told (reply.Welcome conn) = Err error.Failed
+answer_told (reply.Held ticket) = Err error.Failed
+answer_told (reply.Pass owner) = Err error.Failed
+answer_told reply.Ignored = Err error.Failed
 
 abbrev pub answer_with : Message → Conn → Result Carried ErrorKind → Work
 answer_with m caller (Ok carried) = reply_with m caller carried
@@ -155,12 +187,49 @@ tell_change m caller o = Announcing o.signals (and_then (answer_with m caller (a
 
 -- A change of a connection that left in the meantime is made by nobody: the connection is closed.
 abbrev pub made_by : Message → Conn → Outcome → Reply → Fated
-made_by m caller o reply.Gone = Gives (Some Left)
+made_by m caller o reply.Gone = closes_for Left
 made_by m caller o other = and_stays (tell_change m caller o)
 
 abbrev pub made : Message → Conn → Heard Outcome → Fated
 made m caller (Refuses refusal) = and_stays (err_with m caller (error_for refusal))
 made m caller (Says o) = made_by m caller o o.reply
+
+-- a start that is asked for
+abbrev pub run : Text → Option ℕ → Work
+run name None = nothing
+run name (Some start) = Doing (Runs name start) nothing
+
+-- what is needed to reply to a call that waits
+abbrev pub waiting_call : Message → WaitingCall
+waiting_call m = record { serial = m.serial; flags = m.flags }
+
+-- A call that waits is answered once its service runs, or does not.
+abbrev pub start_by : Message → Conn → Text → Outcome → Reply → Fated
+start_by m caller name o reply.Gone = closes_for Left
+start_by m caller name o (reply.Held ticket) = and_stays (run name o.start)
+start_by m caller name o other = and_stays (answer_with m caller (answer_told other))
+
+abbrev pub start_told : Message → Conn → Text → Heard Outcome → Fated
+start_told m caller name (Refuses refusal) = and_stays (err_with m caller (error_for refusal))
+start_told m caller name (Says o) = start_by m caller name o o.reply
+
+abbrev pub start_if : Message → Conn → Text → Bool → Fated
+start_if m caller name true = Changing (change.Start caller.number name (waiting_call m)) (λ heard. start_told m caller name heard)
+start_if m caller name false = and_stays (err_with m caller error.NoMemory)
+
+-- Whoever became a monitor is told so as one.
+abbrev pub watch_by : Message → Conn → Outcome → Reply → Fated
+watch_by m caller o reply.Gone = closes_for Left
+watch_by m caller o reply.Done = and_then (tell_change m caller o) (λ done. Gives fate.Watches)
+watch_by m caller o other = and_stays (tell_change m caller o)
+
+abbrev pub watch_told : Message → Conn → Heard Outcome → Fated
+watch_told m caller (Refuses refusal) = and_stays (err_with m caller (error_for refusal))
+watch_told m caller (Says o) = watch_by m caller o o.reply
+
+abbrev pub watch_if : Message → Conn → List Rule → Bool → Fated
+watch_if m caller rules true = Changing (change.BecomeMonitor caller.number rules) (λ heard. watch_told m caller heard)
+watch_if m caller rules false = and_stays (err_with m caller error.NoMemory)
 
 abbrev pub answered_if : Message → Conn → Answer → Bool → Work
 answered_if m caller told true = reply_with m caller (Answered told)
@@ -175,6 +244,8 @@ abbrev pub serve_request : Message → Conn → Result Request ErrorKind → Fat
 serve_request m caller (Err error) = and_stays (err_with m caller error)
 serve_request m caller (Ok (Asks q)) = Asking q (λ heard. and_stays (answered m caller heard))
 serve_request m caller (Ok (Makes c)) = Changing c (λ heard. made m caller heard)
+serve_request m caller (Ok (Starts name)) = Wanting (λ granted. start_if m caller name granted)
+serve_request m caller (Ok (Watches rules)) = Wanting (λ granted. watch_if m caller rules granted)
 
 -- Each call that reads well is shown to the gate before it is served.
 abbrev pub serve_reading : Message → Conn → Reading Call → Fated
@@ -210,7 +281,7 @@ copied m sender (conn ∷ conns) goes_on = Wanting (λ granted. copied_if m send
 
 -- Whoever sends a message that is too long once it has its sender's name is closed.
 abbrev pub relayed : Message → Conn → List Conn → Fated → Fated
-relayed m sender to goes_on = if is_too_long (signed m sender) then Gives (Some TooLong) else copied m sender to goes_on
+relayed m sender to goes_on = if is_too_long (signed m sender) then closes_for TooLong else copied m sender to goes_on
 
 -- A message to the bus is measured only where a monitor is shown it.
 abbrev pub shown : Message → Conn → List Conn → Fated → Fated
@@ -219,14 +290,9 @@ shown m sender (conn ∷ conns) goes_on = relayed m sender (conn ∷ conns) goes
 
 -- ## Calls that wait for a service
 
--- a start that is asked for
-abbrev pub run : Text → Option ℕ → Work
-run name None = nothing
-run name (Some start) = Doing (Runs name start) nothing
-
 -- By now the name has an owner, to which the call goes, or the call waits; or there is no service.
 abbrev pub held_by : Message → Conn → Text → Outcome → Reply → Fated
-held_by m caller name o reply.Gone = Gives (Some Left)
+held_by m caller name o reply.Gone = closes_for Left
 held_by m caller name o (reply.Pass owner) = Doing (Puts (owner ∷ []) (Relays (message_bytes (signed m caller)))) stays_open
 held_by m caller name o (reply.Held ticket) = and_stays (run name o.start)
 held_by m caller name o reply.ServiceUnknown = and_stays (err_with m caller error.ServiceUnknown)
@@ -239,7 +305,7 @@ held m caller name (Says o) = held_by m caller name o o.reply
 
 abbrev pub hold_if : Message → Conn → Text → Bool → Fated
 hold_if m caller name true =
-    Changing (change.Hold caller.number name (record { serial = m.serial; flags = m.flags }) (message_bytes (signed m caller))) (λ heard. held m caller name heard)
+    Changing (change.Hold caller.number name (waiting_call m) (message_bytes (signed m caller))) (λ heard. held m caller name heard)
 hold_if m caller name false = and_stays (err_with m caller error.NoMemory)
 
 abbrev pub hold : Message → Conn → Option Text → Fated
@@ -249,7 +315,7 @@ hold m caller (Some name) = Wanting (λ granted. hold_if m caller name granted)
 -- ## Where the message goes
 
 abbrev pub relay : Message → Conn → Verdict → VerdictKind → Fated
-relay m sender v verdict.Absent = Gives (Some Left)
+relay m sender v verdict.Absent = closes_for Left
 relay m sender v verdict.Bus = shown m sender v.monitors (serve_bus m sender)
 relay m sender v verdict.Plain = relayed m sender (all_of v.to v.monitors) stays_open
 relay m sender v verdict.Nobody = relayed m sender v.monitors (and_stays (err_if_call m sender error.ServiceUnknown))

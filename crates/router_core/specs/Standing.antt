@@ -14,12 +14,13 @@ pub data Stage : Type 0 where
   -- the bus closed it, and it is not gone yet
   Shut : Option Conn → Stage
 
--- How far it has come; its bytes behind the messages that were served; and the serial of the last message of the bus that was written
--- to it.
+-- How far it has come; its bytes behind the messages that were served; the serial of the last message of the bus that was written to
+-- it; and whether it is a monitor, which sends nothing any more.
 pub record Peer : Type 0 where
   pub stage : Stage
   pub unread : List ℕ
   pub serial : ℕ
+  pub watches : Bool
 
 -- The connections by their keys; the numbers of those that left, whose Leave is not made yet; and who may log in, if anyone may.
 pub record Standing : Type 0 where
@@ -45,7 +46,7 @@ first_stage (Some login) (Some challenge) = Authenticating (record { login = log
 
 -- a connection that has sent nothing
 abbrev pub newcomer : Stage → Peer
-newcomer stage = record { stage = stage; unread = []; serial = 0 }
+newcomer stage = record { stage = stage; unread = []; serial = 0; watches = false }
 
 abbrev pub opened : Standing → ℕ → (challenge : Option (List ℕ)) → Standing
 opened s key challenge =

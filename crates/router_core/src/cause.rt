@@ -13,6 +13,8 @@ pub enum CloseCause {
     TooLong,
     /// Its first message is not the call of Hello.
     NotHello,
+    /// It is a monitor, and sent a message.
+    MonitorSent,
     /// It left the bus: another router could not reach it.
     Left,
     /// Its Hello would exceed a limit of the bus.
@@ -27,6 +29,7 @@ impl fmt::Display for CloseCause {
             CloseCause::Faulty(fault) => write!(f, "{}", fault.code()),
             CloseCause::TooLong => write!(f, "27"),
             CloseCause::NotHello => write!(f, "64"),
+            CloseCause::MonitorSent => write!(f, "65"),
             CloseCause::Left => write!(f, "66"),
             CloseCause::LimitsExceeded => write!(f, "68"),
             CloseCause::Unauthenticated(fault) => write!(f, "{}", fault.code()),

@@ -1,5 +1,6 @@
 //! What happens to a router.
 
+use crate::start_end::StartEnd;
 use outbox_core::Envelope;
 
 /// What happens to a router. A key is the place of a connection among those of the router.
@@ -33,6 +34,9 @@ pub enum Event<N: Drop> {
     Full {
         number: u64,
     },
+    /// A start of a service ended before its name had an owner, or did not end in time. It lies apart: an event is moved often, and few
+    /// are of starts.
+    Child(Box<StartEnd>),
     /// Time has passed.
     Tick,
 }

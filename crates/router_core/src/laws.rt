@@ -1,7 +1,7 @@
 //! Laws of the definitions.
 
 ghost use Rattle.std.specs.Prelude.{◌≡◌};
-ghost use Rattle.router_core.specs.Laws.{ClosedAreNotServed, ClosedTakeNothing, ClosedGetNoMail, NobodySpeaksBeforeBegin, OnlyBeginBegins, UnknownTypesBringNothing, OnlyHelloGreets, OnlyFullTablesGrow, AnswersAreLawful, NotesAreOwn, OneThreadIsAFunction, BytesAreAFunction};
+ghost use Rattle.router_core.specs.Laws.{ClosedAreNotServed, ClosedTakeNothing, ClosedGetNoMail, NobodySpeaksBeforeBegin, OnlyBeginBegins, UnknownTypesBringNothing, OnlyHelloGreets, MonitorsSendNothing, OnlyFullTablesGrow, AnswersAreLawful, NotesAreOwn, OneThreadIsAFunction, BytesAreAFunction};
 ghost use Rattle.router_core.specs.Standing.{next_serial};
 
 use crate::gate::Gate;
@@ -43,6 +43,12 @@ pub fn unknown_types_bring_nothing()
 #[tactic(auto, using(crate::proofs::FirstMessages::only_hello_greets))]
 pub fn only_hello_greets<V: BusView, G: Gate>()
     ensures { OnlyHelloGreets V.told V.registry_of G.passes V.alone }
+{}
+
+/// A monitor that sends anything is closed for it, and nothing else is done.
+#[tactic(auto, using(crate::proofs::FirstMessages::monitors_send_nothing))]
+pub fn monitors_send_nothing<V: BusView, G: Gate>()
+    ensures { MonitorsSendNothing V.told V.registry_of G.passes V.alone }
 {}
 
 /// A connection gets the least key that none has. So the table of connections is never longer than the most that were

@@ -12,14 +12,18 @@
 mod action;
 mod cause;
 mod event;
+mod fate;
 mod gate;
 pub mod laws;
 mod recipients;
+mod start_end;
 mod written;
 
 pub use action::Action;
 pub use cause::CloseCause;
 pub use event::Event;
+pub use fate::PeerFate;
 pub use gate::{Gate, OpenGate};
 pub use recipients::Addressees;
+pub use start_end::{HowEnded, StartEnd};
 pub use written::WrittenBytes;

@@ -6,7 +6,7 @@ use Rattle.router_core.specs.declared.action.Action.{Action}
 use Rattle.router_core.specs.declared.event.Event.{Event}
 use Rattle.router_core.specs.Acts.{State, Brings}
 use Rattle.router_core.specs.Deeds.{GatedCall}
-use Rattle.router_core.specs.Events.{Occasion, Opened, Bytes, Next, Mail, Closed, Full, Tick}
+use Rattle.router_core.specs.Events.{Occasion, Opened, Bytes, Next, Mail, Closed, Full, Child, Tick}
 use Rattle.router_core.specs.OneThread.{keys_after, written_to}
 use Rattle.router_core.specs.Standing.{Standing}
 use Rattle.router_core.proofs.Asked.{answers_are_lawful}
@@ -53,6 +53,7 @@ met_keys (Next key) out = refl
 met_keys (Mail slot number told said) out = refl
 met_keys (Closed key) out = refl
 met_keys (Full number) out = refl
+met_keys (Child ended) out = refl
 met_keys Tick out = refl
 
 met_each : (occasion : Occasion) (out : Output) (k : ℕ) → get_or (met occasion out).written k [] ≡ get_or out.written k []
@@ -62,6 +63,7 @@ met_each (Next key) out k = refl
 met_each (Mail slot number told said) out k = refl
 met_each (Closed key) out k = refl
 met_each (Full number) out k = refl
+met_each (Child ended) out k = refl
 met_each Tick out k = refl
 
 met_count : (occasion : Occasion) (out : Output) → length out.written ≡ length out.keys → length (met occasion out).written ≡ length (met occasion out).keys
@@ -71,6 +73,7 @@ met_count (Next key) out h = h
 met_count (Mail slot number told said) out h = h
 met_count (Closed key) out h = h
 met_count (Full number) out h = h
+met_count (Child ended) out h = h
 met_count Tick out h = h
 
 -- ## Courses

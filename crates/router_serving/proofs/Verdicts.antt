@@ -10,7 +10,7 @@ use Rattle.seq_bus_core.specs.declared.verdict.Verdict.{Verdict}
 use Rattle.message_core.specs.Messages.{Message}
 use Rattle.message_core.specs.Whole.{Lends}
 use Rattle.message.specs.FactsOf.{facts_of}
-use Rattle.router_core.specs.declared.cause.CloseCause.{CloseCause}
+use Rattle.router_core.specs.declared.fate.PeerFate.{PeerFate}
 use Rattle.bus_view.specs.Views.{Knowledge}
 use Rattle.router_core.specs.Answers.{Heard, Says, Refuses, HearsVerdict}
 use Rattle.router_core.specs.Deeds.{GatedCall}
@@ -27,7 +27,7 @@ pub lent : (o : Option (Bor (List ℕ))) (text : Option Text) → Lends o text �
 lent None text is = sym is
 lent (Some x) text is = sym is
 
-module _ {N G : Type 0} (told : N → History) (registry_of : N → ℕ) (passes : G → GatedCall → G → Type 0) (alone : Bool) (m : Message) (sender : Conn) (fate : Option CloseCause) (w v : World N G) where
+module _ {N G : Type 0} (told : N → History) (registry_of : N → ℕ) (passes : G → GatedCall → G → Type 0) (alone : Bool) (m : Message) (sender : Conn) (fate : PeerFate) (w v : World N G) where
   pub serves : {facts : Facts} (heard : Heard Verdict) (r : World N G) → is_unknown (kind_of m.kind) ≡ false → facts ≡ facts_of m → Routes alone sender.number (record facts { sender = sender.number }) w heard r →
       Comes told registry_of passes alone (routed m sender heard) r fate v → Comes told registry_of passes alone (serve m sender) w fate v
   serves {facts} heard r known are routes done =

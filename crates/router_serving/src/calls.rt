@@ -3,7 +3,6 @@
 ghost use Rattle.std.specs.Prelude.{◌≡◌, ◌<◌, ◌≤◌, ◌+◌, Ok, Some, length, IfOk};
 ghost use Rattle.message_core.specs.Said.{said};
 ghost use Rattle.seq_bus_core.specs.Answers.{Answer};
-ghost use Rattle.seq_bus_core.specs.Served.{IsServedChange};
 ghost use Rattle.seq_bus_core.specs.declared.limits.TheConstants.{MAX_TICKETS};
 ghost use Rattle.driver.specs.declared.call.Call.TheVariants.{RequestName, ReleaseName, AddMatch, RemoveMatch};
 ghost use Rattle.outbox_core.specs.Answers.{IsAnswerTo};
@@ -13,6 +12,8 @@ ghost use Rattle.router_core.specs.Serving.{Asks, Makes, and_stays, answered, an
 ghost use Rattle.router_steps.specs.Carrying.{answer_of};
 ghost use Rattle.router_steps.specs.Hearing.{heard_change};
 
+use crate::starting::start_service;
+use crate::watching::become_monitor;
 use bus_view::{AskFault, Asked, BusView, Cause};
 use driver::{Call, DriverFault, read_call};
 use match_rules::Rule;
@@ -20,14 +21,14 @@ use message_core::Message;
 use names::BusName;
 use outbox_core::{AnswerBody, ReplyContent};
 use owner_queues::RequestFlags;
-use router_core::{CloseCause, Gate};
+use router_core::{CloseCause, Gate, PeerFate};
 use router_steps::{Context, is_method_call};
 use seq_bus_core::{Change, Conn, ErrorKind, Outcome, Query, Reply, SharedBytes};
 use std::alloc::Global;
 use std::sync::Arc;
 
 /// What the call is answered that asked for a change, where the bus replied so.
-fn answer_told(reply: Reply) -> Result<ReplyContent, ErrorKind>
+pub(crate) fn answer_told(reply: Reply) -> Result<ReplyContent, ErrorKind>
     ensures { answer_of result ≡ answer_told_in reply }
 {
     match reply {
@@ -37,10 +38,10 @@ fn answer_told(reply: Reply) -> Result<ReplyContent, ErrorKind>
         Reply::RuleNotFound => Err(ErrorKind::MatchRuleNotFound),
         Reply::LimitsExceeded => Err(ErrorKind::LimitsExceeded),
         Reply::ServiceUnknown => Err(ErrorKind::ServiceUnknown),
+        Reply::AccessDenied => Err(ErrorKind::AccessDenied),
+        Reply::AlreadyRunning => Ok(ReplyContent::Number(2)),
         Reply::Gone => Err(ErrorKind::Failed),
         Reply::Welcome(_) => Err(ErrorKind::Failed),
-        Reply::AccessDenied => Err(ErrorKind::Failed),
-        Reply::AlreadyRunning => Err(ErrorKind::Failed),
         Reply::Held(_) => Err(ErrorKind::Failed),
         Reply::Pass(_) => Err(ErrorKind::Failed),
         Reply::Ignored => Err(ErrorKind::Failed),
@@ -48,7 +49,7 @@ fn answer_told(reply: Reply) -> Result<ReplyContent, ErrorKind>
 }
 
 /// The error for a change that was refused.
-fn error_for(cause: Cause) -> ErrorKind
+pub(crate) fn error_for(cause: Cause) -> ErrorKind
     ensures { result ≡ error_for_refusal (refusal_of cause) }
 {
     match cause {
@@ -70,12 +71,12 @@ fn error_unanswered(fault: AskFault) -> ErrorKind
 }
 
 /// Answers a call an error. The caller stays.
-fn refuse<V: BusView, G: Gate>(
+pub(crate) fn refuse<V: BusView, G: Gate>(
     context: &mut Context<V, G>,
     call: &Message,
     caller: Conn,
     error: ErrorKind,
-) -> Option<CloseCause>
+) -> PeerFate
     requires room { 0 < context.old.room }
     requires crowds { 0 < context.old.crowds }
     ensures comes { Comes V.told V.registry_of G.passes V.alone
@@ -83,12 +84,12 @@ fn refuse<V: BusView, G: Gate>(
     ensures room { context.old.room ≤ context.new.room + 1 }
 {
     context.err_with(call, caller, error);
-    None
+    PeerFate::Stays
 }
 
 /// Tells of a change: its signals come first, then what the caller is answered, and then the calls that waited for the
 /// name are released.
-fn tell_change<V: BusView, G: Gate>(
+pub(crate) fn tell_change<V: BusView, G: Gate>(
     context: &mut Context<V, G>,
     call: &Message,
     caller: Conn,
@@ -111,7 +112,7 @@ fn made_by<V: BusView, G: Gate>(
     call: &Message,
     caller: Conn,
     outcome: Outcome,
-) -> Option<CloseCause>
+) -> PeerFate
     requires room { length outcome.tickets + 1 < context.old.room }
     requires crowds { 0 < context.old.crowds }
     ensures comes { Comes V.told V.registry_of G.passes V.alone
@@ -119,10 +120,10 @@ fn made_by<V: BusView, G: Gate>(
     ensures room { context.old.room ≤ context.new.room + length outcome.tickets + 2 }
 {
     match outcome.reply {
-        Reply::Gone => Some(CloseCause::Left),
+        Reply::Gone => PeerFate::Closes(CloseCause::Left),
         _ => {
             tell_change(context, call, caller, outcome);
-            None
+            PeerFate::Stays
         }
     }
 }
@@ -133,7 +134,7 @@ fn made<V: BusView, G: Gate>(
     call: &Message,
     caller: Conn,
     told: Result<Outcome, Cause>,
-) -> Option<CloseCause>
+) -> PeerFate
     requires room { MAX_TICKETS + 1 < context.old.room }
     requires crowds { 0 < context.old.crowds }
     requires few { IfOk told (λ outcome. length outcome.tickets ≤ MAX_TICKETS) }
@@ -182,7 +183,7 @@ fn answer_query<V: BusView, G: Gate>(
     call: &Message,
     caller: Conn,
     query: &Query,
-) -> Option<CloseCause>
+) -> PeerFate
     requires room { 0 < context.old.room }
     requires crowds { 0 < context.old.crowds }
     ensures comes { Comes V.told V.registry_of G.passes V.alone
@@ -194,7 +195,7 @@ fn answer_query<V: BusView, G: Gate>(
     match context.ask(query, &mut body) {
         Ok(Asked::Body) => {
             reply_body(alloc, context, call, caller, query, body);
-            None
+            PeerFate::Stays
         }
         Ok(Asked::NameHasNoOwner) => refuse(context, call, caller, ErrorKind::NameHasNoOwner),
         Err(fault) => refuse(context, call, caller, error_unanswered(fault)),
@@ -208,10 +209,9 @@ fn make<V: BusView, G: Gate>(
     call: &Message,
     caller: Conn,
     change: Change,
-) -> Option<CloseCause>
+) -> PeerFate
     requires room { MAX_TICKETS + 1 < context.old.room }
     requires crowds { 0 < context.old.crowds }
-    requires served { IsServedChange change }
     ensures comes { Comes V.told V.registry_of G.passes V.alone
         (serving_request (said call.now) caller (Ok (Makes change))) context.old.world result
         context.new.world }
@@ -232,7 +232,7 @@ fn request_name<V: BusView, G: Gate>(
     caller: Conn,
     name: &BusName,
     flags: RequestFlags,
-) -> Option<CloseCause>
+) -> PeerFate
     requires room { MAX_TICKETS + 1 < context.old.room }
     requires crowds { 0 < context.old.crowds }
     ensures comes { Comes V.told V.registry_of G.passes V.alone
@@ -256,7 +256,7 @@ fn release_name<V: BusView, G: Gate>(
     call: &Message,
     caller: Conn,
     name: &BusName,
-) -> Option<CloseCause>
+) -> PeerFate
     requires room { MAX_TICKETS + 1 < context.old.room }
     requires crowds { 0 < context.old.crowds }
     ensures comes { Comes V.told V.registry_of G.passes V.alone
@@ -278,7 +278,7 @@ fn add_match<V: BusView, G: Gate>(
     call: &Message,
     caller: Conn,
     rule: &Rule,
-) -> Option<CloseCause>
+) -> PeerFate
     requires room { MAX_TICKETS + 1 < context.old.room }
     requires crowds { 0 < context.old.crowds }
     ensures comes { Comes V.told V.registry_of G.passes V.alone
@@ -300,7 +300,7 @@ fn remove_match<V: BusView, G: Gate>(
     call: &Message,
     caller: Conn,
     rule: &Rule,
-) -> Option<CloseCause>
+) -> PeerFate
     requires room { MAX_TICKETS + 1 < context.old.room }
     requires crowds { 0 < context.old.crowds }
     ensures comes { Comes V.told V.registry_of G.passes V.alone
@@ -323,7 +323,7 @@ fn serve_request<V: BusView, G: Gate>(
     message: &Message,
     caller: Conn,
     call: &Call,
-) -> Option<CloseCause>
+) -> PeerFate
     requires room { MAX_TICKETS + 1 < context.old.room }
     requires crowds { 0 < context.old.crowds }
     ensures comes { Comes V.told V.registry_of G.passes V.alone
@@ -364,11 +364,11 @@ fn serve_request<V: BusView, G: Gate>(
         }
         Call::AddMatch { rule } => add_match(context, right, message, caller, rule.get()),
         Call::RemoveMatch { rule } => remove_match(context, right, message, caller, rule.get()),
-        Call::StartServiceByName { name: _ } => {
-            refuse(context, message, caller, ErrorKind::UnknownMethod)
-        }
-        Call::BecomeMonitor { rules: _ } => {
-            refuse(context, message, caller, ErrorKind::UnknownMethod)
+        Call::StartServiceByName { name } => start_service(
+            alloc, context, right, message, caller, name,
+        ),
+        Call::BecomeMonitor { rules } => {
+            become_monitor(alloc, context, right, message, caller, rules)
         }
     }
 }
@@ -381,7 +381,7 @@ fn serve_reading<V: BusView, G: Gate>(
     message: &Message,
     caller: Conn,
     reading: &Result<Call, DriverFault>,
-) -> Option<CloseCause>
+) -> PeerFate
     requires room { MAX_TICKETS + 1 < context.old.room }
     requires crowds { 0 < context.old.crowds }
     ensures comes { Comes V.told V.registry_of G.passes V.alone
@@ -405,7 +405,7 @@ fn serve_call<V: BusView, G: Gate>(
     right: &V::Right,
     message: &Message,
     caller: Conn,
-) -> Option<CloseCause>
+) -> PeerFate
     requires room { MAX_TICKETS + 1 < context.old.room }
     requires crowds { 0 < context.old.crowds }
     ensures comes { Comes V.told V.registry_of G.passes V.alone
@@ -425,7 +425,7 @@ pub fn serve_bus<V: BusView, G: Gate>(
     right: &V::Right,
     message: &Message,
     sender: Conn,
-) -> Option<CloseCause>
+) -> PeerFate
     requires room { MAX_TICKETS + 1 < context.old.room }
     requires crowds { 0 < context.old.crowds }
     ensures comes { Comes V.told V.registry_of G.passes V.alone
@@ -435,6 +435,6 @@ pub fn serve_bus<V: BusView, G: Gate>(
     if is_method_call(message) {
         serve_call(alloc, context, right, message, sender)
     } else {
-        None
+        PeerFate::Stays
     }
 }

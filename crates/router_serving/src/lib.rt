@@ -8,6 +8,8 @@ mod calls;
 mod holding;
 mod next;
 mod routing;
+mod starting;
+mod watching;
 
 pub use calls::serve_bus;
 pub use next::next_in;

@@ -14,8 +14,8 @@ use router_steps::{Context, Front, Greeting, Peer, Stage};
 use seq_bus_core::Conn;
 use std::alloc::{AllocError, Global};
 
-/// Serves the next whole message of a connection that has its name, and closes it if there is a cause. Without memory
-/// nothing changes.
+/// Serves the next whole message of a connection that has its name, and closes it if there is a cause. A monitor that sends is
+/// closed. Without memory nothing changes.
 fn serve_next<V: BusView, G: Gate>(
     alloc: Global,
     context: &mut Context<V, G>,
@@ -37,8 +37,12 @@ fn serve_next<V: BusView, G: Gate>(
         Front::Waits => {}
         Front::Faulty(fault) => context.close_peer(key, peer, CloseCause::Faulty(fault)),
         Front::Whole(message) => {
+            if peer.watches() {
+                context.close_peer(key, peer, CloseCause::MonitorSent);
+                return Ok(());
+            }
             let fate = serve(alloc, context, right, &message, conn);
-            context.close_if(key, peer, fate);
+            context.settle(key, peer, fate);
         }
     }
     Ok(())

@@ -16,7 +16,7 @@ use bus_view::{BusView, Gone};
 use match_rules::{Facts, MessageKind};
 use message::{RelayFault, put_arguments};
 use message_core::{Message, NO_AUTO_START};
-use router_core::{CloseCause, Gate};
+use router_core::{CloseCause, Gate, PeerFate};
 use router_steps::Context;
 use seq_bus_core::{Conn, ErrorKind, Verdict, VerdictKind};
 use std::alloc::Global;
@@ -27,7 +27,7 @@ fn err_and_stay<V: BusView, G: Gate>(
     message: &Message,
     sender: Conn,
     error: ErrorKind,
-) -> Option<CloseCause>
+) -> PeerFate
     requires room { 0 < context.old.room }
     requires crowds { 0 < context.old.crowds }
     ensures comes { Comes V.told V.registry_of G.passes V.alone
@@ -36,7 +36,7 @@ fn err_and_stay<V: BusView, G: Gate>(
     ensures room { context.old.room ≤ context.new.room + 1 }
 {
     context.err_if_call(message, sender, error);
-    None
+    PeerFate::Stays
 }
 
 /// What becomes of a connection whose message was not put.
@@ -45,7 +45,7 @@ fn not_put<V: BusView, G: Gate>(
     message: &Message,
     sender: Conn,
     fault: RelayFault,
-) -> Option<CloseCause>
+) -> PeerFate
     requires room { 0 < context.old.room }
     requires crowds { 0 < context.old.crowds }
     ensures comes { Comes V.told V.registry_of G.passes V.alone
@@ -53,7 +53,7 @@ fn not_put<V: BusView, G: Gate>(
     ensures room { context.old.room ≤ context.new.room + 1 }
 {
     match fault {
-        RelayFault::TooLong => Some(CloseCause::TooLong),
+        RelayFault::TooLong => PeerFate::Closes(CloseCause::TooLong),
         RelayFault::NoMemory => err_and_stay(context, message, sender, ErrorKind::NoMemory),
     }
 }
@@ -64,7 +64,7 @@ fn relay_plainly<V: BusView, G: Gate>(
     message: &Message,
     sender: Conn,
     verdict: Box<Verdict>,
-) -> Option<CloseCause>
+) -> PeerFate
     requires room { 1 < context.old.room }
     requires crowds { 0 < context.old.crowds }
     requires plain { verdict.value.kind ≡ VerdictKind.Plain }
@@ -74,7 +74,7 @@ fn relay_plainly<V: BusView, G: Gate>(
     ensures room { context.old.room ≤ context.new.room + 2 }
 {
     match context.relay(message, sender, verdict) {
-        Ok(()) => None,
+        Ok(()) => PeerFate::Stays,
         Err(fault) => not_put(context, message, sender, fault),
     }
 }
@@ -85,7 +85,7 @@ fn relay_to_nobody<V: BusView, G: Gate>(
     message: &Message,
     sender: Conn,
     verdict: Box<Verdict>,
-) -> Option<CloseCause>
+) -> PeerFate
     requires room { 1 < context.old.room }
     requires crowds { 0 < context.old.crowds }
     requires nobody { verdict.value.kind ≡ VerdictKind.Nobody }
@@ -108,7 +108,7 @@ fn relay_to_bus<V: BusView, G: Gate>(
     message: &Message,
     sender: Conn,
     verdict: Box<Verdict>,
-) -> Option<CloseCause>
+) -> PeerFate
     requires room { MAX_TICKETS + 2 < context.old.room }
     requires crowds { 0 < context.old.crowds }
     requires bus { verdict.value.kind ≡ VerdictKind.Bus }
@@ -123,13 +123,15 @@ fn relay_to_bus<V: BusView, G: Gate>(
     }
 }
 
-/// Shows the monitors a call to a service that is to be started.
+/// Shows the monitors a call to a service that is to be started, which waits for it.
 fn relay_to_service<V: BusView, G: Gate>(
+    alloc: Global,
     context: &mut Context<V, G>,
+    right: &V::Right,
     message: &Message,
     sender: Conn,
     verdict: Box<Verdict>,
-) -> Option<CloseCause>
+) -> PeerFate
     requires room { 1 < context.old.room }
     requires crowds { 0 < context.old.crowds }
     requires start { verdict.value.kind ≡ VerdictKind.Start }
@@ -139,12 +141,12 @@ fn relay_to_service<V: BusView, G: Gate>(
     ensures room { context.old.room ≤ context.new.room + 2 }
 {
     match context.relay_to_monitors(message, sender, verdict) {
-        Ok(()) => hold(context, message, sender),
+        Ok(()) => hold(alloc, context, right, message, sender),
         Err(fault) => not_put(context, message, sender, fault),
     }
 }
 
-/// Relays a message by where it goes. Why its sender is to be closed then; none where it stays open.
+/// Relays a message by where it goes.
 fn relay<V: BusView, G: Gate>(
     alloc: Global,
     context: &mut Context<V, G>,
@@ -152,7 +154,7 @@ fn relay<V: BusView, G: Gate>(
     message: &Message,
     sender: Conn,
     verdict: Box<Verdict>,
-) -> Option<CloseCause>
+) -> PeerFate
     requires room { MAX_TICKETS + 2 < context.old.room }
     requires crowds { 0 < context.old.crowds }
     ensures comes { Comes V.told V.registry_of G.passes V.alone
@@ -161,11 +163,11 @@ fn relay<V: BusView, G: Gate>(
     ensures room { context.old.room ≤ context.new.room + MAX_TICKETS + 3 }
 {
     match verdict.kind {
-        VerdictKind::Absent => Some(CloseCause::Left),
+        VerdictKind::Absent => PeerFate::Closes(CloseCause::Left),
         VerdictKind::Bus => relay_to_bus(alloc, context, right, message, sender, verdict),
         VerdictKind::Plain => relay_plainly(context, message, sender, verdict),
         VerdictKind::Nobody => relay_to_nobody(context, message, sender, verdict),
-        VerdictKind::Start => relay_to_service(context, message, sender, verdict),
+        VerdictKind::Start => relay_to_service(alloc, context, right, message, sender, verdict),
     }
 }
 
@@ -178,7 +180,7 @@ fn routed<V: BusView, G: Gate>(
     sender: Conn,
     verdict: Box<Verdict>,
     heard: Result<(), Gone>,
-) -> Option<CloseCause>
+) -> PeerFate
     requires room { MAX_TICKETS + 2 < context.old.room }
     requires crowds { 0 < context.old.crowds }
     ensures comes { Comes V.told V.registry_of G.passes V.alone
@@ -199,7 +201,7 @@ fn route_message<V: BusView, G: Gate>(
     right: &V::Right,
     message: &Message,
     sender: Conn,
-) -> Option<CloseCause>
+) -> PeerFate
     requires room { MAX_TICKETS + 2 < context.old.room }
     requires crowds { 1 < context.old.crowds }
     requires known { is_unknown (kind_of (said message.now).kind) ≡ false }
@@ -227,14 +229,14 @@ fn route_message<V: BusView, G: Gate>(
 /// Serves a message of a connection that has its name ("Message Bus Message Routing" of the D-Bus Specification). A message of a
 /// type that the standard does not define is dropped.
 ///
-/// Why the connection is to be closed then; none where it stays open.
+/// What becomes of the connection then.
 pub fn serve<V: BusView, G: Gate>(
     alloc: Global,
     context: &mut Context<V, G>,
     right: &V::Right,
     message: &Message,
     sender: Conn,
-) -> Option<CloseCause>
+) -> PeerFate
     requires room { MAX_TICKETS + 2 < context.old.room }
     requires crowds { 1 < context.old.crowds }
     ensures comes { Comes V.told V.registry_of G.passes V.alone (serving (said message.now) sender)
@@ -242,7 +244,7 @@ pub fn serve<V: BusView, G: Gate>(
     ensures room { context.old.room ≤ context.new.room + MAX_TICKETS + 3 }
 {
     match message.kind() {
-        MessageKind::Unknown(_) => None,
+        MessageKind::Unknown(_) => PeerFate::Stays,
         MessageKind::MethodCall
         | MessageKind::MethodReturn
         | MessageKind::Error

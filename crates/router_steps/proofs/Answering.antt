@@ -12,11 +12,11 @@ use Rattle.router_core.specs.Deeds.{GatedCall, Writes}
 use Rattle.router_core.specs.Events.{OfPeer, closing, answering, conversed_to, hear}
 use Rattle.router_core.specs.Scripts.{World, Does, Comes}
 use Rattle.router_core.specs.Standing.{Stage, Authenticating, Shut, Peer, conn_of, shut}
-use Rattle.router_steps.specs.Turns.{stage_after, IsOutcome, IsConversed, IsSent}
+use Rattle.router_steps.specs.Turns.{IsAlike, stage_after, IsOutcome, IsConversed, IsSent}
 
 -- what is said where it says who it is
 pub conversed_at : (old new : Peer) (setting : Setting) (state : AuthState) (piece sent : List ℕ) (fault : Option AuthenticationFault) → old.stage ≡ Authenticating setting state →
-    IsConversed old old.stage piece sent fault new → IsOutcome (conversed setting state [] (old.unread ++ piece)) setting old sent fault new × (new.serial ≡ old.serial)
+    IsConversed old old.stage piece sent fault new → IsOutcome (conversed setting state [] (old.unread ++ piece)) setting old sent fault new × IsAlike old new
 conversed_at old new setting state piece sent fault is turn = subst (λ (stage : Stage). IsConversed old stage piece sent fault new) is turn
 
 module _ {N G : Type 0} (told : N → History) (registry_of : N → ℕ) (passes : G → GatedCall → G → Type 0) (alone : Bool) (key : ℕ) where
@@ -50,15 +50,15 @@ module _ {N G : Type 0} (told : N → History) (registry_of : N → ℕ) (passes
         at_stage w v q (true, answered said.sent (conversed_to key setting said said.state.phase p) w v v q (subst (λ bytes. IsSent told registry_of alone key bytes w v) outcome.1 written) (by_phase said.state.phase outcome.0 v q outcome.2))
 
     -- one that is closed is the same, whatever was said
-    shut_alike : (q r : Peer) → r.serial ≡ p.serial → conn_of r.stage ≡ conn_of p.stage → q ≡ shut r → q ≡ shut p
-    shut_alike q r serial conn same = same ∙ (λ i. record { stage = Shut (conn i); unread = []; serial = serial i })
+    shut_alike : (q r : Peer) → IsAlike p r → conn_of r.stage ≡ conn_of p.stage → q ≡ shut r → q ≡ shut p
+    shut_alike q r alike conn same = same ∙ (λ i. record { stage = Shut (conn i); unread = []; serial = alike.0 i; watches = alike.1 i })
 
-    pub fails : (sent : List ℕ) (fault : AuthenticationFault) (w m v : World N G) (r q : Peer) → IsOutcome said setting p sent (Some fault) r → r.serial ≡ p.serial → conn_of r.stage ≡ conn_of p.stage →
+    pub fails : (sent : List ℕ) (fault : AuthenticationFault) (w m v : World N G) (r q : Peer) → IsOutcome said setting p sent (Some fault) r → IsAlike p r → conn_of r.stage ≡ conn_of p.stage →
         IsSent told registry_of alone key sent w m → Comes told registry_of passes alone (closing key (Unauthenticated fault) r) m q v → Comes told registry_of passes alone (hear key piece p p.stage) w q v
-    fails sent fault w m v r q outcome serial conn written closes = at_stage w v q (by_outcome outcome)
+    fails sent fault w m v r q outcome alike conn written closes = at_stage w v q (by_outcome outcome)
       where
         closes_it : Comes told registry_of passes alone (closing key (Unauthenticated fault) p) m q v
-        closes_it = (closes.0, closes.1, (shut_alike q r serial conn closes.2.0, closes.2.1))
+        closes_it = (closes.0, closes.1, (shut_alike q r alike conn closes.2.0, closes.2.1))
 
         by_outcome : IsOutcome said setting p sent (Some fault) r → Comes told registry_of passes alone (hear key piece p (Authenticating setting state)) w q v
         by_outcome (inl failed) = (

@@ -1,15 +1,15 @@
 -- What comes of the next message.
-use Rattle.std.proofs.Common.{◌≡◌, ℕ, Bool, false, Option, Some, None, List, [], refl, sym, ap, ◌∙◌, subst, if◌then◌else◌}
+use Rattle.std.proofs.Common.{◌≡◌, ℕ, Bool, true, false, Option, Some, None, List, [], refl, sym, ap, ◌∙◌, subst, if◌then◌else◌}
 use Rattle.std.proofs.lemmas.List.{set-get_or}
 use Rattle.seq_bus_core.specs.Histories.{History}
 use Rattle.seq_bus_core.specs.declared.connection.Conn.{Conn}
 use Rattle.message_core.specs.declared.fault.FrameFault.{FrameFault}
 use Rattle.message_core.specs.Said.{said}
 use Rattle.driver.specs.Calls.{is_hello}
-use Rattle.router_core.specs.declared.cause.CloseCause.{CloseCause}
+use Rattle.router_core.specs.declared.fate.PeerFate.{PeerFate}
 use Rattle.router_core.specs.declared.cause.CloseCause.TheVariants as cause
 use Rattle.router_core.specs.Deeds.{GatedCall}
-use Rattle.router_core.specs.Events.{OfPeer, closing, close_if, for_slot, for_peer, greet, serve_at, read, next_at, next}
+use Rattle.router_core.specs.Events.{OfPeer, closing, fated, for_slot, for_peer, greet, serve_named, serve_at, read, next_at, next}
 use Rattle.router_core.specs.Fronts.{Waits, Whole, Faulty, IsFront}
 use Rattle.router_core.specs.Scripts.{Gives, Fronting, World, Comes, and_then}
 use Rattle.router_core.specs.Serving.{serve}
@@ -51,15 +51,29 @@ module _ {N G : Type 0} (told : N → History) (registry_of : N → ℕ) (passes
         subst (λ (b : Bool). Comes told registry_of passes alone (if b then greet s key (said message) x privileged else for_peer s key (Some x) (closing key cause.NotHello)) w t v) (sym other) here in
         (Whole message r.unread, front, subst (λ (stage : Stage). Comes told registry_of passes alone (serve_at s key (said message) x stage) w t v) (sym unnamed) chosen)
 
-    pub reads_named : (s : Standing) (message : List ℕ) (r q : Peer) (conn : Conn) (fate : Option CloseCause) (m : World N G) → IsFront p.unread (Whole message r.unread) → IsRest p r → p.stage ≡ Named conn →
-        Comes told registry_of passes alone (serve (said message) conn) w fate m → Comes told registry_of passes alone (close_if key fate r) m q v → Reads s q
-    reads_named s message r q conn fate m front rest named served closes =
+    pub reads_named : (s : Standing) (message : List ℕ) (r q : Peer) (conn : Conn) (fate : PeerFate) (m : World N G) → IsFront p.unread (Whole message r.unread) → IsRest p r → p.stage ≡ Named conn → r.watches ≡ false →
+        Comes told registry_of passes alone (serve (said message) conn) w fate m → Comes told registry_of passes alone (fated key fate r) m q v → Reads s q
+    reads_named s message r q conn fate m front rest named speaks served closes =
         let t : Standing = with_peer s key (Some q) in
-        let work = λ (x : Peer). and_then (serve (said message) conn) (λ (f : Option CloseCause). close_if key f x) in
-        let done = comes_then told registry_of passes alone (λ (f : Option CloseCause). close_if key f r) fate m q v closes (serve (said message) conn) w served in
+        let work = λ (x : Peer). and_then (serve (said message) conn) (λ (f : PeerFate). fated key f x) in
+        let done = comes_then told registry_of passes alone (λ (f : PeerFate). fated key f r) fate m q v closes (serve (said message) conn) w served in
         let here = subst (λ (x : Peer). Comes told registry_of passes alone (for_peer s key (Some x) work) w t v) rest (for_some s key r q work w v done) in
         let x : Peer = record p { unread = r.unread } in
-        (Whole message r.unread, front, subst (λ (stage : Stage). Comes told registry_of passes alone (serve_at s key (said message) x stage) w t v) (sym named) here)
+        let same : p.watches ≡ false = sym (ap (λ (y : Peer). y.watches) rest) ∙ speaks in
+        let chosen : Comes told registry_of passes alone (serve_at s key (said message) x (Named conn)) w t v =
+        subst (λ (b : Bool). Comes told registry_of passes alone (serve_named s key (said message) x conn b) w t v) (sym same) here in
+        (Whole message r.unread, front, subst (λ (stage : Stage). Comes told registry_of passes alone (serve_at s key (said message) x stage) w t v) (sym named) chosen)
+
+    pub reads_watching : (s : Standing) (message : List ℕ) (r q : Peer) (conn : Conn) → IsFront p.unread (Whole message r.unread) → IsRest p r → p.stage ≡ Named conn → r.watches ≡ true →
+        Comes told registry_of passes alone (closing key cause.MonitorSent r) w q v → Reads s q
+    reads_watching s message r q conn front rest named watches done =
+        let t : Standing = with_peer s key (Some q) in
+        let here = subst (λ (x : Peer). Comes told registry_of passes alone (for_peer s key (Some x) (closing key cause.MonitorSent)) w t v) rest (for_some s key r q (closing key cause.MonitorSent) w v done) in
+        let x : Peer = record p { unread = r.unread } in
+        let same : p.watches ≡ true = sym (ap (λ (y : Peer). y.watches) rest) ∙ watches in
+        let chosen : Comes told registry_of passes alone (serve_at s key (said message) x (Named conn)) w t v =
+        subst (λ (b : Bool). Comes told registry_of passes alone (serve_named s key (said message) x conn b) w t v) (sym same) here in
+        (Whole message r.unread, front, subst (λ (stage : Stage). Comes told registry_of passes alone (serve_at s key (said message) x stage) w t v) (sym named) chosen)
 
     -- so it is served next
     pub next_unnamed : (s : Standing) (q : Peer) (old : Option Peer) (privileged : Bool) → old ≡ Some p → p.stage ≡ Unnamed privileged → Reads s q → Comes told registry_of passes alone (next s key old) w (with_peer s key (Some q)) v

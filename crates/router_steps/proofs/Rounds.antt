@@ -3,11 +3,12 @@ use Rattle.std.proofs.Common.{◌≡◌, ℕ, ◌+◌, ◌<◌, ◌≤◌, Bool,
 use Rattle.std.proofs.lemmas.List.{drop_more, length-take-le, take_more_set, drop-set-lt}
 use Rattle.seq_bus_core.specs.Histories.{History}
 use Rattle.seq_bus_core.specs.declared.connection.Conn.{Conn}
+use Rattle.seq_bus_core.specs.declared.error_kind.ErrorKind.{ErrorKind}
 use Rattle.seq_bus_core.specs.declared.ticket.SettledTicket.{SettledTicket}
 use Rattle.router_core.specs.Deeds.{GatedCall}
 use Rattle.router_core.specs.Events.{leave, leave_all, for_slot, look, look_all}
 use Rattle.router_core.specs.Scripts.{World, Comes}
-use Rattle.router_core.specs.Serving.{release, release_all}
+use Rattle.router_core.specs.Serving.{fail, fail_all, release, release_all}
 use Rattle.router_core.specs.Standing.{Peer, Standing}
 use Rattle.router_steps.proofs.Sequels.{comes_then}
 
@@ -27,6 +28,14 @@ module _ {N G : Type 0} (told : N → History) (registry_of : N → ℕ) (passes
   releases_more owner t rest tickets is this later =
       subst (λ ts. Comes told registry_of passes alone (release_all owner ts) w tt v) (sym is)
       (comes_then told registry_of passes alone (λ done. release_all owner rest) tt m tt v later (release owner t.ticket t.ticket.message) w this)
+
+  -- the next call that waited is answered an error, then the rest
+  pub fails_more : (error : ErrorKind) (t : SettledTicket) (rest tickets : List SettledTicket) → tickets ≡ t ∷ rest →
+      Comes told registry_of passes alone (fail error t.ticket) w tt m → Comes told registry_of passes alone (fail_all error rest) m tt v →
+      Comes told registry_of passes alone (fail_all error tickets) w tt v
+  fails_more error t rest tickets is this later =
+      subst (λ ts. Comes told registry_of passes alone (fail_all error ts) w tt v) (sym is)
+      (comes_then told registry_of passes alone (λ done. fail_all error rest) tt m tt v later (fail error t.ticket) w this)
 
   -- the next connection is looked for, then the rest
   pub looks_more : (xs : List (Option Peer)) (k : ℕ) → k < length xs → (q : Option Peer) (ys : List (Option Peer)) →

@@ -1,5 +1,5 @@
 -- A message is put with its sender's name, or it is not.
-use Rattle.std.proofs.Common.{◌≡◌, ℕ, Bool, true, false, Option, Some, Result, Ok, Err, List, [], ◌∷◌, refl, sym, ap, subst, ◌∙◌, if◌then◌else◌, IsErrOf, IsTrue, ◌↔◌}
+use Rattle.std.proofs.Common.{◌≡◌, ℕ, Bool, true, false, Result, Ok, Err, List, [], ◌∷◌, refl, sym, ap, subst, ◌∙◌, if◌then◌else◌, IsErrOf, IsTrue, ◌↔◌}
 use Rattle.seq_bus_core.specs.Histories.{History}
 use Rattle.seq_bus_core.specs.declared.connection.Conn.{Conn}
 use Rattle.message_core.specs.Messages.{Message}
@@ -7,12 +7,12 @@ use Rattle.message.specs.declared.fault.RelayFault.{RelayFault}
 use Rattle.message.specs.declared.fault.RelayFault.TheVariants as relay
 use Rattle.message.specs.MessageBytes.{message_bytes, is_too_long}
 use Rattle.outbox_core.specs.Contents.{Said, Relays}
-use Rattle.router_core.specs.declared.cause.CloseCause.{CloseCause}
+use Rattle.router_core.specs.declared.fate.PeerFate.{PeerFate}
 use Rattle.router_core.specs.declared.cause.CloseCause.TheVariants as cause
 use Rattle.seq_bus_core.specs.declared.error_kind.ErrorKind.TheVariants as error
 use Rattle.router_core.specs.Deeds.{GatedCall, all_of}
-use Rattle.router_core.specs.Scripts.{World, Comes, Gives, putting}
-use Rattle.router_core.specs.Serving.{Fated, nothing, signed, copied, relayed, and_stays, err_if_call}
+use Rattle.router_core.specs.Scripts.{World, Comes, putting}
+use Rattle.router_core.specs.Serving.{Fated, nothing, closes_for, signed, copied, relayed, and_stays, err_if_call}
 use Rattle.router_steps.specs.OncePut.{is_for_length, is_long, not_put}
 
 pub long_is : {A : Type 0} (r : Result A RelayFault) (b : Bool) → (IsErrOf r relay.TooLong ↔ IsTrue b) → b ≡ is_long r
@@ -32,9 +32,9 @@ all_of_none (conn ∷ conns) = ap (λ rest. conn ∷ rest) (all_of_none conns)
 pub all_of_one : (to monitors : List Conn) (conn : Conn) → (to ≡ conn ∷ []) × (monitors ≡ []) → conn ∷ [] ≡ all_of to monitors
 all_of_one to monitors conn is = sym (ap (λ (conns : List Conn). all_of conns monitors) is.0 ∙ ap (λ (shown : List Conn). all_of (conn ∷ []) shown) is.1)
 
-module _ {N G : Type 0} (told : N → History) (registry_of : N → ℕ) (passes : G → GatedCall → G → Type 0) (alone : Bool) (m : Message) (sender : Conn) (goes_on : Fated) (fate : Option CloseCause) (end : World N G) where
+module _ {N G : Type 0} (told : N → History) (registry_of : N → ℕ) (passes : G → GatedCall → G → Type 0) (alone : Bool) (m : Message) (sender : Conn) (goes_on : Fated) (fate : PeerFate) (end : World N G) where
   fits : (to : List Conn) (w : World N G) → is_too_long (signed m sender) ≡ false → Comes told registry_of passes alone (copied m sender to goes_on) w fate end → Comes told registry_of passes alone (relayed m sender to goes_on) w fate end
-  fits to w short p = subst (λ (b : Bool). Comes told registry_of passes alone (if b then Gives (Some cause.TooLong) else copied m sender to goes_on) w fate end) (sym short) p
+  fits to w short p = subst (λ (b : Bool). Comes told registry_of passes alone (if b then closes_for cause.TooLong else copied m sender to goes_on) w fate end) (sym short) p
 
   put : (to : List Conn) (w n : World N G) → Comes told registry_of passes alone (putting to (Relays (message_bytes (signed m sender))) nothing) w tt n → Comes told registry_of passes alone goes_on n fate end → Comes told registry_of passes alone (copied m sender to goes_on) w fate end
   put [] w n p q = subst (λ (u : World N G). Comes told registry_of passes alone goes_on u fate end) p.1 q
@@ -53,4 +53,4 @@ module _ {N G : Type 0} (told : N → History) (registry_of : N → ℕ) (passes
   pub refuses : (fault : RelayFault) (to monitors : List Conn) (w : World N G) → is_too_long (signed m sender) ≡ is_for_length fault → ((to ≡ []) × (monitors ≡ []) → ⊥) →
       Comes told registry_of passes alone (not_put fault m sender) w fate end → Comes told registry_of passes alone (relayed m sender (all_of to monitors) goes_on) w fate end
   refuses relay.NoMemory to monitors w long some p = fits (all_of to monitors) w long (dropped to monitors w some p)
-  refuses relay.TooLong to monitors w long some p = subst (λ (b : Bool). Comes told registry_of passes alone (if b then Gives (Some cause.TooLong) else copied m sender (all_of to monitors) goes_on) w fate end) (sym long) p
+  refuses relay.TooLong to monitors w long some p = subst (λ (b : Bool). Comes told registry_of passes alone (if b then closes_for cause.TooLong else copied m sender (all_of to monitors) goes_on) w fate end) (sym long) p

@@ -26,10 +26,14 @@ IsOutcome said setting old sent None new =
 IsOutcome said setting old sent (Some fault) new =
     ((said.state.phase ≡ phase.Closed fault) × (sent ≡ said.sent)) ⊎ ((fault ≡ NoMemory) × (sent ≡ []))
 
+-- nothing was written to it with a serial, and it is a monitor where it was
+abbrev pub IsAlike : Peer → Peer → Type 0
+IsAlike old new = (new.serial ≡ old.serial) × (new.watches ≡ old.watches)
+
 -- The piece was said behind the unread bytes.
 abbrev pub IsConversed : Peer → Stage → (piece : List ℕ) → (sent : List ℕ) → Option AuthenticationFault → Peer → Type 0
 IsConversed old (Authenticating setting state) piece sent fault new =
-    IsOutcome (conversed setting state [] (old.unread ++ piece)) setting old sent fault new × (new.serial ≡ old.serial)
+    IsOutcome (conversed setting state [] (old.unread ++ piece)) setting old sent fault new × IsAlike old new
 IsConversed old other piece sent fault new = Unit {0}
 
 -- It is written to the connection of this key, if it is anything.

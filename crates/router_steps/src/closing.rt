@@ -1,24 +1,35 @@
-//! Closing a connection for a cause that there may be.
+//! What becomes of a connection once a message of it was served.
 
-ghost use Rattle.std.specs.Prelude.{◌≡◌, ◌<◌, ◌≤◌, ◌+◌};
-ghost use Rattle.router_core.specs.Events.{close_if as closing_if};
+ghost use Rattle.std.specs.Prelude.{◌≡◌, ◌<◌, ◌≤◌, ◌+◌, true};
+ghost use Rattle.router_core.specs.Events.{fated};
 ghost use Rattle.router_core.specs.Scripts.{Comes};
 
 use crate::context::Context;
 use crate::peer::Peer;
 use bus_view::BusView;
-use router_core::{CloseCause, Gate};
+use router_core::{Gate, PeerFate};
+
+impl Peer {
+    /// It is a monitor from now on.
+    fn watch(&mut self)
+        ensures { self.new ≡ record self.old { watches = true } }
+    {
+        self.watches = true;
+    }
+}
 
 impl<V: BusView, G: Gate> Context<V, G> {
-    /// Closes a connection, if there is a cause.
-    pub fn close_if(&mut self, key: usize, peer: &mut Peer, cause: Option<CloseCause>)
+    /// Leaves a connection as it stays, makes it a monitor, or closes it.
+    pub fn settle(&mut self, key: usize, peer: &mut Peer, fate: PeerFate)
         requires { 0 < self.old.room }
-        ensures comes { Comes V.told V.registry_of G.passes V.alone (closing_if key cause peer.old)
+        ensures comes { Comes V.told V.registry_of G.passes V.alone (fated key fate peer.old)
             self.old.world peer.new self.new.world }
         ensures room { self.old.room ≤ self.new.room + 1 }
     {
-        if let Some(cause) = cause {
-            self.close_peer(key, peer, cause);
+        match fate {
+            PeerFate::Stays => {}
+            PeerFate::Watches => peer.watch(),
+            PeerFate::Closes(cause) => self.close_peer(key, peer, cause),
         }
     }
 }

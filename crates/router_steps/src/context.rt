@@ -2,7 +2,6 @@
 
 ghost use Rattle.std.specs.Prelude.{◌≡◌, ◌↔◌, ◌<◌, ◌≤◌, ◌+◌, ◌++◌, ◌∷◌, [], length, Option, IfOk, IfSome, IsTrue, false, OnOk, OnErr};
 ghost use Rattle.message_core.specs.Messages.{Message, IsWritten};
-ghost use Rattle.seq_bus_core.specs.Served.{IsServedChange};
 ghost use Rattle.seq_bus_core.specs.declared.limits.TheConstants.{MAX_TICKETS};
 ghost use Rattle.std.specs.List.{list_any};
 ghost use Rattle.seq_bus_core.specs.Answers.{Answer};
@@ -12,7 +11,7 @@ ghost use Rattle.outbox_core.specs.Contents.{said_of};
 ghost use Rattle.router_core.specs.Answers.{Heard};
 ghost use Rattle.router_core.specs.Deeds.{Writes, Sends, Puts, Closes, all_of};
 ghost use Rattle.router_core.specs.Scripts.{putting, having_done, Changes, Asks, Routes, Looks, Takes, Passes, Does, Announces, Comes};
-ghost use Rattle.router_core.specs.Serving.{nothing};
+ghost use Rattle.router_core.specs.Serving.{nothing, run as running};
 ghost use Rattle.router_steps.specs.Hearing.{heard_change, heard_verdict, heard_present, IsTold};
 
 use crate::room::{blank_verdict, clear_actions, keep_verdict, push_reserved};
@@ -20,6 +19,7 @@ use crate::verdicts::{is_for_nobody, only_one};
 use bus_view::{AskFault, Asked, BusView, Cause, Gone};
 use driver::Call;
 use match_rules::Facts;
+use names::BusName;
 use outbox_core::Content;
 use router_core::{Action, Addressees, CloseCause, Gate, WrittenBytes};
 use seq_bus_core::{Change, Outcome, Query, Signals, Verdict};
@@ -247,10 +247,21 @@ impl<V: BusView, G: Gate> Context<V, G> {
         }
     }
 
+    /// Asks for the program of a service to be run, where the bus asks for a start.
+    pub fn run(&mut self, name: Box<BusName>, start: Option<u64>)
+        requires { 0 < self.old.room }
+        ensures comes { Comes V.told V.registry_of G.passes V.alone (running name.value start)
+            self.old.world tt self.new.world }
+        ensures room { self.old.room ≤ self.new.room + 1 }
+    {
+        if let Some(start) = start {
+            self.act(Action::Run { name, start });
+        }
+    }
+
     /// Makes a change of the bus. One that is made settles 512 tickets at most.
     #[tactic(auto, using(crate::proofs::Refusals::is_lost))]
     pub fn change(&mut self, right: &V::Right, change: Change) -> Result<Outcome, Cause>
-        requires { IsServedChange change }
         ensures changes { Changes V.alone change self.old.world (heard_change result)
             self.new.world }
         ensures few { IfOk result (λ outcome. length outcome.tickets ≤ MAX_TICKETS) }

@@ -7,6 +7,7 @@
 mod closing;
 mod context;
 mod conversing;
+mod failing;
 mod first;
 mod front;
 mod hello_errors;

@@ -47,7 +47,8 @@ impl Stage {
     }
 }
 
-/// A connection: how far it has come, its bytes that were not served, and the serial of the last message of the bus to it.
+/// A connection: how far it has come, its bytes that were not served, the serial of the last message of the bus to it, and whether it
+/// is a monitor.
 #[derive(Drop)]
 pub struct Peer {
     pub(crate) alloc: Global,
@@ -56,6 +57,7 @@ pub struct Peer {
     pub(crate) pending: Option<Message>,
     pub(crate) unread: Framer,
     pub(crate) serial: u32,
+    pub(crate) watches: bool,
 }
 
 impl Model for Peer {
@@ -71,6 +73,7 @@ impl Model for Peer {
       unread = unread_at p.stage
           (pending_bytes p.pending ++ p.unread.bytes);
       serial = p.serial;
+      watches = p.watches;
     } };
 
     ghost invariant = { λ p. (p.unread.fault ≡ None) × IfSome p.pending IsWithin ×
@@ -90,6 +93,7 @@ impl Peer {
             pending: None,
             unread: Framer::new(alloc),
             serial: 0,
+            watches: false,
         }
     }
 
@@ -98,6 +102,13 @@ impl Peer {
         ensures { stage_of result.now ≡ self.now.stage }
     {
         &self.stage
+    }
+
+    /// Whether it is a monitor, which sends nothing any more.
+    pub fn watches(&self) -> bool
+        ensures { result ≡ self.now.watches }
+    {
+        self.watches
     }
 
     /// Takes a piece of the bytes of its messages. Once it was closed it takes none. Without memory nothing changes, and the piece stays

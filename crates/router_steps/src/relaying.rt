@@ -1,13 +1,12 @@
 //! Messages that connections send one another. (D-Bus Specification: "Message Bus Message Routing")
 
-ghost use Rattle.std.specs.Prelude.{◌≡◌, ◌<◌, ◌≤◌, ◌+◌, Option, IfOk};
-ghost use Rattle.outbox_core.specs.Contents.{Relays, said_of};
+ghost use Rattle.std.specs.Prelude.{◌≡◌, ◌<◌, ◌≤◌, ◌+◌, IfOk};
 ghost use Rattle.message_core.specs.Said.{said};
 ghost use Rattle.message.specs.MessageBytes.{message_bytes, is_too_long};
 ghost use Rattle.router_core.specs.Deeds.{all_of};
 ghost use Rattle.router_core.specs.Scripts.{World, Comes};
 ghost use Rattle.router_core.specs.Serving.{Fated, signed, relayed, shown};
-ghost use Rattle.router_core.specs.declared.cause.CloseCause.{CloseCause as Cause};
+ghost use Rattle.router_core.specs.declared.fate.PeerFate.{PeerFate as Fate};
 ghost use Rattle.router_steps.specs.OncePut.{is_long, once_put};
 
 use crate::context::Context;
@@ -22,12 +21,11 @@ use seq_bus_core::{Conn, SharedBytes, Verdict};
 use std::sync::Arc;
 
 impl<V: BusView, G: Gate> Context<V, G> {
-    /// The message as it is passed on, with its sender's name.
+    /// The bytes of the message as it is passed on, with its sender's name.
     #[tactic(auto, using(crate::proofs::Signing::long_is))]
-    fn sign(&self, message: &Message, sender: Conn) -> Result<Content, RelayFault>
+    pub fn sign(&self, message: &Message, sender: Conn) -> Result<SharedBytes, RelayFault>
         ensures bytes { IfOk result
-            (λ content. said_of content ≡ Relays
-            (message_bytes (signed (said message.now) sender))) }
+            (λ bytes. bytes ≡ message_bytes (signed (said message.now) sender)) }
         ensures too_long { is_too_long (signed (said message.now) sender) ≡ is_long result }
     {
         let mut bytes = Vec::new(self.alloc);
@@ -35,7 +33,7 @@ impl<V: BusView, G: Gate> Context<V, G> {
             return Err(fault);
         }
         match Arc::new(self.alloc, bytes) {
-            Ok(bytes) => Ok(Content::Relayed(SharedBytes::new(bytes))),
+            Ok(bytes) => Ok(SharedBytes::new(bytes)),
             Err(_) => Err(RelayFault::NoMemory),
         }
     }
@@ -53,7 +51,7 @@ impl<V: BusView, G: Gate> Context<V, G> {
         verdict: Box<Verdict>,
     ) -> Result<(), RelayFault>
         requires { 0 < self.old.room }
-        ensures comes { (goes_on : Fated) (fate : Option Cause) (end : World V.Note G) →
+        ensures comes { (goes_on : Fated) (fate : Fate) (end : World V.Note G) →
             Comes V.told V.registry_of G.passes V.alone
             (once_put result (said message.now) sender goes_on) self.new.world fate end →
             Comes V.told V.registry_of G.passes V.alone
@@ -70,8 +68,8 @@ impl<V: BusView, G: Gate> Context<V, G> {
             };
         }
         match self.sign(message, sender) {
-            Ok(content) => {
-                self.put_to(verdict, content);
+            Ok(bytes) => {
+                self.put_to(verdict, Content::Relayed(bytes));
                 Ok(())
             }
             Err(fault) => Err(fault),
@@ -90,7 +88,7 @@ impl<V: BusView, G: Gate> Context<V, G> {
         verdict: Box<Verdict>,
     ) -> Result<(), RelayFault>
         requires { 0 < self.old.room }
-        ensures comes { (goes_on : Fated) (fate : Option Cause) (end : World V.Note G) →
+        ensures comes { (goes_on : Fated) (fate : Fate) (end : World V.Note G) →
             Comes V.told V.registry_of G.passes V.alone
             (once_put result (said message.now) sender goes_on) self.new.world fate end →
             Comes V.told V.registry_of G.passes V.alone
@@ -116,7 +114,7 @@ impl<V: BusView, G: Gate> Context<V, G> {
         verdict: Box<Verdict>,
     ) -> Result<(), RelayFault>
         requires { 0 < self.old.room }
-        ensures comes { (goes_on : Fated) (fate : Option Cause) (end : World V.Note G) →
+        ensures comes { (goes_on : Fated) (fate : Fate) (end : World V.Note G) →
             Comes V.told V.registry_of G.passes V.alone
             (once_put result (said message.now) sender goes_on) self.new.world fate end →
             Comes V.told V.registry_of G.passes V.alone

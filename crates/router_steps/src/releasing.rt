@@ -12,8 +12,8 @@ use outbox_core::{CallToAnswer, Content, OwnMessage, ReplyContent};
 use router_core::{Addressees, Gate};
 use seq_bus_core::{Conn, Ticket, Tickets};
 
-/// Whether the call that waited is answered, where it is StartServiceByName.
-fn wants_reply(ticket: &Ticket) -> bool
+/// Whether the call that waited is answered where the bus itself answers it.
+pub(crate) fn wants_reply(ticket: &Ticket) -> bool
     ensures { result ≡ wants_reply_in ticket.now }
 {
     ticket.call.flags & NO_REPLY_EXPECTED == 0

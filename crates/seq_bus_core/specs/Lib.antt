@@ -6,7 +6,6 @@ pub mod Histories
 pub mod Tickets
 pub mod Batches
 pub mod Changes
-pub mod Served
 pub mod TicketRooms
 pub mod HandedOut
 pub mod Consistency

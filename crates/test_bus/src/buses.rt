@@ -1,8 +1,5 @@
 //! Buses that rows are played on: a plain bus, its view, and a registry.
 
-ghost use Rattle.std.specs.Prelude.{IfSome};
-ghost use Rattle.seq_bus_core.specs.Served.{IsServedChange};
-
 use bus_view::{Asked, BusView, can_open};
 use match_rules::{Facts, Rule};
 use names::BusName;
@@ -29,9 +26,7 @@ pub enum Deed<'a> {
 }
 
 /// The change that is meant; none where a text is no name or no rule.
-pub fn change_of(deed: Deed<'_>) -> Option<Change>
-    ensures { IfSome result (λ change. IsServedChange change) }
-{
+pub fn change_of(deed: Deed<'_>) -> Option<Change> {
     Some(match deed {
         Deed::Hello => Change::Hello { privileged: false },
         Deed::Leave(connection) => Change::Leave { connection },

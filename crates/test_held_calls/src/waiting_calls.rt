@@ -55,7 +55,7 @@ pub(crate) const SECOND: Conn = Conn {
     router: 1,
 };
 
-const THIRD: Conn = Conn {
+pub(crate) const THIRD: Conn = Conn {
     number: 3,
     slot: 2,
     router: 1,

@@ -2,8 +2,11 @@
 //!
 //! A connection stands as its key. What is put waits as mail until a row brings it.
 //!
+//! - `engine [SERVICE..]`: the bus has these services.
 //! - `opens K [asked]`: a connection comes, and may be asked who it is. `hello K`, `sends K BYTES`: it sends the call of Hello with
-//!   serial 1, or bytes. `serves K`: its next message is served. `leaves K`: it is gone.
+//!   serial 1, or bytes. `calls K SERIAL MEMBER ..`, `says K TYPE SERIAL ..`: it sends a call to the bus, or any message, as
+//!   [`scene`](crate::scene) has them. `serves K`: its next message is served. `leaves K`: it is gone.
+//! - `ends START SERVICE exit STATUS`, or `killed`, `exec` or `timeout` for the last two words: a start of a service ended so.
 //! - `mail`: the oldest mail comes. `fills N`: connection number N takes no more mail. `tick`: time passes.
 //! - `next`: the key of the next connection. `free K`: whether that is K. `ready K`: whether K has something to be served. `number K`: its
 //!   number. `slot N`: the key of the connection that has this slot. `unnamed`: how many have no name.
@@ -21,8 +24,9 @@ use crate::happening::{event_of, mail};
 use crate::journal::Journal;
 use crate::shown::{put_bytes, put_own};
 use crate::words::Words;
-use anyhow::{Result, bail, ensure};
+use anyhow::{Context, Result, bail, ensure};
 use bus_view::can_open;
+use names::WellKnown;
 use outbox_core::{Content, OwnMessage};
 use owner_queues::Profile;
 use router::Engine;
@@ -37,12 +41,26 @@ use test_support::Escaped;
 
 type Plain = Engine<SeqBus, OpenGate>;
 
-/// A plain bus without services, for one router.
-fn bus(alloc: Global) -> Result<SeqBus> {
-    if !can_open(&[], 1) {
+/// The services that the rows of a scenario name.
+fn services(alloc: Global, rows: &[String]) -> Result<Vec<WellKnown>> {
+    let mut services = Vec::new(alloc);
+    for row in rows {
+        if let Some(names) = row.strip_prefix("engine ") {
+            for name in names.split(' ') {
+                let name = WellKnown::parse(name).ok();
+                services.push(name.context("no name of a service")?)?;
+            }
+        }
+    }
+    Ok(services)
+}
+
+/// A plain bus with these services, for one router.
+fn bus(alloc: Global, services: &[WellKnown]) -> Result<SeqBus> {
+    if !can_open(services, 1) {
         bail!("no bus can be opened");
     }
-    Ok(SeqBus::new(alloc, &[], 1, Profile::Two)?)
+    Ok(SeqBus::new(alloc, services, 1, Profile::Two)?)
 }
 
 /// Whether an event can happen to an engine: a connection comes with a key that is free. Mail brings no note here.
@@ -74,6 +92,7 @@ struct Letter {
 #[derive(Drop)]
 struct EngineScene {
     alloc: Global,
+    services: Vec<WellKnown>,
     engine: Plain,
     letters: VecDeque<Letter>,
     events: Vec<Event<()>>,
@@ -81,9 +100,11 @@ struct EngineScene {
 
 /// The answers to the rows of a scenario, a line to each.
 pub fn play(alloc: Global, rows: &[String]) -> Result<String> {
+    let services = services(alloc, rows)?;
     let mut scene = EngineScene {
         alloc,
-        engine: Engine::new(alloc, bus(alloc)?, OpenGate, None)?,
+        engine: Engine::new(alloc, bus(alloc, &services)?, OpenGate, None)?,
+        services,
         letters: VecDeque::new(alloc),
         events: Vec::new(alloc),
     };
@@ -99,6 +120,17 @@ fn put_numbers(conns: &[Conn], text: &mut String) -> Result<()> {
         write!(text, " {}", conn.number)?;
     }
     Ok(())
+}
+
+/// The monitors that are no recipients: the others get the message already.
+fn others(alloc: Global, to: &[Conn], monitors: &[Conn]) -> Result<Vec<Conn>, AllocError> {
+    let mut others = Vec::new(alloc);
+    for monitor in monitors {
+        if !to.contains(monitor) {
+            others.push(*monitor)?;
+        }
+    }
+    Ok(others)
 }
 
 /// Those that a message is put to.
@@ -270,7 +302,11 @@ impl EngineScene {
                 write!(journal.text, " {key}: {cause}")?;
                 Ok(())
             }
-            Action::Run { name: _, start: _ } => Ok(()),
+            Action::Run { name, start } => {
+                journal.begin("run")?;
+                write!(journal.text, " {} {start}", name.as_str())?;
+                Ok(())
+            }
         }
     }
 
@@ -282,11 +318,12 @@ impl EngineScene {
         content: &Content,
         journal: &mut Journal,
     ) -> Result<()> {
+        let monitors = others(self.alloc, to, monitors)?;
         if to.is_empty() && monitors.is_empty() {
             return Ok(());
         }
         journal.begin("put ")?;
-        put_addressees(to, monitors, &mut journal.text)?;
+        put_addressees(to, &monitors, &mut journal.text)?;
         write!(journal.text, ": ")?;
         match content {
             Content::Relayed(bytes) => {
@@ -294,7 +331,7 @@ impl EngineScene {
             }
             Content::Own(message) => put_own(message, &mut journal.text)?,
         }
-        for conn in to.iter().chain(monitors) {
+        for conn in to.iter().chain(&monitors) {
             self.letters.push_back(Letter {
                 to: *conn,
                 content: content.again()?,
@@ -325,7 +362,8 @@ impl EngineScene {
     /// Runs all that has happened once more.
     fn run(&mut self, journal: &mut Journal) -> Result<()> {
         let events = mem::replace(&mut self.events, Vec::new(self.alloc));
-        match run(self.alloc, bus(self.alloc)?, OpenGate, None, events) {
+        let bus = bus(self.alloc, &self.services)?;
+        match run(self.alloc, bus, OpenGate, None, events) {
             Ok(outputs) => {
                 for (place, bytes) in outputs.iter().enumerate() {
                     journal.begin("")?;

@@ -1,16 +1,34 @@
 //! What happens to an engine.
 
+use crate::sent;
 use crate::words::Words;
-use anyhow::{Result, bail, ensure};
+use anyhow::{Context, Result, bail, ensure};
+use names::BusName;
 use outbox_core::{Content, Envelope};
-use router_core::Event;
-use seq_bus_core::Conn;
+use router_core::{Event, HowEnded, StartEnd};
+use seq_bus_core::{Conn, Ending};
 use std::alloc::Global;
 use test_support::messages::HELLO;
 use test_support::unescaped;
 
 /// What a client is challenged with: the bytes 0 to 15.
 pub const CHALLENGE: [u8; 16] = [0, 1, 2, 3, 4, 5, 6, 7, 8, 9, 10, 11, 12, 13, 14, 15];
+
+/// `SERVICE exit STATUS`, `SERVICE killed`, `SERVICE exec`, `SERVICE timeout`: a start of a service ended.
+fn start_end(start: u32, mut words: Words<'_>) -> Result<StartEnd> {
+    let name = BusName::parse(words.next()).ok();
+    let how = match words.next() {
+        "exit" => HowEnded::Program(Ending::Exit(words.next().parse()?)),
+        "killed" => HowEnded::Program(Ending::Killed),
+        "exec" => HowEnded::Program(Ending::NotRun),
+        _ => HowEnded::TimedOut,
+    };
+    Ok(StartEnd {
+        name: name.context("no name of a service")?,
+        start: u64::from(start),
+        how,
+    })
+}
 
 /// What a row brings, if that is no mail.
 pub fn event_of(alloc: Global, row: &str) -> Result<Event<()>> {
@@ -31,11 +49,20 @@ pub fn event_of(alloc: Global, row: &str) -> Result<Event<()>> {
             key,
             piece: unescaped(alloc, words.rest)?,
         },
+        "calls" => Event::Bytes {
+            key,
+            piece: sent::call(alloc, words)?,
+        },
+        "says" => Event::Bytes {
+            key,
+            piece: sent::message(alloc, words)?,
+        },
         "serves" => Event::Next { key },
         "leaves" => Event::Closed { key },
         "fills" => Event::Full {
             number: u64::from(number),
         },
+        "ends" => Event::Child(Box::new(alloc, start_end(number, words)?)?),
         "tick" => Event::Tick,
         _ => bail!("no such row"),
     })

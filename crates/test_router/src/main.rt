@@ -51,7 +51,7 @@ fn answers<R: Wait>(rt: &R, alloc: Global, scenario: Scenario<'_>) -> Result<Str
 
 /// Whether a row begins a scenario.
 fn begins(row: &str) -> bool {
-    row == "engine" || row.starts_with("bus ")
+    row == "engine" || row.starts_with("engine ") || row.starts_with("bus ")
 }
 
 /// Plays a scenario again with its bytes in pieces: the answers must be these.

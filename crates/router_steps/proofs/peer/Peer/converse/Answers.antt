@@ -22,8 +22,8 @@ returns-in-Going-clause-turn c =
     let bytes : List ℕ = pending_bytes c.self.inside.pending ++ c.self.inside.unread.bytes in
     let at : p.stage ≡ Authenticating server.setting server.state = sym (ap (λ (x : Peer). x.stage) c.self.view_is) ∙ ap stage_of c.in-Authenticating.is in
     let unread : p.unread ≡ server.unfinished = sym (ap (λ (x : Peer). x.unread) c.self.view_is) ∙ ap (λ (s : Stage). unread_at s bytes) c.in-Authenticating.is in
-    let serial : c.self.inside.serial ≡ p.serial = ap (λ (x : Peer). x.serial) c.self.view_is in
-    going p _ server c.feed-step.new.self c.args.piece.now c.feed-step.result at unread heard c.in-Going.is refl refl serial
+    let alike : (c.self.inside.serial ≡ p.serial) × (c.self.inside.watches ≡ p.watches) = (ap (λ (x : Peer). x.serial) c.self.view_is, ap (λ (x : Peer). x.watches) c.self.view_is) in
+    going p _ server c.feed-step.new.self c.args.piece.now c.feed-step.result at unread heard c.in-Going.is refl refl alike
 
 pub returns-in-Ok-clause-turn : goal.returns-in-Ok-clause-turn
 returns-in-Ok-clause-turn c =
@@ -35,13 +35,13 @@ returns-in-Ok-clause-turn c =
     let rest = c.in-Done.rest.now in
     let at : p.stage ≡ Authenticating server.setting server.state = sym (ap (λ (x : Peer). x.stage) c.self.view_is) ∙ ap stage_of c.in-Authenticating.is in
     let unread : p.unread ≡ server.unfinished = sym (ap (λ (x : Peer). x.unread) c.self.view_is) ∙ ap (λ (s : Stage). unread_at s bytes) c.in-Authenticating.is in
-    let serial : c.self.inside.serial ≡ p.serial = ap (λ (x : Peer). x.serial) c.self.view_is in
+    let alike : (c.self.inside.serial ≡ p.serial) × (c.self.inside.watches ≡ p.watches) = (ap (λ (x : Peer). x.serial) c.self.view_is, ap (λ (x : Peer). x.watches) c.self.view_is) in
     let silent : bytes ≡ [] = subst (λ (s : Stage). IsSilentAt s bytes) c.in-Authenticating.is c.self.invariant.2 in
     let fed_is : c.feed.new.self ≡ record c.self.inside.unread { bytes = c.self.inside.unread.bytes ++ rest } = at_none c.self.inside.unread.fault _ c.self.invariant.0 c.in-Ok.ensures.good in
     let rest_is : pending ++ c.feed.new.self.bytes ≡ rest =
     ap (λ (u : Unread). pending ++ u.bytes) fed_is ∙ sym (append_assoc pending c.self.inside.unread.bytes rest) ∙ ap (λ (l : List ℕ). l ++ rest) silent
     in
-    done p _ server c.feed-step.new.self c.args.piece.now c.feed-step.result at unread c.in-Done.identity c.in-Done.rest heard c.in-Done.is (ap Unnamed c.is_user.ensures) rest_is serial
+    done p _ server c.feed-step.new.self c.args.piece.now c.feed-step.result at unread c.in-Done.identity c.in-Done.rest heard c.in-Done.is (ap Unnamed c.is_user.ensures) rest_is alike
 
 pub returns-after-fault-clause-turn : goal.returns-after-fault-clause-turn
 returns-after-fault-clause-turn c =
@@ -51,8 +51,8 @@ returns-after-fault-clause-turn c =
     let bytes : List ℕ = pending_bytes c.self.inside.pending ++ c.self.inside.unread.bytes in
     let at : p.stage ≡ Authenticating server.setting server.state = sym (ap (λ (x : Peer). x.stage) c.self.view_is) ∙ ap stage_of c.in-Authenticating.is in
     let unread : p.unread ≡ server.unfinished = sym (ap (λ (x : Peer). x.unread) c.self.view_is) ∙ ap (λ (s : Stage). unread_at s bytes) c.in-Authenticating.is in
-    let serial : c.self.inside.serial ≡ p.serial = ap (λ (x : Peer). x.serial) c.self.view_is in
+    let alike : (c.self.inside.serial ≡ p.serial) × (c.self.inside.watches ≡ p.watches) = (ap (λ (x : Peer). x.serial) c.self.view_is, ap (λ (x : Peer). x.watches) c.self.view_is) in
     elim c.match-fault.branch [
-      | in-NoMemory w ↦ rw w.result-is (unheard p _ server c.feed-step.new.self c.args.piece.now c.feed-step.result at unread _ _ w.new-in-NoMemory.ensures.items w.in-NoMemory.is serial)
-      | in_default-fault w ↦ rw w.result-is (failed p _ server c.feed-step.new.self c.args.piece.now c.feed-step.result at unread c.in-Closed.fault heard c.in-Closed.is w.in_default-fault.not-NoMemory serial)
+      | in-NoMemory w ↦ rw w.result-is (unheard p _ server c.feed-step.new.self c.args.piece.now c.feed-step.result at unread _ _ w.new-in-NoMemory.ensures.items w.in-NoMemory.is alike)
+      | in_default-fault w ↦ rw w.result-is (failed p _ server c.feed-step.new.self c.args.piece.now c.feed-step.result at unread c.in-Closed.fault heard c.in-Closed.is w.in_default-fault.not-NoMemory alike)
     ]

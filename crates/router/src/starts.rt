@@ -1,0 +1,27 @@
+//! Starts of services that end without their names. (D-Bus Specification: "Message Bus Starting Services (Activation)")
+
+ghost use Rattle.std.specs.Prelude.{◌≡◌, OnOk, OnErr};
+ghost use Rattle.router_core.specs.Events.{child};
+ghost use Rattle.router_core.specs.Scripts.{Comes};
+
+use crate::served::Served;
+use bus_view::BusView;
+use router_core::{Gate, StartEnd};
+use seq_bus_core::limits::MAX_TICKETS;
+use std::alloc::AllocError;
+
+impl<V: BusView, G: Gate> Served<V, G> {
+    /// The bus is told of the end of a start, and the calls that waited for it are answered why their service did not come. Without
+    /// memory nothing changes.
+    pub fn end_start(&mut self, right: &V::Right, ended: &StartEnd) -> Result<(), AllocError>
+        ensures comes { OnOk result
+            (Comes V.told V.registry_of G.passes V.alone (child self.old.standing ended.now)
+            self.old.work.world self.new.standing self.new.work.world) }
+        ensures err { OnErr result (self.new.standing ≡ self.old.standing) }
+        ensures world { OnErr result (self.new.work.world ≡ self.old.work.world) }
+    {
+        self.context.reserve(MAX_TICKETS + 1)?;
+        self.context.end_start(right, ended)?;
+        Ok(())
+    }
+}

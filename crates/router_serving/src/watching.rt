@@ -1,0 +1,73 @@
+//! BecomeMonitor. (D-Bus Specification: "org.freedesktop.DBus.Monitoring.BecomeMonitor")
+
+ghost use Rattle.std.specs.Prelude.{◌≡◌, ◌<◌, ◌≤◌, ◌+◌, Ok, length};
+ghost use Rattle.message_core.specs.Said.{said};
+ghost use Rattle.seq_bus_core.specs.declared.limits.TheConstants.{MAX_TICKETS};
+ghost use Rattle.router_core.specs.Answers.{Says};
+ghost use Rattle.router_core.specs.Scripts.{Comes};
+ghost use Rattle.router_core.specs.Serving.{Watches, serve_request as serving_request, watch_told};
+
+use crate::calls::{error_for, refuse, tell_change};
+use bus_view::BusView;
+use message_core::Message;
+use router_core::{CloseCause, Gate, PeerFate};
+use router_steps::Context;
+use seq_bus_core::{Change, Conn, ErrorKind, MonitorRules, Outcome, Reply};
+use std::alloc::Global;
+
+/// Tells of the change: the signals of the names that the connection gave up come first, then the answer.
+fn watched<V: BusView, G: Gate>(
+    context: &mut Context<V, G>,
+    call: &Message,
+    caller: Conn,
+    outcome: Outcome,
+) -> PeerFate
+    requires room { length outcome.tickets + 1 < context.old.room }
+    requires crowds { 0 < context.old.crowds }
+    ensures comes { Comes V.told V.registry_of G.passes V.alone
+        (watch_told (said call.now) caller (Says outcome)) context.old.world result
+        context.new.world }
+    ensures room { context.old.room ≤ context.new.room + length outcome.tickets + 2 }
+{
+    match outcome.reply {
+        Reply::Gone => PeerFate::Closes(CloseCause::Left),
+        Reply::Done => {
+            tell_change(context, call, caller, outcome);
+            PeerFate::Watches
+        }
+        _ => {
+            tell_change(context, call, caller, outcome);
+            PeerFate::Stays
+        }
+    }
+}
+
+/// Makes the caller a monitor with these rules. Without memory the call is answered so.
+#[inline(never)]
+pub(crate) fn become_monitor<V: BusView, G: Gate>(
+    alloc: Global,
+    context: &mut Context<V, G>,
+    right: &V::Right,
+    call: &Message,
+    caller: Conn,
+    rules: &MonitorRules,
+) -> PeerFate
+    requires room { MAX_TICKETS + 1 < context.old.room }
+    requires crowds { 0 < context.old.crowds }
+    ensures comes { Comes V.told V.registry_of G.passes V.alone
+        (serving_request (said call.now) caller (Ok (Watches rules.now))) context.old.world result
+        context.new.world }
+    ensures room { context.old.room ≤ context.new.room + MAX_TICKETS + 2 }
+{
+    let Ok(rules) = rules.copy(alloc) else {
+        return refuse(context, call, caller, ErrorKind::NoMemory);
+    };
+    let change = Change::BecomeMonitor {
+        connection: caller.number,
+        rules,
+    };
+    match context.change(right, change) {
+        Ok(outcome) => watched(context, call, caller, outcome),
+        Err(cause) => refuse(context, call, caller, error_for(cause)),
+    }
+}
