@@ -17,6 +17,7 @@ fn in_words(cause: CloseCause) -> &'static str {
         CloseCause::Faulty(_) => "it sent what is no message",
         CloseCause::TooLong => "its message would be too long with its name",
         CloseCause::NotHello => "it didn't begin with Hello",
+        CloseCause::MonitorSent => "it is a monitor, and sent a message",
         CloseCause::Left => "it didn't read its messages",
         CloseCause::LimitsExceeded => "the bus is full",
         CloseCause::Unauthenticated(_) => "it didn't say who it is",

@@ -1,8 +1,5 @@
 //! Changes by two connections, and the reply to each.
 
-ghost use Rattle.seq_bus_core.specs.Served.{IsServedChange};
-ghost use Rattle.seq_bus_core.specs.Served.{IsServedChange as IsServedByPlainBus};
-
 use match_rules::Rule;
 use names::BusName;
 use owner_queues::{Reply as QueueReply, RequestFlags};
@@ -33,10 +30,7 @@ pub fn maker(place: u8) -> u64 {
 }
 
 /// The change of a place. The second connection leaves when it owns the name and has a rule.
-pub fn change(place: u8, name: BusName) -> Change
-    ensures shared { IsServedChange result }
-    ensures plain { IsServedByPlainBus result }
-{
+pub fn change(place: u8, name: BusName) -> Change {
     let connection = maker(place);
     let rule = Rule::default();
     match place {

@@ -1,8 +1,8 @@
 //! What calls answer where memory is refused.
 //!
 //! The program reads and writes bodies and messages, lets a client in, opens a plain bus and a registry of two routers with
-//! its outboxes, makes the same changes on both buses, starts services in a registry, and serves clients as the host of
-//! a router. It says of each whether the calls answered as they should: with what was wanted; or that memory ran out, all as it was
+//! its outboxes, makes the same changes on both buses, starts services in a registry, lets calls wait for a service in an engine, and
+//! serves clients as the host of a router. It says of each whether the calls answered as they should: with what was wanted; or that memory ran out, all as it was
 //! before, and with what was wanted once they are made again. It prints the same whichever one allocation is refused: `make memory`
 //! refuses each in turn.
 #![tactic(auto)]
@@ -15,6 +15,7 @@ mod messages;
 mod plain;
 mod seats;
 mod starts;
+mod waiting;
 mod ways;
 
 use marshal::Order;
@@ -86,6 +87,8 @@ fn main(rt: HostRuntime) -> io::Result<()> {
     println!(rt; "outboxes: {ways}")?;
     let let_in = told(authentication::is_let_in(rt.alloc()));
     println!(rt; "authentication: {let_in}")?;
+    let waiting = told(waiting::are_answered(rt.alloc()).unwrap_or(false));
+    println!(rt; "calls that wait: {waiting}")?;
     let served = told(hosts::are_served(rt.alloc()));
     println!(rt; "host: {served}")
 }

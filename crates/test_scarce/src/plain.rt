@@ -1,7 +1,5 @@
 //! A plain bus.
 
-ghost use Rattle.seq_bus_core.specs.Served.{IsServedChange};
-
 use crate::changes::{CHANGES, change, clock, reply};
 use bus_view::{AskFault, Asked, Cause, can_open};
 use owner_queues::Profile;
@@ -62,9 +60,7 @@ fn open(alloc: Global) -> Option<SeqBus> {
 }
 
 /// The reply to a change. One that is refused is made again.
-fn made(bus: &mut SeqBus, change: Change) -> Option<Reply>
-    requires { IsServedChange change }
-{
+fn made(bus: &mut SeqBus, change: Change) -> Option<Reply> {
     let length = bus.history().len();
     match bus.change(change) {
         Ok(outcome) => Some(outcome.reply),

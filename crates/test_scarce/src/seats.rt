@@ -1,7 +1,5 @@
 //! A registry, changed over the seats of two routers.
 
-ghost use Rattle.seq_bus_core.specs.Served.{IsServedChange};
-
 use crate::changes::{CHANGES, change, clock, maker, reply};
 use bus_view::Cause;
 use names::BusName;
@@ -84,9 +82,7 @@ fn made<J: Naming, R: Wait>(
     seat: &mut Seat<J>,
     change: Change,
     name: &BusName,
-) -> Option<Reply>
-    requires { IsServedChange change }
-{
+) -> Option<Reply> {
     if let Some(note) = other.note() {
         seat.take_note(&note);
     }
