@@ -50,4 +50,7 @@ pub use kept::KeptArgument;
 pub use line::{Deed, Line};
 pub use lines::read_line;
 pub use route::Route;
-pub use writing::{ChangeWords, profile_line, query_line, route_line, routers_line, service_line};
+pub use writing::{
+    ChangeWords, outcome_text, profile_line, query_line, route_line, routers_line, service_line,
+    verdict_text,
+};

@@ -1,7 +1,7 @@
 //! Writing the lines of a trace, each without its line feed.
 
 ghost use Rattle.std.specs.Prelude.{◌≡◌, ◌++◌, codes, decimal, string_bytes, IfOk, OnOk};
-ghost use Rattle.trace_lines.specs.Texts.{change_line_text, change_text, profile_line_text, query_line_text, route_line_text, routers_line_text, service_line_text};
+ghost use Rattle.trace_lines.specs.Texts.{change_line_text, change_text, outcome_text, profile_line_text, query_line_text, route_line_text, routers_line_text, service_line_text, verdict_text};
 ghost use Rattle.trace_lines.specs.TextViews.{given_answer};
 
 use crate::answer::Answer;
@@ -105,6 +105,24 @@ impl ChangeWords {
         write_outcome(&mut line, outcome)?;
         Ok(line.into_string())
     }
+}
+
+/// What a change is told, as it stands behind the arrow of its line.
+pub fn outcome_text(alloc: Global, outcome: &NumberedOutcome) -> Result<String, AllocError>
+    ensures { IfOk result (λ text. string_bytes text ≡ outcome_text outcome.now) }
+{
+    let mut text = Draft::new(alloc);
+    write_outcome(&mut text, outcome)?;
+    Ok(text.into_string())
+}
+
+/// Where a message goes, as it stands behind the arrow of its line.
+pub fn verdict_text(alloc: Global, verdict: &Verdict) -> Result<String, AllocError>
+    ensures { IfOk result (λ text. string_bytes text ≡ verdict_text verdict.now) }
+{
+    let mut text = Draft::new(alloc);
+    write_verdict(&mut text, verdict)?;
+    Ok(text.into_string())
 }
 
 /// The line of a query, which saw the first changes up to a place: its seat and what it was answered.

@@ -1,0 +1,4 @@
+pub mod BusBefore
+pub mod Listings
+pub mod Walking
+pub mod Yes

@@ -1,0 +1,68 @@
+-- Lists of names as a trace has them.
+use Rattle.std.proofs.Common.{◌≡◌, Bool, true, false, cond, Some, List, [], ◌∷◌, ◌++◌, map, filter, flat_map, refl, sym, ap, ◌∙◌, append_assoc}
+use Rattle.std.specs.Prelude.{◌||◌, not, option_map, if◌then◌else◌}
+use Rattle.std.proofs.lemmas.Grind.{flat_map-append}
+use Rattle.std.proofs.lemmas.List.Folds.{flat_map-map}
+use Rattle.names.specs.Texts.{Text}
+use Rattle.names.specs.BusName.{bus_text, is_bus, is_unique}
+use Rattle.names.specs.UniqueName.{unique_text}
+use Rattle.owner_queues.specs.Queues.{Queue}
+use Rattle.owner_queues.specs.declared.owner.QueuedOwner.{QueuedOwner}
+use Rattle.registry_core.specs.Listening.{connection_of_member}
+use Rattle.registry_core.specs.declared.member.Member.{Member}
+use Rattle.seq_bus_core.specs.Answers.{NameList, names_there, owner_name, queue_names, queued_names}
+use Rattle.seq_bus_core.specs.BusState.{AddedRule, BusState, Connection, OwnedName, is_monitor, queue_of}
+use Rattle.trace_lines.specs.Texts.{answer_text}
+use Rattle.trace_check_core.specs.Listings.{behind_comma, client_listed, waiting_listed}
+
+-- a list is written name by name
+list_written : (first : Text) (names : List Text) → answer_text (Some (NameList (first ∷ names))) ≡ first ++ flat_map behind_comma names
+list_written first names = refl
+
+pub clients_written : (rules : List AddedRule) (members : List Member) → flat_map client_listed members ≡ flat_map behind_comma (map (λ c. unique_text c.number) (filter (λ c. not (is_monitor c)) (map (connection_of_member rules) members)))
+clients_written rules [] = refl
+clients_written rules (m ∷ members) = by_test m.is_monitor (clients_written rules members)
+  where
+    others : List Connection
+    others = filter (λ c. not (is_monitor c)) (map (connection_of_member rules) members)
+
+    c : Bool → Connection
+    c b = connection_of_member rules (record m { is_monitor = b })
+
+    by_test : (b : Bool) → flat_map client_listed members ≡ flat_map behind_comma (map (λ (c : Connection). unique_text c.number) others) →
+        client_listed (record m { is_monitor = b }) ++ flat_map client_listed members ≡ flat_map behind_comma (map (λ (c : Connection). unique_text c.number) (cond (not (is_monitor (c b))) (c b ∷ others) others))
+    by_test true rest = rest
+    by_test false rest = ap (λ (t : Text). behind_comma (unique_text m.conn.number) ++ t) rest
+
+pub names_written : (s : BusState) (rules : List AddedRule) (members : List Member) → map (connection_of_member rules) members ≡ s.connections →
+    answer_text (Some (NameList (bus_text ∷ names_there s))) ≡ bus_text ++ (flat_map client_listed members ++ flat_map (λ (n : OwnedName). behind_comma n.name) s.names)
+names_written s rules members is =
+    let unique : Connection → Text = λ c. unique_text c.number in
+    let clients : List Connection → List Text = λ cs. map unique (filter (λ c. not (is_monitor c)) cs) in
+    ap (λ (t : Text). bus_text ++ t)
+    (flat_map-append behind_comma (clients s.connections) (map (λ (n : OwnedName). n.name) s.names)
+    ∙ ap (λ (cs : List Connection). flat_map behind_comma (clients cs) ++ flat_map behind_comma (map (λ (n : OwnedName). n.name) s.names)) (sym is)
+    ∙ ap (λ (t : Text). t ++ flat_map behind_comma (map (λ (n : OwnedName). n.name) s.names)) (sym (clients_written rules members))
+    ∙ ap (λ (t : Text). flat_map client_listed members ++ t) (flat_map-map behind_comma (λ (n : OwnedName). n.name) s.names))
+
+pub queue_written : (owner : QueuedOwner) (waiting : List QueuedOwner) → answer_text (option_map NameList (queued_names (owner ∷ waiting))) ≡ unique_text owner.connection ++ flat_map waiting_listed waiting
+queue_written owner waiting = ap (λ (t : Text). unique_text owner.connection ++ t) (flat_map-map behind_comma (λ (q : QueuedOwner). unique_text q.connection) waiting)
+
+-- ## What the code appends
+
+pub names_told : (s : BusState) (rules : List AddedRule) (members : List Member) (names : List OwnedName) (bus first whole : Text) → map (connection_of_member rules) members ≡ s.connections → names ≡ s.names →
+    bus ≡ bus_text → first ≡ bus ++ flat_map client_listed members → whole ≡ first ++ flat_map (λ (n : OwnedName). behind_comma n.name) names →
+    whole ≡ answer_text (Some (NameList (bus_text ∷ names_there s)))
+names_told s rules members names bus first whole connections same is_bus clients told =
+    told
+    ∙ ap (λ (t : Text). t ++ flat_map (λ (n : OwnedName). behind_comma n.name) names) (clients ∙ ap (λ (t : Text). t ++ flat_map client_listed members) is_bus)
+    ∙ append_assoc bus_text (flat_map client_listed members) (flat_map (λ (n : OwnedName). behind_comma n.name) names)
+    ∙ ap (λ (ns : List OwnedName). bus_text ++ (flat_map client_listed members ++ flat_map (λ (n : OwnedName). behind_comma n.name) ns)) same
+    ∙ sym (names_written s rules members connections)
+
+pub queue_told : (s : BusState) (name : Text) (owner : QueuedOwner) (waiting : List QueuedOwner) (first whole : Text) → (is_bus name || is_unique name) ≡ false → queue_of s.names name ≡ owner ∷ waiting →
+    first ≡ unique_text owner.connection → whole ≡ first ++ flat_map waiting_listed waiting → whole ≡ answer_text (option_map NameList (queue_names s name))
+queue_told s name owner waiting first whole plain queue is told =
+    told ∙ ap (λ (t : Text). t ++ flat_map waiting_listed waiting) is ∙ sym (queue_written owner waiting)
+    ∙ ap (λ (q : Queue). answer_text (option_map NameList (queued_names q))) (sym queue)
+    ∙ ap (λ (b : Bool). answer_text (option_map NameList (if b then option_map (λ owner. owner ∷ []) (owner_name s name) else queued_names (queue_of s.names name)))) (sym plain)

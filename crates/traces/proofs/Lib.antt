@@ -1,0 +1,10 @@
+pub mod FileLines
+pub mod HeldTraces
+pub mod KeptLaws
+pub mod LegalityLaws
+pub mod LineLaws
+pub mod Openings
+pub mod PlaceLemmas
+pub mod Refusals
+pub mod SeatLemmas
+pub mod WalkLaws
