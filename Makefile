@@ -13,11 +13,12 @@ run:
 serve:
 	@tools/serve.sh
 
-# Proves and builds crates/busd/out/busd with all that it stands on.
+# Proves and builds crates/busd/out/busd with all that it stands on; with CRATE=trace_check the program that is installed
+# as bus-check.
 prove:
-	@tools/prove.sh
+	@tools/prove.sh $(CRATE)
 
-# Puts the program that `make prove` has built under PREFIX, with its pages and completions; DESTDIR is put before it.
+# Puts what `make prove` has built under PREFIX, with its pages and completions; DESTDIR is put before it.
 install:
 	@tools/install.sh "$(DESTDIR)$(PREFIX)"
 
@@ -26,7 +27,7 @@ dist:
 	@tools/dist.sh
 
 # The gate: every proof, the edits that must fail, the tests, the programs as two compilers build them, and each
-# allocation of two of them refused in turn.
+# allocation of three of them refused in turn.
 test:
 	@tools/gate.sh
 
@@ -38,7 +39,7 @@ check:
 try:
 	@tools/try.sh $(CRATE)
 
-# Each allocation of two programs refused in turn, once the gate has built them. Needs cc and glibc.
+# Each allocation of three programs refused in turn, once the gate has built them. Needs cc and glibc.
 memory:
 	@tools/memory/check.sh
 

@@ -1,6 +1,6 @@
 #!/usr/bin/env bash
 # Puts busd and busd-run-session with their pages, completions and licences under the folder that is named: the program
-# that `make prove` has built, or the one that BUSD names.
+# that `make prove` has built, or the one that BUSD names. Puts bus-check there too where it is built.
 set -euo pipefail
 cd "$(dirname "$0")/.."
 place=$1
@@ -16,4 +16,8 @@ install -m 755 tools/busd-run-session "$place/bin/busd-run-session"
 install -m 644 docs/man/busd.1 docs/man/busd-run-session.1 "$place/share/man/man1"
 install -m 644 completions/busd "$place/share/bash-completion/completions/busd"
 ln -sf busd "$place/share/bash-completion/completions/busd-run-session"
+if [ -x crates/trace_check/out/trace_check ]; then
+    install -m 755 crates/trace_check/out/trace_check "$place/bin/bus-check"
+    install -m 644 docs/man/bus-check.1 "$place/share/man/man1"
+fi
 install -m 644 README.md LICENSE-MIT LICENSE-APACHE "$place/share/doc/busd"

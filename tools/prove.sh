@@ -1,14 +1,16 @@
 #!/usr/bin/env bash
-# Proves and builds busd with all that it stands on, side by side, and leaves the program as crates/busd/out/busd.
-# It is a part of the gate's work: a kit that keeps what passes has the gate take it over.
+# Proves and builds a program with all that it stands on, side by side, and leaves it in the folder out of its crate,
+# busd unless another crate is named. It is a part of the gate's work: a kit that keeps what passes has the gate take it
+# over.
 set -euo pipefail
 cd "$(dirname "$0")/.."
+program=${1:-busd}
 
 room=$(mktemp -d)
 trap 'rm -rf "$room"' EXIT
 
-# The crates that busd stands on, itself with them, and their lines of crates.txt.
-awk '
+# The crates that the program stands on, itself with them, and their lines of crates.txt.
+awk -v program="$program" '
     /^[a-z]/ {
         split($0, halves, ":"); split(halves[1], words, " ")
         lines[words[1]] = $0; needs[words[1]] = halves[2]
@@ -20,7 +22,7 @@ awk '
         for (i = 1; i <= count; i++) visit(list[i])
         print lines[name]
     }
-    END { visit("busd") }
+    END { visit(program) }
 ' crates.txt > "$room/crates.txt"
 cp HANDLES "$room"
 mkdir "$room/crates"
@@ -33,10 +35,10 @@ while read -r name _; do
 done < "$room/crates.txt"
 
 all=$(wc -l < "$room/crates.txt")
-echo "proving busd and what it stands on: $all crates, the first time half an hour on four processors"
+echo "proving $program and what it stands on: $all crates, of busd the first time half an hour on four processors"
 proved=0
-log=crates/busd/out/prove.log
-mkdir -p crates/busd/out
+log=crates/$program/out/prove.log
+mkdir -p "crates/$program/out"
 while IFS= read -r line; do
     printf '%s\n' "$line" >> "$room/log"
     if [[ $line =~ ^rt:\ ([a-z_]+)\ proved ]]; then
@@ -50,5 +52,5 @@ if ! tail -n 1 "$log" | grep -q ' passed, 0 failed'; then
     echo "not proved: $log says why"
     exit 1
 fi
-cp "$room/crates/busd/out/busd" crates/busd/out/busd
-echo "proved: crates/busd/out/busd"
+cp "$room/crates/$program/out/$program" "crates/$program/out/$program"
+echo "proved: crates/$program/out/$program"

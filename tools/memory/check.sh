@@ -1,6 +1,6 @@
 #!/usr/bin/env bash
-# Refuses each allocation of busd and of test_scarce in turn, on all processors, and fails where one answers otherwise
-# than it should.
+# Refuses each allocation of busd, of bus-check and of test_scarce in turn, on all processors, and fails where one
+# answers otherwise than it should.
 set -euo pipefail
 cd "$(dirname "$0")/../.."
 crates=$PWD/crates
@@ -46,6 +46,14 @@ judge_busd() {
         said 5 "$room/welcome" "busd: memory" || said 5 "$crates/busd/stdout" "busd: memory"
 }
 
+run_check() {
+    with "$1" "$crates/trace_check/out/trace_check" - < "$crates/trace_check/stdin"
+}
+
+judge_check() {
+    said 0 "$crates/trace_check/stdout" "" || said 5 /dev/null "bus-check: memory"
+}
+
 run_scarce() {
     with "$1" "$crates/test_scarce/out/test_scarce"
 }
@@ -86,4 +94,5 @@ each() {
 }
 
 each busd busd
+each check trace_check
 each scarce test_scarce
