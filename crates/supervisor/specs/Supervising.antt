@@ -1,5 +1,5 @@
 -- What is done about started programs at each event. (D-Bus Specification: "Message Bus Starting Services")
-use Rattle.std.specs.Prelude.{ℕ, ◌-◌, max, nat_le, Bool, not, ◌==◌, List, [], ◌∷◌, ◌++◌, filter, find, map, Option, Some, None, if◌then◌else◌}
+use Rattle.std.specs.Prelude.{ℕ, ◌+◌, ◌-◌, ◌^◌, max, min, nat_le, Bool, not, ◌==◌, List, [], ◌∷◌, ◌++◌, filter, find, map, Option, Some, None, if◌then◌else◌}
 use Rattle.names.specs.Texts.{Text}
 use Rattle.seq_bus_core.specs.declared.change.Ending.{Ending}
 use Rattle.seq_bus_core.specs.declared.change.Ending.TheVariants as ending
@@ -56,6 +56,10 @@ ended kept number how = ended_as kept number how (start_of number kept.starts)
 
 abbrev pub is_late : ℕ → Start → Bool
 is_late now start = nat_le start_timeout (now - start.since)
+
+-- the moment from which on it is late, where there is such a moment
+abbrev pub due_of : Start → ℕ
+due_of start = min (start_timeout + start.since) (2 ^ 64 - 1)
 
 abbrev pub report_late : Start → Deed
 report_late start = Report (StartTimedOut start.name start.number)

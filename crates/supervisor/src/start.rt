@@ -18,12 +18,19 @@ pub struct Start {
 }
 
 impl Start {
-    ghost use Rattle.supervisor.specs.Supervising.{is_late};
+    ghost use Rattle.supervisor.specs.Supervising.{due_of, is_late};
 
     /// Whether its program has had its time at this moment.
     pub(crate) fn is_late(&self, now: u64) -> bool
         ensures { result ≡ is_late now self.now }
     {
         START_TIMEOUT <= now.saturating_sub(self.since)
+    }
+
+    /// The moment from which on its program has had its time.
+    pub(crate) fn due(&self) -> u64
+        ensures { result ≡ due_of self.now }
+    {
+        START_TIMEOUT.saturating_add(self.since)
     }
 }

@@ -1,7 +1,7 @@
 //! The supervisor of started programs.
 
-ghost use Rattle.std.specs.Prelude.{◌≡◌, ◌==◌, not, [], filter, map, IfOk, OnErr, OnOk};
-ghost use Rattle.supervisor.specs.Supervising.{asked, decide, ended, is_late, report_late, start_of, ticked, without};
+ghost use Rattle.std.specs.Prelude.{◌≡◌, ◌==◌, not, [], filter, map, option_map, slice_get, IfOk, OnErr, OnOk};
+ghost use Rattle.supervisor.specs.Supervising.{asked, decide, due_of, ended, is_late, report_late, start_of, ticked, without};
 
 use crate::{Deed, Event, Start};
 use names::BusName;
@@ -123,6 +123,13 @@ impl Supervisor {
         forget_late(&mut self.starts, now);
         self.now = now;
         Ok(deeds)
+    }
+
+    /// The moment when the start that was asked for first has had its time, of those that are kept.
+    pub fn due(&self) -> Option<u64>
+        ensures { result ≡ option_map due_of (slice_get self.entry.now.starts 0) }
+    {
+        self.starts.first().map(Start::due)
     }
 
     /// What is to be done at an event, in order. A start is kept from when it is asked for until its program fails, or

@@ -48,6 +48,14 @@ fn told(row: &Row<'_>) -> Option<Event> {
     }
 }
 
+/// `due`: the moment when the first start has had its time, or `nothing`.
+pub fn due(alloc: Global, supervisor: &Supervisor) -> Result<String, AllocError> {
+    match supervisor.due() {
+        Some(moment) => format!(in alloc; "{moment}"),
+        None => String::from_str(alloc, "nothing"),
+    }
+}
+
 /// `asked | START | NAME`, `ran | START`, `not-run | START`, `exited | START | STATUS`, `killed | START`, `tick | NOW`: what is to be
 /// done, or `nothing`.
 pub fn event(

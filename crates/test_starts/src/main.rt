@@ -29,6 +29,7 @@ fn answer(
         }
         "example" => examples::example(alloc, row.text(1)),
         "refused" => scarce::refused(alloc),
+        "due" => event_rows::due(alloc, supervisor),
         _ => event_rows::event(alloc, row, supervisor),
     }
 }
