@@ -1,11 +1,12 @@
 #!/usr/bin/env bash
 # Starts busd as its users do, and stops where it answers otherwise than it should: each fault at the start, the help, a
-# daemon that is told to end and one that nobody calls, and sessions of a command. BUSD names another program.
+# daemon that is told to end and one that nobody calls, services that start, and sessions of a command. BUSD names another program.
 set -euo pipefail
 cd "$(dirname "$0")/../.."
 BUSD=$(realpath "${BUSD:-crates/busd/out/busd}")
 export BUSD
 session=$PWD/tools/busd-run-session
+client=$PWD/tools/serve/client.py
 room=$(TMPDIR=/tmp mktemp -d)
 bus=
 trap '[ -z "$bus" ] || kill "$bus"; rm -rf "$room"' EXIT
@@ -125,8 +126,53 @@ files() {
     [ ! -e bus ] || wrong "made a socket though it did not start"
 }
 
+# service FOLDER FILE LINE..: a service file of these lines
+service() {
+    local folder=$1 file=$2
+    shift 2
+    mkdir -p "$folder"
+    printf '%s\n' "$@" > "$folder/$file.service"
+}
+
+group='[D-BUS Service]'
+
+service_files() {
+    service no_group a 'Name=com.example.A'
+    refused 4 'busd: services: a.service: 55/1' services=no_group
+    service other_group a '[Service]' 'Name=com.example.A' 'Exec=true'
+    refused 4 'busd: services: a.service: 50' services=other_group
+    service no_name a "$group" 'Exec=true'
+    refused 4 'busd: services: a.service: 51' services=no_name
+    service no_exec a "$group" 'Name=com.example.A' 'Exec= '
+    refused 4 'busd: services: a.service: 52' services=no_exec
+    service two_names a "$group" 'Name=com.example.A' 'Name=com.example.B' 'Exec=true'
+    refused 4 'busd: services: a.service: 53' services=two_names
+    service bad_name a "$group" 'Name=example' 'Exec=true'
+    refused 4 'busd: services: a.service: 54' services=bad_name
+    service wrong_line a "$group" '' '# Says' 'says'
+    refused 4 'busd: services: a.service: 55/4' services=wrong_line
+    service too_long a "$(head -c 70000 /dev/zero | tr '\0' '#')"
+    refused 4 'busd: services: a.service: 55/0' services=too_long
+    service twice b "$group" 'Name=com.example.A' 'Exec=true'
+    service twice a "$group" 'Name=com.example.A' 'Exec=false'
+    refused 4 'busd: services: b.service: 59' services=twice
+    # The first file by name is told, whatever is wrong with others.
+    service twice c "$group"
+    service twice aa "$group" 'Name=example'
+    refused 4 'busd: services: aa.service: 54' services=twice
+    for i in {100..355}; do
+        service many "$i" "$group" "Name=com.example.S$i" 'Exec=true'
+    done
+    service many 356 "$group" 'Name=com.example.S356' 'Exec=true'
+    refused 4 'busd: services: 356.service: 59' services=many
+    mkdir -p folder/a.service
+    refused 4 'busd: device: input' services=folder
+}
+
 # The first of several faults is told.
 order() {
+    refused 4 'busd: keyring: 36' keyring=empty services=wrong_line
+    refused 4 'busd: services: a.service: 55/4' services=wrong_line address=taken
     refused 2 "error: invalid value '9' for '--routers <N>': 9 is not in 1..=8$more" routers=9 address='the bus'
     refused 2 'busd: address' address='the bus' keyring=empty
     refused 4 'busd: keyring: 36' keyring=empty services=none
@@ -239,6 +285,77 @@ daemons() {
     finish
 }
 
+# told_to WANTED ARGUMENT..: a client is told this
+told_to() {
+    local wanted=$1
+    shift
+    [ "$(timeout 60 "$client" "$address" "$@" 2>&1)" = "$wanted" ] || wrong "a client: $* is not told $wanted"
+}
+
+# program NAME LINE..: a service com.example.NAME whose program is a shell script of these lines
+program() {
+    local name=$1
+    shift
+    printf '%s\n' '#!/bin/sh' "echo run >> $room/runs.$name" "$@" > "$room/$name.sh"
+    chmod +x "$room/$name.sh"
+    service programs "$name" "$group" "Name=com.example.$name" "Exec=$room/$name.sh  one two"
+}
+
+# runs NAME COUNT: its program was run so often
+runs() {
+    [ "$(wc -l < "runs.$1")" = "$2" ] || wrong "com.example.$1 was not run $2 times"
+}
+
+has_no_zombie() {
+    ! cat /proc/[0-9]*/stat 2> /dev/null | grep -q ") Z $bus "
+}
+
+# Services are started when they are called. Each daemon is told to end once its last client is answered.
+starts() {
+    if ! command -v python3 > /dev/null; then
+        echo "there is no python3 here: no service was started"
+        return
+    fi
+    local error=org.freedesktop.DBus.Error
+    program Owns "echo \"\$* \$DBUS_STARTER_ADDRESS \$DBUS_STARTER_BUS_TYPE\" > $room/seen; cat >> $room/seen" \
+        "exec $client \"\$DBUS_STARTER_ADDRESS\" own com.example.Owns"
+    program Slow 'sleep 0.3' "exec $client \"\$DBUS_STARTER_ADDRESS\" own com.example.Slow"
+    program Fails 'exit 1'
+    program Killed 'kill -9 $$'
+    program Idle 'exit 0'
+    service programs None "$group" 'Name=com.example.None' "Exec=$room/none-such"
+    for i in {0..199}; do
+        service programs "Many$i" "$group" "Name=com.example.Many$i" 'Exec=/bin/sh -c false'
+    done
+    begin services=programs --anonymous "$@"
+    "$client" "$address" call com.example.Idle > late &
+    local late=$!
+    told_to "$error.ServiceUnknown" call com.example.Unknown
+    told_to "$error.ServiceUnknown" call-only com.example.Owns
+    told_to here call com.example.Owns
+    told_to here call com.example.Owns
+    runs Owns 1
+    [ "$(< seen)" = "one two unix:path=bus session" ] || wrong "a program is given: $(< seen)"
+    told_to 2 start com.example.Owns
+    told_to 2 start org.freedesktop.DBus
+    "$client" "$address" call com.example.Slow > joined &
+    told_to 1 start com.example.Slow
+    wait "$!" && [ "$(< joined)" = here ] || wrong "two callers of one start"
+    runs Slow 1
+    for call in call start; do
+        told_to "$error.Spawn.ChildExited" "$call" com.example.Fails
+        told_to "$error.Spawn.ChildSignaled" "$call" com.example.Killed
+        told_to "$error.Spawn.ExecFailed" "$call" com.example.None
+    done
+    runs Fails 2
+    told_to "200 $error.Spawn.ChildExited" calls com.example.Many 200
+    waits has_no_zombie || wrong "leaves programs that nobody waited for"
+    wait "$late" && [ "$(< late)" = "$error.TimedOut" ] || wrong "a program that does not take its name: $(< late)"
+    told_to here call com.example.Owns
+    finish
+    rm runs.*
+}
+
 # session STATUS ARGUMENT..: a session ends so, and leaves nothing
 session() {
     local wanted=$1
@@ -260,9 +377,11 @@ sessions() {
 
 command_lines
 files
+service_files
 order
 full_device
 help
 daemons
+starts routers=3
 sessions
 echo "busd serve: $tried runs tried, each answered as it should be"

@@ -1,15 +1,11 @@
 //! `busd serve`: the bus of a socket.
 
-use busd_serve::{Bus, BusAddress};
+use busd_serve::{Bus, BusAddress, DaemonRuntime};
 use busd_start::{Device, Options, ServeFault};
 use clap::ArgMatches;
 use std::io;
 use std::io::Write;
-use std::net::Net;
 use std::process::ExitCode;
-use std::rt::{Clock, Files};
-use std::sync::Wait;
-use std::thread::Threads;
 
 /// Tells where the bus is reached.
 fn print_address<R: Print>(rt: &R, address: BusAddress<'_>) -> Result<(), ServeFault> {
@@ -24,9 +20,7 @@ fn print_address<R: Print>(rt: &R, address: BusAddress<'_>) -> Result<(), ServeF
 ///
 /// What is wrong at the start, the first of: the command line, what [`Bus::open`] tells, standard output; and later what the
 /// system gave no more.
-fn serve_bus<
-    R: Threads + Wait + Net + Files + Print + Eprint + Clock + AllocGlobal + Sync + Clone + Drop,
->(rt: &R, found: &ArgMatches<'_>) -> Result<(), ServeFault> {
+fn serve_bus<R: DaemonRuntime + Print>(rt: &R, found: &ArgMatches<'_>) -> Result<(), ServeFault> {
     let options = Options::of(found)?;
     let (bus, listening) = Bus::open(rt, options)?;
     if options.prints_address {
@@ -36,9 +30,7 @@ fn serve_bus<
 }
 
 /// Serves the clients of a socket, and tells why it ends.
-pub(crate) fn serve_clients<
-    R: Threads + Wait + Net + Files + Print + Eprint + Clock + AllocGlobal + Sync + Clone + Drop,
->(rt: &R, found: &ArgMatches<'_>) -> ExitCode {
+pub(crate) fn serve_clients<R: DaemonRuntime + Print>(rt: &R, found: &ArgMatches<'_>) -> ExitCode {
     let Err(fault) = serve_bus(rt, found) else {
         return ExitCode::SUCCESS;
     };

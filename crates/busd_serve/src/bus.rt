@@ -3,20 +3,19 @@
 use crate::fault::poll_fault;
 use crate::login::LoginSettings;
 use crate::polls::{RouterPolls, open_polls};
+use crate::runtime::DaemonRuntime;
 use crate::serving::begin;
 use busd_sockets::{NewConnections, PollWaker};
 use busd_start::{
-    Device, Options, ServeFault, SocketPath, look_for_services, open_random, random_bytes,
-    read_cookie,
+    Device, Options, ServeFault, SocketPath, open_random, random_bytes, read_cookie, read_services,
 };
 use mio::Poll;
 use mio::net::UnixListener;
 use routers::Coordinator;
+use service_files::Service;
 use std::fmt;
 use std::net::Net;
-use std::rt::{Clock, Files};
-use std::sync::Wait;
-use std::thread::Threads;
+use std::rt::Files;
 
 /// A bus that clients can connect to. Any thread may stop it.
 #[derive(Drop)]
@@ -28,14 +27,23 @@ pub struct Bus<'a> {
     pub(crate) new_connections: Vec<NewConnections>,
 }
 
-/// What the threads of a bus will work with, made when it is opened.
+/// Where connections come in.
 #[derive(Drop)]
-pub struct Listening<F: Drop> {
+pub(crate) struct Entrance<F: Drop> {
     pub(crate) listener: UnixListener,
     /// Random bytes.
     pub(crate) random: F,
     /// The poll of the thread that accepts.
     pub(crate) poll: Poll,
+}
+
+/// What the threads of a bus will work with, made when it is opened.
+#[derive(Drop)]
+pub struct Listening<F: Drop> {
+    pub(crate) entrance: Entrance<F>,
+    pub(crate) services: Vec<Service>,
+    /// What ends the wait of the thread that accepts.
+    pub(crate) waker: PollWaker,
     /// By routers.
     pub(crate) router_polls: Vec<Poll>,
 }
@@ -69,7 +77,7 @@ impl<'a> Bus<'a> {
     ) -> Result<(Bus<'a>, Listening<R::File>), ServeFault> {
         let alloc = rt.alloc();
         let cookie = read_cookie(rt, options.keyring)?;
-        look_for_services(rt, options.services)?;
+        let services = read_services(rt, options.services)?;
         let mut random = open_random(rt)?;
         let guid = random_bytes(&mut random)?;
         let Ok(listener) = UnixListener::bind(rt, options.path.as_str()) else {
@@ -81,7 +89,8 @@ impl<'a> Bus<'a> {
             new_connections,
         } = open_polls(rt, alloc, options.routers)?;
         let poll = Poll::new(rt).map_err(poll_fault)?;
-        let waker = PollWaker::new(&poll).map_err(poll_fault)?;
+        let waker = PollWaker::new(alloc, &poll).map_err(poll_fault)?;
+        let main_waker = waker.again()?;
         let bus = Bus {
             login: LoginSettings {
                 guid,
@@ -94,9 +103,13 @@ impl<'a> Bus<'a> {
             new_connections,
         };
         let listening = Listening {
-            listener,
-            random,
-            poll,
+            entrance: Entrance {
+                listener,
+                random,
+                poll,
+            },
+            services,
+            waker: main_waker,
             router_polls: polls,
         };
         Ok((bus, listening))
@@ -110,13 +123,14 @@ impl<'a> Bus<'a> {
         }
     }
 
-    /// Serves the clients that connect, until the bus is stopped: each router in a thread of its own, and this one accepts.
+    /// Serves the clients that connect, until the bus is stopped: each router in a thread of its own, and this one accepts, and
+    /// starts the programs of services that are called. Programs that run when the bus is stopped go on.
     /// What is told of connections, where the options want that, goes to standard error.
     ///
     /// # Errors
     ///
     /// What the system gave no more: memory, word of the sockets, or random bytes. Then all connections are closed.
-    pub fn serve<R: Threads + Wait + Net + Files + Eprint + Clock + AllocGlobal + Sync>(
+    pub fn serve<R: DaemonRuntime>(
         &self,
         rt: &R,
         listening: Listening<R::File>,

@@ -3,10 +3,17 @@
 #![tactic(auto)]
 
 mod bus;
+mod chores;
 mod fault;
+mod launch;
 mod logging;
 mod login;
 mod polls;
+mod programs;
+mod runner;
+mod runtime;
 mod serving;
 
 pub use bus::{Bus, BusAddress, Listening};
+pub use runner::{ProgramEnd, RunsPrograms};
+pub use runtime::DaemonRuntime;

@@ -32,7 +32,7 @@ pub(crate) fn open_polls<R: Net>(
     };
     for _router in 0..routers {
         let poll = Poll::new(rt).map_err(poll_fault)?;
-        let waker = PollWaker::new(&poll).map_err(poll_fault)?;
+        let waker = PollWaker::new(alloc, &poll).map_err(poll_fault)?;
         push(&mut polls.wakers, waker)?;
         push(&mut polls.polls, poll)?;
         push(&mut polls.new_connections, ArrayQueue::new(alloc, WAITING)?)?;

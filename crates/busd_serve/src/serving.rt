@@ -4,20 +4,28 @@ ghost use Rattle.std.specs.Prelude.{◌≡◌, []};
 ghost use Rattle.owner_queues.specs.declared.request.Profile.TheVariants.{Two};
 ghost use Rattle.seq_bus_core.specs.Tickets.{opening_bus};
 
-use crate::bus::{Bus, Listening};
+use crate::bus::{Bus, Entrance, Listening};
+use crate::chores::Starting;
 use crate::fault::{fault_of, poll_fault};
+use crate::launch::Launch;
 use crate::logging::{AcceptErrors, Log};
 use crate::polls::push;
-use busd_sockets::{Acceptor, Sockets};
+use crate::programs::start_launcher;
+use crate::runtime::DaemonRuntime;
+use busd_sockets::{Acceptor, Chores, ClientSocket, EndLog, PollWaker, Sockets};
 use busd_start::ServeFault;
 use mio::Poll;
+use names::WellKnown;
 use outbox::{EnvelopeOf, Lane, Outboxes, Tap};
-use registry_snapshots::{Naming, Opened, Seat, Shared};
+use registry_snapshots::{Desk, Naming, Opened, Seat, Shared};
 use router_core::OpenGate;
-use routers::{RouterSetup, serve};
+use routers::{Coordinator, LanePost, Programs, RouterSetup, Starter, main_host, serve};
+use service_files::Service;
+use std::alloc::{AllocError, Global};
+use std::io::Read;
 use std::marker::Brand;
 use std::net::Net;
-use std::rt::{Clock, Files};
+use std::rt::Clock;
 use std::sync::Wait;
 use std::thread::Threads;
 
@@ -31,23 +39,37 @@ struct RouterParts<J: Naming> {
 }
 
 /// Picks the registry.
-pub(crate) fn begin<R: Threads + Wait + Net + Files + Eprint + Clock + AllocGlobal + Sync>(
+pub(crate) fn begin<R: DaemonRuntime>(
     rt: &R,
     bus: &Bus<'_>,
     listening: Listening<R::File>,
 ) -> Result<(), ServeFault> {
-    open_registry::<Brand, R>(rt, Opened::new(), bus, listening)
+    let names = names_of(rt.alloc(), listening.services.as_slice())?;
+    open_registry::<Brand, R>(rt, Opened::new(), bus, names.as_slice(), listening)
 }
 
-/// Opens a registry without services, and serves over it.
-fn open_registry<
-    J: Naming + Send + Sync,
-    R: Threads + Wait + Net + Files + Eprint + Clock + AllocGlobal + Sync,
->(rt: &R, opened: Opened, bus: &Bus<'_>, listening: Listening<R::File>) -> Result<(), ServeFault>
-    requires { (opened ≡ J.book) × (J.opening ≡ opening_bus Two bus.now.options.routers []) }
+/// The names of services, in their order.
+fn names_of(alloc: Global, services: &[Service]) -> Result<Vec<WellKnown>, AllocError> {
+    let mut names = Vec::new(alloc);
+    for service in services {
+        push(&mut names, *service.name())?;
+    }
+    Ok(names)
+}
+
+/// Opens a registry with these services, and serves over it.
+fn open_registry<J: Naming + Send + Sync, R: DaemonRuntime>(
+    rt: &R,
+    opened: Opened,
+    bus: &Bus<'_>,
+    services: &[WellKnown],
+    listening: Listening<R::File>,
+) -> Result<(), ServeFault>
+    requires { (opened ≡ J.book)
+        × (J.opening ≡ opening_bus Two bus.now.options.routers services.now) }
 {
     let routers = bus.options.routers;
-    let made = Shared::<J>::new(rt, rt.alloc(), opened, &[], routers);
+    let made = Shared::<J>::new(rt, rt.alloc(), opened, services, routers);
     let Ok((shared, seats)) = made else {
         return Err(ServeFault::Memory);
     };
@@ -56,11 +78,12 @@ fn open_registry<
     served
 }
 
-/// What each router begins with: its seat, its ways to the others, and the connections that come to it.
+/// What each router begins with: its seat, its ways to the others, and the connections that come to it. The parts of the main thread are
+/// left.
 fn setups<'a, J: Naming, R: Net + Eprint + AllocGlobal>(
     rt: &'a R,
     bus: &'a Bus<'_>,
-    mut parts: RouterParts<J>,
+    parts: &mut RouterParts<J>,
 ) -> Result<Vec<RouterSetup<J, Sockets<'a, Log<'a, R>>, OpenGate>>, ServeFault> {
     let alloc = rt.alloc();
     let mut setups = Vec::new(alloc);
@@ -88,26 +111,52 @@ fn setups<'a, J: Naming, R: Net + Eprint + AllocGlobal>(
     Ok(setups)
 }
 
-/// Makes the ways between the threads, and runs these.
-fn serve_over<
-    J: Naming + Send + Sync,
-    R: Threads + Wait + Net + Files + Eprint + Clock + AllocGlobal + Sync,
->(
-    rt: &R,
-    shared: &Shared<J>,
+/// What the main thread does beside accepting.
+type MainChores<'a, J, R, Q> = Starting<
+    'a,
+    R,
+    Desk<'a, J, R>,
+    OpenGate,
+    LanePost<'a, J, PollWaker>,
+    ClientSocket,
+    Q,
+>;
+
+/// What the main thread does beside accepting, at its seat and with its lane: it starts programs.
+fn starting<'a, J: Naming, R: Wait + Clock + AllocGlobal, Q: Programs + Drop>(
+    rt: &'a R,
+    shared: &'a Shared<J>,
+    coordinator: &'a Coordinator<PollWaker>,
+    seat: Seat<J>,
+    lane: Lane<EnvelopeOf<J>>,
+    programs: Q,
+) -> Result<MainChores<'a, J, R, Q>, ServeFault> {
+    let alloc = rt.alloc();
+    match main_host::<J, ClientSocket, PollWaker, R>(alloc, shared, coordinator, seat, lane) {
+        Some(host) => Ok(Starting::new(rt, rt, Starter::new(alloc, host, programs))),
+        None => Err(ServeFault::Memory),
+    }
+}
+
+/// Runs the programs of services, and the threads beside.
+fn serve_over<'a, J: Naming + Send + Sync, R: DaemonRuntime>(
+    rt: &'a R,
+    shared: &'a Shared<J>,
     seats: Vec<Seat<J>>,
-    bus: &Bus<'_>,
+    bus: &'a Bus<'_>,
     listening: Listening<R::File>,
 ) -> Result<(), ServeFault>
-    requires { J.opening ≡ opening_bus Two bus.now.options.routers [] }
+    requires { J.opening.state.routers ≡ bus.now.options.routers }
 {
     let alloc = rt.alloc();
     let Listening {
-        listener,
-        random,
-        poll,
+        entrance,
+        services,
+        waker,
         router_polls,
     } = listening;
+    let launch = Launch::new(alloc, services, bus.options.path, waker)?;
+    let programs = start_launcher(rt, alloc, &bus.coordinator, launch)?;
     let (lanes, taps) = Outboxes::new(alloc, shared)?;
     let parts = RouterParts {
         seats,
@@ -115,16 +164,64 @@ fn serve_over<
         taps,
         polls: router_polls,
     };
-    let setups = setups(rt, bus, parts)?;
+    serve_with(rt, shared, parts, bus, entrance, programs)
+}
+
+/// Makes what each thread begins with, and runs them.
+fn serve_with<
+    'a,
+    J: Naming + Send + Sync,
+    F: Read + Drop,
+    Q: Programs + Drop,
+    R: Threads + Wait + Net + Eprint + Clock + AllocGlobal + Sync,
+>(
+    rt: &'a R,
+    shared: &'a Shared<J>,
+    mut parts: RouterParts<J>,
+    bus: &'a Bus<'_>,
+    entrance: Entrance<F>,
+    programs: Q,
+) -> Result<(), ServeFault> {
+    let setups = setups(rt, bus, &mut parts)?;
+    let (Some(seat), Some(lane)) = (parts.seats.pop(), parts.lanes.pop()) else {
+        return Err(ServeFault::Memory);
+    };
+    let chores = starting(rt, shared, &bus.coordinator, seat, lane, programs)?;
+    run_threads(rt, shared, bus, setups, entrance, chores)
+}
+
+/// Runs the routers, and beside them accepts connections and does the chores of the main thread.
+fn run_threads<
+    J: Naming + Send + Sync,
+    L: EndLog + Send + Drop,
+    F: Read + Drop,
+    C: Chores + Drop,
+    R: Threads + Wait + Eprint + Clock + AllocGlobal + Sync,
+>(
+    rt: &R,
+    shared: &Shared<J>,
+    bus: &Bus<'_>,
+    setups: Vec<RouterSetup<J, Sockets<'_, L>, OpenGate>>,
+    entrance: Entrance<F>,
+    chores: C,
+) -> Result<(), ServeFault> {
+    let alloc = rt.alloc();
+    let Entrance {
+        listener,
+        random,
+        poll,
+    } = entrance;
+    let coordinator = &bus.coordinator;
     let mut acceptor = Acceptor::new(
         alloc,
         poll,
         listener,
         random,
-        &bus.coordinator,
+        coordinator,
         bus.new_connections.as_slice(),
         AcceptErrors::new(rt, bus.options.is_verbose),
+        chores,
     )
     .map_err(poll_fault)?;
-    serve(rt, alloc, shared, &bus.coordinator, setups, &mut acceptor).map_err(fault_of)
+    serve(rt, alloc, shared, coordinator, setups, &mut acceptor).map_err(fault_of)
 }

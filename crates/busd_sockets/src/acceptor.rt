@@ -22,6 +22,12 @@ pub trait AcceptLog {
     fn tell(&mut self, error: &io::Error);
 }
 
+/// What the thread that accepts does besides.
+pub trait Chores {
+    /// Does what there is to do. Tells in how many milliseconds it is to be called again though nobody wakes the thread.
+    fn turn<R: Wait>(&mut self, rt: &R) -> Option<u64>;
+}
+
 /// How accepting came to its end for now.
 #[derive(Clone, Copy, PartialEq, Eq)]
 enum Accepted {
@@ -31,9 +37,9 @@ enum Accepted {
     Later,
 }
 
-/// Accepts connections and hands them to the routers in turn. What doesn't fit into a router's queue is closed.
+/// Accepts connections and hands them to the routers in turn, beside its chores. What doesn't fit into a router's queue is closed.
 #[derive(Drop)]
-pub struct Acceptor<'a, F: Read + Drop, L: AcceptLog + Drop> {
+pub struct Acceptor<'a, F: Read + Drop, L: AcceptLog + Drop, C: Chores + Drop> {
     poll: Poll,
     events: Events,
     listener: UnixListener,
@@ -45,9 +51,10 @@ pub struct Acceptor<'a, F: Read + Drop, L: AcceptLog + Drop> {
     /// The router whose turn it is.
     next: usize,
     log: L,
+    chores: C,
 }
 
-impl<'a, F: Read + Drop, L: AcceptLog + Drop> Acceptor<'a, F, L> {
+impl<'a, F: Read + Drop, L: AcceptLog + Drop, C: Chores + Drop> Acceptor<'a, F, L, C> {
     /// Accepts the connections of this listener for the routers of the coordinator, whose main waker wakes this poll.
     pub fn new(
         alloc: Global,
@@ -57,7 +64,8 @@ impl<'a, F: Read + Drop, L: AcceptLog + Drop> Acceptor<'a, F, L> {
         coordinator: &'a Coordinator<PollWaker>,
         new_connections: &'a [NewConnections],
         log: L,
-    ) -> io::Result<Acceptor<'a, F, L>> {
+        chores: C,
+    ) -> io::Result<Acceptor<'a, F, L, C>> {
         let events = Events::with_capacity(alloc, 8)?;
         poll.registry()
             .register(&mut listener, LISTENER, Interest::READABLE)?;
@@ -70,6 +78,7 @@ impl<'a, F: Read + Drop, L: AcceptLog + Drop> Acceptor<'a, F, L> {
             new_connections,
             next: 0,
             log,
+            chores,
         })
     }
 
@@ -112,7 +121,17 @@ impl<'a, F: Read + Drop, L: AcceptLog + Drop> Acceptor<'a, F, L> {
     }
 }
 
-impl<'a, F: Read + Drop, L: AcceptLog + Drop> MainTask for Acceptor<'a, F, L> {
+/// How long is waited at most, if not for ever.
+fn wait_of(accepted: Accepted, due: Option<u64>) -> Option<Duration> {
+    let due = match (accepted, due) {
+        (Accepted::All, due) => due?,
+        (Accepted::Later, Some(due)) => due.min(LATER),
+        (Accepted::Later, None) => LATER,
+    };
+    Some(Duration::from_millis(due))
+}
+
+impl<'a, F: Read + Drop, L: AcceptLog + Drop, C: Chores + Drop> MainTask for Acceptor<'a, F, L, C> {
     fn run<R: Wait>(&mut self, rt: &R) -> Result<(), Fault> {
         let mut timeout = None;
         for _ in rt.forever() {
@@ -122,10 +141,8 @@ impl<'a, F: Read + Drop, L: AcceptLog + Drop> MainTask for Acceptor<'a, F, L> {
             if self.coordinator.is_over() {
                 return Ok(());
             }
-            timeout = match self.accept_all(rt)? {
-                Accepted::All => None,
-                Accepted::Later => Some(Duration::from_millis(LATER)),
-            };
+            let accepted = self.accept_all(rt)?;
+            timeout = wait_of(accepted, self.chores.turn(rt));
         }
         unreachable!()
     }

@@ -11,7 +11,7 @@ mod new_connection;
 mod sockets;
 mod waker;
 
-pub use acceptor::{AcceptLog, Acceptor};
+pub use acceptor::{AcceptLog, Acceptor, Chores};
 pub use client_socket::ClientSocket;
 pub use new_connection::{NewConnection, NewConnections};
 pub use sockets::{EndLog, Sockets};

@@ -2,22 +2,33 @@
 
 use mio::{Poll, Token, Waker};
 use routers::Wake;
+use std::alloc::{AllocError, Global};
 use std::io;
+use std::sync::Arc;
 
 /// The token under which a poll tells that its waker was used.
 pub(crate) const WAKER: Token = Token(usize::MAX);
 
-/// Ends the wait of a poll.
+/// Ends the wait of a poll. Several threads may have one for the same poll.
 #[derive(Drop)]
 pub struct PollWaker {
-    waker: Waker,
+    waker: Arc<Waker, Global>,
 }
 
 impl PollWaker {
     /// The waker of a poll, which has no other.
-    pub fn new(poll: &Poll) -> io::Result<PollWaker> {
+    pub fn new(alloc: Global, poll: &Poll) -> io::Result<PollWaker> {
+        let waker = Waker::new(poll.registry(), WAKER)?;
+        match Arc::new(alloc, waker) {
+            Ok(waker) => Ok(PollWaker { waker }),
+            Err(_) => Err(io::Error::from(io::ErrorKind::OutOfMemory)),
+        }
+    }
+
+    /// One more for the same poll.
+    pub fn again(&self) -> Result<PollWaker, AllocError> {
         Ok(PollWaker {
-            waker: Waker::new(poll.registry(), WAKER)?,
+            waker: Arc::try_clone(&self.waker)?,
         })
     }
 }

@@ -2,6 +2,7 @@
 
 ghost use Rattle.std.specs.Prelude.{◌≡◌};
 
+use crate::service_fault::{FileName, ServiceCode};
 use sasl::KeyringCode;
 use std::alloc::AllocError;
 use std::fmt;
@@ -43,6 +44,9 @@ pub enum ServeFault {
     /// The keyring has no cookie.
     #[error("keyring: {0}")]
     Keyring(KeyringCode),
+    /// A service file describes no service, or one too many.
+    #[error("services: {file}: {code}")]
+    Services { file: FileName, code: ServiceCode },
     #[error("device: {0}")]
     Device(Device),
     #[error("memory")]
@@ -58,7 +62,7 @@ impl ServeFault {
     {
         match self {
             ServeFault::Address => 2,
-            ServeFault::Keyring(_) | ServeFault::Device(_) => 4,
+            ServeFault::Keyring(_) | ServeFault::Services { .. } | ServeFault::Device(_) => 4,
             ServeFault::Memory => 5,
         }
     }

@@ -37,29 +37,6 @@ pub fn read_cookie<R: Files + AllocGlobal>(rt: &R, path: &str) -> Result<Cookie,
     }
 }
 
-fn count_files<R: Files + AllocGlobal + Clone + Drop>(rt: &R, path: &str) -> io::Result<usize> {
-    let mut count = 0usize;
-    for entry in fs::read_dir(rt, path)? {
-        let entry = entry?;
-        if entry.file_name().ends_with(".service") {
-            count = count.saturating_add(1);
-        }
-    }
-    Ok(count)
-}
-
-/// How many files of services a folder has. They are not read yet: no service is started.
-///
-/// # Errors
-///
-/// `Device(Input)` where the folder can't be read.
-pub fn look_for_services<R: Files + AllocGlobal + Clone + Drop>(
-    rt: &R,
-    path: &str,
-) -> Result<usize, ServeFault> {
-    count_files(rt, path).map_err(|error| device(error, Device::Input))
-}
-
 /// Opens the system's source of random bytes.
 ///
 /// # Errors

@@ -1,4 +1,4 @@
-//! What `busd serve` needs before it serves: its command line, the keyring, the folder of services, and random bytes; and
+//! What `busd serve` needs before it serves: its command line, the keyring, the services of a folder, and random bytes; and
 //! why it can't begin, or ends.
 #![tactic(auto)]
 
@@ -7,9 +7,13 @@ mod command;
 mod fault;
 mod files;
 mod options;
+mod service_fault;
+mod services;
 
 pub use address::SocketPath;
 pub use command::serve_command;
 pub use fault::{Device, ServeFault};
-pub use files::{look_for_services, open_random, random_bytes, read_cookie};
+pub use files::{open_random, random_bytes, read_cookie};
 pub use options::Options;
+pub use service_fault::{FileName, ServiceCode};
+pub use services::read_services;

@@ -1,5 +1,5 @@
 -- What happens to a host.
-use Rattle.std.specs.Prelude.{◌≡◌, ℕ, Bool, Some, List, position}
+use Rattle.std.specs.Prelude.{◌≡◌, ℕ, Bool, Some, List, [], position}
 use Rattle.seq_bus_core.specs.Histories.{History}
 use Rattle.seq_bus_core.specs.declared.connection.Conn.{Conn}
 use Rattle.outbox_core.specs.declared.envelope.Envelope.{Envelope}
@@ -8,19 +8,32 @@ use Rattle.router_core.specs.declared.event.Event.{Event}
 use Rattle.router_core.specs.Deeds.{GatedCall}
 use Rattle.router_core.specs.Standing.{has_slot}
 use Rattle.router.specs.OneEvent.{IsServedWell}
-use Rattle.router_host_core.specs.Carrying.{AreCarriedOut, IsBlockedAt}
+use Rattle.router_host_core.specs.declared.post.StartRequest.{StartRequest}
+use Rattle.router_host_core.specs.Carrying.{GoesOn, IsBlockedAt}
 use Rattle.router_host.specs.States.{Hosted}
 
--- The engine serves the event, and the actions that it brings are carried out; nothing else is done.
+module _ {P N G : Type 0} (puts : P → Conn → Envelope N → P → Type 0)
+    (starts : P → StartRequest → P → Type 0) where
+  -- Of the actions that are not carried out yet the first ones are, and nothing else is done.
+  pub record CatchesUp (before after : Hosted P G N) : Type 0 where
+    pub engine : after.engine ≡ before.engine
+    pub goes_on : GoesOn puts starts before.undone before.carried after.undone after.carried
+
+-- What events before brought is carried out; then the engine serves the event, and the actions that it brings are carried out, up to a
+-- start that there is no room for now. Nothing else is done.
 pub record Happens {P N G : Type 0} (told : N → History) (passes : G → GatedCall → G → Type 0)
     (alone : Bool) (puts : P → Conn → Envelope N → P → Type 0)
-    (before : Hosted P G) (event : Event N) (after : Hosted P G) : Type 0 where
+    (starts : P → StartRequest → P → Type 0)
+    (before : Hosted P G N) (event : Event N) (after : Hosted P G N) : Type 0 where
+  pub between : Hosted P G N
+  pub catches_up : CatchesUp puts starts before between
+  pub none_left : between.undone ≡ []
   pub actions : List (Action N)
-  pub serves : IsServedWell told passes alone before.engine event actions after.engine
-  pub carried : AreCarriedOut puts actions before.carried after.carried
+  pub serves : IsServedWell told passes alone between.engine event actions after.engine
+  pub carried : GoesOn puts starts actions between.carried after.undone after.carried
 
 -- The socket of the connection that has the slot took no more bytes.
-abbrev pub IsSlotBlocked : {P G : Type 0} → Hosted P G → ℕ → Type 0
+abbrev pub IsSlotBlocked : {P G N : Type 0} → Hosted P G N → ℕ → Type 0
 IsSlotBlocked s slot =
     (key : ℕ) × (position (has_slot slot) s.engine.standing.peers ≡ Some key)
     × IsBlockedAt s.carried.lines key

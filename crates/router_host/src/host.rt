@@ -1,12 +1,14 @@
 //! The host of an engine.
 
-ghost use Rattle.std.specs.Prelude.{◌≡◌, IfOk};
+ghost use Rattle.std.specs.Prelude.{◌≡◌, IfOk, OnOk, OnErr};
+ghost use Rattle.router_core.specs.declared.event.Event.TheVariants.{Child};
+ghost use Rattle.router_host.specs.Happening.{CatchesUp, Happens};
 
 use crate::kept::Kept;
 use crate::opening::{MOST_UNNAMED, OpenFault, Opened, open};
 use bus_view::BusView;
 use router::Engine;
-use router_core::Gate;
+use router_core::{Action, Event, Gate, StartEnd};
 use router_host_core::{Carrier, Ended, Post, Slots, Socket};
 use std::alloc::{AllocError, Global};
 use std::marker::Model;
@@ -23,6 +25,8 @@ pub struct Host<V: BusView, G: Gate, P: Post<V>, S: Socket> {
     pub(crate) alloc: Global,
     pub(crate) engine: Engine<V, G>,
     pub(crate) carrier: Carrier<V, P, S>,
+    /// What events brought that is not carried out yet, the last first.
+    pub(crate) undone: Vec<Action<V::Note>>,
     pub(crate) kept: Option<Kept<V::Note>>,
     /// What was read last.
     pub(crate) room: Vec<u8>,
@@ -32,17 +36,25 @@ pub struct Host<V: BusView, G: Gate, P: Post<V>, S: Socket> {
 }
 
 impl<V: BusView, G: Gate, P: Post<V>, S: Socket> Model for Host<V, G, P, S> {
-    ghost use Rattle.std.specs.Prelude.{◌≡◌};
+    ghost use Rattle.std.specs.Prelude.{◌≡◌, reverse};
+    ghost use Rattle.std.specs.List.{AllByRecursion};
+    ghost use Rattle.router_core.specs.Deeds.{CarriesOwn};
     ghost use Rattle.router_host.specs.States.{Hosted};
 
-    ghost Value = { Hosted P G };
+    ghost Value = { Hosted P G V.Note };
 
     ghost use Rattle.router_host.specs.Keeping.{KeepsOwn};
 
-    ghost view = { λ h. record { engine = h.engine; carried = h.carrier } };
+    ghost view = { λ h. record {
+      engine = h.engine;
+      carried = h.carrier;
+      undone = reverse h.undone.items;
+    } };
 
     ghost invariant = { λ h. (P.registry h.carrier.post ≡ h.engine.view.registry)
-        × KeepsOwn V.registry_of h.engine.view.registry h.kept };
+        × KeepsOwn V.registry_of h.engine.view.registry h.kept
+        × AllByRecursion (CarriesOwn V.registry_of h.engine.view.registry)
+        (reverse h.undone.items) };
 }
 
 impl<V: BusView + Drop, G: Gate + Drop, P: Post<V>, S: Socket> Host<V, G, P, S> {
@@ -63,6 +75,7 @@ impl<V: BusView + Drop, G: Gate + Drop, P: Post<V>, S: Socket> Host<V, G, P, S> 
             alloc,
             engine,
             carrier: Carrier::new(alloc, post, Slots::new(alloc, first, count)),
+            undone: Vec::new(alloc),
             kept: None,
             room,
             ended: Vec::new(alloc),
@@ -110,15 +123,30 @@ impl<V: BusView, G: Gate, P: Post<V>, S: Socket> Host<V, G, P, S> {
         let Ok(()) = self.carrier.lines.make_room(key) else {
             return Err(OpenFault::NoMemory);
         };
+        if self.catch_up(right).is_err() {
+            return Err(OpenFault::TooManyStarts);
+        }
         match open(&mut self.engine, right, challenge) {
-            Ok(Opened { key, mut actions }) => {
+            Ok(Opened { key, actions }) => {
                 self.carrier.lines.open(key, socket);
-                self.carrier.carry_out(right, &mut actions);
-                self.engine.give_back(actions);
+                self.carry_out(right, actions);
                 Ok(key)
             }
             Err(fault) => Err(fault),
         }
+    }
+
+    /// A start of a service ended without its name, or did not end in time.
+    ///
+    /// # Errors
+    ///
+    /// There was no memory for it, or there is no room for what events before it brought: it is to be told again.
+    pub fn end_start(&mut self, right: &V::Right, end: Box<StartEnd>) -> Result<(), AllocError>
+        ensures happens { OnOk result
+            (Happens V.told G.passes V.alone P.puts P.starts self.old (Child end) self.new) }
+        ensures err { OnErr result (CatchesUp P.puts P.starts self.old self.new) }
+    {
+        self.bring(right, &mut Event::Child(end))
     }
 
     /// The socket of a connection may be read; where it is closing, the other side sends no more.
@@ -155,6 +183,7 @@ impl<V: BusView, G: Gate, P: Post<V>, S: Socket> Host<V, G, P, S> {
     /// Whether something is left for the next turn.
     pub fn is_busy(&self) -> bool {
         self.kept.is_some()
+            || !self.undone.is_empty()
             || !self.carrier.lines.is_quiet()
             || !self.carrier.slots.is_empty()
             || !self.carrier.put_out.is_empty()

@@ -15,4 +15,6 @@ mod turn;
 pub use host::Host;
 pub use local_post::LocalPost;
 pub use opening::OpenFault;
-pub use router_host_core::{EndCause, Ended, Full, Post, Socket, Written};
+pub use router_host_core::{
+    EndCause, Ended, Full, Post, Socket, StartRequest, TooManyStarts, Written,
+};

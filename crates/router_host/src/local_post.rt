@@ -3,7 +3,7 @@
 ghost use Rattle.std.specs.Prelude.{◌≡◌, ◌∷◌, ◌++◌, [], IfErr, OnErr, OnOk};
 
 use outbox_core::Envelope;
-use router_host_core::{Full, Post, SLOTS};
+use router_host_core::{Full, Post, SLOTS, StartRequest, TooManyStarts};
 use seq_bus::SeqBus;
 use seq_bus_core::Conn;
 use std::alloc::{AllocError, Global};
@@ -48,10 +48,11 @@ impl Mail {
     }
 }
 
-/// The mail of all slots of a bus of one thread, in memory. Its one router finds its own mail here.
+/// The mail of all slots of a bus of one thread, in memory, and the starts that it asks for. Its one router finds its own mail here.
 #[derive(Drop)]
 pub struct LocalPost {
     mails: Vec<Mail>,
+    starts: VecDeque<StartRequest>,
 }
 
 impl Model for LocalPost {
@@ -72,7 +73,15 @@ impl LocalPost {
                 envelopes: VecDeque::new(alloc),
             })?;
         }
-        Ok(LocalPost { mails })
+        Ok(LocalPost {
+            mails,
+            starts: VecDeque::new(alloc),
+        })
+    }
+
+    /// The start that was asked for first, of those that were not taken yet.
+    pub fn take_start(&mut self) -> Option<StartRequest> {
+        self.starts.pop_front()
     }
 }
 
@@ -80,6 +89,8 @@ impl Post<SeqBus> for LocalPost {
     ghost registry = { λ _. 0 };
 
     ghost puts = { λ _ _ _ _. Unit {0} };
+
+    ghost starts = { λ _ _ _. Unit {0} };
 
     fn put(&mut self, _right: &(), to: Conn, envelope: Envelope<()>) -> Result<(), Full<()>>
         ensures refused { OnErr result (self.new ≡ self.old) }
@@ -90,6 +101,15 @@ impl Post<SeqBus> for LocalPost {
             return Err(Full(envelope));
         }
         self.mails[slot].put(envelope)
+    }
+
+    fn start(&mut self, _right: &(), request: StartRequest) -> Result<(), TooManyStarts>
+        ensures refused { OnErr result (self.new ≡ self.old) }
+    {
+        match self.starts.push_back(request) {
+            Ok(()) => Ok(()),
+            Err(_) => Err(TooManyStarts),
+        }
     }
 
     fn take(&mut self, _right: &(), slot: u16) -> Option<Envelope<()>> {

@@ -20,6 +20,9 @@ pub enum OpenFault {
     /// It is asked who it is, and nobody may log in.
     #[error("nobody may log in")]
     NobodyMayLogIn,
+    /// More starts of services are asked for than are carried out.
+    #[error("too many starts")]
+    TooManyStarts,
     #[error("out of memory")]
     NoMemory,
 }

@@ -1,14 +1,17 @@
 //! A turn.
 
-ghost use Rattle.std.specs.Prelude.{◌≡◌, OnOk, OnErr};
+ghost use Rattle.std.specs.Prelude.{◌≡◌, [], false, OnOk, OnErr};
+ghost use Rattle.std.specs.List.{AllByRecursion};
+ghost use Rattle.router_core.specs.Deeds.{CarriesOwn};
 ghost use Rattle.router_core.specs.Events.{CanHappen};
-ghost use Rattle.router_host.specs.Happening.{Happens, IsSlotBlocked};
+ghost use Rattle.router_host_core.specs.Carrying.{GoesOn};
+ghost use Rattle.router_host.specs.Happening.{CatchesUp, Happens, IsSlotBlocked};
 ghost use Rattle.router_host.specs.Keeping.{CanWait};
 
 use crate::host::Host;
 use crate::kept::Kept;
 use bus_view::BusView;
-use router_core::{Event, Gate};
+use router_core::{Action, Event, Gate};
 use router_host_core::{Ended, Post, Pulled, SLOTS, Socket, Todo};
 use std::alloc::AllocError;
 
@@ -26,7 +29,7 @@ impl<V: BusView, G: Gate, P: Post<V>, S: Socket> Host<V, G, P, S> {
     ///
     /// # Errors
     ///
-    /// There was no memory for something. It is done first in the next turn, which is to come some time later.
+    /// There was no memory for something, or no room for a start. It is done first in the next turn, which is to come some time later.
     pub fn turn(&mut self, right: &V::Right) -> Result<(), AllocError> {
         let served = self.serve_all(right);
         self.carrier.lines.flush_all();
@@ -55,6 +58,7 @@ impl<V: BusView, G: Gate, P: Post<V>, S: Socket> Host<V, G, P, S> {
     }
 
     fn serve_all(&mut self, right: &V::Right) -> Result<(), AllocError> {
+        self.catch_up(right)?;
         self.serve_kept(right)?;
         self.serve_ready(right)?;
         self.take_mail(right)
@@ -65,27 +69,65 @@ impl<V: BusView, G: Gate, P: Post<V>, S: Socket> Host<V, G, P, S> {
         self.put_out_all(right)
     }
 
-    /// Serves an event, and carries out what it brings. Without memory nothing changes, and the event neither.
-    fn bring(&mut self, right: &V::Right, event: &mut Event<V::Note>) -> Result<(), AllocError>
+    /// Carries out what events brought that is not carried out yet.
+    ///
+    /// # Errors
+    ///
+    /// There is no room for a start yet.
+    pub(crate) fn catch_up(&mut self, right: &V::Right) -> Result<(), AllocError>
+        ensures catches_up { CatchesUp P.puts P.starts self.old self.new }
+        ensures ok { OnOk result (self.new.undone ≡ []) }
+    {
+        if self.undone.is_empty() || self.carrier.carry_out(right, &mut self.undone) {
+            return Ok(());
+        }
+        Err(AllocError)
+    }
+
+    /// Carries out what an event brought, and keeps what there is no room for now.
+    pub(crate) fn carry_out(&mut self, right: &V::Right, actions: Vec<Action<V::Note>>)
+        requires own { AllByRecursion (CarriesOwn V.registry_of self.old.engine.view.registry)
+            actions.items }
+        requires none { self.old.undone ≡ [] }
+        ensures goes_on { GoesOn P.puts P.starts actions.items self.old.carried self.new.undone
+            self.new.carried }
+        ensures engine { self.new.engine ≡ self.old.engine }
+    {
+        let mut actions = actions;
+        actions.reverse();
+        if self.carrier.carry_out(right, &mut actions) {
+            self.engine.give_back(actions);
+        } else {
+            self.undone = actions;
+        }
+    }
+
+    /// Serves an event, and carries out what it brings. Where there is no memory for it, or no room for what events before it brought, it is
+    /// as it was.
+    pub(crate) fn bring(
+        &mut self,
+        right: &V::Right,
+        event: &mut Event<V::Note>,
+    ) -> Result<(), AllocError>
         requires { CanHappen V.registry_of self.old.engine.view.registry
             self.old.engine.standing event.old }
         ensures happens { OnOk result
-            (Happens V.told G.passes V.alone P.puts self.old event.old self.new) }
-        ensures err { OnErr result (self.new ≡ self.old) }
+            (Happens V.told G.passes V.alone P.puts P.starts self.old event.old self.new) }
+        ensures err { OnErr result (CatchesUp P.puts P.starts self.old self.new) }
         ensures handed_back { OnErr result (event.new ≡ event.old) }
     {
-        let mut actions = self.engine.event(right, event)?;
-        self.carrier.carry_out(right, &mut actions);
-        self.engine.give_back(actions);
+        self.catch_up(right)?;
+        let actions = self.engine.event(right, event)?;
+        self.carry_out(right, actions);
         Ok(())
     }
 
-    /// Serves an event. What there is no memory for is kept for the next turn.
+    /// Serves an event. Where there is no memory for it, or no room for what events before it brought, it is kept for the next turn.
     fn serve(&mut self, right: &V::Right, event: Event<V::Note>) -> Result<(), AllocError>
         requires { CanWait V.registry_of self.old.engine.view.registry event }
         ensures happens { OnOk result
-            (Happens V.told G.passes V.alone P.puts self.old event self.new) }
-        ensures err { OnErr result (self.new ≡ self.old) }
+            (Happens V.told G.passes V.alone P.puts P.starts self.old event self.new) }
+        ensures err { OnErr result (CatchesUp P.puts P.starts self.old self.new) }
     {
         let mut event = event;
         match self.bring(right, &mut event) {
@@ -203,19 +245,31 @@ impl<V: BusView, G: Gate, P: Post<V>, S: Socket> Host<V, G, P, S> {
         Ok(())
     }
 
+    /// Whether mail of a slot is to be taken now. Where its connection has enough, it is looked at in the next turn.
+    fn may_take(&mut self, slot: u16) -> bool
+        ensures blocked { IsSlotBlocked self.old slot → result ≡ false }
+        ensures same { self.new ≡ self.old }
+    {
+        let Some(key) = self.engine.key_of(slot) else {
+            return true;
+        };
+        self.carrier.lines.know_slot(key, slot);
+        if self.carrier.lines.is_blocked(key) {
+            return false;
+        }
+        if self.carrier.lines.has_enough(key) {
+            self.carrier.slots.note(slot);
+            return false;
+        }
+        true
+    }
+
     /// Takes an envelope of a slot. Tells whether there may be more to be taken now.
     fn take_one(&mut self, right: &V::Right, slot: u16) -> Result<bool, AllocError>
         ensures blocked { IsSlotBlocked self.old slot → self.new ≡ self.old }
     {
-        if let Some(key) = self.engine.key_of(slot) {
-            self.carrier.lines.know_slot(key, slot);
-            if self.carrier.lines.is_blocked(key) {
-                return Ok(false);
-            }
-            if self.carrier.lines.has_enough(key) {
-                self.carrier.slots.note(slot);
-                return Ok(false);
-            }
+        if !self.may_take(slot) {
+            return Ok(false);
         }
         let Some(envelope) = self.carrier.post.take(right, slot) else {
             return Ok(false);
@@ -257,22 +311,30 @@ impl<V: BusView, G: Gate, P: Post<V>, S: Socket> Host<V, G, P, S> {
     /// Puts out whoever took no more mail. What that announces may put out more.
     fn put_out_all(&mut self, right: &V::Right) -> Result<(), AllocError> {
         for _ in 0..SLOTS {
-            let Some(conn) = self.carrier.put_out.take() else {
+            if !self.put_out_one(right)? {
                 return Ok(());
-            };
-            let full = &mut Event::Full {
-                number: conn.number,
-            };
-            if self.bring(right, full).is_err() {
-                self.carrier.put_out.add(conn);
-                return Err(AllocError);
-            }
-            if self.carrier.slots.contains(conn.slot) {
-                self.looks = true;
-            } else {
-                self.carrier.post.look(right, conn);
             }
         }
         Ok(())
+    }
+
+    /// Puts out one who took no more mail. Tells whether there was one.
+    fn put_out_one(&mut self, right: &V::Right) -> Result<bool, AllocError> {
+        let Some(conn) = self.carrier.put_out.take() else {
+            return Ok(false);
+        };
+        let full = &mut Event::Full {
+            number: conn.number,
+        };
+        if self.bring(right, full).is_err() {
+            self.carrier.put_out.add(conn);
+            return Err(AllocError);
+        }
+        if self.carrier.slots.contains(conn.slot) {
+            self.looks = true;
+        } else {
+            self.carrier.post.look(right, conn);
+        }
+        Ok(true)
     }
 }

@@ -24,16 +24,18 @@ module _ {X S : Type 0} (step : X → S → S → Type 0) where
 
 -- ## From the last to the first, which lies at the end
 
--- whatever the rest comes to, all come to
-abbrev pub Finishes : {X S : Type 0} → (X → S → S → Type 0) → (rest all : List X) → (now before : S) → Type 0
-Finishes {S = S} step rest all now before = (after : S) → Each step rest now after → Each step all before after
+-- the first of all are done, and the rest is left
+abbrev pub SoFar : {X S : Type 0} → (X → S → S → Type 0) → (rest all : List X) → (now before : S) → Type 0
+SoFar {X = X} step rest all now before = (done : List X) × (all ≡ done ++ rest) × Each step done before now
 
-last_first : {X : Type 0} (older rest : List X) (x : X) → older ≡ rest ++ x ∷ [] → reverse older ≡ x ∷ reverse rest
+pub last_first : {X : Type 0} (older rest : List X) (x : X) → older ≡ rest ++ x ∷ [] → reverse older ≡ x ∷ reverse rest
 last_first older rest x is = ap reverse is ∙ reverse-append rest (x ∷ [])
 
-pub finish_more : {X S : Type 0} (step : X → S → S → Type 0) (older rest all : List X) (x : X) → older ≡ rest ++ x ∷ [] → (a b before : S) → Finishes step (reverse older) all a before → step x a b →
-    Finishes step (reverse rest) all b before
-finish_more step older rest all x is a b before f s after e = f after (subst (λ l. Each step l a after) (sym (last_first older rest x is)) (b, s, e))
+pub one_more : {X S : Type 0} (step : X → S → S → Type 0) (older rest all : List X) (x : X) → older ≡ rest ++ x ∷ [] → (a b before : S) → SoFar step (reverse older) all a before → step x a b →
+    SoFar step (reverse rest) all b before
+one_more step older rest all x is a b before f s =
+    let moved : all ≡ (f.0 ++ x ∷ []) ++ reverse rest = f.1 ∙ ap (λ l. f.0 ++ l) (last_first older rest x is) ∙ sym (append_assoc f.0 (x ∷ []) (reverse rest)) in
+    (f.0 ++ x ∷ [], moved, each_then step f.0 (x ∷ []) before a b f.2 (b, s, refl))
 
 pub own_more : {X : Type 0} (Q : X → Type 0) (older rest : List X) (x : X) → older ≡ rest ++ x ∷ [] → AllByRecursion Q (reverse older) → Q x × AllByRecursion Q (reverse rest)
 own_more Q older rest x is own = subst (AllByRecursion Q) (last_first older rest x is) own

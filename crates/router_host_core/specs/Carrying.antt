@@ -10,6 +10,7 @@ use Rattle.router_core.specs.declared.action.Action.{Action}
 use Rattle.router_core.specs.declared.action.Action.TheVariants.{Write, Put, Announce, Close, Run}
 use Rattle.router_core.specs.Deeds.{all_of}
 use Rattle.router_host_core.specs.declared.ending.EndCause.{EndCause}
+use Rattle.router_host_core.specs.declared.post.StartRequest.{StartRequest}
 use Rattle.router_host_core.specs.declared.ending.EndCause.TheVariants.{Closed, NoMemory}
 use Rattle.router_host_core.specs.States.{LineState, Carried, ended_by}
 
@@ -85,22 +86,43 @@ module _ {P N : Type 0} (puts : P → Conn → Envelope N → P → Type 0) wher
       ArePut note (Some (Own (Signal s.signal))) s.to s.monitors before after
       ⊎ ArePut note None s.to s.monitors before after
 
-  -- ## Actions
+-- ## Actions
 
+abbrev pub IsStart : {N : Type 0} → Action N → Type 0
+IsStart (Run name start) = Unit {0}
+IsStart other = ⊥
+
+module _ {P N : Type 0} (puts : P → Conn → Envelope N → P → Type 0)
+    (starts : P → StartRequest → P → Type 0) where
   abbrev pub IsCarriedOut : Action N → Carried P → Carried P → Type 0
   IsCarriedOut (Write key bytes) before after =
       (lines : List (Option LineState))
       × IsWrittenAt before.lines key bytes (line_at before.lines key) lines
       × (after ≡ record before { lines = lines })
   IsCarriedOut (Put to carried content) before after =
-      ArePut carried (Some content) to.to to.monitors before after
+      ArePut puts carried (Some content) to.to to.monitors before after
   IsCarriedOut (Announce signals carried) before after =
-      Each (IsAnnounced carried) signals before after
+      Each (IsAnnounced puts carried) signals before after
   IsCarriedOut (Close key cause) before after =
       after ≡ record before
       { lines = ended_at before.lines key (Closed cause) (line_at before.lines key) }
-  IsCarriedOut (Run name start) before after = after ≡ before
+  IsCarriedOut (Run name start) before after =
+      (post : P) × starts before.post (record { name = name.value; start = start }) post
+      × (after ≡ record before { post = post })
 
   -- Each of the actions is carried out, in order, and nothing else is done.
   abbrev pub AreCarriedOut : List (Action N) → Carried P → Carried P → Type 0
   AreCarriedOut actions before after = Each IsCarriedOut actions before after
+
+  -- nothing is left, or what is left begins with a start
+  abbrev pub WaitsForRoom : List (Action N) → Type 0
+  WaitsForRoom [] = Unit {0}
+  WaitsForRoom (action ∷ actions) = IsStart action
+
+  -- Of the actions that were left the first ones are carried out, in order, and the others are left; nothing else is done.
+  pub record GoesOn (left : List (Action N)) (before : Carried P) (left_now : List (Action N))
+      (after : Carried P) : Type 0 where
+    pub done : List (Action N)
+    pub all : left ≡ done ++ left_now
+    pub carried : AreCarriedOut done before after
+    pub waits : WaitsForRoom left_now

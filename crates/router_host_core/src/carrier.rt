@@ -1,20 +1,22 @@
 //! What becomes of actions.
 
-ghost use Rattle.std.specs.Prelude.{◌≡◌, IfSome};
+ghost use Rattle.std.specs.Prelude.{◌≡◌, ◌<◌, ◌++◌, ◌∷◌, [], ◌↔◌, IfSome, IfErr, IsTrue, OnOk, OnErr, reverse, vec_capacity, vec_len};
 ghost use Rattle.outbox_core.specs.declared.content.Content.TheVariants.{Own};
 ghost use Rattle.outbox_core.specs.declared.own_message.OwnMessage.TheVariants.{Signal};
 ghost use Rattle.std.specs.List.{AllByRecursion};
 ghost use Rattle.seq_bus_core.specs.Steps.{is_among};
+ghost use Rattle.router_core.specs.declared.action.Action.TheVariants.{Run};
 ghost use Rattle.router_core.specs.Deeds.{CarriesOwn, IsOwnNote};
-ghost use Rattle.router_host_core.specs.Carrying.{AreCarriedOut, IsCarriedOut, ArePut, IsPut, IsAnnounced, Each};
+ghost use Rattle.router_host_core.specs.Carrying.{GoesOn, IsCarriedOut, IsStart, ArePut, IsPut, IsAnnounced, Each};
 
 use crate::ending::EndCause;
 use crate::lines::Lines;
-use crate::post::Post;
+use crate::post::{Post, StartRequest, TooManyStarts};
 use crate::put_out::PutOut;
 use crate::slots::Slots;
 use crate::socket::Socket;
 use bus_view::{Again, BusView};
+use names::BusName;
 use outbox_core::{Content, Envelope, OwnMessage};
 use router_core::Action;
 use seq_bus_core::{AddressedSignal, Conn, SharedSignal};
@@ -43,6 +45,14 @@ fn is_among(conns: &[Conn], conn: Conn) -> bool
     ensures { result ≡ is_among conns.now conn }
 {
     conns.iter().any(|other| other.number == conn.number)
+}
+
+/// An element that was taken from the end stands there again.
+fn push_back<T: Drop>(elements: &mut Vec<T>, element: T)
+    requires { vec_len elements.old < vec_capacity elements.old }
+    ensures { elements.new.items ≡ elements.old.items ++ element ∷ [] }
+{
+    let _ = elements.push(element);
 }
 
 /// A note once more, if there is one.
@@ -79,34 +89,72 @@ impl<V: BusView, P: Post<V>, S: Socket> Carrier<V, P, S> {
         }
     }
 
-    /// Carries out actions, in order.
-    pub fn carry_out(&mut self, right: &V::Right, actions: &mut Vec<Action<V::Note>>)
+    /// Carries out actions, the last first, until none is left or there is no room for a start: that action and those before it are
+    /// left. Tells whether none is.
+    pub fn carry_out(&mut self, right: &V::Right, actions: &mut Vec<Action<V::Note>>) -> bool
         requires { AllByRecursion (CarriesOwn V.registry_of (P.registry self.old.post))
-            actions.old.items }
-        ensures done { AreCarriedOut P.puts actions.old.items self.old self.new }
+            (reverse actions.old.items) }
+        ensures done { GoesOn P.puts P.starts (reverse actions.old.items) self.old
+            (reverse actions.new.items) self.new }
+        ensures all { IsTrue result ↔ (actions.new.items ≡ []) }
+        ensures own { AllByRecursion (CarriesOwn V.registry_of (P.registry self.new.post))
+            (reverse actions.new.items) }
         ensures registry { P.registry self.new.post ≡ P.registry self.old.post }
     {
-        actions.reverse();
         while let Some(action) = actions.pop() {
-            self.act(right, action);
+            if let Err(action) = self.act(right, action) {
+                push_back(actions, action);
+                return false;
+            }
         }
+        true
     }
 
-    fn act(&mut self, right: &V::Right, action: Action<V::Note>)
+    /// Carries out an action. A start that there is no room for comes back, and nothing is done.
+    fn act(&mut self, right: &V::Right, action: Action<V::Note>) -> Result<(), Action<V::Note>>
         requires { CarriesOwn V.registry_of (P.registry self.old.post) action }
-        ensures done { IsCarriedOut P.puts action self.old self.new }
+        ensures done { OnOk result (IsCarriedOut P.puts P.starts action self.old self.new) }
+        ensures refused { OnErr result (self.new ≡ self.old) }
+        ensures back { IfErr result (λ later. (later ≡ action) × IsStart action) }
         ensures registry { P.registry self.new.post ≡ P.registry self.old.post }
     {
         match action {
-            Action::Write { key, bytes } => self.lines.write(key, bytes),
+            Action::Write { key, bytes } => {
+                self.lines.write(key, bytes);
+                Ok(())
+            }
             Action::Put { to, note, content } => {
                 self.put(right, to.to(), to.monitors(), &note, &Some(content));
+                Ok(())
             }
             Action::Announce { signals, note } => {
                 self.announce(right, signals.as_slice(), &note);
+                Ok(())
             }
-            Action::Close { key, cause } => self.lines.end(key, EndCause::Closed(cause)),
-            Action::Run { name: _, start: _ } => {}
+            Action::Close { key, cause } => {
+                self.lines.end(key, EndCause::Closed(cause));
+                Ok(())
+            }
+            Action::Run { name, start } => self.start(right, name, start),
+        }
+    }
+
+    /// Asks for a start. Where there is no room for it, the action comes back.
+    fn start(
+        &mut self,
+        right: &V::Right,
+        name: Box<BusName>,
+        start: u64,
+    ) -> Result<(), Action<V::Note>>
+        ensures done { OnOk result (IsCarriedOut P.puts P.starts (Run name start) self.old self.new) }
+        ensures refused { OnErr result (self.new ≡ self.old) }
+        ensures back { IfErr result (λ later. later ≡ Run name start) }
+        ensures registry { P.registry self.new.post ≡ P.registry self.old.post }
+    {
+        let request = StartRequest { name: *name, start };
+        match self.post.start(right, request) {
+            Ok(()) => Ok(()),
+            Err(TooManyStarts) => Err(Action::Run { name, start }),
         }
     }
 

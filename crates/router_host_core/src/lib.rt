@@ -20,7 +20,7 @@ pub use ending::{EndCause, Ended};
 pub use hints::Todo;
 pub use line::Pulled;
 pub use lines::Lines;
-pub use post::{Full, Post};
+pub use post::{Full, Post, StartRequest, TooManyStarts};
 pub use put_out::{PutOut, SLOTS};
 pub use slots::Slots;
 pub use socket::Socket;

@@ -4,6 +4,7 @@ ghost use Rattle.std.specs.Prelude.{◌≡◌, IfErr, IfSome, OnOk, OnErr};
 ghost use Rattle.router_core.specs.Deeds.{IsOwnNote};
 
 use bus_view::BusView;
+use names::BusName;
 use outbox_core::Envelope;
 use seq_bus_core::Conn;
 
@@ -11,17 +12,35 @@ use seq_bus_core::Conn;
 #[derive(Drop)]
 pub struct Full<N: Drop>(pub Envelope<N>);
 
-/// The ways between the routers of a bus, as one of them uses them. All notes on them are of one registry.
+/// That the program of a service is to be run.
+#[derive(Clone, Copy, Debug, PartialEq, Eq)]
+pub struct StartRequest {
+    /// The name of the service.
+    pub name: BusName,
+    /// The number of the start, which the bus gave it.
+    pub start: u64,
+}
+
+/// There is no room for one more start that is to be run.
+#[derive(Clone, Copy, Debug, PartialEq, Eq)]
+pub struct TooManyStarts;
+
+/// The ways between the routers of a bus, and to whoever runs the programs of services, as one router uses them. All notes on
+/// them are of one registry.
 pub trait Post<V: BusView>: Drop {
     ghost use Rattle.std.specs.Prelude.{ℕ};
     ghost use Rattle.outbox_core.specs.declared.envelope.Envelope.{Envelope};
     ghost use Rattle.seq_bus_core.specs.declared.connection.Conn.{Conn};
+    ghost use Rattle.router_host_core.specs.declared.post.StartRequest.{StartRequest};
 
     /// The registry that the notes are of.
     ghost registry: { Self → ℕ };
 
     /// What it may be once an envelope for a connection was put.
     ghost puts: { Self → Conn → Envelope V.Note → Self → Type 0 };
+
+    /// What it may be once it was asked to have the program of a service run.
+    ghost starts: { Self → StartRequest → Self → Type 0 };
 
     /// Puts an envelope for a connection of whatever router. Where there is no room for it, it comes back.
     fn put(
@@ -35,6 +54,12 @@ pub trait Post<V: BusView>: Drop {
         ensures put { OnOk result (puts self.old to envelope self.new) }
         ensures refused { OnErr result (self.new ≡ self.old) }
         ensures back { IfErr result (λ full. full.0 ≡ envelope) };
+
+    /// The program of a service is to be run. Where there is no room to tell of it, nothing happens: it is to be asked for again.
+    fn start(&mut self, right: &V::Right, request: StartRequest) -> Result<(), TooManyStarts>
+        ensures registry { registry self.new ≡ registry self.old }
+        ensures asked { OnOk result (starts self.old request self.new) }
+        ensures refused { OnErr result (self.new ≡ self.old) };
 
     /// The envelope that came first of those for a slot of this router.
     fn take(&mut self, right: &V::Right, slot: u16) -> Option<Envelope<V::Note>>

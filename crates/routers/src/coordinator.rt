@@ -2,9 +2,13 @@
 
 use crate::fault::Fault;
 use crossbeam_queue::ArrayQueue;
+use router_host::{StartRequest, TooManyStarts};
 use std::alloc::{AllocError, Global};
-use std::sync::Wait;
 use std::sync::atomic::{AtomicBool, Ordering};
+use std::sync::{OnceLock, Wait};
+
+/// How many starts wait for the main thread at most.
+const STARTS: usize = 512;
 
 /// How many places for connections a bus has.
 pub(crate) const PLACES: usize = 256;
@@ -49,8 +53,8 @@ fn lower(flag: &AtomicBool) -> bool {
     flag.load(Ordering::SeqCst) && flag.swap(false, Ordering::SeqCst)
 }
 
-/// What the threads of a bus share, besides its registry and its outboxes: how to wake each, which places have mail, and
-/// whether they are to end.
+/// What the threads of a bus share, besides its registry and its outboxes: how to wake each, which places have mail, which
+/// programs are to be run, and whether they are to end.
 #[derive(Drop)]
 pub struct Coordinator<W: Wake + Drop> {
     states: Vec<RouterState<W>>,
@@ -58,7 +62,10 @@ pub struct Coordinator<W: Wake + Drop> {
     mail: Vec<AtomicBool>,
     main: W,
     stops: AtomicBool,
-    faults: ArrayQueue<Fault>,
+    /// Starts on their way to the main thread.
+    starts: ArrayQueue<StartRequest>,
+    /// The fault that came first.
+    fault: OnceLock<Fault>,
 }
 
 impl<W: Wake + Drop> Coordinator<W> {
@@ -83,7 +90,8 @@ impl<W: Wake + Drop> Coordinator<W> {
             mail,
             main,
             stops: AtomicBool::new(false),
-            faults: ArrayQueue::new(alloc, 16)?,
+            starts: ArrayQueue::new(alloc, STARTS)?,
+            fault: OnceLock::new(),
         })
     }
 
@@ -190,6 +198,26 @@ impl<W: Wake + Drop> Coordinator<W> {
         }
     }
 
+    /// The program of a service is to be run by the main thread, which is woken.
+    pub(crate) fn ask_for_start<R: Wait>(
+        &self,
+        rt: &R,
+        request: StartRequest,
+    ) -> Result<(), TooManyStarts> {
+        match self.starts.push(rt, request) {
+            Ok(()) => {
+                self.main.wake();
+                Ok(())
+            }
+            Err(_) => Err(TooManyStarts),
+        }
+    }
+
+    /// The start that was asked for first, of those that were not taken yet.
+    pub fn next_start<R: Wait>(&self, rt: &R) -> Option<StartRequest> {
+        self.starts.pop(rt)
+    }
+
     /// Whether all are to end.
     pub fn is_over(&self) -> bool {
         self.stops.load(Ordering::SeqCst)
@@ -206,12 +234,12 @@ impl<W: Wake + Drop> Coordinator<W> {
 
     /// A thread can't go on, and all are to end.
     pub fn fail<R: Wait>(&self, rt: &R, fault: Fault) {
-        let _ = self.faults.push(rt, fault);
+        let _ = self.fault.set(rt, fault);
         self.stop();
     }
 
-    /// The fault that came first, of those that are not told yet.
-    pub fn fault<R: Wait>(&self, rt: &R) -> Option<Fault> {
-        self.faults.pop(rt)
+    /// The fault that came first.
+    pub fn fault(&self) -> Option<Fault> {
+        self.fault.get().copied()
     }
 }

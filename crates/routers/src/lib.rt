@@ -2,7 +2,8 @@
 //!
 //! A [`Router`] is a [`Host`](router_host::Host) that is told what happens by a [`Source`], and reaches the other routers
 //! by its [`LanePost`]. [`serve`] runs one for each seat, beside the thread that accepts connections, until all are told to
-//! end. What they share stands in the [`Coordinator`].
+//! end. What they share stands in the [`Coordinator`]. A [`Starter`] runs the programs of services for them, in the thread
+//! that accepts.
 #![tactic(auto)]
 
 mod coordinator;
@@ -10,6 +11,7 @@ mod fault;
 mod post;
 mod router_loop;
 mod source;
+mod starter;
 mod threads;
 
 pub use coordinator::{Coordinator, Wake};
@@ -17,4 +19,5 @@ pub use fault::Fault;
 pub use post::LanePost;
 pub use router_loop::Router;
 pub use source::{Source, SourceEvent, Timeout};
-pub use threads::{MainTask, RouterSetup, serve};
+pub use starter::{Programs, Starter};
+pub use threads::{MainTask, RouterSetup, main_host, serve};

@@ -6,13 +6,13 @@ ghost use Rattle.routers.specs.Posts.{Puts};
 use crate::coordinator::{Coordinator, Wake};
 use outbox::{EnvelopeOf, Lane, Tap};
 use registry_snapshots::{Desk, Naming, Note};
-use router_host::{Full, Post};
+use router_host::{Full, Post, StartRequest, TooManyStarts};
 use seq_bus_core::Conn;
 use std::marker::Model;
 use std::sync::Wait;
 
 /// How a router reaches the others: its lane into all outboxes, the taps of its own places, and the coordinator, where it tells
-/// that something was brought to another router.
+/// that something was brought to another router, or that a program is to be run.
 ///
 /// Contracts see the lane.
 #[derive(Drop)]
@@ -59,6 +59,8 @@ impl<'a, 'b, J: Naming, W: Wake + Drop, R: Wait> Post<Desk<'b, J, R>> for LanePo
 
     ghost puts = { λ before to envelope after. Puts before to.slot envelope after };
 
+    ghost starts = { λ before _ after. after ≡ before };
+
     fn put(&mut self, right: &R, to: Conn, envelope: EnvelopeOf<J>) -> Result<(), Full<Note<J>>>
         ensures put { OnOk result (Puts self.old to.slot envelope self.new) }
         ensures refused { OnErr result (self.new ≡ self.old) }
@@ -75,6 +77,13 @@ impl<'a, 'b, J: Naming, W: Wake + Drop, R: Wait> Post<Desk<'b, J, R>> for LanePo
             self.coordinator.tell_of_mail(slot);
         }
         Ok(())
+    }
+
+    fn start(&mut self, right: &R, request: StartRequest) -> Result<(), TooManyStarts>
+        ensures asked { OnOk result (self.new ≡ self.old) }
+        ensures refused { OnErr result (self.new ≡ self.old) }
+    {
+        self.coordinator.ask_for_start(right, request)
     }
 
     fn take(&mut self, right: &R, slot: u16) -> Option<EnvelopeOf<J>> {

@@ -10,7 +10,7 @@ use crate::source::Source;
 use outbox::{EnvelopeOf, Lane, Tap};
 use registry_snapshots::{Desk, Naming, Seat, Shared};
 use router::{Engine, Login};
-use router_core::Gate;
+use router_core::{Gate, OpenGate};
 use router_host::{Host, Socket};
 use std::alloc::{AllocError, Global};
 use std::marker::PhantomData;
@@ -39,6 +39,21 @@ pub trait MainTask {
 
 fn no_memory(_refused: AllocError) -> Fault {
     Fault::Memory
+}
+
+/// The host of the thread that started the routers, which has the seat and the lane that are no router's: it serves no connection, and
+/// tells the bus of other things. There is none where there is no memory for it.
+pub fn main_host<'a, J: Naming, S: Socket, W: Wake + Drop, R: Wait>(
+    alloc: Global,
+    shared: &'a Shared<J>,
+    coordinator: &'a Coordinator<W>,
+    seat: Seat<J>,
+    lane: Lane<EnvelopeOf<J>>,
+) -> Option<Host<Desk<'a, J, R>, OpenGate, LanePost<'a, J, W>, S>> {
+    let view: Desk<'_, J, R> = Desk::new(seat, shared);
+    let engine = Engine::new(alloc, view, OpenGate, None).ok()?;
+    let post = LanePost::new(usize::MAX, lane, Vec::new(alloc), coordinator);
+    Host::new(alloc, engine, post, 0, 0).ok()
 }
 
 /// Serves as one router.
@@ -186,7 +201,7 @@ pub fn serve<
         }
     }
     run_all(rt, coordinator, tasks, main);
-    match coordinator.fault(rt) {
+    match coordinator.fault() {
         Some(fault) => Err(fault),
         None => Ok(()),
     }

@@ -1,20 +1,14 @@
-use Rattle.std.proofs.Common.{◌≡◌, ℕ, ◌-◌, [], ◌++◌, take, refl, ap, ◌∙◌}
+use Rattle.std.proofs.Common.{◌∙◌, reverse}
 use Rattle.router_host_core.specs.Carrying.{IsCarriedOut}
 use Rattle.router_core.specs.Deeds.{CarriesOwn}
-use Rattle.router_host_core.proofs.Steps.{finish_more, own_more}
+use Rattle.router_host_core.proofs.Steps.{one_more, own_more}
 use Rattle.router_host_core.proofs.carrier.Carrier.carry_out.Goals as goal
 
 pub loop-action-preserved : goal.loop-action-preserved
 loop-action-preserved g c =
     let older = c.loop-action.actions.items in
     let rest = c.pop.new.self.items in (
-      finish_more (IsCarriedOut g.P.Post.puts) older rest c.args.actions.now.items c.in-Some.action c.in-Some.ensures.items c.loop-action.self c.act.new.self c.args.self.now c.loop-action.invariant.0 c.act.ensures.done,
+      one_more (IsCarriedOut g.P.Post.puts g.P.Post.starts) older rest (reverse c.args.actions.now.items) c.in-Some.action c.in-Some.ensures.items c.loop-action.self c.act.new.self c.args.self.now c.loop-action.invariant.0 c.in_default-act.ensures.done,
       (own_more (CarriesOwn g.V.BusView.registry_of (g.P.Post.registry c.args.self.now.post)) older rest c.in-Some.action c.in-Some.ensures.items c.loop-action.invariant.1).1,
       c.act.ensures.registry ∙ c.loop-action.invariant.2,
     )
-
-pub returns-clause-done : goal.returns-clause-done
-returns-clause-done g c =
-    let items = c.loop-action.actions.items in
-    let none : items ≡ [] = c.in_default.ensures.items ∙ ap (λ l. l ++ []) (c.in_default.ensures.rest ∙ ap (λ (n : ℕ). take (n - 1) items) c.in_default.ensures.cases.0) in
-    c.loop-action.invariant.0 c.loop-action.self (rw none refl)

@@ -1,0 +1,81 @@
+//! The programs of services.
+
+use crate::launch::{Launch, ProgramJob, start_launching};
+use crate::runtime::DaemonRuntime;
+use busd_sockets::PollWaker;
+use crossbeam_channel::{Sender, bounded};
+use names::BusName;
+use routers::{Coordinator, Programs};
+use std::alloc::{AllocError, Global};
+use std::sync::{Arc, Wait};
+use supervisor::Event;
+
+/// How many programs wait to be started at most.
+const JOBS: usize = 512;
+
+/// Runs the programs of services: a thread starts them, each in a thread of its own that waits for its end. Nothing waits for these
+/// threads.
+#[derive(Drop)]
+pub(crate) struct Launcher<'a, R: Wait> {
+    rt: &'a R,
+    alloc: Global,
+    coordinator: &'a Coordinator<PollWaker>,
+    launch: Arc<Launch, Global>,
+    jobs: Sender<ProgramJob, Global>,
+}
+
+/// Runs programs for the bus of this coordinator. Where it has services, a thread is started that waits for programs to start.
+///
+/// # Errors
+///
+/// There was no memory, or no thread could be started.
+pub(crate) fn start_launcher<'a, R: DaemonRuntime>(
+    rt: &'a R,
+    alloc: Global,
+    coordinator: &'a Coordinator<PollWaker>,
+    launch: Launch,
+) -> Result<Launcher<'a, R>, AllocError> {
+    let (jobs, taken) = bounded(alloc, JOBS)?;
+    if launch.has_services() && !start_launching(rt, taken) {
+        return Err(AllocError);
+    }
+    let Ok(launch) = Arc::new(alloc, launch) else {
+        return Err(AllocError);
+    };
+    Ok(Launcher {
+        rt,
+        alloc,
+        coordinator,
+        launch,
+        jobs,
+    })
+}
+
+impl<'a, R: Wait> Programs for Launcher<'a, R> {
+    fn run(&mut self, name: &BusName, start: u64) -> bool {
+        let Some(place) = self.launch.place_of(name) else {
+            return false;
+        };
+        let Ok(launch) = Arc::try_clone(&self.launch) else {
+            return false;
+        };
+        let job = ProgramJob {
+            alloc: self.alloc,
+            launch,
+            place,
+            start,
+        };
+        self.jobs.try_send(self.rt, job).is_ok()
+    }
+
+    fn next<Q: Wait>(&mut self, rt: &Q) -> Option<Event> {
+        if let Some(event) = self.launch.next_end(rt) {
+            return Some(event);
+        }
+        let request = self.coordinator.next_start(rt)?;
+        Some(Event::Asked {
+            name: request.name,
+            start: request.start,
+        })
+    }
+}

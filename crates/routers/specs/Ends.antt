@@ -1,0 +1,54 @@
+-- How starts end, as the bus is told of it.
+use Rattle.std.specs.Prelude.{◌≡◌, ◌⊎◌, ◌++◌, Bool, List, Option, Some, None, Box}
+use Rattle.std.specs.declared.alloc.Global.{Global}
+use Rattle.seq_bus_core.specs.Histories.{History}
+use Rattle.seq_bus_core.specs.declared.connection.Conn.{Conn}
+use Rattle.seq_bus_core.specs.declared.change.Change.{Change}
+use Rattle.seq_bus_core.specs.declared.change.Change.TheVariants.{ChildEnded, StartTimedOut}
+use Rattle.outbox_core.specs.declared.envelope.Envelope.{Envelope}
+use Rattle.router_core.specs.declared.event.Event.TheVariants.{Child}
+use Rattle.router_core.specs.declared.start_end.StartEnd.{StartEnd}
+use Rattle.router_core.specs.declared.start_end.HowEnded.TheVariants.{Program, TimedOut}
+use Rattle.router_core.specs.Deeds.{GatedCall}
+use Rattle.router_host_core.specs.declared.post.StartRequest.{StartRequest}
+use Rattle.router_host_core.specs.Carrying.{Each}
+use Rattle.router_host.specs.States.{Hosted}
+use Rattle.router_host.specs.Happening.{CatchesUp, Happens}
+use Rattle.supervisor.specs.declared.deed.Deed.{Deed}
+use Rattle.supervisor.specs.declared.deed.Deed.TheVariants.{Run, Report}
+
+-- the end that a report tells
+abbrev pub end_of : Change → Option StartEnd
+end_of (ChildEnded name start how) =
+    Some (record { name = name; start = start; how = Program how })
+end_of (StartTimedOut name start) =
+    Some (record { name = name; start = start; how = TimedOut })
+end_of other = None
+
+module _ {P N G : Type 0} (told : N → History) (passes : G → GatedCall → G → Type 0)
+    (alone : Bool) (puts : P → Conn → Envelope N → P → Type 0)
+    (starts : P → StartRequest → P → Type 0) where
+  -- The end of a start happens to the host.
+  abbrev pub HasEnded : Option StartEnd → Hosted P G N → Hosted P G N → Type 0
+  HasEnded None before after = after ≡ before
+  HasEnded (Some end) before after =
+      (boxed : Box StartEnd Global) × (boxed.value ≡ end)
+      × Happens told passes alone puts starts before (Child boxed) after
+
+  -- What is reported happens to the host. A program that is run changes nothing there.
+  abbrev pub IsDone : Deed → Hosted P G N → Hosted P G N → Type 0
+  IsDone (Run name start) before after = after ≡ before
+  IsDone (Report change) before after = HasEnded (end_of change) before after
+
+  -- What events before brought may have gone on; nothing else is done.
+  abbrev pub MayCatchUp : Hosted P G N → Hosted P G N → Type 0
+  MayCatchUp before after = (after ≡ before) ⊎ CatchesUp puts starts before after
+
+  -- Of what was to be done the first is done, in order, and the rest is left.
+  pub record AreDone (due : List Deed) (before : Hosted P G N) (left : List Deed)
+      (after : Hosted P G N) : Type 0 where
+    pub done : List Deed
+    pub all : due ≡ done ++ left
+    pub between : Hosted P G N
+    pub happens : Each IsDone done before between
+    pub catches_up : MayCatchUp between after

@@ -1,0 +1,144 @@
+#!/usr/bin/env python3
+"""A client of a bus, for the tests of its services.
+
+client.py ADDRESS call NAME       calls a method of the owner of a name, and prints what comes back
+client.py ADDRESS call-only NAME  the same, but no service may be started for it
+client.py ADDRESS start NAME      calls StartServiceByName
+client.py ADDRESS calls PREFIX N  calls the owners of N names at once, and prints how often each answer came
+client.py ADDRESS own NAME        owns a name, and answers every call until the bus is gone
+
+An answer is printed as the text or the number that it has, an error as its name.
+"""
+import collections
+import socket
+import struct
+import sys
+
+BUS = "org.freedesktop.DBus"
+CALL, RETURN, ERROR = 1, 2, 3
+NO_AUTO_START = 2
+PATH, INTERFACE, MEMBER, ERROR_NAME, REPLY_SERIAL, DESTINATION, SENDER, SIGNATURE = range(1, 9)
+
+
+def text(value):
+    data = value.encode()
+    return struct.pack("<I", len(data)) + data + b"\0"
+
+
+def signature(value):
+    return bytes([len(value)]) + value.encode() + b"\0"
+
+
+def padded(data, to):
+    return data + bytes(-len(data) % to)
+
+
+def field(code, value):
+    kind = {PATH: "o", REPLY_SERIAL: "u", SIGNATURE: "g"}.get(code, "s")
+    data = {"u": lambda: struct.pack("<I", value), "g": lambda: signature(value)}.get(kind, lambda: text(value))()
+    return bytes([code]) + signature(kind) + data
+
+
+def message(kind, flags, serial, fields, body):
+    array = b""
+    for code, value in fields:
+        array = padded(array, 8) + field(code, value)
+    head = struct.pack("<cBBBIII", b"l", kind, flags, 1, len(body), serial, len(array))
+    return padded(head + array, 8) + body
+
+
+def fields_of(data):
+    fields, at = {}, 0
+    while at < len(data):
+        at += -at % 8
+        code, kind = data[at], data[at + 2 : at + 3]
+        at += 4
+        if kind == b"g":
+            length, start = data[at], at + 1
+        elif kind == b"u":
+            fields[code], at = struct.unpack_from("<I", data, at)[0], at + 4
+            continue
+        else:
+            length, start = struct.unpack_from("<I", data, at)[0], at + 4
+        fields[code], at = data[start : start + length].decode(), start + length + 1
+    return fields
+
+
+class Client:
+    def __init__(self, address):
+        self.socket = socket.socket(socket.AF_UNIX)
+        self.socket.settimeout(60)
+        self.socket.connect(address.removeprefix("unix:path=").split(",")[0])
+        self.input = self.socket.makefile("rb")
+        self.serial = 0
+        self.socket.sendall(b"\0AUTH ANONYMOUS\r\n")
+        if not self.input.readline().startswith(b"OK "):
+            sys.exit("it isn't let in")
+        self.socket.sendall(b"BEGIN\r\n")
+        self.answer(self.call(BUS, "Hello"))
+
+    def send(self, kind, flags, fields, body=b""):
+        self.serial += 1
+        self.socket.sendall(message(kind, flags, self.serial, fields, body))
+        return self.serial
+
+    def call(self, name, member, types="", body=b"", flags=0):
+        interface = BUS if name == BUS else "com.example.Test"
+        fields = [(PATH, "/"), (INTERFACE, interface), (MEMBER, member), (DESTINATION, name)]
+        return self.send(CALL, flags, fields + [(SIGNATURE, types)] * bool(types), body)
+
+    def next(self):
+        head = self.input.read(16)
+        if len(head) < 16:
+            return None
+        kind, body, serial, array = struct.unpack("<xBxxIII", head)
+        fields = fields_of(self.input.read(array))
+        self.input.read(-array % 8)
+        return kind, serial, fields, self.input.read(body)
+
+    def answers(self):
+        """Each answer that comes, with the serial of the call."""
+        while (came := self.next()) is not None:
+            kind, _, fields, body = came
+            if kind == ERROR:
+                yield fields[REPLY_SERIAL], fields[ERROR_NAME]
+            elif kind == RETURN:
+                number = struct.unpack_from("<I", body)[0] if body else 0
+                is_text = fields.get(SIGNATURE) == "s"
+                yield fields[REPLY_SERIAL], body[4 : 4 + number].decode() if is_text else str(number)
+
+    def answer(self, serial):
+        return next((what for to, what in self.answers() if to == serial), "gone")
+
+    def own(self, name):
+        self.answer(self.call(BUS, "RequestName", "su", padded(text(name), 4) + struct.pack("<I", 0)))
+        self.socket.settimeout(None)
+        while (came := self.next()) is not None:
+            kind, serial, fields, _ = came
+            if kind == CALL:
+                reply = [(REPLY_SERIAL, serial), (DESTINATION, fields[SENDER]), (SIGNATURE, "s")]
+                self.send(RETURN, 0, reply, text("here"))
+
+
+def main(address, what, name, count="0"):
+    client = Client(address)
+    if what == "own":
+        client.own(name)
+    elif what == "start":
+        print(client.answer(client.call(BUS, "StartServiceByName", "su", padded(text(name), 4) + bytes(4))))
+    elif what == "calls":
+        calls = {client.call(f"{name}{i}", "Ask") for i in range(int(count))}
+        told = collections.Counter()
+        for to, answer in client.answers():
+            calls.discard(to)
+            told[answer] += 1
+            if not calls:
+                break
+        print(*(f"{times} {answer}" for answer, times in sorted(told.items())))
+    else:
+        flags = NO_AUTO_START if what == "call-only" else 0
+        print(client.answer(client.call(name, "Ask", flags=flags)))
+
+
+if __name__ == "__main__":
+    main(*sys.argv[1:])
