@@ -5,7 +5,7 @@ ghost use Rattle.seq_bus_core.specs.Histories.{after};
 ghost use Rattle.seq_bus_core.specs.Recipients.{recipients};
 ghost use Rattle.seq_bus_core.specs.Steps.{step};
 ghost use Rattle.traces.specs.Walks.{records_told};
-ghost use Rattle.trace_lines.specs.RouteViews.{route_facts};
+ghost use Rattle.trace_words.specs.RouteViews.{route_facts};
 ghost use Rattle.trace_lines.specs.Texts.{outcome_text, verdict_text};
 ghost use Rattle.trace_lines.specs.LineViews.{deed_told};
 ghost use Rattle.traces.specs.Legality.{entries_of, told};

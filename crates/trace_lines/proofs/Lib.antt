@@ -1,3 +1,1 @@
-pub mod PartLemmas
-pub mod RuleReading
 pub mod WrittenLists

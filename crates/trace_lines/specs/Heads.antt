@@ -6,7 +6,7 @@ use Rattle.names.specs.WellKnown.{well_known_fault}
 use Rattle.owner_queues.specs.declared.request.Profile.{Profile}
 use Rattle.owner_queues.specs.declared.request.Profile.TheVariants.{One, Two}
 use Rattle.seq_bus_core.specs.declared.limits.TheConstants.{MAX_ROUTERS}
-use Rattle.trace_lines.specs.Words.{space, parts, number_of}
+use Rattle.trace_words.specs.Words.{space, parts, number_of}
 
 -- The first line names the profile of the queues.
 abbrev pub profile_of : Text → Option Profile

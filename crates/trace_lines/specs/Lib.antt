@@ -1,15 +1,6 @@
-pub mod Words
-pub mod Hex
-pub mod Cutting
 pub mod Comparing
-pub mod Recorded
-pub mod Changes
-pub mod Queries
-pub mod KeptArguments
-pub mod Routes
 pub mod Heads
 pub mod Texts
 pub mod TextViews
-pub mod RouteViews
 pub mod Lines
 pub mod LineViews

@@ -2,8 +2,8 @@
 use Rattle.trace_lines.specs.declared.line.Deed.{Deed}
 use Rattle.trace_lines.specs.declared.line.Deed.TheVariants.{Change, Query, Route}
 use Rattle.trace_lines.specs.declared.line.Line.{Line}
-use Rattle.trace_lines.specs.Cutting.{parts_left}
-use Rattle.trace_lines.specs.RouteViews.{route_facts}
+use Rattle.trace_words.specs.Cutting.{parts_left}
+use Rattle.trace_words.specs.RouteViews.{route_facts}
 use Rattle.trace_lines.specs.Lines.{Line as Told, Deed as ToldOf, Made, Asked, Routed, line}
 
 abbrev pub deed_told : Deed → ToldOf

@@ -4,11 +4,11 @@ use Rattle.names.specs.Texts.{Text, text_eq}
 use Rattle.match_rules.specs.Facts.{Facts}
 use Rattle.seq_bus_core.specs.declared.change.Change.{Change}
 use Rattle.seq_bus_core.specs.declared.query.Query.{Query}
-use Rattle.trace_lines.specs.Words.{space, parts, number_of}
-use Rattle.trace_lines.specs.Changes.{change_from}
-use Rattle.trace_lines.specs.Queries.{query_from}
-use Rattle.trace_lines.specs.Routes.{route_from}
-use Rattle.trace_lines.specs.Recorded.{is_outcome, is_answer, is_verdict}
+use Rattle.trace_words.specs.Words.{space, parts, number_of}
+use Rattle.trace_words.specs.Changes.{change_from}
+use Rattle.trace_words.specs.Queries.{query_from}
+use Rattle.trace_words.specs.Routes.{route_from}
+use Rattle.trace_words.specs.Recorded.{is_outcome, is_answer, is_verdict}
 
 -- a change with its number among those of its seat, a query, or a message that is routed
 pub data Deed : Type 0 where

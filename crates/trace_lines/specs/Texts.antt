@@ -32,7 +32,7 @@ use Rattle.seq_bus_core.specs.declared.ticket.SettledNumber.{SettledNumber}
 use Rattle.seq_bus_core.specs.declared.verdict.Verdict.{Verdict}
 use Rattle.seq_bus_core.specs.declared.verdict.VerdictKind.{VerdictKind}
 use Rattle.seq_bus_core.specs.declared.verdict.VerdictKind.TheVariants.{Plain, Bus, Start as StartKind, Nobody, Absent}
-use Rattle.trace_lines.specs.Words.{dash}
+use Rattle.trace_words.specs.Words.{dash}
 
 -- what each item is written as, with a separator between each two
 abbrev pub separated : {A : Type 0} → Text → (A → Text) → List A → Text

@@ -1,14 +1,13 @@
 //! The lines of a trace's head.
 
 ghost use Rattle.std.specs.Prelude.{◌≡◌, option_map, Some, None, if◌then◌else◌};
-ghost use Rattle.trace_lines.specs.Cutting.{parts_left};
+ghost use Rattle.trace_words.specs.Cutting.{parts_left};
 ghost use Rattle.trace_lines.specs.Heads.{profile_of, routers_from, routers_of, service_from, service_of, is_service_name};
 
-use crate::parts::Parts;
-use crate::words::number;
 use names::{BusName, WellKnown};
 use owner_queues::Profile;
 use seq_bus_core::limits::MAX_ROUTERS;
+use trace_words::{Parts, number};
 
 /// Reads the first line of a trace: the profile of its queues.
 pub fn read_profile(line: &str) -> Option<Profile>

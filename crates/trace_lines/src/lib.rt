@@ -3,8 +3,7 @@
 //! [`read_profile`], [`read_routers`] and [`read_service`] read the lines of its head, [`read_line`]
 //! any line behind them. [`profile_line`], [`routers_line`] and [`service_line`] write its head,
 //! [`ChangeWords::line`], [`query_line`] and [`route_line`] the lines behind. What lines read as what
-//! is defined in `specs/`, by the words between their spaces; `specs/Texts.antt` says how each is
-//! written.
+//! is defined in `specs/`, over what their words say; `specs/Texts.antt` says how each is written.
 //!
 //! ```
 //! use std::alloc::{AllocError, Global};
@@ -21,35 +20,21 @@
 #![tactic(auto)]
 
 mod answer;
-mod arguments;
-mod changes;
-mod cutting;
 mod deeds;
 mod draft;
 mod heads;
-mod kept;
-mod lending;
 mod line;
 mod lines;
-mod parts;
-mod queries;
-mod recorded;
 mod records;
-mod route;
-mod routes;
-mod rules;
-mod texts;
 mod told;
-mod words;
 mod writing;
 mod written;
 
 pub use answer::Answer;
 pub use heads::{read_profile, read_routers, read_service};
-pub use kept::KeptArgument;
 pub use line::{Deed, Line};
 pub use lines::read_line;
-pub use route::Route;
+pub use trace_words::{KeptArgument, Route};
 pub use writing::{
     ChangeWords, outcome_text, profile_line, query_line, route_line, routers_line, service_line,
     verdict_text,

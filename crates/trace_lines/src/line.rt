@@ -1,7 +1,6 @@
 //! A line of a trace.
 
-use crate::parts::Parts;
-use crate::route::Route;
+use trace_words::{Parts, Route};
 
 /// What a line tells of.
 #[derive(Drop)]

@@ -1,19 +1,16 @@
 //! Reading a line of a trace.
 
 ghost use Rattle.std.specs.Prelude.{◌≡◌, option_map, IfOk, unwrap_or, false};
-ghost use Rattle.trace_lines.specs.Cutting.{parts_left};
+ghost use Rattle.trace_words.specs.Cutting.{parts_left};
 ghost use Rattle.trace_lines.specs.Lines.{change_line_from, is_answer_alone, line_of, query_line_from, recorded_from, route_line_from, seat_of};
 ghost use Rattle.trace_lines.specs.LineViews.{line_told};
 
 use crate::line::{Deed, Line};
-use crate::parts::Parts;
-use crate::queries::query;
-use crate::recorded::{is_answer, is_outcome, is_verdict};
-use crate::routes::route;
-use crate::rules::change;
-use crate::words::number;
 use seq_bus_core::Query;
 use std::alloc::{AllocError, Global};
+use trace_words::{
+    Parts, is_answer, is_outcome, is_verdict, number, read_change, read_query, read_route,
+};
 
 /// The words behind an arrow.
 fn recorded(mut words: Parts<'_>) -> Option<Parts<'_>>
@@ -40,7 +37,7 @@ fn change_line<'a>(
     let Some(number) = number(word) else {
         return Ok(None);
     };
-    let Some(change) = change(alloc, &mut words)? else {
+    let Some(change) = read_change(alloc, &mut words)? else {
         return Ok(None);
     };
     if place == 0 || number == 0 {
@@ -73,7 +70,7 @@ fn answer(query: &Query, mut words: Parts<'_>) -> Option<bool>
 fn query_line(place: u64, seat: u64, mut words: Parts<'_>) -> Option<Line<'_>>
     ensures { option_map line_told result ≡ query_line_from place seat (parts_left words.entry) }
 {
-    let query = query(&mut words)?;
+    let query = read_query(&mut words)?;
     let recorded = recorded(words)?;
     if !answer(&query, recorded).unwrap_or(false) {
         return None;
@@ -95,7 +92,7 @@ fn route_line<'a>(
     ensures { IfOk result (λ line. option_map line_told line
         ≡ route_line_from place seat (parts_left words.entry)) }
 {
-    let Some(route) = route(alloc, &mut words)? else {
+    let Some(route) = read_route(alloc, &mut words)? else {
         return Ok(None);
     };
     let Some(recorded) = recorded(words) else {

@@ -1,13 +1,13 @@
 //! Whether a line records what a bus tells.
 
 ghost use Rattle.std.specs.Prelude.{◌≡◌};
-ghost use Rattle.trace_lines.specs.Cutting.{parts_left};
+ghost use Rattle.trace_words.specs.Cutting.{parts_left};
 ghost use Rattle.trace_lines.specs.LineViews.{line_told};
 ghost use Rattle.trace_lines.specs.Comparing.{same_words};
-ghost use Rattle.trace_lines.specs.Words.{parts, space};
+ghost use Rattle.trace_words.specs.Words.{parts, space};
 
 use crate::line::Line;
-use crate::parts::Parts;
+use trace_words::Parts;
 
 fn same_words(mut words: Parts<'_>, mut others: Parts<'_>) -> bool
     ensures { result ≡ same_words (parts_left words.entry) (parts_left others.entry) }

@@ -5,7 +5,7 @@ use Rattle.std.specs.List.{slice_split, onto_first, position_or_len}
 use Rattle.std.proofs.lemmas.Bool.{cond_both}
 use Rattle.std.proofs.lemmas.Bool.Decides.{nat_tests}
 use Rattle.std.proofs.lemmas.List.Splits.{slice_split_first}
-use Rattle.trace_lines.proofs.PartLemmas.{split_whole}
+use Rattle.trace_words.proofs.PartLemmas.{split_whole}
 use Rattle.traces.specs.Traces.{is_line_feed, lines_of, without_empty_end}
 
 -- ## The first line feed

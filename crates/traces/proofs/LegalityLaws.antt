@@ -17,9 +17,9 @@ use Rattle.owner_queues.specs.declared.request.Profile.{Profile}
 use Rattle.seq_bus_core.proofs.TextLemmas.{text_eq-true}
 use Rattle.trace_lines.specs.Comparing.{same_words}
 use Rattle.trace_lines.specs.Heads.{profile_of, routers_of, service_of}
-use Rattle.trace_lines.specs.Hex.{utf8_of}
+use Rattle.trace_words.specs.Hex.{utf8_of}
 use Rattle.trace_lines.specs.Lines.{Line, line_of}
-use Rattle.trace_lines.specs.Words.{space, parts}
+use Rattle.trace_words.specs.Words.{space, parts}
 use Rattle.traces.specs.KeptLines.{IsSeated}
 use Rattle.traces.specs.Legality.{IsBehind, IsInOrder, IsLegal, IsLegalFile, IsLegalWithLines, IsNext, IsRight, changes_in, due, is_change, number_made, of_seat}
 use Rattle.traces.specs.Traces.{Trace, headed, lines_of, longer_trace, routed, takes_service, trace_headed, trace_of, trace_on, with_line, with_service, with_text}

@@ -8,14 +8,14 @@ use Rattle.names.specs.Texts.{Text, text_eq}
 use Rattle.match_rules.specs.Facts.{Facts}
 use Rattle.seq_bus_core.specs.declared.change.Change.{Change}
 use Rattle.seq_bus_core.specs.declared.query.Query.{Query}
-use Rattle.trace_lines.specs.Words.{space, parts, number_of}
+use Rattle.trace_words.specs.Words.{space, parts, number_of}
 use Rattle.seq_bus_core.specs.Histories.{max_routers}
 use Rattle.seq_bus_core.specs.declared.limits.TheConstants.{MAX_ROUTERS}
 use Rattle.trace_lines.specs.Heads.{routers_from, routers_of, routers_within}
-use Rattle.trace_lines.specs.Changes.{change_from}
-use Rattle.trace_lines.specs.Queries.{query_from}
-use Rattle.trace_lines.specs.Routes.{route_from}
-use Rattle.trace_lines.specs.Recorded.{is_outcome, is_verdict}
+use Rattle.trace_words.specs.Changes.{change_from}
+use Rattle.trace_words.specs.Queries.{query_from}
+use Rattle.trace_words.specs.Routes.{route_from}
+use Rattle.trace_words.specs.Recorded.{is_outcome, is_verdict}
 use Rattle.trace_lines.specs.Lines.{Line, Made, Asked, Routed, line, recorded_where, is_answer_alone, change_line, change_line_from, query_line_from, route_line_from, line_of_kind, seat_of, line_from, line_of}
 use Rattle.traces.specs.KeptLines.{IsSeated}
 use Rattle.traces.specs.Legality.{is_change}

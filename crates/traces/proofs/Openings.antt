@@ -14,7 +14,7 @@ use Rattle.seq_bus_core.specs.Histories.{CanOpen, max_routers, max_services}
 use Rattle.seq_bus_core.specs.Steps.{is_reserved}
 use Rattle.seq_bus_core.proofs.TextLemmas.{text_eq-true, text_lt-itself}
 use Rattle.trace_lines.specs.Heads.{is_service_name, service_from, service_of}
-use Rattle.trace_lines.specs.Words.{space, parts}
+use Rattle.trace_words.specs.Words.{space, parts}
 use Rattle.traces.specs.Traces.{is_last}
 
 -- ## Names of services

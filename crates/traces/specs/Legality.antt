@@ -8,7 +8,7 @@ use Rattle.seq_bus_core.specs.Steps.{step}
 use Rattle.seq_bus_core.specs.Answers.{answer}
 use Rattle.seq_bus_core.specs.Recipients.{recipients}
 use Rattle.seq_bus_core.specs.Histories.{History, opening, after, entry_alone}
-use Rattle.trace_lines.specs.Words.{space, parts}
+use Rattle.trace_words.specs.Words.{space, parts}
 use Rattle.trace_lines.specs.Texts.{outcome_text, answer_text, verdict_text}
 use Rattle.trace_lines.specs.Lines.{Line, Deed, Made, Asked, Routed}
 use Rattle.traces.specs.Traces.{Trace, trace_of}

@@ -4,8 +4,8 @@ use Rattle.std.specs.Option.{option_map_or}
 use Rattle.names.specs.Texts.{Text, text_lt}
 use Rattle.owner_queues.specs.declared.request.Profile.{Profile}
 use Rattle.seq_bus_core.specs.declared.limits.TheConstants.{MAX_SERVICES}
-use Rattle.trace_lines.specs.Hex.{utf8_of}
-use Rattle.trace_lines.specs.Words.{parts}
+use Rattle.trace_words.specs.Hex.{utf8_of}
+use Rattle.trace_words.specs.Words.{parts}
 use Rattle.trace_lines.specs.Heads.{profile_of, routers_of, service_of}
 use Rattle.trace_lines.specs.Lines.{Line, line_of}
 

@@ -1,7 +1,7 @@
 -- The verdict on a trace: of the causes in their order the first that has a line, with its least line.
 use Rattle.std.specs.Prelude.{◌≡◌, ◌↔◌, ℕ, ◌+◌, nat_lt, nat_le, Bool, true, ◌&&◌, not, ◌==◌, Option, Some, None, List, [], ◌∷◌, ◌++◌, length, Result, Ok, Err, if◌then◌else◌}
 use Rattle.std.specs.List.{list_all, list_any}
-use Rattle.trace_lines.specs.Words.{space, parts}
+use Rattle.trace_words.specs.Words.{space, parts}
 use Rattle.trace_lines.specs.Lines.{Line}
 use Rattle.trace_lines.specs.Comparing.{same_words}
 use Rattle.traces.specs.Traces.{Trace, trace_of}

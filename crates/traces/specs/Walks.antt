@@ -7,7 +7,7 @@ use Rattle.seq_bus_core.specs.BusState.{BusState}
 use Rattle.seq_bus_core.specs.Histories.{History, after, opening}
 use Rattle.trace_lines.specs.Comparing.{same_words}
 use Rattle.trace_lines.specs.Lines.{Line}
-use Rattle.trace_lines.specs.Words.{space, parts}
+use Rattle.trace_words.specs.Words.{space, parts}
 use Rattle.traces.specs.Legality.{due, entries_of, number_made, places_before, state_at, told}
 use Rattle.traces.specs.Placing.{LinesThere, NumberedLine, lines_by_place}
 use Rattle.traces.specs.Traces.{Trace, trace_of}

@@ -3,7 +3,7 @@
 ghost use Rattle.std.specs.Prelude.{◌≡◌, ◌+◌, ◌<◌, ◌≤◌, ◌^◌, length, option_and_then, option_map, IfOk, IfSome, if◌then◌else◌};
 ghost use Rattle.seq_bus_core.specs.Histories.{max_routers};
 ghost use Rattle.trace_lines.specs.Heads.{profile_of, routers_of};
-ghost use Rattle.trace_lines.specs.Hex.{utf8_of};
+ghost use Rattle.trace_words.specs.Hex.{utf8_of};
 ghost use Rattle.traces.specs.Traces.{lines_of, longer_trace, routed, trace_of, trace_on};
 ghost use Rattle.std.specs.Result.{result_map_both};
 ghost use Rattle.traces.specs.TraceViews.{taken};

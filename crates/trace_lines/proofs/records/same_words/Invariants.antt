@@ -1,5 +1,5 @@
 use Rattle.std.proofs.Common.{◌≡◌, length}
-use Rattle.trace_lines.specs.Cutting.{parts_left}
+use Rattle.trace_words.specs.Cutting.{parts_left}
 use Rattle.trace_lines.specs.Comparing.{same_words}
 use Rattle.trace_lines.proofs.records.same_words.Given as goal
 

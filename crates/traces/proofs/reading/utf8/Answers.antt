@@ -1,5 +1,5 @@
 use Rattle.std.proofs.Common.{Some, ap}
-use Rattle.trace_lines.proofs.RuleReading.{when_text, when_no_text}
+use Rattle.trace_words.proofs.RuleReading.{when_text, when_no_text}
 use Rattle.traces.proofs.reading.utf8.Goals as goal
 
 pub returns-in-Ok : goal.returns-in-Ok

@@ -1,0 +1,9 @@
+pub mod Words
+pub mod Hex
+pub mod Cutting
+pub mod Recorded
+pub mod Changes
+pub mod Queries
+pub mod KeptArguments
+pub mod Routes
+pub mod RouteViews
