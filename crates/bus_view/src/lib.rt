@@ -2,9 +2,10 @@
 //!
 //! [`BusView`] is what a router asks of a bus, whether it is alone with it or one of several routers. Its contract says
 //! what is answered by the definitions of `seq_bus_core` alone, so that what is proved over it holds over each bus. A
-//! change that is not made is a [`Refused`] one, with its [`Cause`]. Whether a bus can be opened with given services is
-//! said by [`can_open`]. Bodies of replies are written by [`append_owner`] and [`append_whether`], and those that are
-//! lists of names by [`begin_names`], [`push_name`], [`end_names`] and [`undo_names`], for whoever answers queries.
+//! change that is not made is a [`Refused`] one, with its [`Cause`]; of a batch all changes are made or none, and then
+//! they are [`RefusedAll`], with their [`BatchCause`]. Whether a bus can be opened with given services is said by
+//! [`can_open`]. Bodies of replies are written by [`append_owner`] and [`append_whether`], and those that are lists of
+//! names by [`begin_names`], [`push_name`], [`end_names`] and [`undo_names`], for whoever answers queries.
 #![tactic(auto)]
 
 mod again;
@@ -18,5 +19,5 @@ pub use again::Again;
 pub use answer::{AskFault, Asked};
 pub use bodies::{append_owner, append_whether, begin_names, end_names, push_name, undo_names};
 pub use opening::can_open;
-pub use refusal::{Cause, Gone, Refused};
+pub use refusal::{BatchCause, Cause, Gone, Refused, RefusedAll};
 pub use view::BusView;

@@ -1,7 +1,7 @@
 //! What is refused.
 
 ghost use Rattle.std.specs.Prelude.{◌≡◌};
-ghost use Rattle.bus_view.specs.Refusals.{cause_code};
+ghost use Rattle.bus_view.specs.Refusals.{batch_cause_code, cause_code};
 
 use seq_bus_core::Change;
 use thiserror::Error;
@@ -41,6 +41,36 @@ impl Cause {
 pub struct Refused {
     pub change: Change,
     pub cause: Cause,
+}
+
+/// Why a batch of changes is not made.
+#[derive(Clone, Copy, Debug, PartialEq, Eq, Error)]
+pub enum BatchCause {
+    /// Why one of its changes is not made.
+    #[error("{0}")]
+    Refused(Cause),
+    /// There is no change, or there are more than 64.
+    #[error("a batch has 1 to 64 changes")]
+    Batch,
+}
+
+impl BatchCause {
+    /// The number of the cause: that of a change, 60 to 63, or 67.
+    pub fn code(self) -> u8
+        ensures { result ≡ batch_cause_code self }
+    {
+        match self {
+            BatchCause::Refused(cause) => cause.code(),
+            BatchCause::Batch => 67,
+        }
+    }
+}
+
+/// Changes of which none was made, and why.
+#[derive(Drop)]
+pub struct RefusedAll {
+    pub changes: Vec<Change>,
+    pub cause: BatchCause,
 }
 
 /// The bus has ended.

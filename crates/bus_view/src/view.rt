@@ -1,21 +1,22 @@
 //! The view of a bus.
 
-ghost use Rattle.std.specs.Prelude.{◌≡◌, ◌≤◌, true, false, Some, length};
+ghost use Rattle.std.specs.Prelude.{◌≡◌, ◌≤◌, ◌↔◌, true, false, Some, length};
 ghost use Rattle.std.specs.Prelude.{is_some, option_map, IfOk, IfErr, IfSome, OnOk, OnErr};
 ghost use Rattle.seq_bus_core.specs.Answers.{answer};
-ghost use Rattle.std.specs.List.{list_any};
+ghost use Rattle.std.specs.List.{AllByRecursion, list_any};
+ghost use Rattle.seq_bus_core.specs.Batches.{IsBatch};
 ghost use Rattle.seq_bus_core.specs.BusState.{connection_of, is_monitor};
 ghost use Rattle.seq_bus_core.specs.Histories.{History};
 ghost use Rattle.seq_bus_core.specs.Recipients.{recipients};
 ghost use Rattle.bus_view.specs.Bodies.{Answers};
 ghost use Rattle.seq_bus_core.specs.declared.limits.TheConstants.{MAX_TICKETS};
 ghost use Rattle.bus_view.specs.declared.answer.AskFault.TheVariants.{Gone as AskGone, NoMemory as AskNoMemory};
-ghost use Rattle.bus_view.specs.Views.{Knowledge, bus_seen, IsChanged, IsRead, IsUnread, IsNoted};
+ghost use Rattle.bus_view.specs.Views.{Knowledge, bus_seen, AreChanged, IsChanged, IsRead, IsUnread, IsNoted};
 ghost use Rattle.bus_view.specs.declared.refusal.Cause.TheVariants.{NoMemory};
 
 use crate::again::Again;
 use crate::answer::{AskFault, Asked};
-use crate::refusal::{Gone, Refused};
+use crate::refusal::{BatchCause, Gone, Refused, RefusedAll};
 use match_rules::Facts;
 use seq_bus_core::{Change, Outcome, Query, Verdict};
 
@@ -60,6 +61,31 @@ pub trait BusView {
             IfOk result (λ r. told r.1 ≡ (knows self.new).seen) }
         ensures handed_back { IfErr result (λ refused. refused.change ≡ change) }
         ensures cause { alone ≡ true → IfErr result (λ refused. refused.cause ≡ NoMemory) }
+        ensures unchanged { OnErr result (knows self.new ≡ knows self.old) };
+
+    /// Makes a batch of 1 to 64 changes, all in one publication, and tells of them in a note. Nobody ever sees some of them
+    /// without the others.
+    ///
+    /// Where one of them is refused, as `change` refuses it, or there are too many or none, all are handed back, and none is
+    /// made, then or later.
+    fn change_all(
+        &mut self,
+        right: &Self::Right,
+        changes: Vec<Change>,
+    ) -> Result<(Vec<Outcome>, Self::Note), RefusedAll>
+        ensures made { IfOk result (λ r.
+            AreChanged alone (knows self.old) changes.items r.0.items (knows self.new)) }
+        ensures few { IfOk result (λ r.
+            AllByRecursion (λ o. length o.tickets ≤ MAX_TICKETS) r.0.items) }
+        ensures note { IfOk result (λ r. registry_of r.1 ≡ (knows self.new).registry) }
+        ensures told { alone ≡ false →
+            IfOk result (λ r. told r.1 ≡ (knows self.new).seen) }
+        ensures batch { OnOk result (IsBatch changes.items) }
+        ensures handed_back { IfErr result (λ refused. refused.changes ≡ changes) }
+        ensures no_batch { IfErr result (λ refused.
+            (refused.cause ≡ BatchCause.Batch) ↔ ¬ IsBatch changes.items) }
+        ensures cause { alone ≡ true → IfErr result (λ refused. IsBatch changes.items →
+            refused.cause ≡ BatchCause.Refused NoMemory) }
         ensures unchanged { OnErr result (knows self.new ≡ knows self.old) };
 
     /// Answers a query: appends the body of the reply, in little-endian order as from offset 0 on, or says that the name
@@ -125,6 +151,18 @@ pub trait BusView {
         ensures own { IfSome result (λ note. registry_of note ≡ (knows self.now).registry) }
         ensures told { alone ≡ false →
             option_map told result ≡ (knows self.now).held };
+
+    /// How many changes of the history it has seen. It takes no memory.
+    fn place(&self) -> u64
+        ensures { result ≡ length (knows self.now).seen };
+
+    /// How many of them it made. It takes no memory.
+    fn made(&self) -> u64
+        ensures { result ≡ (knows self.now).made };
+
+    /// The place in the history of the last change that it made, from 1; 0 where it made none. It takes no memory.
+    fn last(&self) -> u64
+        ensures { result ≡ (knows self.now).last };
 
     /// The number of its seat.
     fn seat(&self) -> u8
