@@ -10,7 +10,7 @@ abbrev pub state_of : Inside → BusState
 state_of r = record {
   profile = r.profile;
   routers = r.routers;
-  services = r.services.items;
+  services = r.services;
   connections = r.members;
   names = r.names;
   rules = r.rules;
@@ -25,4 +25,4 @@ pub record IsKept (r : Inside) : Type 0 where
   pub few_routers : r.routers ≤ max_routers
   pub consistent : IsConsistent (state_of r)
   pub within_limits : IsWithinLimits (state_of r)
-  pub few_services : length r.services.items ≤ max_services
+  pub few_services : length r.services ≤ max_services

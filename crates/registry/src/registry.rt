@@ -13,7 +13,7 @@ ghost use Rattle.registry_core.specs.RulesOf.{rules_by, rules_left};
 ghost use Rattle.registry.specs.PreparedChanges.{prepared_on};
 
 use crate::prepared::{Act, Prepared};
-use crate::services::sorted;
+use crate::services::ServiceTable;
 use match_rules::Owners;
 use monitor::Monitor;
 use names::{BusName, WellKnown};
@@ -31,7 +31,7 @@ pub struct Registry {
     pub(crate) profile: Profile,
     pub(crate) routers: u8,
     /// By rising bytes.
-    pub(crate) services: Vec<WellKnown>,
+    pub(crate) services: ServiceTable,
     /// By rising number.
     pub(crate) members: MemberTable,
     pub(crate) names: NameTable,
@@ -70,7 +70,7 @@ impl Registry {
         Ok(Registry {
             profile,
             routers,
-            services: sorted(alloc, services)?,
+            services: ServiceTable::new(alloc, services)?,
             members: MemberTable::new(alloc)?,
             names: NameTable::new(alloc)?,
             rules: RuleTable::new(alloc)?,
@@ -155,6 +155,22 @@ impl Registry {
             }
             Act::StartTimedOut { name, start } => self.fail(name, *start),
         }
+    }
+
+    /// Becomes a copy of another registry. It takes no memory.
+    pub fn copy_from(&mut self, other: &Registry)
+        ensures { self.new ≡ other.now }
+    {
+        self.profile = other.profile;
+        self.routers = other.routers;
+        self.services.copy_from(&other.services);
+        self.members.copy_from(&other.members);
+        self.names.copy_from(&other.names);
+        self.rules.copy_from(&other.rules);
+        self.starts.copy_from(&other.starts);
+        self.next_number = other.next_number;
+        self.next_ticket = other.next_ticket;
+        self.next_start = other.next_start;
     }
 
     /// Where a connection is reached.

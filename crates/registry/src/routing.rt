@@ -100,7 +100,7 @@ impl Registry {
     pub fn is_service(&self, name: &str) -> bool
         ensures { result ≡ is_service self.now name.now }
     {
-        self.services.iter().any(|service| service.as_str() == name)
+        self.services.contains(name)
     }
 }
 

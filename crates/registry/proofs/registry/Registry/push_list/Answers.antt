@@ -38,7 +38,7 @@ pub returns-in_ok-push_name-in-Services-clause-listed : goal.returns-in_ok-push_
 returns-in_ok-push_name-in-Services-clause-listed c =
     let s : BusState = state_of c.self.inside in
     let service : Text → List Text = λ text. only (Some text) in
-    let services : flat_map service c.as_slice-in-Services.result.now ≡ s.services = ap (flat_map service) c.as_slice-in-Services.ensures.value ∙ same_listed s.services in
+    let services : flat_map service c.as_slice-in-Services.result.now ≡ s.services = ap (flat_map service) c.as_slice-in-Services.ensures ∙ same_listed s.services in
     let all : c.bus-in-Services.result ∷ flat_map service c.as_slice-in-Services.result.now ≡ bus_text ∷ s.services = λ i. c.bus-in-Services.ensures i ∷ services i in
     let names = all ∙ ap (λ (t : BusState). names_in t Services) c.self.view_is ∙ ap (names_in c.args.self.now) (sym c.in-Services.is) in
     on_ok_weaker c.push_all-in-Services.result

@@ -1,0 +1,71 @@
+-- The changes of a batch, one after the other.
+use Rattle.std.proofs.Common.{◌≡◌, ℕ, ◌+◌, ◌≤◌, List, [], ◌∷◌, ◌++◌, length, refl, ap, sym, ◌∙◌, subst}
+use Rattle.std.specs.List.{AllByRecursion}
+use Rattle.held_calls.specs.Holdings.{Calls, IsHolding}
+use Rattle.held_calls.proofs.FewTickets.{few_settled}
+use Rattle.registry.specs.PreparedChanges.{state_along}
+use Rattle.seq_bus_core.specs.Batches.{entries_of, outcomes_of}
+use Rattle.seq_bus_core.specs.BusState.{BusState}
+use Rattle.seq_bus_core.specs.Consistency.{IsConsistent, IsWithinLimits}
+use Rattle.seq_bus_core.specs.Steps.{step}
+use Rattle.seq_bus_core.specs.Tickets.{WholeBus, bus_step, bus_after}
+use Rattle.seq_bus_core.specs.declared.change.Change.{Change}
+use Rattle.seq_bus_core.specs.declared.outcome.Outcome.{Outcome}
+use Rattle.seq_bus_core.proofs.ConsistencyLaws.{steps_keep_consistency}
+use Rattle.seq_bus_core.proofs.LimitLaws.{steps_keep_limits}
+use Rattle.settling.specs.Batches.{AreSettledTo, SettleAlong, bus_along}
+use Rattle.settling.specs.Settlings.{IsSettled, Settling, SettlesAt}
+
+-- ## One change more
+
+pub settle_more : (s : BusState) (seat : ℕ) (changes : List Change) (change : Change) (settlings : List Settling) (x : Settling) → SettleAlong s seat changes settlings → SettlesAt (state_along s seat changes) seat change x
+    → SettleAlong s seat (changes ++ change ∷ []) (settlings ++ x ∷ [])
+settle_more s seat [] change [] x all one = (one, tt)
+settle_more s seat [] change (y ∷ settlings) x all one = absurd all
+settle_more s seat (first ∷ changes) change [] x all one = absurd all
+settle_more s seat (first ∷ changes) change (y ∷ settlings) x all one = (all.0, settle_more (step s seat first).0 seat changes change settlings x all.1 one)
+
+pub bus_more : (b : WholeBus) (seat : ℕ) (changes : List Change) (change : Change) → bus_along b seat (changes ++ change ∷ []) ≡ (bus_step (bus_along b seat changes) seat change).0
+bus_more b seat [] change = refl
+bus_more b seat (first ∷ changes) change = bus_more (bus_step b seat first).0 seat changes change
+
+pub told_more : (b : WholeBus) (seat : ℕ) (changes : List Change) (change : Change) → outcomes_of b seat (changes ++ change ∷ []) ≡ outcomes_of b seat changes ++ (bus_step (bus_along b seat changes) seat change).1 ∷ []
+told_more b seat [] change = refl
+told_more b seat (first ∷ changes) change = ap (λ rest. (bus_step b seat first).1 ∷ rest) (told_more (bus_step b seat first).0 seat changes change)
+
+-- one settled more
+pub settled_more : (b : WholeBus) (seat : ℕ) (done : List Change) (change : Change) (left : List Change) (before after : Calls) (x : Settling) (later : List Settling) (outcomes : List Outcome) (outcome : Outcome)
+    → AreSettledTo b seat done (change ∷ left) before (x ∷ later) outcomes → IsSettled change x before after outcome → AreSettledTo b seat (done ++ change ∷ []) left after later (outcomes ++ outcome ∷ [])
+settled_more b seat done change left before after x later outcomes outcome so_far settled =
+    let now = bus_along b seat done in
+    let one = settled now seat so_far.holding so_far.along.0 in
+    let grown = bus_more b seat done change in
+    record {
+      holding = subst (λ (w : WholeBus). IsHolding w after) (sym grown) one.0;
+      along = subst (λ (w : WholeBus). SettleAlong w.state seat left later) (sym grown) so_far.along.1;
+      told = (λ k. so_far.told k ++ one.1 k ∷ []) ∙ sym (told_more b seat done change);
+    }
+
+-- ## Batches in a history
+
+-- the bus after the entries of a batch
+pub along_entries : (b : WholeBus) (seat number : ℕ) (changes : List Change) → bus_after b (entries_of seat number changes) ≡ bus_along b seat changes
+along_entries b seat number [] = refl
+along_entries b seat number (change ∷ changes) = along_entries (bus_step b seat change).0 seat (number + 1) changes
+
+pub consistent_along : (b : WholeBus) (seat : ℕ) (changes : List Change) → IsConsistent b.state → IsConsistent (bus_along b seat changes).state
+consistent_along b seat [] consistent = consistent
+consistent_along b seat (change ∷ changes) consistent = consistent_along (bus_step b seat change).0 seat changes (steps_keep_consistency b.state seat change consistent)
+
+pub limits_along : (b : WholeBus) (seat : ℕ) (changes : List Change) → IsConsistent b.state → IsWithinLimits b.state → IsWithinLimits (bus_along b seat changes).state
+limits_along b seat [] consistent within = within
+limits_along b seat (change ∷ changes) consistent within =
+    limits_along (bus_step b seat change).0 seat changes (steps_keep_consistency b.state seat change consistent) (steps_keep_limits b.state seat change consistent within)
+
+-- each change settles no more calls than can wait
+pub few_along : (b : WholeBus) (seat : ℕ) (changes : List Change) → IsConsistent b.state → IsWithinLimits b.state → AllByRecursion (λ o. length o.tickets ≤ 512) (outcomes_of b seat changes)
+few_along b seat [] consistent within = tt
+few_along b seat (change ∷ changes) consistent within = (
+  few_settled b seat change within,
+  few_along (bus_step b seat change).0 seat changes (steps_keep_consistency b.state seat change consistent) (steps_keep_limits b.state seat change consistent within),
+)

@@ -1,0 +1,2 @@
+pub mod Settlings
+pub mod Batches

@@ -1,0 +1,70 @@
+//! What settles a change once it is made.
+
+ghost use Rattle.std.specs.Prelude.{◌≡◌, option_and_then, option_map, IfOk};
+ghost use Rattle.seq_bus_core.specs.BusState.{conn_of, connection_of};
+ghost use Rattle.held_calls.specs.Settling.{caller_of};
+ghost use Rattle.registry.specs.PreparedChanges.{IsPreparedFor};
+ghost use Rattle.settling.specs.Settlings.{IsSettled, IsSomeBus, SettlesAt};
+
+use held_calls::{CallRoom, HeldCalls, caller_of};
+use registry::{Prepared, Registry};
+use seq_bus_core::{Change, Conn, NumberedOutcome, Outcome};
+use std::alloc::{AllocError, Global};
+use std::marker::Model;
+
+/// What settles a change once it is made: what it is told, the connection whose call it is, and the memory that it takes.
+#[derive(Drop)]
+pub struct Settling {
+    told: NumberedOutcome,
+    caller: Option<Conn>,
+    room: CallRoom,
+}
+
+impl Model for Settling {
+    ghost use Rattle.settling.specs.Settlings.{Settling as Made};
+
+    ghost Value = { Made };
+
+    ghost view = { λ s. record { told = s.told; caller = s.caller; room = s.room } };
+}
+
+/// Makes all that the change of a seat needs of memory: what the copies absorb, and what settles it then.
+pub fn prepare(
+    alloc: Global,
+    registry: &Registry,
+    seat: u8,
+    change: &Change,
+) -> Result<(Prepared, Settling), AllocError>
+    ensures prepared { IfOk result (λ r. IsPreparedFor seat change.now r.0) }
+    ensures settles { IfOk result (λ r. SettlesAt registry.now seat change.now r.1) }
+{
+    let mut prepared = registry.prepare(alloc, seat, change)?;
+    let room = HeldCalls::room_for(alloc, change, prepared.outcome())?;
+    let caller = caller_in(registry, change);
+    let told = prepared.take_outcome(alloc);
+    let settling = Settling { told, caller, room };
+    Ok((prepared, settling))
+}
+
+/// Where the caller of a change is reached, if it is one that may have to wait.
+fn caller_in(registry: &Registry, change: &Change) -> Option<Conn>
+    ensures { result ≡ option_map conn_of
+        (option_and_then (connection_of registry.now) (caller_of change.now)) }
+{
+    match caller_of(change) {
+        Some(number) => registry.conn(number),
+        None => None,
+    }
+}
+
+impl Settling {
+    /// Settles the change: the calls that it lets go wait no longer, one that it makes wait does, and it is told what its
+    /// tickets carry. It takes no memory, and can't be refused.
+    pub fn settle(self, calls: &mut HeldCalls, change: &Change) -> Outcome
+        requires { IsSomeBus change.now self calls.old }
+        ensures { IsSettled change.now self calls.old calls.new result }
+    {
+        let Settling { told, caller, room } = self;
+        calls.settle(change, caller, told, room)
+    }
+}
