@@ -5,7 +5,7 @@ use Rattle.std.specs.List.{AllByRecursion}
 use Rattle.names.specs.Texts.{Text}
 use Rattle.owner_queues.specs.declared.request.Profile.{Profile}
 use Rattle.seq_bus_core.specs.BusState.{BusState, conn_of, connection_of}
-use Rattle.seq_bus_core.specs.Batches.{entries_of}
+use Rattle.seq_bus_core.specs.Batches.{entries_of, outcomes_of}
 use Rattle.seq_bus_core.specs.Changes.{as_seen}
 use Rattle.seq_bus_core.specs.Consistency.{IsConsistent, IsWithinLimits}
 use Rattle.seq_bus_core.specs.Histories.{History, opening, numbers_of}
@@ -15,6 +15,7 @@ use Rattle.seq_bus_core.specs.declared.change.Change.{Change}
 use Rattle.seq_bus_core.specs.declared.connection.Conn.{Conn}
 use Rattle.seq_bus_core.specs.declared.entry.Entry.{Entry}
 use Rattle.seq_bus_core.specs.declared.outcome.NumberedOutcome.{NumberedOutcome}
+use Rattle.seq_bus_core.specs.declared.outcome.Outcome.{Outcome}
 use Rattle.seq_bus_core.proofs.ConsistencyLaws.{buses_are_consistent}
 use Rattle.seq_bus_core.proofs.ChangeLaws.{steps_see_no_more}
 use Rattle.seq_bus_core.proofs.Extending.{after_more, legal_more}
@@ -22,7 +23,12 @@ use Rattle.seq_bus_core.proofs.LimitLaws.{steps_keep_limits, buses_are_within_li
 use Rattle.held_calls.proofs.FewTickets.{few_settled}
 use Rattle.held_calls.specs.Holdings.{Calls, IsHolding}
 use Rattle.held_calls.specs.Settling.{IsAtStep, caller_of}
+use Rattle.registry.specs.PreparedChanges.{state_along}
+use Rattle.registry.proofs.Along.{entries_along}
 use Rattle.registry.proofs.Openings.{opened_still}
+use Rattle.settling.specs.Batches.{SettleAlong, bus_along}
+use Rattle.settling.specs.Settlings.{Settling}
+use Rattle.settling.proofs.Along.{along_entries, few_along, limits_along}
 use Rattle.seq_bus.specs.PlainBus.{AreOwnEntries, IsKept, opened_as}
 
 -- ## Entries of one seat
@@ -36,7 +42,7 @@ own_seats number [] = tt
 own_seats number (change ∷ changes) = (refl, own_seats (number + 1) changes)
 
 -- each entry has a number of the seat
-count_numbers : (history : History) → AllByRecursion (λ e. e.seat ≡ 1) history → length (numbers_of 1 history) ≡ length history
+pub count_numbers : (history : History) → AllByRecursion (λ e. e.seat ≡ 1) history → length (numbers_of 1 history) ≡ length history
 count_numbers [] own = refl
 count_numbers (e ∷ history) own = rw own.0 (ap suc (count_numbers history own.1))
 
@@ -96,3 +102,42 @@ at_step s calls history change caller told kept called is = record {
 -- what it settles is no more than can wait
 pub few_settled_at : (s : BusState) (calls : Calls) (history : History) (change : Change) → IsKept s calls history → length (bus_step (bus_after (opened_as s) history) 1 change).1.tickets ≤ 512
 few_settled_at s calls history change kept = few_settled (bus_after (opened_as s) history) 1 change (subst IsWithinLimits (sym kept.now) kept.within_limits)
+
+-- ## A batch that was absorbed
+
+pub opened_along : (s : BusState) (changes : List Change) → opened_as (state_along s 1 changes) ≡ opened_as s
+opened_along s [] = refl
+opened_along s (change ∷ changes) =
+    opened_along (step s 1 change).0 changes ∙ ap (λ (o : BusState). record { state = o; waiting = [] }) (opened_still s 1 change)
+
+-- the bus after it
+batch_made : (s t : BusState) (history : History) (number : ℕ) (changes : List Change) → t ≡ state_along s 1 changes →
+    bus_after (opened_as t) (history ++ entries_of 1 number changes) ≡ bus_along (bus_after (opened_as s) history) 1 changes
+batch_made s t history number changes is =
+    ap (λ (w : WholeBus). bus_after w (history ++ entries_of 1 number changes)) (ap opened_as is ∙ opened_along s changes)
+    ∙ after_more (opened_as s) history (entries_of 1 number changes) ∙ along_entries (bus_after (opened_as s) history) 1 number changes
+
+-- what is kept of it
+pub kept_along : (s t : BusState) (calls later : Calls) (history : History) (number : ℕ) (changes : List Change) → IsKept s calls history → t ≡ state_along s 1 changes → number ≡ length history + 1 →
+    IsHolding (bus_along (bus_after (opened_as s) history) 1 changes) later → IsKept t later (history ++ entries_of 1 number changes)
+kept_along s t calls later history number changes kept is count holding =
+    let b = bus_after (opened_as s) history in
+    let made = batch_made s t history number changes is in
+    let now : (bus_along b 1 changes).state ≡ t = ap (λ (w : WholeBus). w.state) (sym (along_entries b 1 number changes)) ∙ entries_along b 1 number changes ∙ ap (λ (u : BusState). state_along u 1 changes) kept.now ∙ sym is in
+    let within : IsWithinLimits b.state = subst IsWithinLimits (sym kept.now) kept.within_limits in
+    record {
+      now = ap (λ (w : WholeBus). w.state) made ∙ now;
+      within_limits = subst IsWithinLimits now (limits_along b 1 changes kept.holding.consistent within);
+      holding = rw made holding;
+      own = own_more history number changes kept.own count;
+    }
+
+-- what settles it settles it after the history
+pub along_history : (s : BusState) (calls : Calls) (history : History) (changes : List Change) (settlings : List Settling) → IsKept s calls history → SettleAlong s 1 changes settlings → SettleAlong (bus_after (opened_as s) history).state 1 changes settlings
+along_history s calls history changes settlings kept along = subst (λ (t : BusState). SettleAlong t 1 changes settlings) (sym kept.now) along
+
+-- each of its changes settles no more than can wait
+pub few_along_history : (s : BusState) (calls : Calls) (history : History) (changes : List Change) (outcomes : List Outcome) → IsKept s calls history → outcomes ≡ outcomes_of (bus_after (opened_as s) history) 1 changes → AllByRecursion (λ o. length o.tickets ≤ 512) outcomes
+few_along_history s calls history changes outcomes kept told =
+    subst (λ (os : List Outcome). AllByRecursion (λ o. length o.tickets ≤ 512) os) (sym told)
+    (few_along (bus_after (opened_as s) history) 1 changes kept.holding.consistent (subst IsWithinLimits (sym kept.now) kept.within_limits))

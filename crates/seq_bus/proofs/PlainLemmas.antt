@@ -1,26 +1,24 @@
 -- What the one knows who uses a plain bus.
-use Rattle.std.proofs.Common.{◌≡◌, ℕ, ◌+◌, true, List, [], ◌∷◌, ◌++◌, length, Some, refl, sym, ap, ◌∙◌, arith, inl, length-append}
-use Rattle.std.specs.List.{range_with_len}
+use Rattle.std.proofs.Common.{◌≡◌, ℕ, ◌+◌, ◌≤◌, true, List, [], ◌∷◌, ◌++◌, length, Some, refl, sym, ap, ◌∙◌, arith, inl, length-append, suc}
+use Rattle.std.specs.List.{AllByRecursion}
 use mathlib.Core.List.{append-nil}
+use Rattle.seq_bus_core.specs.Batches.{entries_of}
 use Rattle.seq_bus_core.specs.Histories.{History, IsLegal, numbers_of}
-use Rattle.seq_bus_core.proofs.Extending.{numbers_more}
 use Rattle.seq_bus_core.specs.declared.change.Change.{Change}
 use Rattle.seq_bus_core.specs.declared.entry.Entry.{Entry}
 use Rattle.seq_bus_core.specs.declared.outcome.Outcome.{Outcome}
-use Rattle.seq_bus.specs.PlainBus.{PlainBus, IsMade, next_entry as entry_made}
-use Rattle.bus_view.specs.Views.{Reaches, IsChanged, IsRead, IsUnread, IsNoted, next_entry}
+use Rattle.seq_bus.proofs.HistoryLemmas.{count_numbers}
+use Rattle.seq_bus.specs.PlainBus.{PlainBus, AreMade, IsMade}
+use Rattle.bus_view.specs.Views.{Reaches, AreChanged, IsChanged, IsRead, IsUnread, IsNoted, having_made}
 use Rattle.seq_bus.specs.PlainViews.{noted, knowledge_of}
 
-last_number : (from : ℕ) (xs : List ℕ) (x : ℕ) → xs ++ x ∷ [] ≡ range_with_len from (length (xs ++ x ∷ [])) → x ≡ from + length xs
-last_number from [] x e = let first : x ≡ from = cc in omega (arith, first)
-last_number from (y ∷ ys) x e =
-    let others : ys ++ x ∷ [] ≡ range_with_len (from + 1) (length (ys ++ x ∷ [])) = cc in
-    let later : x ≡ from + 1 + length ys = last_number (from + 1) ys x others in
-    omega (arith, later)
+noted_more : (history : History) (e : Entry) (more : History) → noted (history ++ e ∷ more) ≡ Some (history ++ e ∷ more)
+noted_more [] e more = refl
+noted_more (x ∷ history) e more = refl
 
-noted_more : (history : History) (e : Entry) → noted (history ++ e ∷ []) ≡ Some (history ++ e ∷ [])
-noted_more [] e = refl
-noted_more (x ∷ history) e = refl
+count_entries : (seat number : ℕ) (changes : List Change) → length (entries_of seat number changes) ≡ length changes
+count_entries seat number [] = refl
+count_entries seat number (change ∷ changes) = ap suc (count_entries seat (number + 1) changes)
 
 there : (history : History) → Reaches true history history
 there history = record { begun = ([], append-nil history); same = λ _. refl }
@@ -42,25 +40,45 @@ noted_same bus told = record {
   nothing = λ _. refl;
 }
 
-pub made_seen : (old new : PlainBus) (change : Change) (outcome : Outcome) → IsMade old new change outcome → IsLegal new.seen → IsChanged true (knowledge_of old) change outcome (knowledge_of new)
-made_seen old new change outcome made legal =
-    let made_here = entry_made old change in
-    let here = next_entry (knowledge_of old) change in
-    let seen : new.seen ≡ old.seen ++ made_here ∷ [] = ap (λ (b : PlainBus). b.seen) made.published in
-    let opening : new.opening ≡ old.opening = ap (λ (b : PlainBus). b.opening) made.published in
-    let numbers : numbers_of 1 new.seen ≡ numbers_of 1 old.seen ++ made_here.number ∷ [] = ap (numbers_of 1) seen ∙ numbers_more 1 old.seen (made_here ∷ []) in
-    let in_order : numbers_of 1 old.seen ++ made_here.number ∷ [] ≡ range_with_len 1 (length (numbers_of 1 old.seen ++ made_here.number ∷ [])) =
-    sym numbers ∙ legal.numbered 1 ∙ ap (λ ns. range_with_len 1 (length ns)) numbers in
-    let number : made_here.number ≡ here.number = omega (arith, last_number 1 (numbers_of 1 old.seen) made_here.number in_order) in
-    let same : made_here ≡ here = ap (λ n. record { seat = 1; number = n; change = change; left = 0 }) number in
-    let point : new.seen ≡ old.seen ++ here ∷ [] = seen ∙ ap (λ e. old.seen ++ e ∷ []) same in
-    let count : length (numbers_of 1 new.seen) ≡ length (numbers_of 1 old.seen) + 1 = ap length numbers ∙ length-append (numbers_of 1 old.seen) (made_here.number ∷ []) in
-    let held : noted new.seen ≡ Some (old.seen ++ here ∷ []) = ap noted point ∙ noted_more old.seen here in
-    record {
-      point = old.seen;
-      reached = there old.seen;
-      told = made.told;
-      added = λ i. record { registry = 0; opening = opening i; seat = 1; seen = point i; made = count i; held = held i };
-      legal = legal;
-      own = legal.numbered 1;
-    }
+-- its changes are counted by its history
+pub made_count : (history : History) → AllByRecursion (λ e. e.seat ≡ 1) history → length history ≡ length (numbers_of 1 history)
+made_count history own = sym (count_numbers history own)
+
+-- What it knows once it has made some changes: they are numbered on from those that it made before.
+added_more : (old new : PlainBus) (change : Change) (more : List Change) → AllByRecursion (λ e. e.seat ≡ 1) old.seen → AllByRecursion (λ e. e.seat ≡ 1) new.seen
+    → new ≡ record old { seen = old.seen ++ entries_of 1 (length old.seen + 1) (change ∷ more) }
+    → knowledge_of new ≡ having_made (knowledge_of old) (length (change ∷ more)) (old.seen ++ entries_of 1 ((knowledge_of old).made + 1) (change ∷ more))
+added_more old new change more own_before own published =
+    let changes : List Change = change ∷ more in
+    let before = count_numbers old.seen own_before in
+    let now = count_numbers new.seen own in
+    let opening : new.opening ≡ old.opening = ap (λ (b : PlainBus). b.opening) published in
+    let added : new.seen ≡ old.seen ++ entries_of 1 (length old.seen + 1) changes = ap (λ (b : PlainBus). b.seen) published in
+    let seen : new.seen ≡ old.seen ++ entries_of 1 (length (numbers_of 1 old.seen) + 1) changes = added ∙ ap (λ n. old.seen ++ entries_of 1 (n + 1) changes) (sym before) in
+    let long = ap length added ∙ length-append old.seen (entries_of 1 (length old.seen + 1) changes) in
+    let made : length (numbers_of 1 new.seen) ≡ length (numbers_of 1 old.seen) + length changes = omega (arith, before, now, long, count_entries 1 (length old.seen + 1) changes) in
+    let held : noted new.seen ≡ Some (old.seen ++ entries_of 1 (length (numbers_of 1 old.seen) + 1) changes) = ap noted seen ∙ noted_more old.seen _ _ in
+    λ i. record { registry = 0; opening = opening i; seat = 1; seen = seen i; made = made i; last = length (seen i); held = held i }
+
+pub made_seen : (old new : PlainBus) (change : Change) (outcome : Outcome) → IsMade old new change outcome → AllByRecursion (λ e. e.seat ≡ 1) old.seen → IsLegal new.seen → AllByRecursion (λ e. e.seat ≡ 1) new.seen
+    → IsChanged true (knowledge_of old) change outcome (knowledge_of new)
+made_seen old new change outcome made own_before legal own = record {
+  point = old.seen;
+  reached = there old.seen;
+  told = made.told;
+  added = added_more old new change [] own_before own made.published;
+  legal = legal;
+  own = legal.numbered 1;
+}
+
+pub all_made_seen : (old new : PlainBus) (changes : List Change) (outcomes : List Outcome) → 1 ≤ length changes → AreMade old new changes outcomes → AllByRecursion (λ e. e.seat ≡ 1) old.seen → IsLegal new.seen → AllByRecursion (λ e. e.seat ≡ 1) new.seen
+    → AreChanged true (knowledge_of old) changes outcomes (knowledge_of new)
+all_made_seen old new [] outcomes some made own_before legal own = absurd (omega (arith, some))
+all_made_seen old new (change ∷ more) outcomes some made own_before legal own = record {
+  point = old.seen;
+  reached = there old.seen;
+  told = made.told;
+  added = added_more old new change more own_before own made.published;
+  legal = legal;
+  own = legal.numbered 1;
+}

@@ -1,7 +1,8 @@
 -- A bus that one thread uses: how it was opened, and every change that it has made since.
-use Rattle.std.specs.Prelude.{◌≡◌, ◌+◌, [], ◌∷◌, ◌++◌, length}
+use Rattle.std.specs.Prelude.{◌≡◌, ◌+◌, List, [], ◌∷◌, ◌++◌, length}
 use Rattle.std.specs.List.{AllByRecursion}
 use Rattle.seq_bus.specs.declared.TheConstants.{SEAT}
+use Rattle.seq_bus_core.specs.Batches.{entries_of, outcomes_of}
 use Rattle.seq_bus_core.specs.BusState.{BusState}
 use Rattle.seq_bus_core.specs.Consistency.{IsWithinLimits}
 use Rattle.seq_bus_core.specs.Histories.{History, IsLegal, entry_alone}
@@ -28,6 +29,12 @@ next_entry bus change = entry_alone SEAT (length bus.seen + 1) change
 pub record IsMade (before after : PlainBus) (change : Change) (outcome : Outcome) : Type 0 where
   pub told : outcome ≡ (bus_step (bus_now before) SEAT change).1
   pub published : after ≡ record before { seen = before.seen ++ next_entry before change ∷ [] }
+
+-- The changes of a batch were made: each was told what the step of the bus says once those before it were made, and they stand
+-- together in the history.
+pub record AreMade (before after : PlainBus) (changes : List Change) (outcomes : List Outcome) : Type 0 where
+  pub told : outcomes ≡ outcomes_of (bus_now before) SEAT changes
+  pub published : after ≡ record before { seen = before.seen ++ entries_of SEAT (length before.seen + 1) changes }
 
 -- the bus as it was opened: with its profile, its routers and its services, and nothing else
 abbrev pub opened_as : BusState → WholeBus

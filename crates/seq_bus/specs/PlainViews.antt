@@ -10,6 +10,7 @@ abbrev pub noted : History → Option History
 noted [] = None
 noted (e ∷ history) = Some (e ∷ history)
 
+-- all changes are its own, so the last one is too
 abbrev pub knowledge_of : PlainBus → Knowledge
 knowledge_of bus = record {
   registry = 0;
@@ -17,5 +18,6 @@ knowledge_of bus = record {
   seat = SEAT;
   seen = bus.seen;
   made = length (numbers_of SEAT bus.seen);
+  last = length bus.seen;
   held = noted bus.seen;
 }

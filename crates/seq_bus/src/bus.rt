@@ -1,26 +1,30 @@
 //! The plain bus.
 
-ghost use Rattle.std.specs.Prelude.{◌≡◌, ◌≤◌, [], length, is_some, option_and_then, option_map, IfOk, OnErr, IfErr};
+ghost use Rattle.std.specs.List.{AllByRecursion};
+ghost use Rattle.std.specs.Prelude.{◌≡◌, ◌≤◌, ◌+◌, ◌++◌, [], length, is_some, option_and_then, option_map, vec_capacity, IfOk, OnOk, OnErr, IfErr};
+ghost use Rattle.seq_bus_core.specs.Batches.{IsBatch, entries_of};
 ghost use Rattle.seq_bus_core.specs.BusState.{conn_of, connection_of};
 ghost use Rattle.seq_bus_core.specs.Answers.{answer};
 ghost use Rattle.seq_bus_core.specs.Recipients.{recipients};
 ghost use Rattle.seq_bus_core.specs.Histories.{CanOpen, IsLegal};
 ghost use Rattle.seq_bus_core.specs.Tickets.{opening_bus};
-ghost use Rattle.seq_bus_core.specs.declared.limits.TheConstants.{MAX_TICKETS};
+ghost use Rattle.seq_bus_core.specs.declared.limits.TheConstants.{MAX_BATCH, MAX_TICKETS};
 ghost use Rattle.bus_view.specs.Bodies.{Answers};
 ghost use Rattle.bus_view.specs.declared.refusal.Cause.TheVariants.{NoMemory};
 ghost use Rattle.bus_view.specs.declared.answer.AskFault.TheVariants.{NoMemory as AskNoMemory};
 ghost use Rattle.held_calls.specs.Settling.{caller_of};
-ghost use Rattle.seq_bus.specs.PlainBus.{bus_now, IsMade};
+ghost use Rattle.seq_bus.specs.PlainBus.{bus_now, AreMade, IsMade};
 
 use crate::SEAT;
-use bus_view::{AskFault, Asked, Cause, Refused};
+use bus_view::{AskFault, Asked, BatchCause, Cause, Refused, RefusedAll};
 use held_calls::{HeldCalls, caller_of};
 use match_rules::Facts;
 use names::WellKnown;
 use owner_queues::Profile;
 use registry::Registry;
+use seq_bus_core::limits::MAX_BATCH;
 use seq_bus_core::{Change, Conn, Entry, Outcome, Query, Verdict};
+use settling::prepare_all;
 use std::alloc::{AllocError, Global};
 use std::marker::Model;
 
@@ -32,6 +36,8 @@ use std::marker::Model;
 pub struct SeqBus {
     alloc: Global,
     registry: Registry,
+    /// The registry before a batch, while the batch is made. Else it is any.
+    before: Registry,
     calls: HeldCalls,
     seen: Vec<Entry>,
 }
@@ -62,9 +68,11 @@ impl SeqBus {
             bus ≡ record { opening = opening_bus profile routers services.now; seen = [] }) }
     {
         let registry = Registry::new(alloc, services, routers, profile)?;
+        let before = Registry::new(alloc, services, routers, profile)?;
         Ok(SeqBus {
             alloc,
             registry,
+            before,
             calls: HeldCalls::new(alloc)?,
             seen: Vec::new(alloc),
         })
@@ -106,6 +114,42 @@ impl SeqBus {
         Ok(outcome)
     }
 
+    /// Makes a batch of 1 to 64 changes, and says what each is told. They stand together in the history.
+    ///
+    /// Where one of them is refused, as `change` refuses it, or there are too many or none, all are handed back, and the
+    /// bus is as it was.
+    pub fn change_all(&mut self, changes: Vec<Change>) -> Result<Vec<Outcome>, RefusedAll>
+        ensures made { IfOk result (λ outcomes.
+            AreMade self.old self.new changes.items outcomes.items) }
+        ensures few { IfOk result (λ outcomes.
+            AllByRecursion (λ o. length o.tickets ≤ MAX_TICKETS) outcomes.items) }
+        ensures batch { OnOk result (IsBatch changes.items) }
+        ensures handed_back { IfErr result (λ refused. refused.changes ≡ changes) }
+        ensures memory { IfErr result (λ refused. IsBatch changes.items →
+            refused.cause ≡ BatchCause.Refused NoMemory) }
+        ensures no_batch { IfErr result (λ refused. ¬ IsBatch changes.items →
+            refused.cause ≡ BatchCause.Batch) }
+        ensures unchanged { OnErr result (self.new ≡ self.old) }
+    {
+        if changes.is_empty() || changes.len() > MAX_BATCH {
+            return Err(RefusedAll {
+                changes,
+                cause: BatchCause::Batch,
+            });
+        }
+        if self.seen.reserve(changes.len()).is_err() {
+            return Err(all_without_memory(changes));
+        }
+        self.before.copy_from(&self.registry);
+        let Ok((_, settlings)) = prepare_all(self.alloc, &mut self.registry, SEAT, &changes) else {
+            self.registry.copy_from(&self.before);
+            return Err(all_without_memory(changes));
+        };
+        let outcomes = settlings.settle(&mut self.calls, &changes);
+        add_entries(&mut self.seen, changes);
+        Ok(outcomes)
+    }
+
     /// Answers a query: appends the body of the reply, in little-endian order as from offset 0 on, or says that the
     /// name has no owner. After a fault nothing is appended.
     pub fn ask(&mut self, query: &Query, body: &mut Vec<u8>) -> Result<Asked, AskFault>
@@ -135,10 +179,11 @@ impl SeqBus {
         self.registry.route_into(from, facts, told);
     }
 
-    /// The changes that were made, in order. They are a legal history.
+    /// The changes that were made, in order. They are a legal history, and all of its one seat.
     pub fn history(&self) -> &[Entry]
         ensures value { result.now ≡ self.now.seen }
         ensures legal { IsLegal self.now.seen }
+        ensures own { AllByRecursion (λ e. e.seat ≡ SEAT) self.now.seen }
     {
         self.seen.as_slice()
     }
@@ -176,5 +221,35 @@ fn without_memory(change: Change) -> Refused
     Refused {
         change,
         cause: Cause::NoMemory,
+    }
+}
+
+/// Changes that are handed back for want of memory.
+fn all_without_memory(changes: Vec<Change>) -> RefusedAll
+    ensures { result ≡ record { changes = changes; cause = BatchCause.Refused NoMemory } }
+{
+    RefusedAll {
+        changes,
+        cause: BatchCause::Refused(Cause::NoMemory),
+    }
+}
+
+/// Adds the entries of a batch, where there is room for them.
+fn add_entries(seen: &mut Vec<Entry>, changes: Vec<Change>)
+    requires has_room { length seen.old.items + length changes.items ≤ vec_capacity seen.old }
+    requires few { length changes.items ≤ MAX_BATCH }
+    ensures { seen.new.items ≡ seen.old.items
+        ++ entries_of SEAT (length seen.old.items + 1) changes.items }
+{
+    let mut left = changes.len() as u8;
+    for change in changes {
+        left -= 1;
+        let number = seen.len() as u64 + 1;
+        seen.push_reserved(Entry {
+            seat: SEAT,
+            number,
+            change,
+            left,
+        });
     }
 }

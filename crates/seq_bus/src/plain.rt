@@ -3,7 +3,7 @@
 ghost use Rattle.std.specs.Prelude.{◌≡◌};
 
 use crate::bus::SeqBus;
-use bus_view::{AskFault, Asked, BusView, Gone, Refused};
+use bus_view::{AskFault, Asked, BusView, Gone, Refused, RefusedAll};
 use match_rules::Facts;
 use seq_bus_core::{Change, Outcome, Query, Verdict};
 
@@ -29,6 +29,20 @@ impl BusView for SeqBus {
         let _legal = self.history();
         match made {
             Ok(outcome) => Ok((outcome, ())),
+            Err(refused) => Err(refused),
+        }
+    }
+
+    fn change_all(
+        &mut self,
+        _right: &(),
+        changes: Vec<Change>,
+    ) -> Result<(Vec<Outcome>, ()), RefusedAll> {
+        let _legal = self.history();
+        let made = SeqBus::change_all(self, changes);
+        let _legal = self.history();
+        match made {
+            Ok(outcomes) => Ok((outcomes, ())),
             Err(refused) => Err(refused),
         }
     }
@@ -71,6 +85,19 @@ impl BusView for SeqBus {
             return None;
         }
         Some(())
+    }
+
+    fn place(&self) -> u64 {
+        self.history().len() as u64
+    }
+
+    // Nobody else makes any.
+    fn made(&self) -> u64 {
+        self.history().len() as u64
+    }
+
+    fn last(&self) -> u64 {
+        self.place()
     }
 
     fn seat(&self) -> u8 {

@@ -4,7 +4,7 @@ use arrayvec::ArrayString;
 use bus_view::can_open;
 use names::{BusName, UniqueName, WellKnown};
 use owner_queues::{Profile, Reply as QueueReply, RequestFlags};
-use registry::{Prepared, Registry};
+use registry::Registry;
 use seq_bus_core::{Call, Change, Conn, Ending, Fate, Reply, SettledNumber, SharedBytes};
 use std::alloc::{AllocError, Global};
 use std::fmt::Write;
@@ -387,26 +387,4 @@ fn as_many_tickets_as_can_wait(rt: HostRuntime) {
             &[]
         )
     );
-}
-
-/// What a batch is told that starts a service and then owns its name, on a registry of its own.
-fn batch(rt: &impl Abort, alloc: Global, clock: BusName) -> Result<Vec<Prepared>, AllocError> {
-    let mut registry = with_two_services(rt, alloc);
-    registry.prepare_all(alloc, 1, &[start(1, clock), request(2, clock)])
-}
-
-#[test]
-fn batch_is_prepared_along_its_states(rt: HostRuntime) {
-    let clock = name_of(&rt, "com.example.Clock");
-    let prepared = once_more!(&rt; batch(&rt, rt.alloc(), clock));
-    let mut told = prepared.iter().map(|prepared| prepared.outcome());
-    let first = told.next().expect(&rt, "a change");
-    assert!(rt; first.reply == Reply::Held(1) && first.start == Some(1));
-    let second = told.next().expect(&rt, "a second change");
-    let served = [SettledNumber {
-        fate: Fate::Served,
-        number: 1,
-    }];
-    assert!(rt; second.reply == OWNED && second.tickets.as_slice() == served.as_slice());
-    assert!(rt; told.next().is_none());
 }
