@@ -12,5 +12,6 @@ knowledge_of book opening seat = record {
   seat = seat.number;
   seen = seat.seen;
   made = seat.made;
+  last = seat.last;
   held = seat.held;
 }

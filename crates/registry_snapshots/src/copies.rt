@@ -1,12 +1,14 @@
 //! The copies that readers take, and what publishes changes on them.
 
-ghost use Rattle.std.specs.Prelude.{◌≡◌, ◌+◌, ◌<◌, ◌^◌, [], ◌∷◌, ◌++◌, drop, length, false, IfOk, OnOk, OnErr};
+ghost use Rattle.std.specs.Prelude.{◌≡◌, ◌+◌, ◌<◌, ◌≤◌, ◌^◌, [], ◌∷◌, ◌++◌, drop, length, false, true, IfOk, OnOk, OnErr};
 ghost use Rattle.owner_queues.specs.declared.request.Profile.TheVariants.{Two};
-ghost use Rattle.seq_bus_core.specs.Changes.{as_seen};
+ghost use Rattle.registry.specs.PreparedChanges.{ArePreparedFor, IsPreparedFor, absorbed_along};
+ghost use Rattle.seq_bus_core.specs.Batches.{entries_of};
 ghost use Rattle.seq_bus_core.specs.Histories.{CanOpen, IsLegal, numbers_of};
+ghost use Rattle.seq_bus_core.specs.Steps.{step};
 ghost use Rattle.seq_bus_core.specs.Tickets.{opening_bus};
 ghost use Rattle.registry_snapshots_core.specs.Copies.{IsSnapOf, front_of};
-ghost use Rattle.registry_snapshots_core.specs.Pending.{IsReady, Shows};
+ghost use Rattle.registry_snapshots_core.specs.Pending.{IsReady, Shows, brought_up};
 
 use crate::rule::{Finds, Kept};
 use bus_view::Gone;
@@ -15,7 +17,7 @@ use left_right::reader::Reader;
 use left_right::writer::Writer;
 use names::WellKnown;
 use registry::Prepared;
-use registry_snapshots_core::{Front, Head, Naming, Op, Snap};
+use registry_snapshots_core::{Batch, Front, Head, Naming, Op, Snap};
 use seq_bus_core::Entry;
 use std::alloc::{AllocError, Global};
 use std::marker::Model;
@@ -91,7 +93,8 @@ impl<J: Naming> Copies<J> {
             × (J.opening ≡ opening_bus Two routers services.now) }
         requires seats { (0 < seats) × (seats < 2 ^ 32) }
         requires front { (head ≡ J.book) × (front.now.book ≡ J.book) × (front.now.log ≡ []) }
-        ensures { IfOk result (λ c. (c.0.front.log ≡ []) × (c.1 ≡ false)) }
+        ensures { IfOk result (λ c. (c.0.front.log ≡ []) × (c.1 ≡ false)
+            × (c.0.bus ≡ J.opening.state)) }
     {
         let first = Snap::new(alloc, services, routers, seats, front.again())?;
         let second = Snap::new(alloc, services, routers, seats, front.again())?;
@@ -141,13 +144,15 @@ impl<J: Naming> Copies<J> {
         requires legal { IsLegal front.now.log }
         requires alone { entry.now.left ≡ 0 }
         requires number { entry.now.number ≡ length (numbers_of entry.now.seat front.now.log) + 1 }
-        requires prepared { (prepared.seat ≡ entry.now.seat)
-            × (prepared.change ≡ as_seen entry.now.change) }
+        requires prepared { IsPreparedFor entry.now.seat entry.now.change prepared }
         ensures next { IfOk result (λ next.
             next ≡ front_of J.book (front.now.log ++ entry.now ∷ [])) }
         ensures published { IfOk result (λ next. self.new.0.front ≡ next) }
+        ensures bus { OnOk result
+            (self.new.0.bus ≡ (step self.old.0.bus prepared.seat prepared.change).0) }
         ensures unspent { OnOk result (self.new.1 ≡ false) }
         ensures same { OnErr result (self.new.0 ≡ self.old.0) }
+        ensures spent { OnErr result (self.new.1 ≡ true) }
     {
         let Some(next) = front.add(&self.head, entry) else {
             self.spent = true;
@@ -159,6 +164,61 @@ impl<J: Naming> Copies<J> {
             prepared,
             front: next.again(),
         };
+        self.show(rt, op)?;
+        Ok(next)
+    }
+
+    /// Publishes the next entries of a seat together behind the whole history, with their changes as they were prepared.
+    ///
+    /// What it gives of the history is what is published from then on. `Gone` where the publication failed: then what was
+    /// published stays, and the copies are spent.
+    #[tactic(auto, using(seq_bus_core::proofs::Extending::numbers_length))]
+    pub fn publish_all<R: Wait>(
+        &mut self,
+        rt: &R,
+        front: &Front,
+        batch: &Batch,
+        prepared: Vec<Prepared>,
+    ) -> Result<Front, Gone>
+        requires settled { self.old.1 ≡ false }
+        requires front { front.now ≡ self.old.0.front }
+        requires room { length front.now.log + length batch.now.changes.items ≤ 2 ^ 63 }
+        requires legal { IsLegal front.now.log }
+        requires first { batch.now.first
+            ≡ length (numbers_of batch.now.seat front.now.log) + 1 }
+        requires prepared { ArePreparedFor batch.now.seat batch.now.changes.items prepared.items }
+        ensures next { IfOk result (λ next. next ≡ front_of J.book (front.now.log
+            ++ entries_of batch.now.seat batch.now.first batch.now.changes.items)) }
+        ensures published { IfOk result (λ next. self.new.0.front ≡ next) }
+        ensures bus { OnOk result
+            (self.new.0.bus ≡ absorbed_along self.old.0.bus prepared.items) }
+        ensures unspent { OnOk result (self.new.1 ≡ false) }
+        ensures same { OnErr result (self.new.0 ≡ self.old.0) }
+        ensures spent { OnErr result (self.new.1 ≡ true) }
+    {
+        let Some(next) = front.add_all(&self.head, batch) else {
+            self.spent = true;
+            return Err(Gone);
+        };
+        let op = Op::MadeAll {
+            seat: batch.seat,
+            number: batch.first - 1 + batch.changes.len() as u64,
+            prepared,
+            front: next.again(),
+        };
+        self.show(rt, op)?;
+        Ok(next)
+    }
+
+    // Brings the copies up. `Gone` where that failed: then they are spent.
+    fn show<R: Wait>(&mut self, rt: &R, op: Op) -> Result<(), Gone>
+        requires settled { self.old.1 ≡ false }
+        requires kept { IsSnapOf J.book J.opening (brought_up self.old.0 op) }
+        ensures shown { OnOk result (self.new.0 ≡ brought_up self.old.0 op) }
+        ensures unspent { OnOk result (self.new.1 ≡ false) }
+        ensures same { OnErr result (self.new.0 ≡ self.old.0) }
+        ensures spent { OnErr result (self.new.1 ≡ true) }
+    {
         match self.writer.append(op) {
             Ok(()) => {
                 replace_with(
@@ -172,7 +232,7 @@ impl<J: Naming> Copies<J> {
                             (drop writer.behind writer.log.items) result.0.desk.shown.value }
                     { publish(rt, writer) },
                 );
-                Ok(next)
+                Ok(())
             }
             Err(_) => {
                 self.spent = true;

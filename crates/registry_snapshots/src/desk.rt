@@ -4,7 +4,7 @@ ghost use Rattle.std.specs.Prelude.{◌≡◌};
 
 use crate::seat::Seat;
 use crate::shared::Shared;
-use bus_view::{AskFault, Asked, BusView, Gone, Refused};
+use bus_view::{AskFault, Asked, BusView, Gone, Refused, RefusedAll};
 use match_rules::Facts;
 use registry_snapshots_core::{Naming, Note};
 use seq_bus_core::{Change, Outcome, Query, Verdict};
@@ -64,6 +64,15 @@ impl<'a, J: Naming, R: Wait> BusView for Desk<'a, J, R> {
         self.seat.change(right, self.shared, change)
     }
 
+    #[tactic(auto, using(crate::proofs::SeatLemmas::all_changed_here))]
+    fn change_all(
+        &mut self,
+        right: &R,
+        changes: Vec<Change>,
+    ) -> Result<(Vec<Outcome>, Note<J>), RefusedAll> {
+        self.seat.change_all(right, self.shared, changes)
+    }
+
     #[tactic(auto, using(crate::proofs::SeatLemmas::read_here, crate::proofs::SeatLemmas::unread_here))]
     fn ask(&mut self, query: &Query, body: &mut Vec<u8>) -> Result<Asked, AskFault> {
         self.seat.ask(query, body)
@@ -96,6 +105,18 @@ impl<'a, J: Naming, R: Wait> BusView for Desk<'a, J, R> {
 
     fn note(&self) -> Option<Note<J>> {
         self.seat.note()
+    }
+
+    fn place(&self) -> u64 {
+        self.seat.place()
+    }
+
+    fn made(&self) -> u64 {
+        self.seat.made()
+    }
+
+    fn last(&self) -> u64 {
+        self.seat.last()
     }
 
     fn seat(&self) -> u8 {

@@ -17,7 +17,6 @@ mod refusal;
 mod registrar;
 mod rule;
 mod seat;
-mod settling;
 mod shared;
 
 pub use desk::Desk;

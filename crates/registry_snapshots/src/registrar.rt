@@ -1,21 +1,26 @@
 //! What makes changes, under the lock.
 
+ghost use Rattle.std.specs.List.{AllByRecursion};
 ghost use Rattle.std.specs.Prelude.{◌≡◌, ◌≢◌, ◌⊎◌, ◌+◌, ◌<◌, ◌≤◌, ◌^◌, [], length, false, Some, slice_get, IfOk, IfErr, OnErr};
 ghost use Rattle.owner_queues.specs.declared.request.Profile.TheVariants.{Two};
+ghost use Rattle.seq_bus_core.specs.Batches.{IsBatch};
 ghost use Rattle.seq_bus_core.specs.Histories.{CanOpen, IsLegal, Begins, numbers_of};
 ghost use Rattle.seq_bus_core.specs.Tickets.{opening_bus};
-ghost use Rattle.seq_bus_core.specs.declared.limits.TheConstants.{MAX_TICKETS};
+ghost use Rattle.seq_bus_core.specs.declared.limits.TheConstants.{MAX_BATCH, MAX_TICKETS};
 ghost use Rattle.registry_snapshots_core.specs.Copies.{IsSnapOf};
-ghost use Rattle.registry_snapshots.specs.Seats.{IsChanged};
+ghost use Rattle.registry_snapshots.specs.Seats.{AreChanged, IsChanged};
+ghost use Rattle.bus_view.specs.declared.refusal.Cause.{Cause};
 ghost use Rattle.bus_view.specs.declared.refusal.Cause.TheVariants.{ForeignSeat, HistoryFull, Gone};
 
 use crate::copies::{Copies, SnapReader};
-use crate::settling::prepare;
-use bus_view::{Cause, Refused};
+use bus_view::{BatchCause, Cause, Refused, RefusedAll};
 use held_calls::HeldCalls;
 use names::WellKnown;
-use registry_snapshots_core::{Front, Head, Naming, Snap};
+use owner_queues::Profile;
+use registry::Registry;
+use registry_snapshots_core::{Batch, Front, Head, Naming, Snap};
 use seq_bus_core::{Change, Entry, Outcome};
+use settling::{prepare, prepare_all};
 use std::alloc::{AllocError, Global};
 use std::marker::Model;
 use std::sync::Wait;
@@ -28,43 +33,57 @@ const FULL: u64 = 1 << 63;
 /// Contracts see the copy that is published, and whether a publication failed: then it makes no other.
 pub struct Registrar<J: Naming> {
     copies: Copies<J>,
+    // The bus that is published, where batches are prepared: nobody reads it.
+    third: Registry,
     calls: HeldCalls,
 }
 
 impl<J: Naming> Model for Registrar<J> {
     ghost use Rattle.std.specs.Prelude.{Bool};
     ghost use Rattle.registry_snapshots_core.specs.Copies.{SnapView};
-    ghost use Rattle.registry_snapshots.specs.Settlings.{AreCallsAfter};
+    ghost use Rattle.registry_snapshots.specs.Settlings.{KeepsUp};
 
     ghost Value = { SnapView × Bool };
 
     ghost view = { λ r. r.copies };
 
-    ghost invariant = { λ r. AreCallsAfter J.opening r.copies.0.front.log r.calls };
+    ghost invariant = { λ r. KeepsUp J.opening r.copies r.third r.calls };
 }
 
-/// Whether a seat that knows this much and made so many changes may make a change now. It gives all of the history.
+/// Whether a seat that knows this much and made so many changes may make so many more now. It gives all of the history.
 #[tactic(auto, using(seq_bus_core::proofs::Extending::numbers_length))]
-pub fn judge(shown: &Snap, seat: u8, made: u64, known: &Front) -> Result<Front, Cause>
-    requires { (opening : _) × IsSnapOf known.now.book opening shown.now }
+pub fn judge(shown: &Snap, seat: u8, made: u64, known: &Front, more: u64) -> Result<Front, Cause>
+    requires shown { (opening : _) × IsSnapOf known.now.book opening shown.now }
+    requires more { (1 ≤ more) × (more ≤ MAX_BATCH) }
     ensures front { IfOk result (λ f. (f ≡ shown.now.front) × IsLegal f.log) }
     ensures known { IfOk result (λ f. Begins known.now.log f.log) }
-    ensures made { IfOk result (λ f. (made ≡ length (numbers_of seat f.log)) × (made < 2 ^ 63)
-        × (length f.log < 2 ^ 63)) }
+    ensures made { IfOk result (λ f. (made ≡ length (numbers_of seat f.log))
+        × (made + more ≤ 2 ^ 63) × (length f.log + more ≤ 2 ^ 63)) }
     ensures cause { IfErr result (λ e. (e ≡ ForeignSeat) ⊎ (e ≡ HistoryFull)) }
     ensures foreign { IfErr result (λ e. e ≡ ForeignSeat →
         (slice_get shown.now.last seat ≢ Some made)
         ⊎ (length shown.now.front.log < length known.now.log)) }
-    ensures full { IfErr result (λ e. e ≡ HistoryFull → 2 ^ 63 ≤ length shown.now.front.log) }
+    ensures full { IfErr result (λ e. e ≡ HistoryFull →
+        2 ^ 63 < length shown.now.front.log + more) }
 {
     let front = shown.front().again();
     if shown.made(seat) != Some(made) || !known.begins(&front) {
         return Err(Cause::ForeignSeat);
     }
-    if front.len() >= FULL {
+    if front.len() > FULL - more {
         return Err(Cause::HistoryFull);
     }
     Ok(front)
+}
+
+/// A batch that is handed back.
+fn refused_all(changes: Vec<Change>, cause: Cause) -> RefusedAll
+    ensures { result ≡ record { changes = changes; cause = BatchCause.Refused cause } }
+{
+    RefusedAll {
+        changes,
+        cause: BatchCause::Refused(cause),
+    }
 }
 
 impl<J: Naming> Registrar<J> {
@@ -85,8 +104,13 @@ impl<J: Naming> Registrar<J> {
         ensures { IfOk result (λ r. (r.0.front.log ≡ []) × (r.1 ≡ false)) }
     {
         let calls = HeldCalls::new(alloc)?;
+        let third = Registry::new(alloc, services, routers, Profile::Two)?;
         let copies = Copies::new(rt, alloc, services, routers, seats, head, front)?;
-        Ok(Registrar { copies, calls })
+        Ok(Registrar {
+            copies,
+            third,
+            calls,
+        })
     }
 
     /// One more reader of the copies.
@@ -128,7 +152,7 @@ impl<J: Naming> Registrar<J> {
             });
         }
         let shown = self.copies.published();
-        let front = match judge(shown, seat, made, known) {
+        let front = match judge(shown, seat, made, known, 1) {
             Ok(front) => front,
             Err(cause) => return Err(Refused { change, cause }),
         };
@@ -144,6 +168,7 @@ impl<J: Naming> Registrar<J> {
             change,
             left: 0,
         };
+        self.third.absorb(&prepared);
         let Ok(next) = self.copies.publish(rt, &front, &entry, prepared) else {
             return Err(Refused {
                 change: entry.change,
@@ -154,9 +179,69 @@ impl<J: Naming> Registrar<J> {
         Ok((outcome, next))
     }
 
+    /// Makes a batch of changes of a seat that knows this much and made so many, all in one publication, or refuses it.
+    ///
+    /// What it gives of the history is what is published, and nothing that is refused: no front lies beyond it.
+    pub fn change_all<R: Wait>(
+        &mut self,
+        rt: &R,
+        alloc: Global,
+        seat: u8,
+        made: u64,
+        known: &Front,
+        changes: Vec<Change>,
+    ) -> Result<(Vec<Outcome>, Front), RefusedAll>
+        requires book { known.now.book ≡ J.book }
+        requires batch { IsBatch changes.items }
+        ensures made { IfOk result (λ r.
+            AreChanged J.opening known.now.log seat made changes.items r.0.items r.1.log) }
+        ensures few { IfOk result (λ r.
+            AllByRecursion (λ o. length o.tickets ≤ MAX_TICKETS) r.0.items) }
+        ensures next { IfOk result (λ r. (r.1.book ≡ J.book)
+            × (made + length changes.items ≤ 2 ^ 63)) }
+        ensures published { IfOk result (λ r. (r.1 ≡ self.new.0.front) × (self.new.1 ≡ false)) }
+        ensures refused { IfErr result (λ e. e.changes ≡ changes) }
+        ensures cause { IfErr result (λ e. (cause : Cause) × (e.cause ≡ BatchCause.Refused cause)) }
+        ensures same { OnErr result (self.new.0 ≡ self.old.0) }
+        ensures judged { IfErr result (λ e. e.cause ≢ BatchCause.Refused Gone →
+            self.new ≡ self.old) }
+        ensures foreign { IfErr result (λ e. e.cause ≡ BatchCause.Refused ForeignSeat →
+            (slice_get self.old.0.last seat ≢ Some made)
+            ⊎ (length self.old.0.front.log < length known.now.log)) }
+        ensures full { IfErr result (λ e. e.cause ≡ BatchCause.Refused HistoryFull →
+            2 ^ 63 < length self.old.0.front.log + length changes.items) }
+    {
+        if self.copies.is_spent() {
+            return Err(refused_all(changes, Cause::Gone));
+        }
+        let shown = self.copies.published();
+        let front = match judge(shown, seat, made, known, changes.len() as u64) {
+            Ok(front) => front,
+            Err(cause) => return Err(refused_all(changes, cause)),
+        };
+        let Ok((prepared, settlings)) = prepare_all(alloc, &mut self.third, seat, &changes) else {
+            self.third.copy_from(shown.registry());
+            return Err(refused_all(changes, Cause::NoMemory));
+        };
+        let batch = Batch {
+            seat,
+            first: made + 1,
+            changes,
+        };
+        let Ok(next) = self.copies.publish_all(rt, &front, &batch, prepared) else {
+            return Err(refused_all(batch.changes, Cause::Gone));
+        };
+        let outcomes = settlings.settle(&mut self.calls, &batch.changes);
+        Ok((outcomes, next))
+    }
+
     /// Ends the copies, once the readers have left.
     pub fn end<R: Wait>(self, rt: &R) {
-        let Registrar { copies, calls: _ } = self;
+        let Registrar {
+            copies,
+            third: _,
+            calls: _,
+        } = self;
         copies.end(rt);
     }
 }

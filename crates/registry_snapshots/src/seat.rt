@@ -1,22 +1,24 @@
 //! The seats of a registry, one a router.
 
-ghost use Rattle.std.specs.Prelude.{◌≡◌, ◌⊎◌, ◌+◌, ◌≤◌, length, false, [], Some, is_some, OnOk, OnErr, IfOk, IfErr, IfSome};
+ghost use Rattle.std.specs.Prelude.{◌≡◌, ◌⊎◌, ◌+◌, ◌<◌, ◌≤◌, ◌^◌, length, false, [], Some, is_some, OnOk, OnErr, IfOk, IfErr, IfSome, ◌↔◌};
 ghost use Rattle.std.specs.Fn.{FnOnceReturnsAt};
+ghost use Rattle.std.specs.List.{AllByRecursion};
 ghost use Rattle.bus_view.specs.Bodies.{Answers};
 ghost use Rattle.bus_view.specs.declared.answer.AskFault.TheVariants.{Gone as AskGone, NoMemory as AskNoMemory};
 ghost use Rattle.seq_bus_core.specs.Answers.{answer};
+ghost use Rattle.seq_bus_core.specs.Batches.{IsBatch};
 ghost use Rattle.seq_bus_core.specs.BusState.{connection_of};
 ghost use Rattle.seq_bus_core.specs.Histories.{IsLegal, Begins, longer};
 ghost use Rattle.seq_bus_core.specs.Recipients.{recipients};
 ghost use Rattle.seq_bus_core.specs.Tickets.{bus_after};
 ghost use Rattle.seq_bus_core.specs.declared.limits.TheConstants.{MAX_TICKETS};
 ghost use Rattle.registry_snapshots_core.specs.Copies.{SnapView};
-ghost use Rattle.registry_snapshots.specs.Seats.{fresh, IsChanged, IsRead, IsUnwatched};
+ghost use Rattle.registry_snapshots.specs.Seats.{fresh, AreChanged, IsChanged, IsRead, IsUnwatched};
 
 use crate::copies::SnapReader;
 use crate::rule::{Finds, Kept};
 use crate::shared::Shared;
-use bus_view::{Again, AskFault, Asked, Gone, Refused};
+use bus_view::{Again, AskFault, Asked, BatchCause, Gone, Refused, RefusedAll};
 use left_right::reader::Reading;
 use match_rules::Facts;
 use registry_snapshots_core::{Front, Naming, Note, Snap};
@@ -26,12 +28,13 @@ use std::sync::Wait;
 
 /// What one router reads the bus with, and makes changes.
 ///
-/// Contracts see its number, the beginning of the history that it has `seen`, how many changes it `made`, and the longest
-/// beginning that a note tells which it `held`.
+/// Contracts see its number, the beginning of the history that it has `seen`, how many changes it `made`, the place of the
+/// `last` of them in the history, and the longest beginning that a note tells which it `held`.
 #[derive(Drop)]
 pub struct Seat<J: Naming> {
     number: u8,
     made: u64,
+    last: u64,
     // Gone while it reads.
     reader: Option<SnapReader<J>>,
     front: Front,
@@ -47,8 +50,13 @@ impl<J: Naming> Model for Seat<J> {
 
     ghost Value = { SeatView };
 
-    ghost view = { λ s.
-        record { number = s.number; seen = s.front.log; made = s.made; held = s.held } };
+    ghost view = { λ s. record {
+      number = s.number;
+      seen = s.front.log;
+      made = s.made;
+      last = s.last;
+      held = s.held;
+    } };
 
     ghost invariant = { λ s. (s.front.book ≡ J.book)
         × ((held : History) → s.held ≡ Some held → Begins held s.front.log)
@@ -88,6 +96,7 @@ impl<J: Naming> Seat<J> {
         Seat {
             number,
             made: 0,
+            last: 0,
             reader: Some(reader),
             front,
             watched: true,
@@ -100,6 +109,27 @@ impl<J: Naming> Seat<J> {
         ensures { result ≡ self.now.number }
     {
         self.number
+    }
+
+    /// How many changes of the history it has seen.
+    pub fn place(&self) -> u64
+        ensures { result ≡ length self.now.seen }
+    {
+        self.front.len()
+    }
+
+    /// How many of them it made.
+    pub fn made(&self) -> u64
+        ensures { result ≡ self.now.made }
+    {
+        self.made
+    }
+
+    /// The place in the history of the last change that it made, from 1; 0 where it made none.
+    pub fn last(&self) -> u64
+        ensures { result ≡ self.now.last }
+    {
+        self.last
     }
 
     // Enters the published copy.
@@ -129,7 +159,7 @@ impl<J: Naming> Seat<J> {
         requires copy { reading.part.value.bus ≡ (bus_after J.opening front.log).state }
         ensures seen { self.new.seen ≡ front.log }
         ensures kept { (self.new.number ≡ self.old.number) × (self.new.made ≡ self.old.made)
-            × (self.new.held ≡ self.old.held) }
+            × (self.new.last ≡ self.old.last) × (self.new.held ≡ self.old.held) }
     {
         self.watched = reading.get().has_monitors();
         self.reader = Some(reading.leave());
@@ -147,7 +177,7 @@ impl<J: Naming> Seat<J> {
         ensures read { OnOk result
             (IsRead self.old.seen self.old.number self.old.made self.new.seen) }
         ensures kept { (self.new.number ≡ self.old.number) × (self.new.made ≡ self.old.made)
-            × (self.new.held ≡ self.old.held) }
+            × (self.new.last ≡ self.old.last) × (self.new.held ≡ self.old.held) }
         ensures gone { OnErr result (self.new.seen ≡ self.old.seen) }
     {
         let (reading, front) = self.begin_reading()?;
@@ -165,7 +195,7 @@ impl<J: Naming> Seat<J> {
         ensures read { OnOk result
             (IsRead self.old.seen self.old.number self.old.made self.new.seen) }
         ensures kept { (self.new.number ≡ self.old.number) × (self.new.made ≡ self.old.made)
-            × (self.new.held ≡ self.old.held) }
+            × (self.new.last ≡ self.old.last) × (self.new.held ≡ self.old.held) }
         ensures gone { OnErr result (self.new.seen ≡ self.old.seen) }
     {
         let (reading, front) = self.begin_reading()?;
@@ -187,7 +217,7 @@ impl<J: Naming> Seat<J> {
         ensures read { OnOk result
             (IsRead self.old.seen self.old.number self.old.made self.new.seen) }
         ensures kept { (self.new.number ≡ self.old.number) × (self.new.made ≡ self.old.made)
-            × (self.new.held ≡ self.old.held) }
+            × (self.new.last ≡ self.old.last) × (self.new.held ≡ self.old.held) }
         ensures gone { OnErr result (self.new.seen ≡ self.old.seen) }
         ensures untold { OnErr result (told.new ≡ told.old) }
     {
@@ -214,7 +244,7 @@ impl<J: Naming> Seat<J> {
         ensures memory { IfErr result (λ fault. fault ≡ AskNoMemory →
             IsRead self.old.seen self.old.number self.old.made self.new.seen) }
         ensures kept { (self.new.number ≡ self.old.number) × (self.new.made ≡ self.old.made)
-            × (self.new.held ≡ self.old.held) }
+            × (self.new.last ≡ self.old.last) × (self.new.held ≡ self.old.held) }
         ensures gone { IfErr result (λ fault. fault ≡ AskGone → self.new ≡ self.old) }
     {
         let Ok((reading, front)) = self.begin_reading() else {
@@ -234,7 +264,7 @@ impl<J: Naming> Seat<J> {
         ensures read { OnOk result
             (IsRead self.old.seen self.old.number self.old.made self.new.seen) }
         ensures kept { (self.new.number ≡ self.old.number) × (self.new.made ≡ self.old.made)
-            × (self.new.held ≡ self.old.held) }
+            × (self.new.last ≡ self.old.last) × (self.new.held ≡ self.old.held) }
         ensures gone { OnErr result (self.new.seen ≡ self.old.seen) }
     {
         self.open(|snap| snap.present(number))
@@ -266,17 +296,73 @@ impl<J: Naming> Seat<J> {
         ensures note { IfOk result (λ r. (r.1 ≡ self.new.seen)
             × (self.new.held ≡ Some self.new.seen)) }
         ensures made { OnOk result (self.new.made ≡ self.old.made + 1) }
+        ensures last { OnOk result (self.new.last ≡ length self.new.seen) }
         ensures number { self.new.number ≡ self.old.number }
         ensures refused { IfErr result (λ e. e.change ≡ change) }
         ensures unchanged { OnErr result (self.new ≡ self.old) }
     {
         let (outcome, front) = shared.change(rt, self.number, self.made, &self.front, change)?;
+        let note = self.go_on(1, front);
+        Ok((outcome, note))
+    }
+
+    /// Makes a batch of 1 to 64 changes, all in one publication, and tells of them in a note. Nobody ever sees some of them
+    /// without the others.
+    ///
+    /// It waits as `change` does. Where one of them is refused, or there are too many or none, all are handed back, and none
+    /// is made, then or later.
+    pub fn change_all<R: Wait>(
+        &mut self,
+        rt: &R,
+        shared: &Shared<J>,
+        changes: Vec<Change>,
+    ) -> Result<(Vec<Outcome>, Note<J>), RefusedAll>
+        ensures changed { IfOk result (λ r.
+            AreChanged J.opening self.old.seen self.old.number self.old.made
+            changes.items r.0.items self.new.seen) }
+        ensures few { IfOk result (λ r.
+            AllByRecursion (λ o. length o.tickets ≤ MAX_TICKETS) r.0.items) }
+        ensures note { IfOk result (λ r. (r.1 ≡ self.new.seen)
+            × (self.new.held ≡ Some self.new.seen)) }
+        ensures made { OnOk result (self.new.made ≡ self.old.made + length changes.items) }
+        ensures last { OnOk result (self.new.last ≡ length self.new.seen) }
+        ensures number { self.new.number ≡ self.old.number }
+        ensures batch { OnOk result (IsBatch changes.items) }
+        ensures refused { IfErr result (λ e. e.changes ≡ changes) }
+        ensures cause { IfErr result (λ e. (e.cause ≡ BatchCause.Batch) ↔ ¬ IsBatch changes.items) }
+        ensures unchanged { OnErr result (self.new ≡ self.old) }
+    {
+        let count = changes.len() as u64;
+        let (outcomes, front) = shared.change_all(
+            rt,
+            self.number,
+            self.made,
+            &self.front,
+            changes,
+        )?;
+        let note = self.go_on(count, front);
+        Ok((outcomes, note))
+    }
+
+    // Goes on to where so many changes of it were made, and tells of them in a note.
+    fn go_on(&mut self, count: u64, front: Front) -> Note<J>
+        requires book { front.book ≡ J.book }
+        requires room { self.old.made + count < 2 ^ 64 }
+        ensures note { result ≡ front.log }
+        ensures seen { self.new ≡ record self.old {
+          seen = front.log;
+          made = self.old.made + count;
+          last = length front.log;
+          held = Some front.log;
+        } }
+    {
         let note = Note::of(&front);
-        self.made += 1;
+        self.made += count;
+        self.last = front.len();
         self.front = front;
         self.watched = true;
         self.held = Some(note.again());
-        Ok((outcome, note))
+        note
     }
 
     /// Takes in what a seat of this registry told: from now on this one sees no less. It takes no memory.
@@ -286,7 +372,8 @@ impl<J: Naming> Seat<J> {
         ensures one { (self.new.seen ≡ self.old.seen) ⊎ (self.new.seen ≡ note.now) }
         ensures legal { IsLegal self.new.seen }
         ensures held { self.new.held ≡ Some (longer self.old.held note.now) }
-        ensures kept { (self.new.number ≡ self.old.number) × (self.new.made ≡ self.old.made) }
+        ensures kept { (self.new.number ≡ self.old.number) × (self.new.made ≡ self.old.made)
+            × (self.new.last ≡ self.old.last) }
     {
         let held = match &self.held {
             Some(held) => held.or_longer(note),

@@ -1,19 +1,22 @@
 //! What the seats of a registry share.
 
-ghost use Rattle.std.specs.Prelude.{◌≡◌, ◌+◌, ◌<◌, ◌≤◌, ◌^◌, [], ◌∷◌, ◌++◌, length, OnOk, OnErr, IfOk, IfErr};
+ghost use Rattle.std.specs.Prelude.{◌≡◌, ◌+◌, ◌<◌, ◌≤◌, ◌^◌, [], ◌∷◌, ◌++◌, length, OnOk, IfOk, IfErr, ◌↔◌};
+ghost use Rattle.std.specs.List.{AllByRecursion};
 ghost use Rattle.owner_queues.specs.declared.request.Profile.TheVariants.{Two};
+ghost use Rattle.seq_bus_core.specs.Batches.{IsBatch};
 ghost use Rattle.seq_bus_core.specs.Histories.{CanOpen, max_routers};
 ghost use Rattle.seq_bus_core.specs.Tickets.{opening_bus};
 ghost use Rattle.seq_bus_core.specs.declared.limits.TheConstants.{MAX_TICKETS};
-ghost use Rattle.registry_snapshots.specs.Seats.{fresh, fresh_to, IsChanged};
+ghost use Rattle.registry_snapshots.specs.Seats.{fresh, fresh_to, AreChanged, IsChanged};
 ghost use Rattle.registry_snapshots.specs.declared.refusal.StartFault.TheVariants.{Routers, Services};
 
 use crate::refusal::StartFault;
 use crate::registrar::Registrar;
 use crate::seat::Seat;
-use bus_view::{Refused, can_open};
+use bus_view::{BatchCause, Refused, RefusedAll, can_open};
 use names::WellKnown;
 use registry_snapshots_core::{Front, Naming, Opened};
+use seq_bus_core::limits::MAX_BATCH;
 use seq_bus_core::{Change, Outcome};
 use std::alloc::{AllocError, Global};
 use std::marker::Model;
@@ -160,6 +163,38 @@ impl<J: Naming> Shared<J> {
     {
         let mut registrar = self.registrar.lock(rt);
         let made = registrar.change(rt, self.alloc, seat, made, known, change);
+        MutexGuard::unlock(registrar);
+        made
+    }
+
+    // Makes a batch of changes of a seat that knows this much and made so many, or refuses it.
+    pub(crate) fn change_all<R: Wait>(
+        &self,
+        rt: &R,
+        seat: u8,
+        made: u64,
+        known: &Front,
+        changes: Vec<Change>,
+    ) -> Result<(Vec<Outcome>, Front), RefusedAll>
+        requires book { known.now.book ≡ J.book }
+        ensures made { IfOk result (λ r.
+            AreChanged J.opening known.now.log seat made changes.items r.0.items r.1.log) }
+        ensures few { IfOk result (λ r.
+            AllByRecursion (λ o. length o.tickets ≤ MAX_TICKETS) r.0.items) }
+        ensures next { IfOk result (λ r. (r.1.book ≡ J.book)
+            × (made + length changes.items ≤ 2 ^ 63)) }
+        ensures batch { OnOk result (IsBatch changes.items) }
+        ensures refused { IfErr result (λ e. e.changes ≡ changes) }
+        ensures cause { IfErr result (λ e. (e.cause ≡ BatchCause.Batch) ↔ ¬ IsBatch changes.items) }
+    {
+        if changes.is_empty() || changes.len() > MAX_BATCH {
+            return Err(RefusedAll {
+                changes,
+                cause: BatchCause::Batch,
+            });
+        }
+        let mut registrar = self.registrar.lock(rt);
+        let made = registrar.change_all(rt, self.alloc, seat, made, known, changes);
         MutexGuard::unlock(registrar);
         made
     }

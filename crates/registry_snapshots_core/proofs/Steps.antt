@@ -1,9 +1,12 @@
 -- What a change does to the copies.
 use Rattle.std.proofs.Common.{◌≡◌, ℕ, ◌+◌, ◌<◌, ◌≤◌, ◌==◌, ltb, Bool, true, false, cond, List, [], ◌∷◌, ◌++◌, length, refl, ap, sym, ◌∙◌, ◌≢◌, subst, arith, length-append, slice_index, slice_set, if◌then◌else◌}
+use Rattle.std.specs.List.{range_with_len}
 use Rattle.std.proofs.lemmas.Bool.Decides.{nat_tests}
 use Rattle.std.proofs.lemmas.List.{get_or-set_other, length-set}
+use Rattle.std.proofs.lemmas.List.FromFn.{length-range_with_len}
 use Rattle.std.proofs.lemmas.Grind.{get_or-set_at}
 use Rattle.logbook.specs.Pages.{Book}
+use Rattle.seq_bus_core.specs.Batches.{entries_of}
 use Rattle.seq_bus_core.specs.BusState.{BusState}
 use Rattle.seq_bus_core.specs.Changes.{as_seen}
 use Rattle.seq_bus_core.specs.Histories.{History, IsLegal, numbers_of, entry_alone}
@@ -13,8 +16,9 @@ use Rattle.seq_bus_core.specs.declared.change.Change.{Change}
 use Rattle.seq_bus_core.specs.declared.entry.Entry.{Entry}
 use Rattle.seq_bus_core.proofs.ChangeLaws.{steps_see_no_more}
 use Rattle.seq_bus_core.proofs.Extending.{after_more, legal_more, numbers_mine, numbers_others}
-use Rattle.registry.specs.PreparedChanges.{PreparedChange}
-use Rattle.registry_snapshots_core.specs.Copies.{FrontView, SnapView, front_of, put_number, absorbed, IsSnapOf, IsLastOf}
+use Rattle.registry.specs.PreparedChanges.{PreparedChange, ArePreparedFor, absorbed_along, state_along}
+use Rattle.registry.proofs.Along.{absorbed_is, entries_along}
+use Rattle.registry_snapshots_core.specs.Copies.{FrontView, SnapView, front_of, put_number, absorbed, absorbed_all, IsSnapOf, IsLastOf}
 
 put_length : (last : List ℕ) (seat number : ℕ) → length (put_number last seat number) ≡ length last
 put_length last seat number = by_test (ltb seat (length last))
@@ -40,21 +44,22 @@ by_itself e alone = λ i. record { seat = e.seat; number = e.number; change = e.
 pub next_legal : (log : History) (e : Entry) → IsLegal log → e.left ≡ 0 → e.number ≡ length (numbers_of e.seat log) + 1 → IsLegal (log ++ e ∷ [])
 next_legal log e legal alone number = subst (λ (x : Entry). IsLegal (log ++ x ∷ [])) (sym (by_itself e alone)) (legal_more log e.seat e.number (e.change ∷ []) legal number)
 
--- the numbers of the last changes, where the number of one more is written into them
-last_more : (last last' : List ℕ) (h : History) (seat number : ℕ) (change : Change) → IsLastOf last h → number ≡ length (numbers_of seat h) + 1 → length last' ≡ length last
-    → ((i : ℕ) → i < length last → slice_index last' i ≡ cond (seat == i) number (slice_index last i)) → IsLastOf last' (h ++ entry_alone seat number change ∷ [])
-last_more last last' h seat number change kept next same new other within = by_test (seat == other) refl
+-- the numbers of the last changes, where the number of the last of a batch is written into them
+last_more : (last last' : List ℕ) (h : History) (seat first number : ℕ) (changes : List Change) → IsLastOf last h → number ≡ length (numbers_of seat h) + length changes → length last' ≡ length last
+    → ((i : ℕ) → i < length last → slice_index last' i ≡ cond (seat == i) number (slice_index last i)) → IsLastOf last' (h ++ entries_of seat first changes)
+last_more last last' h seat first number changes kept next same new other within = by_test (seat == other) refl
   where
     more : History
-    more = h ++ entry_alone seat number change ∷ []
+    more = h ++ entries_of seat first changes
 
     there : other < length last
     there = omega arith
 
     count : length (numbers_of seat more) ≡ number
     count =
-        let mine : numbers_of seat more ≡ numbers_of seat h ++ number ∷ [] = numbers_mine seat number h (change ∷ []) in
-        omega (arith, next, ap length mine, length-append (numbers_of seat h) (number ∷ []))
+        let added = range_with_len first (length changes) in
+        let mine : numbers_of seat more ≡ numbers_of seat h ++ added = numbers_mine seat first h changes in
+        omega (arith, next, ap length mine, length-append (numbers_of seat h) added, length-range_with_len first (length changes))
 
     by_test : (b : Bool) → (seat == other) ≡ b → slice_index last' other ≡ length (numbers_of other more)
     by_test true is =
@@ -64,7 +69,7 @@ last_more last last' h seat number change kept next same new other within = by_t
     by_test false is =
         let differ : seat ≢ other = grind (arith, nat_tests) in
         let at : slice_index last' other ≡ slice_index last other = rw is at (new other there) in
-        omega (arith, at, kept other there, ap length (numbers_others seat other number h (change ∷ []) differ))
+        omega (arith, at, kept other there, ap length (numbers_others seat other first h changes differ))
 
 -- the copy that has the change of an entry too, which was prepared for it
 pub snap_next : (book : Book) (opening : WholeBus) (s : SnapView) (e : Entry) (p : PreparedChange) (front : FrontView) → IsSnapOf book opening s → e.left ≡ 0 → e.number ≡ length (numbers_of e.seat s.front.log) + 1
@@ -75,10 +80,24 @@ snap_next book opening s e p front kept alone number seat change is =
     let after : (step s.bus p.seat p.change).0 ≡ (bus_after opening (s.front.log ++ e ∷ [])).state =
     stepped ∙ ap (λ (b : BusState). (step b e.seat e.change).0) kept.bus_is ∙ sym (ap (λ (b : WholeBus). b.state) (after_more opening s.front.log (e ∷ []))) in
     let last : IsLastOf (put_number s.last e.seat e.number) (s.front.log ++ entry_alone e.seat e.number e.change ∷ []) =
-    last_more s.last (put_number s.last e.seat e.number) s.front.log e.seat e.number e.change kept.last_is number (put_length s.last e.seat e.number) (put_at s.last e.seat e.number) in
+    last_more s.last (put_number s.last e.seat e.number) s.front.log e.seat e.number e.number (e.change ∷ []) kept.last_is number (put_length s.last e.seat e.number) (put_at s.last e.seat e.number) in
     subst (λ (f : FrontView). IsSnapOf book opening (absorbed s e.seat e.number p f)) (sym is)
     (record {
       book_is = refl;
       bus_is = after;
       last_is = subst (λ (x : Entry). IsLastOf (put_number s.last e.seat e.number) (s.front.log ++ x ∷ [])) (sym (by_itself e alone)) last;
     })
+
+-- the copy that has the changes of a batch too, which were prepared for it
+pub snap_next_all : (book : Book) (opening : WholeBus) (s : SnapView) (seat first number : ℕ) (changes : List Change) (prepared : List PreparedChange) (front : FrontView) → IsSnapOf book opening s
+    → number ≡ length (numbers_of seat s.front.log) + length changes → ArePreparedFor seat changes prepared → front ≡ front_of book (s.front.log ++ entries_of seat first changes) → IsSnapOf book opening (absorbed_all s seat number prepared front)
+snap_next_all book opening s seat first number changes prepared front kept count all is =
+    let more : History = s.front.log ++ entries_of seat first changes in
+    let stepped : absorbed_along s.bus prepared ≡ state_along (bus_after opening s.front.log).state seat changes =
+    absorbed_is s.bus seat changes prepared all ∙ ap (λ (t : BusState). state_along t seat changes) kept.bus_is in
+    let after : absorbed_along s.bus prepared ≡ (bus_after opening more).state =
+    stepped ∙ sym (entries_along (bus_after opening s.front.log) seat first changes) ∙ sym (ap (λ (b : WholeBus). b.state) (after_more opening s.front.log (entries_of seat first changes))) in
+    let last : IsLastOf (put_number s.last seat number) more =
+    last_more s.last (put_number s.last seat number) s.front.log seat first number changes kept.last_is count (put_length s.last seat number) (put_at s.last seat number) in
+    subst (λ (f : FrontView). IsSnapOf book opening (absorbed_all s seat number prepared f)) (sym is)
+    (record { book_is = refl; bus_is = after; last_is = last })

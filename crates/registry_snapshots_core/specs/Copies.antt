@@ -5,7 +5,7 @@ use Rattle.seq_bus_core.specs.BusState.{BusState}
 use Rattle.seq_bus_core.specs.Histories.{History, numbers_of}
 use Rattle.seq_bus_core.specs.Steps.{step}
 use Rattle.seq_bus_core.specs.Tickets.{WholeBus, bus_after}
-use Rattle.registry.specs.PreparedChanges.{PreparedChange}
+use Rattle.registry.specs.PreparedChanges.{PreparedChange, absorbed_along}
 
 -- a beginning of a book's history
 pub record FrontView : Type 0 where
@@ -32,6 +32,10 @@ put_number last seat number = if ltb seat (length last) then slice_set last seat
 -- the copy after a seat's change of this number, whose entry ends the beginning `front`
 abbrev pub absorbed : SnapView → ℕ → ℕ → PreparedChange → FrontView → SnapView
 absorbed s seat number p front = record { bus = (step s.bus p.seat p.change).0; last = put_number s.last seat number; front = front }
+
+-- the copy after a seat's changes, the last of which has this number, and whose entries end the beginning `front`
+abbrev pub absorbed_all : SnapView → ℕ → ℕ → List PreparedChange → FrontView → SnapView
+absorbed_all s seat number prepared front = record { bus = absorbed_along s.bus prepared; last = put_number s.last seat number; front = front }
 
 -- the copy is the bus after its beginning of this book's history, with the number of each seat's last change
 pub record IsSnapOf (book : Book) (opening : WholeBus) (s : SnapView) : Type 0 where

@@ -2,13 +2,14 @@
 use Rattle.std.specs.Prelude.{◌≡◌, List, fold}
 use Rattle.logbook.specs.Pages.{Book}
 use Rattle.seq_bus_core.specs.Tickets.{WholeBus}
-use Rattle.registry_snapshots_core.specs.Copies.{SnapView, IsSnapOf, absorbed}
+use Rattle.registry_snapshots_core.specs.Copies.{SnapView, IsSnapOf, absorbed, absorbed_all}
 use Rattle.registry_snapshots_core.specs.declared.snap.Op.{Op}
-use Rattle.registry_snapshots_core.specs.declared.snap.Op.TheVariants.{Rest, Made}
+use Rattle.registry_snapshots_core.specs.declared.snap.Op.TheVariants.{Rest, Made, MadeAll}
 
 abbrev pub brought_up : SnapView → Op → SnapView
 brought_up s Rest = s
 brought_up s (Made seat number prepared front) = absorbed s seat number prepared front
+brought_up s (MadeAll seat number prepared front) = absorbed_all s seat number prepared.items front
 
 -- the copy that has what is pending stands for a beginning of this book's history too
 abbrev pub IsReady : Book → WholeBus → SnapView → List Op → Type 0

@@ -1,11 +1,12 @@
 //! The one history of a registry: a word with its length, and the beginnings of it that were seen.
 
 ghost use Rattle.std.specs.Prelude.{◌≡◌, ◌+◌, ◌==◌, ◌<◌, ◌≤◌, ◌^◌, ◌++◌, ◌∷◌, [], length, MatchBool, IfSome};
+ghost use Rattle.seq_bus_core.specs.Batches.{entries_of};
 ghost use Rattle.seq_bus_core.specs.Histories.{IsLegal, Begins};
 ghost use Rattle.registry_snapshots_core.specs.Copies.{front_of};
 
 use logbook::{Gain, Offer, Plain, Play, Rule, Seen, Start, Word};
-use seq_bus_core::Entry;
+use seq_bus_core::{Change, Entry};
 use std::collections::LinkedList;
 use std::marker::Model;
 
@@ -61,6 +62,25 @@ impl Plain<Entry, Publication, u64> for Add {
     ghost ask = { publication_of };
 
     ghost state = { λ entry. None };
+}
+
+/// Changes of a seat that are published together, in order.
+#[derive(Drop)]
+pub struct Batch {
+    pub seat: u8,
+    /// The number of the first among the changes of the seat.
+    pub first: u64,
+    pub changes: Vec<Change>,
+}
+
+/// What a step asks for: the publication of a batch.
+impl Plain<Batch, Publication, u64> for Add {
+    ghost use Rattle.std.specs.Prelude.{None};
+    ghost use Rattle.registry_snapshots_core.specs.Publications.{publication_of_batch};
+
+    ghost ask = { publication_of_batch };
+
+    ghost state = { λ batch. None };
 }
 
 /// The word with the length of the history. Contracts see it as the book that it is of.
@@ -192,5 +212,30 @@ impl Front {
             count: count + 1,
             seen,
         })
+    }
+
+    /// Publishes the entries of a batch together behind all that was seen, where that is the whole history.
+    pub fn add_all(&self, head: &Head, batch: &Batch) -> Option<Front>
+        requires book { head.now ≡ self.now.book }
+        requires room { length self.now.log + length batch.now.changes.items ≤ 2 ^ 63 }
+        requires legal { IsLegal (self.now.log
+            ++ entries_of batch.now.seat batch.now.first batch.now.changes.items) }
+        ensures { IfSome result (λ f. f ≡ front_of self.now.book (self.now.log
+            ++ entries_of batch.now.seat batch.now.first batch.now.changes.items)) }
+    {
+        let mut seen = self.seen.again();
+        let mut offer: Offer<Publication, u64, Law, Nothing> = seen.plain::<Nothing, Batch, Add>(
+            batch,
+        );
+        let mut pen = seen.no_pen();
+        let count = self.count;
+        let next = count + batch.changes.len() as u64;
+        let found = head
+            .word
+            .compare_exchange::<Add, Nothing>(count, next, &mut seen, &mut offer, &mut pen);
+        if found != count {
+            return None;
+        }
+        Some(Front { count: next, seen })
     }
 }

@@ -47,6 +47,16 @@ pub enum Op {
         /// The beginning of the history that its entry ends.
         front: Front,
     },
+    /// Changes that a seat made together.
+    MadeAll {
+        seat: u8,
+        /// The number of the last among the changes of the seat.
+        number: u64,
+        /// In order.
+        prepared: Vec<Prepared>,
+        /// The beginning of the history that their entries end.
+        front: Front,
+    },
 }
 
 impl Absorb<Op> for Snap {
@@ -70,8 +80,16 @@ impl Absorb<Op> for Snap {
                 front,
             } => {
                 self.registry.absorb(prepared);
-                remember(&mut self.last, *seat, *number);
-                self.front = front.again();
+                self.go_on(*seat, *number, front);
+            }
+            Op::MadeAll {
+                seat,
+                number,
+                prepared,
+                front,
+            } => {
+                self.registry.absorb_all(prepared.as_slice());
+                self.go_on(*seat, *number, front);
             }
         }
         Ok(())
@@ -109,6 +127,17 @@ impl Snap {
             last: Vec::from_elem(alloc, 0u64, seats)?,
             front,
         })
+    }
+
+    // From now on it stands for this beginning of the history, where this is the number of the seat's last change.
+    fn go_on(&mut self, seat: u8, number: u64, front: &Front)
+        ensures { self.new ≡ record self.old {
+          last = put_number self.old.last seat number;
+          front = front.now;
+        } }
+    {
+        remember(&mut self.last, seat, number);
+        self.front = front.again();
     }
 
     /// The tables of the bus. Changes are prepared on them.

@@ -1,5 +1,8 @@
-use Rattle.std.proofs.Common.{◌∙◌, ◌+◌, ◌++◌, ◌∷◌, [], ap, sym}
+use Rattle.std.proofs.Common.{◌≡◌, ◌∙◌, ◌+◌, ◌++◌, ◌∷◌, [], false, ap, sym, rules}
+use Rattle.registry.specs.PreparedChanges.{PreparedChange}
+use Rattle.seq_bus_core.specs.BusState.{BusState}
 use Rattle.seq_bus_core.specs.Histories.{entry_alone}
+use Rattle.seq_bus_core.specs.Steps.{step}
 use Rattle.seq_bus_core.specs.Tickets.{bus_step, bus_after}
 use Rattle.registry_snapshots_core.specs.Copies.{FrontView, SnapView}
 use Rattle.registry_snapshots.proofs.Changes.{calls_more, changed, few_told, settles_after}
@@ -10,7 +13,7 @@ settle-outcome-requires g c =
     let s : SnapView = c.self.inside.copies.0 in
     let bus = c.registry.ensures ∙ ap (λ (t : SnapView). t.bus) c.published-shown.ensures.value in (
       bus_after g.J.Naming.opening s.front.log,
-      (c.args.seat, (c.self.invariant.holding, settles_after g.J.Naming.book g.J.Naming.opening s c.registry.result.now c.args.seat c.args.change c.in-Ok-prepare.settling c.published-shown.ensures.kept bus c.in-Ok-prepare.ensures.settles)),
+      (c.args.seat, (c.self.invariant.waiting.holding, settles_after g.J.Naming.book g.J.Naming.opening s c.registry.result.now c.args.seat c.args.change c.in-Ok-prepare.settling c.published-shown.ensures.kept bus c.in-Ok-prepare.ensures.settles)),
     )
 
 pub invariant_of-self-2 : goal.invariant_of-self-2
@@ -19,10 +22,14 @@ invariant_of-self-2 g c =
     let b = bus_after g.J.Naming.opening s.front.log in
     let bus = c.registry.ensures ∙ ap (λ (t : SnapView). t.bus) c.published-shown.ensures.value in
     let settles = settles_after g.J.Naming.book g.J.Naming.opening s c.registry.result.now c.args.seat c.args.change c.in-Ok-prepare.settling c.published-shown.ensures.kept bus c.in-Ok-prepare.ensures.settles in
-    let settled = c.settle-outcome.ensures b c.args.seat c.self.invariant.holding settles in
+    let settled = c.settle-outcome.ensures b c.args.seat c.self.invariant.waiting.holding settles in
     let same = c.in-Ok.ensures.front.0 ∙ ap (λ (t : SnapView). t.front) c.published-shown.ensures.value in
     let next = ap (λ (f : FrontView). f.log) (c.in-Ok-publish.ensures.published ∙ c.in-Ok-publish.ensures.next) ∙ ap (λ (f : FrontView). f.log ++ entry_alone c.args.seat (c.args.made + 1) c.args.change ∷ []) same in
-    calls_more g.J.Naming.opening s.front.log c.publish.new.self.0.front.log c.args.seat (c.args.made + 1) c.args.change c.self.inside.calls c.settle-outcome.new.calls c.self.invariant settled.0 next
+    let waiting = calls_more g.J.Naming.opening s.front.log c.publish.new.self.0.front.log c.args.seat (c.args.made + 1) c.args.change c.self.inside.calls c.settle-outcome.new.calls c.self.invariant.waiting settled.0 next in
+    let unspent : c.self.inside.copies.1 ≡ false = search rules in
+    let p : PreparedChange = c.in-Ok-prepare.prepared in
+    let same = c.absorb.ensures ∙ ap (λ (t : BusState). (step t p.seat p.change).0) (c.self.invariant.same unspent) ∙ sym c.in-Ok-publish.ensures.bus in
+    record { waiting = waiting; same = λ _. same }
 
 pub returns-clause-made : goal.returns-clause-made
 returns-clause-made g c =
@@ -30,7 +37,7 @@ returns-clause-made g c =
     let b = bus_after g.J.Naming.opening s.front.log in
     let bus = c.registry.ensures ∙ ap (λ (t : SnapView). t.bus) c.published-shown.ensures.value in
     let settles = settles_after g.J.Naming.book g.J.Naming.opening s c.registry.result.now c.args.seat c.args.change c.in-Ok-prepare.settling c.published-shown.ensures.kept bus c.in-Ok-prepare.ensures.settles in
-    let settled = c.settle-outcome.ensures b c.args.seat c.self.invariant.holding settles in
+    let settled = c.settle-outcome.ensures b c.args.seat c.self.invariant.waiting.holding settles in
     let same = c.in-Ok.ensures.front.0 ∙ ap (λ (t : SnapView). t.front) c.published-shown.ensures.value in
     let told = settled.1 ∙ ap (λ (f : FrontView). (bus_step (bus_after g.J.Naming.opening f.log) c.args.seat c.args.change).1) (sym same) in
     changed g.J.Naming.opening c.args.known.now.log c.in-Ok.front.log c.in-Ok-publish.next.log c.args.seat c.args.made c.args.change c.settle-outcome.result
@@ -42,5 +49,5 @@ returns-clause-few g c =
     let b = bus_after g.J.Naming.opening s.front.log in
     let bus = c.registry.ensures ∙ ap (λ (t : SnapView). t.bus) c.published-shown.ensures.value in
     let settles = settles_after g.J.Naming.book g.J.Naming.opening s c.registry.result.now c.args.seat c.args.change c.in-Ok-prepare.settling c.published-shown.ensures.kept bus c.in-Ok-prepare.ensures.settles in
-    let settled = c.settle-outcome.ensures b c.args.seat c.self.invariant.holding settles in
-    few_told g.J.Naming.opening s.front.log c.args.seat c.args.change c.self.inside.calls c.settle-outcome.result c.self.invariant settled.1
+    let settled = c.settle-outcome.ensures b c.args.seat c.self.invariant.waiting.holding settles in
+    few_told g.J.Naming.opening s.front.log c.args.seat c.args.change c.self.inside.calls c.settle-outcome.result c.self.invariant.waiting settled.1
