@@ -4,9 +4,22 @@ use names::{BusName, UniqueName};
 use registry::Registry;
 use seq_bus_core::Query;
 use std::alloc::{AllocError, Global};
-use trace_lines::{Answer, query_line};
+use trace_lines::{Answer, Draft, write_query_line};
 
 const BUS: &str = "org.freedesktop.DBus";
+
+/// The line of a query.
+fn query_line(
+    alloc: Global,
+    place: u64,
+    seat: u64,
+    query: &Query,
+    answer: Option<Answer<'_>>,
+) -> Result<String, AllocError> {
+    let mut line = Draft::new(alloc);
+    write_query_line(&mut line, place, seat, query, answer)?;
+    Ok(line.into_string())
+}
 
 /// The line of a query that lists names.
 fn listed(

@@ -5,9 +5,13 @@ use Rattle.names.specs.Texts.{Text}
 use Rattle.match_rules.specs.FactsView.{argument_of}
 use Rattle.match_rules.specs.declared.facts.Argument.{Argument}
 use Rattle.seq_bus_core.specs.Answers.{Answer as Given, OneName as GivenName, HasOwner as GivenOwner, NameList as GivenNames}
+use Rattle.seq_bus_core.specs.declared.outcome.NumberedOutcome.{NumberedOutcome}
+use Rattle.seq_bus_core.specs.declared.outcome.Outcome.{Outcome}
+use Rattle.seq_bus_core.specs.declared.ticket.SettledNumber.{SettledNumber}
+use Rattle.seq_bus_core.specs.declared.ticket.SettledTicket.{SettledTicket}
 use Rattle.trace_lines.specs.declared.answer.Answer.{Answer}
 use Rattle.trace_lines.specs.declared.answer.Answer.TheVariants.{OneName, HasOwner, NameList}
-use Rattle.trace_lines.specs.Texts.{argument_text, separated}
+use Rattle.trace_lines.specs.Texts.{argument_text, separated, ticket_text}
 
 abbrev pub lent_text : Bor Text → Text
 lent_text text = text.now
@@ -27,3 +31,14 @@ answer_given (NameList names) = GivenNames (map lent_text names.now)
 abbrev pub given_answer : Option Answer → Option Given
 given_answer None = None
 given_answer (Some answer) = Some (answer_given answer)
+
+-- a settled ticket by its number alone
+abbrev pub settled_number : SettledTicket → SettledNumber
+settled_number t = record { fate = t.fate; number = t.ticket.number }
+
+abbrev pub settled_ticket_text : SettledTicket → Text
+settled_ticket_text t = ticket_text (settled_number t)
+
+-- what a change is told, its tickets by number alone
+abbrev pub numbered : Outcome → NumberedOutcome
+numbered o = record { reply = o.reply; signals = o.signals; tickets = map settled_number o.tickets; start = o.start }

@@ -180,11 +180,11 @@ fn write_arguments(draft: &mut Draft, arguments: &[Argument<'_>]) -> Result<(), 
     write_separated(draft, ",", arguments)
 }
 
-/// Writes what match rules and the choice of recipients look at in a message.
-pub(crate) fn write_facts(draft: &mut Draft, facts: &Facts<'_>) -> Result<(), AllocError>
-    ensures { OnOk result (draft.new ≡ draft.old ++ facts_text facts.now) }
+/// Writes what match rules and the choice of recipients look at in a message, which comes from this connection.
+pub(crate) fn write_facts(draft: &mut Draft, from: u64, facts: &Facts<'_>) -> Result<(), AllocError>
+    ensures { OnOk result (draft.new ≡ draft.old ++ facts_text (record facts.now { sender = from })) }
 {
-    draft.push_number(facts.sender)?;
+    draft.push_number(from)?;
     draft.push(" ")?;
     draft.push_number(u64::from(facts.kind.number()))?;
     draft.push(" ")?;

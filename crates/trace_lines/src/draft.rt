@@ -9,7 +9,7 @@ use std::marker::Model;
 /// A text that is being written. Where there is no memory for more, some of what was to be appended
 /// may stand in it.
 #[derive(Drop)]
-pub(crate) struct Draft {
+pub struct Draft {
     alloc: Global,
     text: String,
 }
@@ -35,7 +35,7 @@ impl Draft {
     }
 
     /// Where it takes its memory.
-    pub fn alloc(&self) -> Global {
+    pub(crate) fn alloc(&self) -> Global {
         self.alloc
     }
 
@@ -61,6 +61,20 @@ impl Draft {
         let digits = hex::encode(self.alloc, text)?;
         self.push("x")?;
         self.push(digits.as_str())
+    }
+
+    /// Nothing is written any more. What is written next stands in the same memory.
+    pub fn clear(&mut self)
+        ensures { self.new ≡ [] }
+    {
+        self.text.clear();
+    }
+
+    /// What is written.
+    pub fn as_str(&self) -> &str
+        ensures { result.now ≡ self.now }
+    {
+        self.text.as_str()
     }
 
     /// What is written.

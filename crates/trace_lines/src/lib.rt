@@ -1,9 +1,9 @@
 //! The lines of a trace: what the routers of a bus record of each change, query and route.
 //!
 //! [`read_profile`], [`read_routers`] and [`read_service`] read the lines of its head, [`read_line`]
-//! any line behind them. [`profile_line`], [`routers_line`] and [`service_line`] write its head,
-//! [`ChangeWords::line`], [`query_line`] and [`route_line`] the lines behind. What lines read as what
-//! is defined in `specs/`, over what their words say; `specs/Texts.antt` says how each is written.
+//! any line behind them. [`profile_line`], [`routers_line`] and [`service_line`] write its head;
+//! [`ChangeWords::write_line`], [`write_query_line`] and [`write_route_line`] write the lines behind
+//! into a [`Draft`]. What lines read as what is defined in `specs/`, over what their words say; `specs/Texts.antt` says how each is written.
 //!
 //! ```
 //! use std::alloc::{AllocError, Global};
@@ -31,11 +31,12 @@ mod writing;
 mod written;
 
 pub use answer::Answer;
+pub use draft::Draft;
 pub use heads::{read_profile, read_routers, read_service};
 pub use line::{Deed, Line};
 pub use lines::read_line;
 pub use trace_words::{KeptArgument, Route};
 pub use writing::{
-    ChangeWords, outcome_text, profile_line, query_line, route_line, routers_line, service_line,
-    verdict_text,
+    ChangeWords, outcome_text, profile_line, routers_line, service_line, verdict_text,
+    write_query_line, write_route_line,
 };

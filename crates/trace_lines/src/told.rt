@@ -1,13 +1,13 @@
 //! How what is recorded of a change, a query and a message is written.
 
-ghost use Rattle.std.specs.Prelude.{◌≡◌, ◌++◌, OnOk};
-ghost use Rattle.trace_lines.specs.Texts.{answer_text, bit_text, kind_text, outcome_text, reply_text, verdict_text};
-ghost use Rattle.trace_lines.specs.TextViews.{given_answer};
+ghost use Rattle.std.specs.Prelude.{◌≡◌, ◌++◌, codes, OnOk};
+ghost use Rattle.trace_lines.specs.Texts.{answer_text, bit_text, kind_text, listed, number_or_dash, outcome_text, reply_text, signal_text, verdict_text};
+ghost use Rattle.trace_lines.specs.TextViews.{given_answer, numbered};
 
 use crate::answer::Answer;
 use crate::draft::Draft;
-use crate::written::{write_list, write_number, write_separated};
-use seq_bus_core::{NumberedOutcome, Reply, Verdict, VerdictKind};
+use crate::written::{Written, write_list, write_number, write_separated};
+use seq_bus_core::{NumberedOutcome, Outcome, Reply, Signals, Verdict, VerdictKind};
 use std::alloc::AllocError;
 
 /// Writes a bit.
@@ -47,18 +47,55 @@ fn write_reply(draft: &mut Draft, reply: Reply) -> Result<(), AllocError>
     }
 }
 
-/// Writes what a change is told.
+/// Writes what a change is told, with its tickets as they are.
+fn write_told<T: Written>(
+    draft: &mut Draft,
+    reply: Reply,
+    signals: &Signals,
+    tickets: &[T],
+    start: Option<u64>,
+) -> Result<(), AllocError>
+    ensures { OnOk result (draft.new ≡ draft.old ++ (codes "r=" ++ reply_text reply
+        ++ codes " g=" ++ listed (codes ",") signal_text signals.now
+        ++ codes " t=" ++ listed (codes ",") T.text tickets.now
+        ++ codes " b=" ++ number_or_dash start)) }
+{
+    draft.push("r=")?;
+    write_reply(draft, reply)?;
+    draft.push(" g=")?;
+    write_list(draft, ",", signals.as_slice())?;
+    draft.push(" t=")?;
+    write_list(draft, ",", tickets)?;
+    draft.push(" b=")?;
+    write_number(draft, start)
+}
+
+/// Writes what a change is told, its tickets by number alone.
 pub(crate) fn write_outcome(draft: &mut Draft, outcome: &NumberedOutcome) -> Result<(), AllocError>
     ensures { OnOk result (draft.new ≡ draft.old ++ outcome_text outcome.now) }
 {
-    draft.push("r=")?;
-    write_reply(draft, outcome.reply)?;
-    draft.push(" g=")?;
-    write_list(draft, ",", outcome.signals.as_slice())?;
-    draft.push(" t=")?;
-    write_list(draft, ",", outcome.tickets.as_slice())?;
-    draft.push(" b=")?;
-    write_number(draft, outcome.start)
+    let tickets = outcome.tickets.as_slice();
+    write_told(
+        draft,
+        outcome.reply,
+        &outcome.signals,
+        tickets,
+        outcome.start,
+    )
+}
+
+/// Writes what a change is told.
+pub(crate) fn write_whole_outcome(draft: &mut Draft, outcome: &Outcome) -> Result<(), AllocError>
+    ensures { OnOk result (draft.new ≡ draft.old ++ outcome_text (numbered outcome.now)) }
+{
+    let tickets = outcome.tickets.as_slice();
+    write_told(
+        draft,
+        outcome.reply,
+        &outcome.signals,
+        tickets,
+        outcome.start,
+    )
 }
 
 /// Writes what a query is answered.

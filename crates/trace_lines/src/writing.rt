@@ -2,16 +2,16 @@
 
 ghost use Rattle.std.specs.Prelude.{◌≡◌, ◌++◌, codes, decimal, string_bytes, IfOk, OnOk};
 ghost use Rattle.trace_lines.specs.Texts.{change_line_text, change_text, outcome_text, profile_line_text, query_line_text, route_line_text, routers_line_text, service_line_text, verdict_text};
-ghost use Rattle.trace_lines.specs.TextViews.{given_answer};
+ghost use Rattle.trace_lines.specs.TextViews.{given_answer, numbered};
 
 use crate::answer::Answer;
 use crate::deeds::{write_change, write_facts, write_query};
 use crate::draft::Draft;
-use crate::told::{write_answer, write_outcome, write_verdict};
+use crate::told::{write_answer, write_outcome, write_verdict, write_whole_outcome};
 use match_rules::Facts;
 use names::WellKnown;
 use owner_queues::Profile;
-use seq_bus_core::{Change, NumberedOutcome, Query, Verdict};
+use seq_bus_core::{Change, NumberedOutcome, Outcome, Query, Verdict};
 use std::alloc::{AllocError, Global};
 use std::marker::Model;
 
@@ -82,28 +82,56 @@ impl ChangeWords {
         })
     }
 
-    /// The line of the change, once it is made: its place in the history, its seat, its number among the
-    /// changes of that seat, and what it was told.
-    pub fn line(
+    /// Writes the line of the change, once it is made: its place in the history, its seat, its number among
+    /// the changes of that seat, and what it was told.
+    pub fn write_line(
         &self,
-        alloc: Global,
+        line: &mut Draft,
         place: u64,
         seat: u64,
         number: u64,
         outcome: &NumberedOutcome,
-    ) -> Result<String, AllocError>
-        ensures { IfOk result (λ line. string_bytes line
-            ≡ change_line_text place seat number self.now outcome.now) }
+    ) -> Result<(), AllocError>
+        ensures { OnOk result (line.new ≡ line.old
+            ++ change_line_text place seat number self.now outcome.now) }
     {
-        let mut line = Draft::new(alloc);
+        self.write_front(line, place, seat, number)?;
+        write_outcome(line, outcome)
+    }
+
+    /// The same where the tickets that it settled are at hand with what they carry.
+    pub fn write_whole_line(
+        &self,
+        line: &mut Draft,
+        place: u64,
+        seat: u64,
+        number: u64,
+        outcome: &Outcome,
+    ) -> Result<(), AllocError>
+        ensures { OnOk result (line.new ≡ line.old
+            ++ change_line_text place seat number self.now (numbered outcome.now)) }
+    {
+        self.write_front(line, place, seat, number)?;
+        write_whole_outcome(line, outcome)
+    }
+
+    /// Writes the line up to what the change was told.
+    fn write_front(
+        &self,
+        line: &mut Draft,
+        place: u64,
+        seat: u64,
+        number: u64,
+    ) -> Result<(), AllocError>
+        ensures { OnOk result (line.new ≡ line.old ++ codes "c " ++ decimal place ++ codes " "
+            ++ decimal seat ++ codes " " ++ decimal number ++ codes " " ++ self.now ++ codes " => ") }
+    {
         line.push("c ")?;
-        write_where(&mut line, place, seat)?;
+        write_where(line, place, seat)?;
         line.push_number(number)?;
         line.push(" ")?;
         line.push(self.text.as_str())?;
-        line.push(" => ")?;
-        write_outcome(&mut line, outcome)?;
-        Ok(line.into_string())
+        line.push(" => ")
     }
 }
 
@@ -125,43 +153,40 @@ pub fn verdict_text(alloc: Global, verdict: &Verdict) -> Result<String, AllocErr
     Ok(text.into_string())
 }
 
-/// The line of a query, which saw the first changes up to a place: its seat and what it was answered.
-pub fn query_line(
-    alloc: Global,
+/// Writes the line of a query, which saw the first changes up to a place: its seat and what it was answered.
+pub fn write_query_line(
+    line: &mut Draft,
     place: u64,
     seat: u64,
     query: &Query,
     answer: Option<Answer<'_>>,
-) -> Result<String, AllocError>
-    ensures { IfOk result (λ line. string_bytes line
-        ≡ query_line_text place seat query.now (given_answer answer.entry)) }
+) -> Result<(), AllocError>
+    ensures { OnOk result (line.new ≡ line.old
+        ++ query_line_text place seat query.now (given_answer answer.entry)) }
 {
-    let mut line = Draft::new(alloc);
     line.push("q ")?;
-    write_where(&mut line, place, seat)?;
-    write_query(&mut line, query)?;
+    write_where(line, place, seat)?;
+    write_query(line, query)?;
     line.push(" => ")?;
-    write_answer(&mut line, answer)?;
-    Ok(line.into_string())
+    write_answer(line, answer)
 }
 
-/// The line of a message that was routed once the first changes up to a place were seen: its seat and
-/// where the message goes.
-pub fn route_line(
-    alloc: Global,
+/// Writes the line of a message from a connection, 0 being the bus, that was routed once the first changes up to
+/// a place were seen: its seat and where the message goes. The sender that the facts name is not looked at.
+pub fn write_route_line(
+    line: &mut Draft,
     place: u64,
     seat: u64,
+    from: u64,
     facts: &Facts<'_>,
     verdict: &Verdict,
-) -> Result<String, AllocError>
-    ensures { IfOk result (λ line. string_bytes line
-        ≡ route_line_text place seat facts.now verdict.now) }
+) -> Result<(), AllocError>
+    ensures { OnOk result (line.new ≡ line.old
+        ++ route_line_text place seat (record facts.now { sender = from }) verdict.now) }
 {
-    let mut line = Draft::new(alloc);
     line.push("m ")?;
-    write_where(&mut line, place, seat)?;
-    write_facts(&mut line, facts)?;
+    write_where(line, place, seat)?;
+    write_facts(line, from, facts)?;
     line.push(" => ")?;
-    write_verdict(&mut line, verdict)?;
-    Ok(line.into_string())
+    write_verdict(line, verdict)
 }

@@ -5,7 +5,7 @@ ghost use Rattle.trace_lines.specs.Texts.{bus_signal_text, listed, number_or_das
 
 use crate::draft::Draft;
 use match_rules::{Argument, Rule};
-use seq_bus_core::{AddressedSignal, BusSignal, Conn, Fate, SettledNumber};
+use seq_bus_core::{AddressedSignal, BusSignal, Conn, Fate, SettledNumber, SettledTicket};
 use std::alloc::AllocError;
 
 /// What may stand in a list of a line.
@@ -73,6 +73,20 @@ impl Written for SettledNumber {
             Fate::Failed => draft.push("!")?,
         }
         draft.push_number(self.number)
+    }
+}
+
+impl Written for SettledTicket {
+    ghost use Rattle.trace_lines.specs.TextViews.{settled_ticket_text};
+
+    ghost text = { settled_ticket_text };
+
+    fn write(&self, draft: &mut Draft) -> Result<(), AllocError> {
+        let number = SettledNumber {
+            fate: self.fate,
+            number: self.ticket.number,
+        };
+        number.write(draft)
     }
 }
 
