@@ -4,7 +4,7 @@ use Rattle.seq_bus_core.specs.Histories.{History}
 use Rattle.seq_bus_core.specs.declared.connection.Conn.{Conn}
 use Rattle.outbox_core.specs.Contents.{Said}
 use Rattle.router_core.specs.Deeds.{GatedCall}
-use Rattle.router_core.specs.Scripts.{Script, Gives, Changing, Asking, Routing, Looking, Noting, Fronting, Calling, Gating, Wanting, Doing, Announcing, and_then, putting, World, Comes}
+use Rattle.router_core.specs.Scripts.{Script, Gives, Changing, Asking, Routing, Looking, Noting, Fronting, Calling, Gating, Wanting, Requiring, Doing, Announcing, and_then, putting, World, Comes}
 
 -- whatever it gives is such
 abbrev pub AllGive : {X : Type 0} → (X → Type 0) → Script X → Type 0
@@ -18,6 +18,7 @@ AllGive P (Fronting bytes goes_on) = (front : _) → AllGive P (goes_on front)
 AllGive P (Calling message goes_on) = (reading : _) → AllGive P (goes_on reading)
 AllGive P (Gating call s) = AllGive P s
 AllGive P (Wanting goes_on) = (granted : Bool) → AllGive P (goes_on granted)
+AllGive P (Requiring holds s) = AllGive P s
 AllGive P (Doing deed s) = AllGive P s
 AllGive P (Announcing signals s) = AllGive P s
 
@@ -34,6 +35,7 @@ module _ {N G : Type 0} (told : N → History) (registry_of : N → ℕ) (passes
   given (Calling message goes_on) w all p = given (goes_on p.0) w (all p.0) p.2
   given (Gating call s) w all p = given s p.0 all p.2
   given (Wanting goes_on) w all p = given (goes_on p.0) w (all p.0) p.1
+  given (Requiring holds s) w all p = given s w all p.1
   given (Doing deed s) w all p = given s p.0 all p.2
   given (Announcing signals s) w all p = given s p.0 all p.2
 
@@ -50,6 +52,7 @@ module _ {X Y : Type 0} (Q : X → Type 0) (P : Y → Type 0) (next : X → Scri
   then_give (Calling message goes_on) all = λ reading. then_give (goes_on reading) (all reading)
   then_give (Gating call s) all = then_give s all
   then_give (Wanting goes_on) all = λ granted. then_give (goes_on granted) (all granted)
+  then_give (Requiring holds s) all = then_give s all
   then_give (Doing deed s) all = then_give s all
   then_give (Announcing signals s) all = then_give s all
 
@@ -66,6 +69,7 @@ module _ {X : Type 0} (P : X → Type 0) (each : (x : X) → P x) where
   all_give (Calling message goes_on) = λ reading. all_give (goes_on reading)
   all_give (Gating call s) = all_give s
   all_give (Wanting goes_on) = λ granted. all_give (goes_on granted)
+  all_give (Requiring holds s) = all_give s
   all_give (Doing deed s) = all_give s
   all_give (Announcing signals s) = all_give s
 
@@ -81,6 +85,7 @@ module _ {X : Type 0} (P Q : X → Type 0) (weaker : (x : X) → P x → Q x) wh
   weaker_give (Calling message goes_on) all = λ reading. weaker_give (goes_on reading) (all reading)
   weaker_give (Gating call s) all = weaker_give s all
   weaker_give (Wanting goes_on) all = λ granted. weaker_give (goes_on granted) (all granted)
+  weaker_give (Requiring holds s) all = weaker_give s all
   weaker_give (Doing deed s) all = weaker_give s all
   weaker_give (Announcing signals s) all = weaker_give s all
 

@@ -31,7 +31,7 @@ use Rattle.router_core.specs.Deeds.{Deed, Closes, Sends}
 use Rattle.router_core.specs.Events.{Bytes, Mail, Next, OfPeer, Stands, hear, closing, fated, send, write, for_slot, for_peer, fed, refuse, refuse_with, close_found, close_former, welcome, turn_away, greeted_by, greeted, greet, serve_named, serve_at, read, next_at, next, mail_found}
 use Rattle.router_core.specs.Fronts.{Front, Waits, Whole, Faulty}
 use Rattle.router_core.specs.OneThread.{Readers, Rest, Course, alone, given, rest_of}
-use Rattle.router_core.specs.Scripts.{Script, Gives, Changing, Asking, Routing, Looking, Noting, Fronting, Calling, Gating, Wanting, Doing, Announcing, and_then, putting}
+use Rattle.router_core.specs.Scripts.{Script, Gives, Changing, Asking, Routing, Looking, Noting, Fronting, Calling, Gating, Wanting, Requiring, Doing, Announcing, and_then, putting}
 use Rattle.router_core.specs.Serving.{monitors_in, reply_with, serve}
 use Rattle.router_core.specs.Standing.{Stage, Authenticating, Unnamed, Named, Shut, Peer, Standing, SpeaksDBus, peer_at, with_peer, shut, next_serial, has_slot, is_conn}
 
@@ -51,6 +51,7 @@ and_then_assoc (Fronting bytes goes_on) f g = λ i. Fronting bytes (λ front. an
 and_then_assoc (Calling m goes_on) f g = λ i. Calling m (λ reading. and_then_assoc (goes_on reading) f g i)
 and_then_assoc (Gating call s) f g = λ i. Gating call (and_then_assoc s f g i)
 and_then_assoc (Wanting goes_on) f g = λ i. Wanting (λ granted. and_then_assoc (goes_on granted) f g i)
+and_then_assoc (Requiring holds s) f g = λ i. Requiring holds (and_then_assoc s f g i)
 and_then_assoc (Doing deed s) f g = λ i. Doing deed (and_then_assoc s f g i)
 and_then_assoc (Announcing signals s) f g = λ i. Announcing signals (and_then_assoc s f g i)
 
@@ -70,6 +71,7 @@ module _ (readers : Readers) {X Y : Type 0} (f : X → Y) where
   alone_seen (Calling m goes_on) c = alone_seen (goes_on (readers.call m)) c
   alone_seen (Gating call s) c = alone_seen s c
   alone_seen (Wanting goes_on) c = alone_seen (goes_on true) c
+  alone_seen (Requiring holds s) c = alone_seen s c
   alone_seen (Doing deed s) c = alone_seen s _
   alone_seen (Announcing signals s) c = alone_seen s _
 

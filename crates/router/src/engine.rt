@@ -23,7 +23,7 @@ use std::marker::Model;
 /// memory for changes nothing.
 #[derive(Drop)]
 pub struct Engine<V: BusView, G: Gate> {
-    served: Served<V, G>,
+    pub(crate) served: Served<V, G>,
 }
 
 impl<V: BusView, G: Gate> Model for Engine<V, G> {

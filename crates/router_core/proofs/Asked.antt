@@ -9,7 +9,7 @@ use Rattle.router_core.specs.Acts.{Exchange, Changed, Asked, Routed, Looked, Not
 use Rattle.router_core.specs.Deeds.{Deed, GatedCall, PassesAll, announced, announcement, IsDoneBy, AreDeedsOf, AreDoneBy}
 use Rattle.router_core.specs.Events.{script, occasion_of}
 use Rattle.router_core.specs.Laws.{AnswersAreLawful}
-use Rattle.router_core.specs.Scripts.{Script, Gives, Changing, Asking, Routing, Looking, Noting, Fronting, Calling, Gating, Wanting, Doing, Announcing, World, Comes, knowing}
+use Rattle.router_core.specs.Scripts.{Script, Gives, Changing, Asking, Routing, Looking, Noting, Fronting, Calling, Gating, Wanting, Requiring, Doing, Announcing, World, Comes, knowing}
 use Rattle.router_core.proofs.Knowing.{seat_kept, change_home, answer_home, verdict_home, present_home, note_home}
 
 -- ## Deeds of actions
@@ -168,6 +168,18 @@ listed told registry_of passes alone (Wanting goes_on) w x v p =
       deeds = l.deeds;
       actions = l.actions;
       goes = (p.0, l.asked, refl, l.goes);
+      lawful = l.lawful;
+      done = l.done;
+      added = l.added;
+      shown = l.shown;
+    }
+listed told registry_of passes alone (Requiring holds s) w x v p =
+    let l = listed told registry_of passes alone s w x v p.1 in
+    record {
+      asked = l.asked;
+      deeds = l.deeds;
+      actions = l.actions;
+      goes = (p.0, l.goes);
       lawful = l.lawful;
       done = l.done;
       added = l.added;

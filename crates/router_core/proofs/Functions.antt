@@ -17,7 +17,7 @@ use Rattle.router_core.specs.Deeds.{Deed, announced}
 use Rattle.router_core.specs.Events.{script}
 use Rattle.router_core.specs.Laws.{OneThreadIsAFunction, BytesAreAFunction}
 use Rattle.router_core.specs.OneThread.{Readers, AreReadBy, Course, learning, doing, alone, given, rest_after, keys_after, written_to, bus_bytes}
-use Rattle.router_core.specs.Scripts.{Script, Gives, Changing, Asking, Routing, Looking, Noting, Fronting, Calling, Gating, Wanting, Doing, Announcing}
+use Rattle.router_core.specs.Scripts.{Script, Gives, Changing, Asking, Routing, Looking, Noting, Fronting, Calling, Gating, Wanting, Requiring, Doing, Announcing}
 use Rattle.router_core.proofs.Knowing.{read_alone, added_alone}
 
 -- how a script ends that asked this and did these deeds
@@ -112,6 +112,9 @@ module _ (readers : Readers) {X : Type 0} where
       record { result = here.result; view = here.view; done = here.done })
   ends (Wanting goes_on) asked deeds x k p =
       subst (λ a. Goes_on (Wanting goes_on) a deeds x k) (sym p.2) (wanted goes_on p.0 p.1 deeds x k (ends (goes_on p.0) p.1 deeds x k p.3))
+  ends (Requiring holds s) asked deeds x k p = λ w lawful granted read.
+      let here = ends s asked deeds x k p.1 w lawful granted read in
+      record { result = here.result; view = here.view; done = here.done }
   ends (Doing deed s) asked deeds x k p =
       subst (λ ds. Goes_on (Doing deed s) asked ds x k) (sym p.1) (λ w lawful granted read.
       let here = ends s asked p.0 x k p.2 (doing w (deed ∷ [])) lawful granted read in

@@ -11,7 +11,7 @@ use Rattle.router_core.specs.Acts.{world_of}
 use Rattle.router_core.specs.Deeds.{GatedCall, announcement, IsFurthest, CarriesFurthest, CarriesOwn}
 use Rattle.router_core.specs.Events.{script, occasion_of}
 use Rattle.router_core.specs.Laws.{NotesAreOwn}
-use Rattle.router_core.specs.Scripts.{Script, Gives, Changing, Asking, Routing, Looking, Noting, Fronting, Calling, Gating, Wanting, Doing, Announcing, World, Comes}
+use Rattle.router_core.specs.Scripts.{Script, Gives, Changing, Asking, Routing, Looking, Noting, Fronting, Calling, Gating, Wanting, Requiring, Doing, Announcing, World, Comes}
 use Rattle.router_core.proofs.Knowing.{home, registry_kept, change_home, answer_home, verdict_home, present_home, note_home}
 
 module _ {N : Type 0} (told : N → History) (registry_of : N → ℕ) (alone : Bool) (view : Knowledge) where
@@ -71,6 +71,7 @@ module _ {N G : Type 0} (told : N → History) (registry_of : N → ℕ) (passes
   keeps_own (Gating call s) w p =
       own_after registry_of w p.0 v (ap actions_of p.1.rest) (ap (λ (z : World N G). home z.view) p.1.rest) (keeps_own s p.0 p.2)
   keeps_own (Wanting goes_on) w p = keeps_own (goes_on p.0) w p.1
+  keeps_own (Requiring holds s) w p = keeps_own s w p.1
   keeps_own (Doing deed s) w p =
       let k = keeps_own s p.0 p.2 in
       let registry = ap (λ (z : World N G). z.view.registry) p.1.rest in

@@ -1,5 +1,5 @@
 -- What an event brings, for some answers that the bus may give.
-use Rattle.std.specs.Prelude.{◌≡◌, ℕ, Bool, false, Option, List, [], ◌∷◌, ◌++◌}
+use Rattle.std.specs.Prelude.{◌≡◌, ℕ, Bool, true, false, Option, List, [], ◌∷◌, ◌++◌}
 use Rattle.match_rules.specs.Facts.{Facts}
 use Rattle.seq_bus_core.specs.Answers.{Answer}
 use Rattle.seq_bus_core.specs.Histories.{History}
@@ -17,7 +17,7 @@ use Rattle.router_core.specs.Answers.{Heard, Refuses, HearsChange, HearsAnswer, 
 use Rattle.router_core.specs.Deeds.{Deed, GatedCall, PassesAll, announced, AreDoneBy}
 use Rattle.router_core.specs.Events.{Occasion, occasion_of, script}
 use Rattle.router_core.specs.Fronts.{Front, IsFront}
-use Rattle.router_core.specs.Scripts.{Script, Gives, Changing, Asking, Routing, Looking, Noting, Fronting, Calling, Gating, Wanting, Doing, Announcing, World, Comes}
+use Rattle.router_core.specs.Scripts.{Script, Gives, Changing, Asking, Routing, Looking, Noting, Fronting, Calling, Gating, Wanting, Requiring, Doing, Announcing, World, Comes}
 use Rattle.router_core.specs.Standing.{Standing}
 
 -- ## What was asked and answered
@@ -45,6 +45,7 @@ Goes (Fronting bytes goes_on) asked deeds x = (front : Front) × (later : List E
 Goes (Calling m goes_on) asked deeds x = (reading : Reading Call) × (later : List Exchange) × (asked ≡ Called m reading ∷ later) × Goes (goes_on reading) later deeds x
 Goes (Gating call s) asked deeds x = (later : List Exchange) × (asked ≡ Gated call ∷ later) × Goes s later deeds x
 Goes (Wanting goes_on) asked deeds x = (granted : Bool) × (later : List Exchange) × (asked ≡ Wanted granted ∷ later) × Goes (goes_on granted) later deeds x
+Goes (Requiring holds s) asked deeds x = (holds ≡ true) × Goes s asked deeds x
 Goes (Doing deed s) asked deeds x = (later : List Deed) × (deeds ≡ deed ∷ later) × Goes s asked later x
 Goes (Announcing signals s) asked deeds x = (later : List Deed) × (deeds ≡ announced signals ++ later) × Goes s asked later x
 

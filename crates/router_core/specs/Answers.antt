@@ -1,5 +1,5 @@
 -- What a router hears from its view of a bus.
-use Rattle.std.specs.Prelude.{◌≡◌, ℕ, Bool, true, Option, is_some}
+use Rattle.std.specs.Prelude.{◌≡◌, ℕ, Bool, true, false, Option, is_some}
 use Rattle.match_rules.specs.Facts.{Facts}
 use Rattle.seq_bus_core.specs.Answers.{Answer, answer}
 use Rattle.seq_bus_core.specs.BusState.{connection_of}
@@ -35,6 +35,11 @@ refusal_of cause.Gone = Lost
 abbrev pub unanswered_for : AskFault → Refusal
 unanswered_for fault.NoMemory = NoMemory
 unanswered_for fault.Gone = Lost
+
+-- Want of memory may pass; what is lost is lost for good.
+abbrev pub is_final : Refusal → Bool
+is_final NoMemory = false
+is_final Lost = true
 
 -- the error that a call is answered for it
 abbrev pub error_for : Refusal → ErrorKind

@@ -12,7 +12,7 @@ use Rattle.seq_bus_core.specs.declared.error_kind.ErrorKind.{ErrorKind}
 use Rattle.seq_bus_core.specs.declared.error_kind.ErrorKind.TheVariants as error
 use Rattle.seq_bus_core.specs.declared.outcome.Outcome.{Outcome}
 use Rattle.seq_bus_core.specs.declared.outcome.Reply.{Reply}
-use Rattle.seq_bus_core.specs.declared.outcome.Reply.TheVariants.{Welcome}
+use Rattle.seq_bus_core.specs.declared.outcome.Reply.TheVariants as reply
 use Rattle.seq_bus_core.specs.declared.verdict.Verdict.{Verdict}
 use Rattle.sasl.specs.declared.identity.Identity.{Identity}
 use Rattle.sasl.specs.declared.identity.Identity.TheVariants.{User, Anonymous}
@@ -36,10 +36,10 @@ use Rattle.router_core.specs.declared.event.Event.TheVariants as event
 use Rattle.router_core.specs.declared.start_end.StartEnd.{StartEnd}
 use Rattle.router_core.specs.declared.start_end.HowEnded.{HowEnded}
 use Rattle.router_core.specs.declared.start_end.HowEnded.TheVariants as how
-use Rattle.router_core.specs.Answers.{Heard, Says, Refuses, error_for}
+use Rattle.router_core.specs.Answers.{Heard, Says, Refuses, error_for, is_final}
 use Rattle.router_core.specs.Deeds.{Writes, Sends, Closes, IsOwnNote}
 use Rattle.router_core.specs.Fronts.{Front, Waits, Whole, Faulty}
-use Rattle.router_core.specs.Scripts.{Script, Gives, Changing, Routing, Looking, Noting, Fronting, Gating, Wanting, Doing, Announcing, and_then, putting}
+use Rattle.router_core.specs.Scripts.{Script, Gives, Changing, Routing, Looking, Noting, Fronting, Gating, Wanting, Requiring, Doing, Announcing, and_then, putting}
 use Rattle.router_core.specs.Serving.{monitors_in, reply_with, fail_all, serve}
 use Rattle.router_core.specs.Standing.{Stage, Authenticating, Unnamed, Named, Shut, Peer, Standing, peer_at, with_peer, opened, conn_of, next_serial, shut, has_slot, is_conn}
 
@@ -156,8 +156,20 @@ abbrev pub turn_away : ℕ → Message → Peer → OfPeer
 turn_away key m p = and_then (refuse_with key m error.LimitsExceeded p) (λ q. closing key cause.LimitsExceeded q)
 
 abbrev pub greeted_by : Standing → ℕ → Message → Peer → Outcome → Reply → Stands
-greeted_by s key m p o (Welcome conn) = and_then (close_former s conn) (λ t. welcome key m p o conn t)
-greeted_by s key m p o other = for_peer s key (Some p) (turn_away key m)
+greeted_by s key m p o (reply.Welcome conn) = and_then (close_former s conn) (λ t. welcome key m p o conn t)
+greeted_by s key m p o reply.LimitsExceeded = for_peer s key (Some p) (turn_away key m)
+-- these are no replies to a Hello
+greeted_by s key m p o reply.Gone = for_peer s key (Some p) (turn_away key m)
+greeted_by s key m p o reply.Done = for_peer s key (Some p) (turn_away key m)
+greeted_by s key m p o (reply.OfQueue r) = for_peer s key (Some p) (turn_away key m)
+greeted_by s key m p o reply.InvalidName = for_peer s key (Some p) (turn_away key m)
+greeted_by s key m p o reply.RuleNotFound = for_peer s key (Some p) (turn_away key m)
+greeted_by s key m p o reply.AccessDenied = for_peer s key (Some p) (turn_away key m)
+greeted_by s key m p o reply.AlreadyRunning = for_peer s key (Some p) (turn_away key m)
+greeted_by s key m p o (reply.Held ticket) = for_peer s key (Some p) (turn_away key m)
+greeted_by s key m p o reply.ServiceUnknown = for_peer s key (Some p) (turn_away key m)
+greeted_by s key m p o (reply.Pass owner) = for_peer s key (Some p) (turn_away key m)
+greeted_by s key m p o reply.Ignored = for_peer s key (Some p) (turn_away key m)
 
 -- A Hello that is refused leaves the connection without a name: it may say Hello again.
 abbrev pub greeted : Standing → ℕ → Message → Peer → Heard Outcome → Stands
@@ -273,8 +285,9 @@ abbrev pub error_of_end : HowEnded → ErrorKind
 error_of_end (how.Program ending) = error_by ending
 error_of_end how.TimedOut = error.TimedOut
 
+-- Without memory for the change the end is refused, and comes back. Where the bus is lost nothing is done.
 abbrev pub ended : Standing → HowEnded → Heard Outcome → Stands
-ended s how (Refuses refusal) = Gives s
+ended s how (Refuses refusal) = Requiring (is_final refusal) (Gives s)
 ended s how (Says o) = Announcing o.signals (and_then (fail_all (error_of_end how) o.tickets) (λ done. Gives s))
 
 abbrev pub child : Standing → StartEnd → Stands

@@ -14,7 +14,7 @@ use Rattle.router_core.specs.Answers.{Says}
 use Rattle.router_core.specs.Deeds.{Deed, Writes, Sends, announced}
 use Rattle.router_core.specs.Events.{Occasion, Opened, script}
 use Rattle.router_core.specs.Fronts.{Front}
-use Rattle.router_core.specs.Scripts.{Script, Gives, Changing, Asking, Routing, Looking, Noting, Fronting, Calling, Gating, Wanting, Doing, Announcing}
+use Rattle.router_core.specs.Scripts.{Script, Gives, Changing, Asking, Routing, Looking, Noting, Fronting, Calling, Gating, Wanting, Requiring, Doing, Announcing}
 use Rattle.router_core.specs.Standing.{Standing}
 
 -- what bytes and calls are read as
@@ -55,6 +55,7 @@ alone readers (Fronting bytes goes_on) c = alone readers (goes_on (readers.front
 alone readers (Calling m goes_on) c = alone readers (goes_on (readers.call m)) c
 alone readers (Gating call s) c = alone readers s c
 alone readers (Wanting goes_on) c = alone readers (goes_on true) c
+alone readers (Requiring holds s) c = alone readers s c
 alone readers (Doing deed s) c = alone readers s (doing c (deed ∷ []))
 alone readers (Announcing signals s) c = alone readers s (doing c (announced signals))
 

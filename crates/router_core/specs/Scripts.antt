@@ -1,5 +1,5 @@
 -- Scripts: what is done one thing after another, where answers decide what comes next.
-use Rattle.std.specs.Prelude.{◌≡◌, ℕ, Bool, Option, List, [], ◌∷◌, ◌++◌}
+use Rattle.std.specs.Prelude.{◌≡◌, ℕ, Bool, true, Option, List, [], ◌∷◌, ◌++◌}
 use Rattle.match_rules.specs.Facts.{Facts}
 use Rattle.seq_bus_core.specs.Answers.{Answer}
 use Rattle.seq_bus_core.specs.Histories.{History}
@@ -37,6 +37,8 @@ pub data Script (X : Type 0) : Type 0 where
   Gating : Call → Script X → Script X
   -- memory is wanted, which is granted or not
   Wanting : (Bool → Script X) → Script X
+  -- it goes on only where this holds; else the event is refused whole
+  Requiring : (holds : Bool) → Script X → Script X
   Doing : Deed → Script X → Script X
   -- the signals of a change are put
   Announcing : List AddressedSignal → Script X → Script X
@@ -52,6 +54,7 @@ and_then (Fronting bytes goes_on) next = Fronting bytes (λ front. and_then (goe
 and_then (Calling m goes_on) next = Calling m (λ reading. and_then (goes_on reading) next)
 and_then (Gating call s) next = Gating call (and_then s next)
 and_then (Wanting goes_on) next = Wanting (λ granted. and_then (goes_on granted) next)
+and_then (Requiring holds s) next = Requiring holds (and_then s next)
 and_then (Doing deed s) next = Doing deed (and_then s next)
 and_then (Announcing signals s) next = Announcing signals (and_then s next)
 
@@ -131,5 +134,6 @@ Comes told registry_of passes alone (Fronting bytes goes_on) w x v = (front : Fr
 Comes told registry_of passes alone (Calling m goes_on) w x v = (reading : Reading Call) × IsCall m reading × Comes told registry_of passes alone (goes_on reading) w x v
 Comes {N = N} {G = G} told registry_of passes alone (Gating call s) w x v = (m : World N G) × Passes passes call w m × Comes told registry_of passes alone s m x v
 Comes told registry_of passes alone (Wanting goes_on) w x v = (granted : Bool) × Comes told registry_of passes alone (goes_on granted) w x v
+Comes told registry_of passes alone (Requiring holds s) w x v = (holds ≡ true) × Comes told registry_of passes alone s w x v
 Comes {N = N} {G = G} told registry_of passes alone (Doing deed s) w x v = (m : World N G) × Does told registry_of alone deed w m × Comes told registry_of passes alone s m x v
 Comes {N = N} {G = G} told registry_of passes alone (Announcing signals s) w x v = (m : World N G) × Announces told registry_of alone signals w m × Comes told registry_of passes alone s m x v

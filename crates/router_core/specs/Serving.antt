@@ -188,7 +188,19 @@ tell_change m caller o = Announcing o.signals (and_then (answer_with m caller (a
 -- A change of a connection that left in the meantime is made by nobody: the connection is closed.
 abbrev pub made_by : Message → Conn → Outcome → Reply → Fated
 made_by m caller o reply.Gone = closes_for Left
-made_by m caller o other = and_stays (tell_change m caller o)
+made_by m caller o reply.Done = and_stays (tell_change m caller o)
+made_by m caller o (reply.OfQueue r) = and_stays (tell_change m caller o)
+made_by m caller o reply.InvalidName = and_stays (tell_change m caller o)
+made_by m caller o reply.RuleNotFound = and_stays (tell_change m caller o)
+made_by m caller o reply.LimitsExceeded = and_stays (tell_change m caller o)
+-- these are no replies to such a change
+made_by m caller o reply.ServiceUnknown = and_stays (tell_change m caller o)
+made_by m caller o reply.AccessDenied = and_stays (tell_change m caller o)
+made_by m caller o reply.AlreadyRunning = and_stays (tell_change m caller o)
+made_by m caller o (reply.Welcome conn) = and_stays (tell_change m caller o)
+made_by m caller o (reply.Held ticket) = and_stays (tell_change m caller o)
+made_by m caller o (reply.Pass owner) = and_stays (tell_change m caller o)
+made_by m caller o reply.Ignored = and_stays (tell_change m caller o)
 
 abbrev pub made : Message → Conn → Heard Outcome → Fated
 made m caller (Refuses refusal) = and_stays (err_with m caller (error_for refusal))
@@ -207,7 +219,18 @@ waiting_call m = record { serial = m.serial; flags = m.flags }
 abbrev pub start_by : Message → Conn → Text → Outcome → Reply → Fated
 start_by m caller name o reply.Gone = closes_for Left
 start_by m caller name o (reply.Held ticket) = and_stays (run name o.start)
-start_by m caller name o other = and_stays (answer_with m caller (answer_told other))
+start_by m caller name o reply.AlreadyRunning = and_stays (reply_with m caller (Number 2))
+start_by m caller name o reply.ServiceUnknown = and_stays (err_with m caller error.ServiceUnknown)
+start_by m caller name o reply.LimitsExceeded = and_stays (err_with m caller error.LimitsExceeded)
+-- these are no replies to a start
+start_by m caller name o reply.Done = and_stays (reply_with m caller Nothing)
+start_by m caller name o (reply.OfQueue r) = and_stays (reply_with m caller (Number (code_of r)))
+start_by m caller name o reply.InvalidName = and_stays (err_with m caller error.InvalidArgs)
+start_by m caller name o reply.RuleNotFound = and_stays (err_with m caller error.MatchRuleNotFound)
+start_by m caller name o reply.AccessDenied = and_stays (err_with m caller error.AccessDenied)
+start_by m caller name o (reply.Welcome conn) = and_stays (err_with m caller error.Failed)
+start_by m caller name o (reply.Pass owner) = and_stays (err_with m caller error.Failed)
+start_by m caller name o reply.Ignored = and_stays (err_with m caller error.Failed)
 
 abbrev pub start_told : Message → Conn → Text → Heard Outcome → Fated
 start_told m caller name (Refuses refusal) = and_stays (err_with m caller (error_for refusal))
@@ -221,7 +244,18 @@ start_if m caller name false = and_stays (err_with m caller error.NoMemory)
 abbrev pub watch_by : Message → Conn → Outcome → Reply → Fated
 watch_by m caller o reply.Gone = closes_for Left
 watch_by m caller o reply.Done = and_then (tell_change m caller o) (λ done. Gives fate.Watches)
-watch_by m caller o other = and_stays (tell_change m caller o)
+watch_by m caller o reply.AccessDenied = and_stays (tell_change m caller o)
+-- these are no replies to it
+watch_by m caller o (reply.OfQueue r) = and_stays (tell_change m caller o)
+watch_by m caller o reply.InvalidName = and_stays (tell_change m caller o)
+watch_by m caller o reply.RuleNotFound = and_stays (tell_change m caller o)
+watch_by m caller o reply.LimitsExceeded = and_stays (tell_change m caller o)
+watch_by m caller o reply.ServiceUnknown = and_stays (tell_change m caller o)
+watch_by m caller o reply.AlreadyRunning = and_stays (tell_change m caller o)
+watch_by m caller o (reply.Welcome conn) = and_stays (tell_change m caller o)
+watch_by m caller o (reply.Held ticket) = and_stays (tell_change m caller o)
+watch_by m caller o (reply.Pass owner) = and_stays (tell_change m caller o)
+watch_by m caller o reply.Ignored = and_stays (tell_change m caller o)
 
 abbrev pub watch_told : Message → Conn → Heard Outcome → Fated
 watch_told m caller (Refuses refusal) = and_stays (err_with m caller (error_for refusal))
@@ -297,7 +331,15 @@ held_by m caller name o (reply.Pass owner) = Doing (Puts (owner ∷ []) (Relays 
 held_by m caller name o (reply.Held ticket) = and_stays (run name o.start)
 held_by m caller name o reply.ServiceUnknown = and_stays (err_with m caller error.ServiceUnknown)
 held_by m caller name o reply.LimitsExceeded = and_stays (err_with m caller error.LimitsExceeded)
-held_by m caller name o other = stays_open
+-- these are no replies to a call that is to wait
+held_by m caller name o reply.Done = stays_open
+held_by m caller name o (reply.OfQueue r) = stays_open
+held_by m caller name o reply.InvalidName = stays_open
+held_by m caller name o reply.RuleNotFound = stays_open
+held_by m caller name o reply.AccessDenied = stays_open
+held_by m caller name o reply.AlreadyRunning = stays_open
+held_by m caller name o (reply.Welcome conn) = stays_open
+held_by m caller name o reply.Ignored = stays_open
 
 abbrev pub held : Message → Conn → Text → Heard Outcome → Fated
 held m caller name (Refuses refusal) = and_stays (err_with m caller (error_for refusal))

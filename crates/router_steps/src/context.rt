@@ -30,7 +30,7 @@ use std::marker::Model;
 #[derive(Drop)]
 pub struct Context<V: BusView, G: Gate> {
     pub(crate) alloc: Global,
-    view: V,
+    pub(crate) view: V,
     gate: G,
     actions: Vec<Action<V::Note>>,
     /// Where the next actions go once these are handed out.

@@ -2,6 +2,7 @@
 
 ghost use Rattle.std.specs.Prelude.{◌≡◌, ◌<◌, ◌≤◌, ◌+◌, Some, length, OnOk, OnErr};
 ghost use Rattle.seq_bus_core.specs.declared.limits.TheConstants.{MAX_TICKETS};
+ghost use Rattle.router_core.specs.Answers.{is_final as is_final_in, refusal_of};
 ghost use Rattle.router_core.specs.Events.{change_of as change_in, child as ending_child, error_of_end as error_in};
 ghost use Rattle.router_core.specs.Scripts.{Wanting, Comes};
 ghost use Rattle.router_core.specs.Serving.{fail as failing, fail_all as failing_all, failed_if};
@@ -37,6 +38,18 @@ fn error_of_end(how: HowEnded) -> ErrorKind
         HowEnded::Program(Ending::Killed) => ErrorKind::ChildSignaled,
         HowEnded::Program(Ending::NotRun) => ErrorKind::ExecFailed,
         HowEnded::TimedOut => ErrorKind::TimedOut,
+    }
+}
+
+/// Whether the bus is lost for good: want of memory may pass.
+fn is_final(why: Cause) -> bool
+    ensures { result ≡ is_final_in (refusal_of why) }
+{
+    match why {
+        Cause::NoMemory => false,
+        Cause::ForeignSeat => true,
+        Cause::HistoryFull => true,
+        Cause::Gone => true,
     }
 }
 
@@ -88,7 +101,8 @@ impl<V: BusView, G: Gate> Context<V, G> {
         }
     }
 
-    /// Tells the bus of the end of a start, and those whose calls waited for it. Without memory nothing changes.
+    /// Tells the bus of the end of a start, and those whose calls waited for it. Without memory nothing changes, and
+    /// the end is refused.
     pub fn end_start(&mut self, right: &V::Right, ended: &StartEnd) -> Result<(), AllocError>
         requires { MAX_TICKETS < self.old.room }
         ensures comes { OnOk result ((s : Standing) →
@@ -102,8 +116,12 @@ impl<V: BusView, G: Gate> Context<V, G> {
                 self.fail_all(error_of_end(ended.how), outcome.tickets);
                 Ok(())
             }
-            Err(Cause::NoMemory) => Err(AllocError),
-            Err(_) => Ok(()),
+            Err(why) => {
+                if is_final(why) {
+                    return Ok(());
+                }
+                Err(AllocError)
+            }
         }
     }
 }

@@ -19,6 +19,7 @@ mod releasing;
 mod room;
 mod slot;
 mod telling;
+mod trace;
 mod verdicts;
 
 pub use context::Context;

@@ -1,4 +1,6 @@
-use Rattle.std.proofs.Common.{ℕ, List, [], ◌∷◌, map, rules, sym, subst}
+use Rattle.std.proofs.Common.{ℕ, List, [], ◌∷◌, map, rules, sym, ap, ◌∙◌, subst}
+use Rattle.std.specs.Iterator.Adapters.{enumerate_source, enumerate_count}
+use Rattle.std.specs.Vec.Iter.{into_iter_items}
 use Rattle.std.proofs.lemmas.Iterator.Adapters.{YieldsList-from_vec}
 use Rattle.std.proofs.lemmas.Iterator.Consumers.{YieldsList-from_enumerate, YieldsList-so_far, YieldsList-turn, YieldsList-end}
 use Rattle.std.proofs.lemmas.List.{map-append}
@@ -36,7 +38,11 @@ pub returns-in_err-serve-clause-fault : goal.returns-in_err-serve-clause-fault
 returns-in_err-serve-clause-fault g c =
     let start : State g.row.G.Denot = record { standing = fresh c.args.login; view = knowledge_of c.args.bus; gate = c.args.gate } in
     let events : List (Event (Unit {0})) = c.args.events.items in
-    let road = YieldsList-from_enumerate {s = c.into_iter-index-iterator.result} (YieldsList-from_vec events (search rules) (search rules)) (search rules) in
+    let there = c.into_iter-index-iterator.ensures.into_iter_gives in
+    let source = ap (λ s. enumerate_source s) there ∙ c.enumerate-index-items.ensures.source in
+    let road = YieldsList-from_enumerate {s = c.into_iter-index-iterator.result}
+    (YieldsList-from_vec events (ap (λ s. into_iter_items s) source ∙ c.into_iter.ensures.rest) (search rules))
+    (ap (λ s. enumerate_count s) there ∙ c.enumerate-index-items.ensures.count) in
     let so_far = YieldsList-so_far road c.loop-index.yielded _ c.loop-index.yielded_by in
     let turn = YieldsList-turn road c.loop-index.yielded _ c.loop-index.yielded_by c.next.result c.next.new.self (c.in-Some.index, c.in-Some.event) c.in-Some.is c.next.ensures.steps in
     let counted = counted_turn events c.loop-index.yielded c.in-Some.index c.in-Some.event so_far turn.0 turn.1 in
@@ -48,7 +54,11 @@ pub returns-clause-run : goal.returns-clause-run
 returns-clause-run g c =
     let start : State g.row.G.Denot = record { standing = fresh c.args.login; view = knowledge_of c.args.bus; gate = c.args.gate } in
     let events : List (Event (Unit {0})) = c.args.events.items in
-    let road = YieldsList-from_enumerate {s = c.into_iter-index-iterator.result} (YieldsList-from_vec events (search rules) (search rules)) (search rules) in
+    let there = c.into_iter-index-iterator.ensures.into_iter_gives in
+    let source = ap (λ s. enumerate_source s) there ∙ c.enumerate-index-items.ensures.source in
+    let road = YieldsList-from_enumerate {s = c.into_iter-index-iterator.result}
+    (YieldsList-from_vec events (ap (λ s. into_iter_items s) source ∙ c.into_iter.ensures.rest) (search rules))
+    (ap (λ s. enumerate_count s) there ∙ c.enumerate-index-items.ensures.count) in
     let end = YieldsList-end road c.loop-index.yielded _ c.loop-index.yielded_by c.next.result c.next.new.self c.in-None.is c.next.ensures.steps in
     let all = counted_all events c.loop-index.yielded end.0 in
     let done : List (Event (Unit {0})) = map (λ turn. turn.1) c.loop-index.yielded in

@@ -1,4 +1,4 @@
-use Rattle.std.proofs.Common.{refl, subst}
+use Rattle.std.proofs.Common.{refl, sym, ◌∙◌, subst}
 use Rattle.seq_bus_core.specs.declared.change.Change.{Change}
 use Rattle.seq_bus_core.specs.declared.error_kind.ErrorKind.{ErrorKind}
 use Rattle.router_core.specs.Answers.{Says, Refuses, refusal_of}
@@ -22,10 +22,10 @@ returns-in-Ok-clause-comes g c s =
     let ended = comes_then told registry_of passes alone (λ (done : Unit {0}). Gives s) tt v s v (refl, refl) (fail_all _ o.tickets) n fails in
     (Says o, m, changes, (n, c.announce.ensures.announces, ended))
 
-pub returns-in-Err : goal.returns-in-Err
-returns-in-Err g c =
+pub returns-then-is_final-clause-comes : goal.returns-then-is_final-clause-comes
+returns-then-is_final-clause-comes g c s =
     let alone = g.V.BusView.alone in
     let m = c.change.new.self.world in
-    let why = refusal_of c.in-Err.field-0 in
+    let why = refusal_of c.in-Err.why in
     let changes = subst (λ (change : Change). Changes alone change c.args.self.now.world (Refuses why) m) c.change_of.ensures c.in-Err.ensures.changes in
-    record { comes = λ s. (Refuses why, m, changes, (refl, refl)); world = tt }
+    (Refuses why, m, changes, (sym c.is_final.ensures ∙ c.if-is_final.true, (refl, refl)))
