@@ -10,6 +10,7 @@ mod host;
 mod kept;
 mod local_post;
 mod opening;
+mod trace;
 mod turn;
 
 pub use host::Host;
