@@ -3,6 +3,10 @@
 #![tactic(auto)]
 
 #[cfg(test)]
+mod batches;
+#[cfg(test)]
+mod both_views;
+#[cfg(test)]
 mod desks;
 #[cfg(test)]
 mod first_path;

@@ -1,8 +1,8 @@
 //! Who plays runs over the seats of a registry with two routers.
 
 use crate::desks::serve_both;
-use crate::monitors;
 use crate::rows::{Deed, RUNS, Row, count_so, make};
+use crate::{batches, monitors};
 use bus_view::AskFault;
 use names::{BusName, UniqueName};
 use owner_queues::Reply as QueueReply;
@@ -23,6 +23,10 @@ enum Play {
     MostNames,
     /// Two connections take a hundred names, in another order than that of their bytes.
     NamesInOrder,
+    /// Batches of changes.
+    Batches,
+    /// Where the changes of two desks stand.
+    Standings,
     /// Two desks of the registry.
     Desks,
 }
@@ -57,6 +61,16 @@ impl<'a, R: Wait> Serve for Player<'a, R> {
             Play::Notes => are_told(rt, alloc, &shared, &mut first, &mut second),
             Play::MostNames => fill(rt, alloc, &shared, &mut first, &mut second) == Some(true),
             Play::NamesInOrder => list(rt, alloc, &shared, &mut first, &mut second) == Some(true),
+            Play::Batches => {
+                batches::are_made(rt, alloc, &shared, &mut first, &mut second) == Some(true)
+            }
+            Play::Standings => {
+                let first = Desk::new(first, &shared);
+                let second = Desk::new(second, &shared);
+                let is_so = batches::stand(rt, alloc, first, second);
+                shared.end(rt);
+                return is_so;
+            }
             Play::Desks => {
                 let first = Desk::new(first, &shared);
                 let second = Desk::new(second, &shared);
@@ -252,6 +266,8 @@ fn plays_over_two_seats(rt: HostRuntime) {
         ("a note carries a Hello", Play::Notes),
         ("most names", Play::MostNames),
         ("names in order", Play::NamesInOrder),
+        ("batches", Play::Batches),
+        ("standings", Play::Standings),
         ("two desks", Play::Desks),
     ] {
         must_play(&rt, rt.alloc(), play, name);

@@ -1,0 +1,167 @@
+//! Batches of changes at a seat, and what desks tell of where theirs stand.
+
+use crate::rows::Router;
+use bus_view::{BatchCause, BusView, RefusedAll};
+use match_rules::Rule;
+use registry_snapshots::{Desk, Naming, Seat, Shared};
+use seq_bus_core::{Change, Outcome, Reply};
+use std::alloc::Global;
+use std::sync::Wait;
+
+fn rule_on(member: &str) -> Option<Rule> {
+    Rule::parse(member).ok()
+}
+
+/// Connection 1 adds three rules, and takes the second back.
+fn rule_changes(alloc: Global) -> Option<Vec<Change>> {
+    let connection = 1;
+    let rule = rule_on("member='B'")?;
+    let changes = vec![in alloc;
+        Change::AddMatch {
+            connection,
+            rule: rule_on("member='A'")?
+        },
+        Change::AddMatch { connection, rule },
+        Change::AddMatch {
+            connection,
+            rule: rule_on("member='C'")?
+        },
+        Change::RemoveMatch { connection, rule },
+    ];
+    changes.ok()
+}
+
+fn hellos(alloc: Global, count: usize) -> Option<Vec<Change>> {
+    let mut changes = Vec::new(alloc);
+    for _place in 0..count {
+        changes.push(Change::Hello { privileged: false }).ok()?;
+    }
+    Some(changes)
+}
+
+fn are_done(outcomes: &[Outcome], count: usize) -> bool {
+    outcomes.len() == count && outcomes.iter().all(|outcome| outcome.reply == Reply::Done)
+}
+
+/// How much of the history a seat finds when it reads, and whether connection 1 is there.
+fn found<J: Naming>(seat: &mut Seat<J>) -> Option<(u64, bool)> {
+    let is_present = seat.present(1).ok()?;
+    Some((seat.place(), is_present))
+}
+
+/// Whether a batch of the first seat is seen whole by the second, and not at all before it looks.
+pub(crate) fn are_made<J: Naming, R: Wait>(
+    rt: &R,
+    alloc: Global,
+    shared: &Shared<J>,
+    first: &mut Seat<J>,
+    second: &mut Seat<J>,
+) -> Option<bool> {
+    first
+        .change(rt, shared, Change::Hello { privileged: false })
+        .ok()?;
+    let before = found(second)?;
+    let (outcomes, note) = first.change_all(rt, shared, rule_changes(alloc)?).ok()?;
+    let untold = second.place();
+    second.take_note(&note);
+    let told = second.place();
+    let after = found(second)?;
+    Some(
+        are_done(outcomes.as_slice(), 4)
+            && before == (1, true)
+            && untold == 1
+            && told == 5
+            && after == (5, true),
+    )
+}
+
+/// What is done at a desk.
+#[derive(Clone, Copy)]
+enum Act {
+    Hello,
+    /// The batch of four.
+    Rules,
+    /// A batch of so many, which is none.
+    HandedBack(usize),
+    /// It reads.
+    Present,
+    /// It takes the note of the other.
+    Note,
+}
+
+/// How much of the history a desk has seen, how many changes it made, and the place of the last of them.
+type Standing = (u64, u64, u64);
+
+/// What is done at which desk, and where the two stand then.
+const STANDINGS: [(Router, Act, Standing, Standing); 11] = [
+    (Router::First, Act::Present, (0, 0, 0), (0, 0, 0)),
+    (Router::First, Act::Hello, (1, 1, 1), (0, 0, 0)),
+    (Router::First, Act::Rules, (5, 5, 5), (0, 0, 0)),
+    (Router::Second, Act::Present, (5, 5, 5), (5, 0, 0)),
+    (Router::Second, Act::Hello, (5, 5, 5), (6, 1, 6)),
+    (Router::First, Act::HandedBack(0), (5, 5, 5), (6, 1, 6)),
+    (Router::First, Act::HandedBack(65), (5, 5, 5), (6, 1, 6)),
+    (Router::First, Act::Note, (6, 5, 5), (6, 1, 6)),
+    (Router::First, Act::Hello, (7, 6, 7), (6, 1, 6)),
+    (Router::Second, Act::Note, (7, 6, 7), (7, 1, 6)),
+    (Router::Second, Act::Rules, (7, 6, 7), (11, 5, 11)),
+];
+
+fn standing<J: Naming, R: Wait>(desk: &Desk<'_, J, R>) -> Standing {
+    (desk.place(), desk.made(), desk.last())
+}
+
+fn is_handed_back(refused: &RefusedAll, count: usize) -> bool {
+    refused.cause == BatchCause::Batch
+        && refused.cause.code() == 67
+        && refused.changes.len() == count
+}
+
+/// Whether it is done at a desk as it should be.
+fn does<J: Naming, R: Wait>(
+    rt: &R,
+    alloc: Global,
+    desk: &mut Desk<'_, J, R>,
+    other: &Desk<'_, J, R>,
+    act: Act,
+) -> Option<bool> {
+    match act {
+        Act::Hello => {
+            let (outcome, _) = desk.change(rt, Change::Hello { privileged: false }).ok()?;
+            Some(matches!(outcome.reply, Reply::Welcome(_)))
+        }
+        Act::Rules => {
+            let (outcomes, _) = desk.change_all(rt, rule_changes(alloc)?).ok()?;
+            Some(are_done(outcomes.as_slice(), 4))
+        }
+        Act::HandedBack(count) => match desk.change_all(rt, hellos(alloc, count)?) {
+            Ok(_) => Some(false),
+            Err(refused) => Some(is_handed_back(&refused, count)),
+        },
+        Act::Present => Some(desk.present(3) == Ok(false)),
+        Act::Note => {
+            desk.take_note(&other.note()?);
+            Some(true)
+        }
+    }
+}
+
+/// Whether two desks tell of where their changes stand as they should.
+pub(crate) fn stand<J: Naming, R: Wait>(
+    rt: &R,
+    alloc: Global,
+    mut first: Desk<'_, J, R>,
+    mut second: Desk<'_, J, R>,
+) -> bool {
+    for (router, act, of_first, of_second) in STANDINGS {
+        let is_done = match router {
+            Router::First => does(rt, alloc, &mut first, &second, act),
+            Router::Second => does(rt, alloc, &mut second, &first, act),
+        };
+        let is_so = standing(&first) == of_first && standing(&second) == of_second;
+        if is_done != Some(true) || !is_so {
+            return false;
+        }
+    }
+    true
+}
