@@ -43,9 +43,11 @@ try:
 memory:
 	@tools/memory/check.sh
 
-# What the calls of the byte layer take, beside the same in plain Rust. No part of the gate; needs rustc.
+# What the calls of the byte layer and of the shared registry take, beside the same in plain Rust. No part of the gate;
+# needs rustc.
 bench:
 	@$(MAKE) -s -C crates/bench_bytes/rust bench
+	@$(MAKE) -s -C crates/bench_bus/rust bench
 
 # The edits that the gate leaves out, of all crates or of one: `make edits CRATE=names`. The prover must refuse each.
 edits:
