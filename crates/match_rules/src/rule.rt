@@ -28,12 +28,12 @@ impl Model for Rule {
     ghost inverse = { λ entries. record { entries = entries } };
 }
 
-/// What an index may part rules by. No method looks at more than six keys of the rule, however long the rule is.
+/// What an index may part rules by. No method looks at more than nine keys of the rule, however long the rule is.
 impl Rule {
     ghost use Rattle.std.specs.Option.{option_and_then};
     ghost use Rattle.match_rules.specs.Kinds.{kind_named};
     ghost use Rattle.match_rules.specs.Rules.{value_at};
-    ghost use Rattle.match_rules.specs.declared.key.Key.TheVariants.{«Type» as MessageType, Member, Interface, Sender};
+    ghost use Rattle.match_rules.specs.declared.key.Key.TheVariants.{«Type» as MessageType, Argument, Member, Interface, Sender};
 
     /// The type of the messages that the rule asks for, where it names one.
     pub fn kind(&self) -> Option<MessageKind>
@@ -61,6 +61,13 @@ impl Rule {
         ensures { option_map (λ name. name.now) result ≡ value_at Sender self.now }
     {
         self.entries.name(Key::Sender)
+    }
+
+    /// The text that the rule wants as the first argument of a message, if any, in bytes.
+    pub fn argument0(&self) -> Option<&[u8]>
+        ensures { option_map (λ text. text.now) result ≡ value_at (Argument 0) self.now }
+    {
+        self.entries.value(Key::Argument(0))
     }
 }
 
