@@ -314,11 +314,11 @@ any_at_first heads facts c (r ∷ rules) = ap (λ t. (is_of c r && ((t && is_nea
     nothing true = refl
     nothing false = refl
 
-pub any_at_last : (heads : Heads) (facts : Facts) (c : ℕ) (rules : List OwnedRule) → list_any (is_wanting_below heads 24 facts c) rules ≡ has_fitting heads rules facts c
+pub any_at_last : (heads : Heads) (facts : Facts) (c : ℕ) (rules : List OwnedRule) → list_any (is_wanting_below heads 48 facts c) rules ≡ has_fitting heads rules facts c
 any_at_last heads facts c [] = refl
-any_at_last heads facts c (r ∷ rules) = ap (λ t. t || list_any (is_wanting_below heads 24 facts c) rules) here ∙ ap (λ t. (is_of c r && fits heads r.rule facts) || t) (any_at_last heads facts c rules)
+any_at_last heads facts c (r ∷ rules) = ap (λ t. t || list_any (is_wanting_below heads 48 facts c) rules) here ∙ ap (λ t. (is_of c r && fits heads r.rule facts) || t) (any_at_last heads facts c rules)
   where
-    low : nat_lt (shape_of r.rule) 24 ≡ true
+    low : nat_lt (shape_of r.rule) 48 ≡ true
     low = let few = shape_few r.rule in grind (arith, nat_tests)
 
     by_fit : (o n f : Bool) → (f ≡ true → n ≡ true) → (o && ((true && n) && f)) ≡ (o && f)
@@ -327,14 +327,14 @@ any_at_last heads facts c (r ∷ rules) = ap (λ t. t || list_any (is_wanting_be
     by_fit true false false only = refl
     by_fit false n f only = refl
 
-    here : is_wanting_below heads 24 facts c r ≡ (is_of c r && fits heads r.rule facts)
+    here : is_wanting_below heads 48 facts c r ≡ (is_of c r && fits heads r.rule facts)
     here = ap (λ t. is_of c r && ((t && is_near facts r.rule) && fits heads r.rule facts)) low ∙ by_fit (is_of c r) (is_near facts r.rule) (fits heads r.rule facts) (fits_near heads r.rule facts)
 
-pub count_at_last : (facts : Facts) (rules : List OwnedRule) → count_by (is_near_below 24 facts) rules ≡ near_rules facts rules
+pub count_at_last : (facts : Facts) (rules : List OwnedRule) → count_by (is_near_below 48 facts) rules ≡ near_rules facts rules
 count_at_last facts [] = refl
 count_at_last facts (r ∷ rules) =
-    let low : nat_lt (shape_of r.rule) 24 ≡ true = let few = shape_few r.rule in grind (arith, nat_tests) in
-    sum_by-cons (λ y. cond (is_near_below 24 facts y) 1 0) r rules ∙ ap (λ t. cond (t && is_near facts r.rule) 1 0 + count_by (is_near_below 24 facts) rules) low
+    let low : nat_lt (shape_of r.rule) 48 ≡ true = let few = shape_few r.rule in grind (arith, nat_tests) in
+    sum_by-cons (λ y. cond (is_near_below 48 facts y) 1 0) r rules ∙ ap (λ t. cond (t && is_near facts r.rule) 1 0 + count_by (is_near_below 48 facts) rules) low
     ∙ ap (λ n. cond (is_near facts r.rule) 1 0 + n) (count_at_last facts rules) ∙ sym (sum_by-cons (λ y. cond (is_near facts y.rule) 1 0) r rules)
 
 -- ## Connections that have rules

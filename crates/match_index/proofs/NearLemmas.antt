@@ -1,12 +1,12 @@
 -- Which rules a message is tested by, and where they are filed.
-use Rattle.std.proofs.Common.{◌≡◌, ℕ, ◌+◌, ◌/◌, ◌%◌, ◌<◌, ◌==◌, Bool, true, false, ◌&&◌, Option, Some, None, is_some, [], ◌∷◌, get_or, codes, refl, sym, ap, ◌∙◌, subst, arith, if◌then◌else◌}
+use Rattle.std.proofs.Common.{◌≡◌, ℕ, zero, suc, ◌+◌, ◌/◌, ◌%◌, ◌<◌, ◌==◌, Bool, true, false, ◌&&◌, Option, Some, None, is_some, List, [], ◌∷◌, slice_get, take, get_or, codes, refl, sym, ap, ◌∙◌, subst, arith, if◌then◌else◌}
 use Rattle.std.specs.Option.{option_and_then}
 use Rattle.std.proofs.lemmas.Bool.{and_parts, eqb-true, true≢false}
 use Rattle.names.specs.Texts.{Text, text_eq}
 use Rattle.names.specs.BusName.{is_bus, is_unique, bus_text}
 use Rattle.names.specs.UniqueName.{unique_text}
-use Rattle.match_rules.specs.Facts.{Facts, bus_number}
-use Rattle.match_rules.specs.Fitting.{Heads, fits, holds, is_number, is_sender, is_text}
+use Rattle.match_rules.specs.Facts.{Facts, bus_number, Argument as Value, StringArgument, PathArgument, OtherArgument}
+use Rattle.match_rules.specs.Fitting.{Heads, fits, holds, is_number, is_sender, is_string_argument, is_text}
 use Rattle.match_rules.specs.Keys.{all_keys, key_place, same_key}
 use Rattle.match_rules.specs.Kinds.{kind_named, kind_number, kind_word}
 use Rattle.match_rules.specs.Rules.{Rule, value_at}
@@ -15,13 +15,13 @@ use Rattle.match_rules.specs.declared.key.Key.TheVariants.{«Type» as MessageTy
 use Rattle.match_rules.specs.declared.kind.MessageKind.{MessageKind}
 use Rattle.match_rules.specs.declared.kind.MessageKind.TheVariants.{MethodCall, MethodReturn, Error, Signal, Unknown}
 use Rattle.match_rules.proofs.RuleLemmas.{text_eq-true}
-use Rattle.match_index.specs.Buckets.{asked, bit, kind_part, message_parts, part_if, part_of, rule_parts, sender_class, sender_if, sender_part, shape_number, shape_of, text_part}
-use Rattle.match_index.specs.Near.{agrees, is_kind, is_near, is_near_sender, kind_asked}
+use Rattle.match_index.specs.Buckets.{argument_part, asked, bit, front_part, kind_part, message_parts, part_if, part_of, rule_parts, sender_class, sender_if, sender_part, shape_number, shape_of, text_part, value_part}
+use Rattle.match_index.specs.Near.{agrees, argument_agrees, is_kind, is_near, is_near_by_header, is_near_sender, kind_asked}
 use Rattle.match_index.specs.declared.buckets.Parts.{Parts}
 
 -- ## What fits is near
 
-early_key : (key : Key) → key_place key < 7 → key ≡ get_or all_keys (key_place key) Eavesdrop
+early_key : (key : Key) → key_place key < 8 → key ≡ get_or all_keys (key_place key) Eavesdrop
 early_key MessageType lt = refl
 early_key Member lt = refl
 early_key Interface lt = refl
@@ -29,18 +29,19 @@ early_key Path lt = refl
 early_key PathNamespace lt = refl
 early_key Sender lt = refl
 early_key Destination lt = refl
-early_key (Argument number) lt = absurd (omega (arith, lt))
+early_key (Argument zero) lt = refl
+early_key (Argument (suc number)) lt = absurd (omega (arith, lt))
 early_key (ArgumentPath number) lt = absurd (omega (arith, lt))
 early_key Argument0Namespace lt = absurd (omega (arith, lt))
 early_key Eavesdrop lt = absurd (omega (arith, lt))
 
-same_is : (a b : Key) → same_key a b ≡ true → key_place b < 7 → a ≡ b
+same_is : (a b : Key) → same_key a b ≡ true → key_place b < 8 → a ≡ b
 same_is a b same early =
     let place : key_place a ≡ key_place b = eqb-true (key_place a) (key_place b) same in
-    early_key a (subst (λ p. p < 7) (sym place) early) ∙ ap (λ p. get_or all_keys p Eavesdrop) place ∙ sym (early_key b early)
+    early_key a (subst (λ p. p < 8) (sym place) early) ∙ ap (λ p. get_or all_keys p Eavesdrop) place ∙ sym (early_key b early)
 
 -- the value of a key of a rule that fits holds
-value_holds : (heads : Heads) (facts : Facts) (key : Key) → key_place key < 7 → (rule : Rule) (value : Text) → value_at key rule ≡ Some value → fits heads rule facts ≡ true → holds heads key value facts ≡ true
+value_holds : (heads : Heads) (facts : Facts) (key : Key) → key_place key < 8 → (rule : Rule) (value : Text) → value_at key rule ≡ Some value → fits heads rule facts ≡ true → holds heads key value facts ≡ true
 value_holds heads facts key early [] value is fit = cc
 value_holds heads facts key early (entry ∷ rule) value is fit = by_test (same_key entry.0 key) refl is (λ found. value_holds heads facts key early rule value found parts.1)
   where
@@ -92,59 +93,21 @@ sender_near : (heads : Heads) (value : Option Text) (sender : ℕ) → ((name : 
 sender_near heads None sender h = refl
 sender_near heads (Some name) sender h = sender_fits heads name sender (h name refl)
 
-all_hold : (a b c d : Bool) → a ≡ true → b ≡ true → c ≡ true → d ≡ true → (a && b && c && d) ≡ true
-all_hold a b c d p q r s = rw (p, q, r, s) refl
+argument_near : (value : Option Text) (arguments : List Value) → ((text : Text) → value ≡ Some text → is_string_argument text (slice_get arguments 0) ≡ true) → argument_agrees value arguments ≡ true
+argument_near None arguments h = refl
+argument_near (Some text) arguments h = h text refl
+
+all_hold : (a b c d e : Bool) → a ≡ true → b ≡ true → c ≡ true → d ≡ true → e ≡ true → ((a && b && c && d) && e) ≡ true
+all_hold a b c d e p q r s t = rw (p, q, r, s, t) refl
 
 pub fits_near : (heads : Heads) (rule : Rule) (facts : Facts) → fits heads rule facts ≡ true → is_near facts rule ≡ true
-fits_near heads rule facts fit = all_hold _ _ _ _ (kind_near (value_at MessageType rule) facts.kind (λ word is. value_holds heads facts MessageType (omega arith) rule word is fit))
+fits_near heads rule facts fit = all_hold _ _ _ _ _ (kind_near (value_at MessageType rule) facts.kind (λ word is. value_holds heads facts MessageType (omega arith) rule word is fit))
     (text_near (value_at Interface rule) facts.interface (λ word is. value_holds heads facts Interface (omega arith) rule word is fit))
     (text_near (value_at Member rule) facts.member (λ word is. value_holds heads facts Member (omega arith) rule word is fit))
     (sender_near heads (value_at Sender rule) facts.sender (λ name is. value_holds heads facts Sender (omega arith) rule name is fit))
+    (argument_near (value_at (Argument 0) rule) facts.arguments (λ text is. value_holds heads facts (Argument 0) (omega arith) rule text is fit))
 
 -- ## Shapes
-
--- the parts that a shape asks for
-abbrev IsDecoded : Bool → Bool → Bool → ℕ → Type 0
-IsDecoded a b c d =
-    ((shape_number a b c d % 2 == 1) ≡ a) × ((shape_number a b c d / 2 % 2 == 1) ≡ b) × ((shape_number a b c d / 4 % 2 == 1) ≡ c) × (shape_number a b c d / 8 ≡ d)
-
-decoded_0 : (a b c : Bool) → IsDecoded a b c 0
-decoded_0 true true true = (refl, refl, refl, refl)
-decoded_0 true true false = (refl, refl, refl, refl)
-decoded_0 true false true = (refl, refl, refl, refl)
-decoded_0 true false false = (refl, refl, refl, refl)
-decoded_0 false true true = (refl, refl, refl, refl)
-decoded_0 false true false = (refl, refl, refl, refl)
-decoded_0 false false true = (refl, refl, refl, refl)
-decoded_0 false false false = (refl, refl, refl, refl)
-
-decoded_1 : (a b c : Bool) → IsDecoded a b c 1
-decoded_1 true true true = (refl, refl, refl, refl)
-decoded_1 true true false = (refl, refl, refl, refl)
-decoded_1 true false true = (refl, refl, refl, refl)
-decoded_1 true false false = (refl, refl, refl, refl)
-decoded_1 false true true = (refl, refl, refl, refl)
-decoded_1 false true false = (refl, refl, refl, refl)
-decoded_1 false false true = (refl, refl, refl, refl)
-decoded_1 false false false = (refl, refl, refl, refl)
-
-decoded_2 : (a b c : Bool) → IsDecoded a b c 2
-decoded_2 true true true = (refl, refl, refl, refl)
-decoded_2 true true false = (refl, refl, refl, refl)
-decoded_2 true false true = (refl, refl, refl, refl)
-decoded_2 true false false = (refl, refl, refl, refl)
-decoded_2 false true true = (refl, refl, refl, refl)
-decoded_2 false true false = (refl, refl, refl, refl)
-decoded_2 false false true = (refl, refl, refl, refl)
-decoded_2 false false false = (refl, refl, refl, refl)
-
-decoded : (a b c : Bool) (value : Option Text) → IsDecoded a b c (sender_class value)
-decoded a b c None = decoded_0 a b c
-decoded a b c (Some name) = by_test (is_unique name)
-  where
-    by_test : (u : Bool) → IsDecoded a b c (if u then 2 else 1)
-    by_test true = decoded_2 a b c
-    by_test false = decoded_1 a b c
 
 bit_few : (b : Bool) → bit b < 2
 bit_few true = omega arith
@@ -158,13 +121,32 @@ class_few (Some name) = by_test (is_unique name)
     by_test true = omega arith
     by_test false = omega arith
 
-pub shape_few : (rule : Rule) → shape_of rule < 24
+pub shape_few : (rule : Rule) → shape_of rule < 48
 shape_few rule =
     let a = bit_few (is_some (kind_asked rule)) in
     let b = bit_few (is_some (value_at Interface rule)) in
     let c = bit_few (is_some (value_at Member rule)) in
-    let d = class_few (value_at Sender rule) in
-    omega (arith, a, b, c, d)
+    let d = bit_few (is_some (value_at (Argument 0) rule)) in
+    let e = class_few (value_at Sender rule) in
+    omega (arith, a, b, c, d, e)
+
+-- the parts that a shape asks for
+abbrev IsDecoded : Bool → Bool → Bool → Bool → ℕ → Type 0
+IsDecoded a b c d e =
+    let shape = shape_number a b c d e in
+    ((shape % 2 == 1) ≡ a) × ((shape / 2 % 2 == 1) ≡ b) × ((shape / 4 % 2 == 1) ≡ c) × ((shape / 8 % 2 == 1) ≡ d) × (shape / 16 ≡ e)
+
+bit_is : (b : Bool) (n : ℕ) → n ≡ bit b → (n == 1) ≡ b
+bit_is true n is = ap (λ m. m == 1) is
+bit_is false n is = ap (λ m. m == 1) is
+
+decoded : (a b c d : Bool) (e : ℕ) → IsDecoded a b c d e
+decoded a b c d e =
+    let p = bit_few a in
+    let q = bit_few b in
+    let r = bit_few c in
+    let s = bit_few d in
+    (bit_is a _ (omega (arith, p)), bit_is b _ (omega (arith, p, q)), bit_is c _ (omega (arith, p, q, r)), bit_is d _ (omega (arith, p, q, r, s)), omega (arith, p, q, r, s))
 
 -- ## Where near rules are filed
 
@@ -185,10 +167,20 @@ near_sender (Some name) sender h = by_test (is_unique name) h
     by_test true same = ap text_part (text_eq-true name (unique_text sender) same)
     by_test false same = refl
 
-four_same : (a b c d w x y z : ℕ) → a ≡ w → b ≡ x → c ≡ y → d ≡ z → ◌≡◌ {A = Parts} (record { kind = a; interface = b; member = c; sender = d }) (record { kind = w; interface = x; member = y; sender = z })
-four_same a b c d w x y z p q r s =
-    ap (λ n. record { kind = n; interface = b; member = c; sender = d }) p ∙ ap (λ n. record { kind = w; interface = n; member = c; sender = d }) q
-    ∙ ap (λ n. record { kind = w; interface = x; member = n; sender = d }) r ∙ ap (λ n. record { kind = w; interface = x; member = y; sender = n }) s
+-- an argument that agrees is a string
+near_argument : (value : Option Text) (arguments : List Value) → argument_agrees value arguments ≡ true → argument_part value ≡ part_if (is_some value) (value_part (slice_get arguments 0))
+near_argument None arguments h = refl
+near_argument (Some text) arguments h = by_value (slice_get arguments 0) h
+  where
+    by_value : (value : Option Value) → is_string_argument text value ≡ true → front_part text ≡ value_part value
+    by_value (Some (StringArgument other)) same = ap front_part (sym (text_eq-true other text same))
+    by_value (Some (PathArgument other)) same = absurd (true≢false (sym same))
+    by_value (Some OtherArgument) same = absurd (true≢false (sym same))
+    by_value None same = absurd (true≢false (sym same))
+
+five_same : (a b c d e v w x y z : ℕ) → a ≡ v → b ≡ w → c ≡ x → d ≡ y → e ≡ z →
+    ◌≡◌ {A = Parts} (record { kind = a; interface = b; member = c; argument = d; sender = e }) (record { kind = v; interface = w; member = x; argument = y; sender = z })
+five_same a b c d e v w x y z p q r s t = rw (p, q, r, s, t) refl
 
 pub near_parts : (facts : Facts) (rule : Rule) → is_near facts rule ≡ true → rule_parts rule ≡ asked (shape_of rule) (message_parts facts)
 near_parts facts rule near =
@@ -196,10 +188,12 @@ near_parts facts rule near =
     let b = agrees (value_at Interface rule) facts.interface in
     let c = agrees (value_at Member rule) facts.member in
     let d = is_near_sender (value_at Sender rule) facts.sender in
-    let three : ((a && b && c) ≡ true) × (d ≡ true) = and_parts (a && b && c) d near in
+    let four : (is_near_by_header facts rule ≡ true) × (argument_agrees (value_at (Argument 0) rule) facts.arguments ≡ true) = and_parts (is_near_by_header facts rule) _ near in
+    let three : ((a && b && c) ≡ true) × (d ≡ true) = and_parts (a && b && c) d four.0 in
     let two : ((a && b) ≡ true) × (c ≡ true) = and_parts (a && b) c three.0 in
     let one : (a ≡ true) × (b ≡ true) = and_parts a b two.0 in
-    let shape = decoded (is_some (kind_asked rule)) (is_some (value_at Interface rule)) (is_some (value_at Member rule)) (value_at Sender rule) in
+    let shape = decoded (is_some (kind_asked rule)) (is_some (value_at Interface rule)) (is_some (value_at Member rule)) (is_some (value_at (Argument 0) rule)) (sender_class (value_at Sender rule)) in
     let parts = message_parts facts in
-    four_same _ _ _ _ _ _ _ _ (near_kind (kind_asked rule) facts.kind one.0 ∙ ap (λ t. part_if t parts.kind) (sym shape.0)) (near_text (value_at Interface rule) facts.interface one.1 ∙ ap (λ t. part_if t parts.interface) (sym shape.1))
-    (near_text (value_at Member rule) facts.member two.1 ∙ ap (λ t. part_if t parts.member) (sym shape.2)) (near_sender (value_at Sender rule) facts.sender three.1 ∙ ap (λ n. sender_if n parts.sender) (sym shape.3))
+    five_same _ _ _ _ _ _ _ _ _ _ (near_kind (kind_asked rule) facts.kind one.0 ∙ ap (λ t. part_if t parts.kind) (sym shape.0)) (near_text (value_at Interface rule) facts.interface one.1 ∙ ap (λ t. part_if t parts.interface) (sym shape.1))
+    (near_text (value_at Member rule) facts.member two.1 ∙ ap (λ t. part_if t parts.member) (sym shape.2)) (near_argument (value_at (Argument 0) rule) facts.arguments four.1 ∙ ap (λ t. part_if t parts.argument) (sym shape.3))
+    (near_sender (value_at Sender rule) facts.sender three.1 ∙ ap (λ n. sender_if n parts.sender) (sym shape.4))

@@ -1,14 +1,14 @@
--- Buckets of rules that ask for the same type, interface, member and sender.
-use Rattle.std.specs.Prelude.{ℕ, ◌+◌, ◌*◌, ◌/◌, ◌%◌, ◌^◌, ◌==◌, Bool, Option, Some, None, is_some, if◌then◌else◌}
+-- Buckets of rules that ask for the same type, interface, member, first argument and sender.
+use Rattle.std.specs.Prelude.{ℕ, ◌+◌, ◌*◌, ◌/◌, ◌%◌, ◌^◌, ◌==◌, Bool, Option, Some, None, is_some, take, slice_get, if◌then◌else◌}
 use Rattle.std.specs.List.{fold}
 use Rattle.names.specs.Texts.{Text}
 use Rattle.names.specs.BusName.{is_unique}
 use Rattle.names.specs.UniqueName.{unique_text}
-use Rattle.match_rules.specs.Facts.{Facts}
+use Rattle.match_rules.specs.Facts.{Facts, Argument as Value, StringArgument}
 use Rattle.match_rules.specs.Kinds.{kind_number}
 use Rattle.match_rules.specs.Rules.{Rule, value_at}
 use Rattle.match_rules.specs.declared.kind.MessageKind.{MessageKind}
-use Rattle.match_rules.specs.declared.key.Key.TheVariants.{Sender, Interface, Member}
+use Rattle.match_rules.specs.declared.key.Key.TheVariants.{Argument, Sender, Interface, Member}
 use Rattle.match_index.specs.Near.{kind_asked}
 use Rattle.match_index.specs.declared.buckets.Bucket.{Bucket}
 use Rattle.match_index.specs.declared.buckets.Parts.{Parts}
@@ -25,6 +25,22 @@ abbrev pub part_of : Option Text → ℕ
 part_of None = 0
 part_of (Some text) = text_part text
 
+-- Only the front of an argument goes into its code, since an argument may be very long.
+abbrev pub max_coded : ℕ
+max_coded = 64
+
+abbrev pub front_part : Text → ℕ
+front_part text = text_part (take max_coded text)
+
+abbrev pub argument_part : Option Text → ℕ
+argument_part None = 0
+argument_part (Some text) = front_part text
+
+-- of a message's argument: no rule asks for one that is no string
+abbrev pub value_part : Option Value → ℕ
+value_part (Some (StringArgument text)) = front_part text
+value_part argument = 0
+
 abbrev pub kind_part : Option MessageKind → ℕ
 kind_part None = 0
 kind_part (Some kind) = kind_number kind + 1
@@ -35,13 +51,14 @@ sender_part None = 0
 sender_part (Some name) = if is_unique name then text_part name else 1
 
 abbrev pub code_of : Parts → ℕ
-code_of parts = mixed (mixed (mixed parts.kind parts.interface) parts.member) parts.sender
+code_of parts = mixed (mixed (mixed (mixed parts.kind parts.interface) parts.member) parts.argument) parts.sender
 
 abbrev pub rule_parts : Rule → Parts
 rule_parts rule = record {
   kind = kind_part (kind_asked rule);
   interface = part_of (value_at Interface rule);
   member = part_of (value_at Member rule);
+  argument = argument_part (value_at (Argument 0) rule);
   sender = sender_part (value_at Sender rule);
 }
 
@@ -50,6 +67,7 @@ message_parts facts = record {
   kind = kind_part (Some facts.kind);
   interface = part_of facts.interface;
   member = part_of facts.member;
+  argument = value_part (slice_get facts.arguments 0);
   sender = text_part (unique_text facts.sender);
 }
 
@@ -63,14 +81,14 @@ abbrev pub sender_class : Option Text → ℕ
 sender_class None = 0
 sender_class (Some name) = if is_unique name then 2 else 1
 
-abbrev pub shape_number : Bool → Bool → Bool → ℕ → ℕ
-shape_number kind interface member sender = bit kind + 2 * bit interface + 4 * bit member + 8 * sender
+abbrev pub shape_number : Bool → Bool → Bool → Bool → ℕ → ℕ
+shape_number kind interface member argument sender = bit kind + 2 * bit interface + 4 * bit member + 8 * bit argument + 16 * sender
 
 abbrev pub shapes : ℕ
-shapes = 24
+shapes = 48
 
 abbrev pub shape_of : Rule → ℕ
-shape_of rule = shape_number (is_some (kind_asked rule)) (is_some (value_at Interface rule)) (is_some (value_at Member rule)) (sender_class (value_at Sender rule))
+shape_of rule = shape_number (is_some (kind_asked rule)) (is_some (value_at Interface rule)) (is_some (value_at Member rule)) (is_some (value_at (Argument 0) rule)) (sender_class (value_at Sender rule))
 
 abbrev pub part_if : Bool → ℕ → ℕ
 part_if asked part = if asked then part else 0
@@ -84,7 +102,8 @@ asked shape parts = record {
   kind = part_if (shape % 2 == 1) parts.kind;
   interface = part_if (shape / 2 % 2 == 1) parts.interface;
   member = part_if (shape / 4 % 2 == 1) parts.member;
-  sender = sender_if (shape / 8) parts.sender;
+  argument = part_if (shape / 8 % 2 == 1) parts.argument;
+  sender = sender_if (shape / 16) parts.sender;
 }
 
 abbrev pub bucket_of : Rule → Bucket

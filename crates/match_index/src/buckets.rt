@@ -1,19 +1,24 @@
-//! Buckets of rules that ask for the same type, interface, member and sender.
+//! Buckets of rules that ask for the same type, interface, member, first argument and sender.
 
-ghost use Rattle.std.specs.Prelude.{◌≡◌, ◌<◌, ◌==◌, option_map, is_some};
-ghost use Rattle.match_index.specs.Buckets.{asked, bit, bucket_of, code_of, kind_part, message_parts, mixed, part_if, part_of, rule_parts, sender_class, sender_if, sender_part, shape_of, text_part};
+ghost use Rattle.std.specs.Prelude.{◌≡◌, ◌<◌, ◌==◌, option_map, is_some, slice_get};
+ghost use Rattle.match_index.specs.Buckets.{argument_part, asked, bit, bucket_of, code_of, front_part, kind_part, message_parts, mixed, part_if, part_of, rule_parts, sender_class, sender_if, sender_part, shape_of, text_part, value_part};
 ghost use Rattle.names.specs.Texts.{text_eq};
 ghost use Rattle.names.specs.BusName.{is_unique};
 ghost use Rattle.names.specs.UniqueName.{unique_text};
-ghost use Rattle.match_rules.specs.Fitting.{is_text};
-ghost use Rattle.match_index.specs.Near.{agrees, is_kind, is_near, is_near_sender, kind_asked};
+ghost use Rattle.match_rules.specs.FactsView.{argument_of};
+ghost use Rattle.match_rules.specs.Fitting.{is_string_argument, is_text};
+ghost use Rattle.match_index.specs.Near.{agrees, argument_agrees, is_kind, is_near, is_near_sender, kind_asked};
 
-use match_rules::{Facts, MessageKind, Rule};
+use match_rules::{Argument, Facts, MessageKind, Rule};
 use names::UniqueName;
 
 /// How many shapes of rules there are: each asks for a type or does not, for an interface, for a
-/// member, and for no sender, for a well-known name or the bus, or for a unique name.
-pub(crate) const SHAPES: usize = 24;
+/// member, for a first argument, and for no sender, for a well-known name or the bus, or for a unique
+/// name.
+pub(crate) const SHAPES: usize = 48;
+
+/// So many bytes of an argument go into its code, at most, since an argument may be very long.
+const MAX_CODED: usize = 64;
 
 /// What stands for the well-known names and the bus, which are one class of senders.
 const NAMED: u64 = 1;
@@ -33,6 +38,7 @@ pub(crate) struct Parts {
     kind: u64,
     interface: u64,
     member: u64,
+    argument: u64,
     sender: u64,
 }
 
@@ -45,7 +51,8 @@ impl Parts {
             kind: kind_part(Some(facts.kind)),
             interface: part_of(facts.interface),
             member: part_of(facts.member),
-            sender: text_part(UniqueName::of(facts.sender).as_str()),
+            argument: value_part(first_argument(facts)),
+            sender: text_part(UniqueName::of(facts.sender).as_str().as_bytes()),
         }
     }
 
@@ -57,7 +64,8 @@ impl Parts {
             kind: part_if(shape % 2 == 1, self.kind),
             interface: part_if(shape / 2 % 2 == 1, self.interface),
             member: part_if(shape / 4 % 2 == 1, self.member),
-            sender: sender_if(shape / 8, self.sender),
+            argument: part_if(shape / 8 % 2 == 1, self.argument),
+            sender: sender_if(shape / 16, self.sender),
         };
         parts.code()
     }
@@ -65,8 +73,8 @@ impl Parts {
     fn code(self) -> u64
         ensures { result ≡ code_of self }
     {
-        let code = mixed(self.kind, self.interface);
-        mixed(mixed(code, self.member), self.sender)
+        let code = mixed(mixed(self.kind, self.interface), self.member);
+        mixed(mixed(code, self.argument), self.sender)
     }
 }
 
@@ -79,6 +87,7 @@ pub(crate) fn bucket_of(rule: &Rule) -> Bucket
         kind: kind_part(rule.kind()),
         interface: part_of(rule.interface()),
         member: part_of(rule.member()),
+        argument: argument_part(rule.argument0()),
         sender: sender_part(rule.sender()),
     };
     Bucket {
@@ -87,7 +96,8 @@ pub(crate) fn bucket_of(rule: &Rule) -> Bucket
     }
 }
 
-/// Whether a message may be one that a rule asks for, by its type, interface, member and sender.
+/// Whether a message may be one that a rule asks for, by its type, interface, member, sender and
+/// first argument.
 pub(crate) fn is_near(rule: &Rule, facts: &Facts<'_>) -> bool
     ensures { result ≡ is_near facts.now rule.now }
 {
@@ -95,6 +105,7 @@ pub(crate) fn is_near(rule: &Rule, facts: &Facts<'_>) -> bool
         && agrees(rule.interface(), facts.interface)
         && agrees(rule.member(), facts.member)
         && is_near_sender(rule.sender(), facts.sender)
+        && argument_agrees(rule.argument0(), facts)
 }
 
 fn is_kind(asked: Option<MessageKind>, kind: MessageKind) -> bool
@@ -122,6 +133,30 @@ fn is_text(value: &str, text: Option<&str>) -> bool
     match text {
         Some(text) => text.as_bytes() == value.as_bytes(),
         None => false,
+    }
+}
+
+fn first_argument<'a>(facts: &Facts<'a>) -> Option<Argument<'a>>
+    ensures { option_map argument_of result ≡ slice_get facts.now.arguments 0 }
+{
+    facts.arguments.first().copied()
+}
+
+fn argument_agrees(value: Option<&[u8]>, facts: &Facts<'_>) -> bool
+    ensures { result ≡ argument_agrees (option_map (λ t. t.now) value.entry) facts.now.arguments }
+{
+    match value {
+        Some(value) => is_string_argument(value, first_argument(facts)),
+        None => true,
+    }
+}
+
+fn is_string_argument(value: &[u8], argument: Option<Argument<'_>>) -> bool
+    ensures { result ≡ is_string_argument value.now (option_map argument_of argument.entry) }
+{
+    match argument {
+        Some(Argument::String(text)) => text.as_bytes() == value,
+        _ => false,
     }
 }
 
@@ -158,7 +193,8 @@ fn shape_of(rule: &Rule) -> usize
     bit(rule.kind().is_some())
         + 2 * bit(rule.interface().is_some())
         + 4 * bit(rule.member().is_some())
-        + 8 * sender_class(rule.sender())
+        + 8 * bit(rule.argument0().is_some())
+        + 16 * sender_class(rule.sender())
 }
 
 fn bit(is_there: bool) -> usize
@@ -191,8 +227,27 @@ fn part_of(text: Option<&str>) -> u64
     ensures { result ≡ part_of (option_map (λ t. t.now) text.entry) }
 {
     match text {
-        Some(text) => text_part(text),
+        Some(text) => text_part(text.as_bytes()),
         None => 0,
+    }
+}
+
+fn argument_part(text: Option<&[u8]>) -> u64
+    ensures { result ≡ argument_part (option_map (λ t. t.now) text.entry) }
+{
+    match text {
+        Some(text) => front_part(text),
+        None => 0,
+    }
+}
+
+/// What stands for an argument of a message. No rule asks for one that is no string.
+fn value_part(argument: Option<Argument<'_>>) -> u64
+    ensures { result ≡ value_part (option_map argument_of argument.entry) }
+{
+    match argument {
+        Some(Argument::String(text)) => front_part(text.as_bytes()),
+        _ => 0,
     }
 }
 
@@ -202,7 +257,7 @@ fn sender_part(name: Option<&str>) -> u64
     match name {
         Some(name) => {
             if is_unique(name) {
-                text_part(name)
+                text_part(name.as_bytes())
             } else {
                 NAMED
             }
@@ -223,11 +278,19 @@ fn sender_if(class: usize, part: u64) -> u64
     if class == 2 { part } else { class as u64 }
 }
 
-fn text_part(text: &str) -> u64
+/// The code of the front of an argument.
+#[tactic(auto, using(std::proofs::lemmas::List::take_min))]
+fn front_part(text: &[u8]) -> u64
+    ensures { result ≡ front_part text.now }
+{
+    text_part(&text[..MAX_CODED.min(text.len())])
+}
+
+fn text_part(text: &[u8]) -> u64
     ensures { result ≡ text_part text.now }
 {
     let mut code = 14695981039346656037;
-    for byte in text.as_bytes() {
+    for byte in text {
         code = mixed(code, u64::from(*byte));
     }
     code

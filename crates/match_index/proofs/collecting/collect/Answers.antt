@@ -60,12 +60,12 @@ loop-shape-preserved g c =
 
 pub returns-clause-found : goal.returns-clause-found
 returns-clause-found g c = λ n.
-    let last : c.loop-shape.shape ≡ 24 = omega (arith, c.loop-shape-test.false, c.loop-shape.auto.shape-end) in
+    let last : c.loop-shape.shape ≡ 48 = omega (arith, c.loop-shape-test.false, c.loop-shape.auto.shape-end) in
     c.loop-shape.invariant.found n ∙ ap (λ s. list_any (is_wanting_below (g.O.Owners.heads c.args.owners.now) s c.args.facts.now n) (live c.args.entries.now)) last
     ∙ any_at_last (g.O.Owners.heads c.args.owners.now) c.args.facts.now n (live c.args.entries.now)
 
 pub returns-clause-cost : goal.returns-clause-cost
 returns-clause-cost g c =
-    let last : c.loop-shape.shape ≡ 24 = omega (arith, c.loop-shape-test.false, c.loop-shape.auto.shape-end) in
+    let last : c.loop-shape.shape ≡ 48 = omega (arith, c.loop-shape-test.false, c.loop-shape.auto.shape-end) in
     let all = ap (λ s. count_by (is_near_below s c.args.facts.now) (live c.args.entries.now)) last ∙ count_at_last c.args.facts.now (live c.args.entries.now) in
     omega (arith, all, c.loop-shape.invariant.cost)
