@@ -140,6 +140,13 @@ none_here false false true true false none = refl
 none_here false false true false f none = refl
 none_here false false false t f none = refl
 
+-- where the connection of the entry is found already
+pub found_here : (a b s w : Bool) → (s ≡ true → (a || b) ≡ true) → (a || b) ≡ (a || (b || (s && w)))
+found_here true b s w there = refl
+found_here false true s w there = refl
+found_here false false true w there = absurd (true≢false (sym (there refl)))
+found_here false false false w there = refl
+
 pub any_more : {X : Type 0} (test : X → Bool) (xs : List X) (x : X) → list_any test (xs ++ x ∷ []) ≡ (list_any test xs || test x)
 any_more test xs x = list_any-append test xs (x ∷ []) ∙ ap (λ b. list_any test xs || b) (last (test x))
   where

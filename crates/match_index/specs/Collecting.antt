@@ -31,7 +31,7 @@ entry_at (e ∷ entries) (suc place) = entry_at entries place
 abbrev pub entries_at : List Entry → List ℕ → List Entry
 entries_at entries places = flat_map (entry_at entries) places
 
--- whether a rule is tested by a message, where rules of a shape are looked at
+-- whether a rule may be tested by a message, where rules of a shape are looked at
 abbrev pub is_tested : ℕ → Facts → Entry → Bool
 is_tested shape facts e = (e.bucket.shape == shape) && is_near facts e.rule
 

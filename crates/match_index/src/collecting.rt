@@ -49,7 +49,8 @@ pub(crate) fn collect<O: Owners, L: Ledger>(
     }
 }
 
-/// Adds the connections that have a rule of this shape at these places that fits.
+/// Adds the connections that have a rule of this shape at these places that fits. Once a connection is
+/// found, its other rules are passed over.
 pub(crate) fn collect_at<O: Owners, L: Ledger>(
     entries: &[Entry],
     places: &[Place],
@@ -73,7 +74,7 @@ pub(crate) fn collect_at<O: Owners, L: Ledger>(
 {
     for place in places {
         let entry = &entries[place.place];
-        if is_tested(entry, shape, facts) {
+        if !found.contains(entry.connection) && is_tested(entry, shape, facts) {
             steps.tick();
             if entry.rule.fits(facts, owners) {
                 found.insert(entry.connection);
