@@ -2,6 +2,7 @@
 use Rattle.std.proofs.Common.{◌≡◌, ℕ, ◌≤◌, Bool, true, false, cond, ◌&&◌, List, [], ◌∷◌, refl, ap, ◌∙◌, arith}
 use Rattle.std.specs.List.{AllByRecursion as Each}
 use Rattle.std.proofs.lemmas.List.Sums.{sum_by-cons}
+use Rattle.names.specs.UniqueName.{unique_text}
 use Rattle.match_rules.specs.Rules.{value_at}
 use Rattle.match_rules.specs.declared.key.Key.TheVariants.{Argument, Interface, Member, Sender}
 use Rattle.match_index.specs.Collecting.{connections_of}
@@ -30,17 +31,17 @@ last_no false e no_e = refl
 
 pub other_members : OtherMembersAreNotNear
 other_members rule facts name is other =
-    third_no (is_kind (kind_asked rule) facts.kind) (agrees (value_at Interface rule) facts.interface) (agrees (value_at Member rule) facts.member) (is_near_sender (value_at Sender rule) facts.sender)
+    third_no (is_kind (kind_asked rule) facts.kind) (agrees (value_at Interface rule) facts.interface) (agrees (value_at Member rule) facts.member) (is_near_sender (value_at Sender rule) (unique_text facts.sender))
     (argument_agrees (value_at (Argument 0) rule) facts.arguments) (ap (λ v. agrees v facts.member) is ∙ other)
 
 pub other_interfaces : OtherInterfacesAreNotNear
 other_interfaces rule facts name is other =
-    second_no (is_kind (kind_asked rule) facts.kind) (agrees (value_at Interface rule) facts.interface) (agrees (value_at Member rule) facts.member) (is_near_sender (value_at Sender rule) facts.sender)
+    second_no (is_kind (kind_asked rule) facts.kind) (agrees (value_at Interface rule) facts.interface) (agrees (value_at Member rule) facts.member) (is_near_sender (value_at Sender rule) (unique_text facts.sender))
     (argument_agrees (value_at (Argument 0) rule) facts.arguments) (ap (λ v. agrees v facts.interface) is ∙ other)
 
 pub other_kinds : OtherKindsAreNotNear
 other_kinds rule facts kind is other =
-    first_no (is_kind (kind_asked rule) facts.kind) (agrees (value_at Interface rule) facts.interface) (agrees (value_at Member rule) facts.member) (is_near_sender (value_at Sender rule) facts.sender)
+    first_no (is_kind (kind_asked rule) facts.kind) (agrees (value_at Interface rule) facts.interface) (agrees (value_at Member rule) facts.member) (is_near_sender (value_at Sender rule) (unique_text facts.sender))
     (argument_agrees (value_at (Argument 0) rule) facts.arguments) (ap (λ k. is_kind k facts.kind) is ∙ other)
 
 pub other_arguments : OtherArgumentsAreNotNear

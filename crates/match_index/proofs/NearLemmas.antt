@@ -73,23 +73,23 @@ text_near (Some word) text h = h word refl
 bus_is_no_unique : (name : Text) → is_bus name ≡ true → is_unique name ≡ false
 bus_is_no_unique name h = ap is_unique (text_eq-true name bus_text h)
 
-sender_fits : (heads : Heads) (name : Text) (sender : ℕ) → is_sender heads name sender ≡ true → is_near_sender (Some name) sender ≡ true
+sender_fits : (heads : Heads) (name : Text) (sender : ℕ) → is_sender heads name sender ≡ true → is_near_sender (Some name) (unique_text sender) ≡ true
 sender_fits heads name sender h = by_bus (is_bus name) refl h
   where
     by_unique : (u : Bool) → (if u then text_eq name (unique_text sender) else is_number sender (heads name)) ≡ true → (if u then text_eq name (unique_text sender) else true) ≡ true
     by_unique true fit = fit
     by_unique false fit = refl
 
-    by_number : (n : Bool) → (if n then false else if is_unique name then text_eq name (unique_text sender) else is_number sender (heads name)) ≡ true → is_near_sender (Some name) sender ≡ true
+    by_number : (n : Bool) → (if n then false else if is_unique name then text_eq name (unique_text sender) else is_number sender (heads name)) ≡ true → is_near_sender (Some name) (unique_text sender) ≡ true
     by_number true fit = absurd (true≢false (sym fit))
     by_number false fit = by_unique (is_unique name) fit
 
     by_bus : (b : Bool) → is_bus name ≡ b →
-        (if b then sender == bus_number else if sender == bus_number then false else if is_unique name then text_eq name (unique_text sender) else is_number sender (heads name)) ≡ true → is_near_sender (Some name) sender ≡ true
+        (if b then sender == bus_number else if sender == bus_number then false else if is_unique name then text_eq name (unique_text sender) else is_number sender (heads name)) ≡ true → is_near_sender (Some name) (unique_text sender) ≡ true
     by_bus true is fit = let other = bus_is_no_unique name is in rw other refl
     by_bus false is fit = by_number (sender == bus_number) fit
 
-sender_near : (heads : Heads) (value : Option Text) (sender : ℕ) → ((name : Text) → value ≡ Some name → is_sender heads name sender ≡ true) → is_near_sender value sender ≡ true
+sender_near : (heads : Heads) (value : Option Text) (sender : ℕ) → ((name : Text) → value ≡ Some name → is_sender heads name sender ≡ true) → is_near_sender value (unique_text sender) ≡ true
 sender_near heads None sender h = refl
 sender_near heads (Some name) sender h = sender_fits heads name sender (h name refl)
 
@@ -159,12 +159,12 @@ near_text None text h = refl
 near_text (Some word) None h = absurd (true≢false (sym h))
 near_text (Some word) (Some text) h = ap text_part (sym (text_eq-true text word h))
 
-near_sender : (value : Option Text) (sender : ℕ) → is_near_sender value sender ≡ true → sender_part value ≡ sender_if (sender_class value) (text_part (unique_text sender))
+near_sender : (value : Option Text) (sender : Text) → is_near_sender value sender ≡ true → sender_part value ≡ sender_if (sender_class value) (text_part sender)
 near_sender None sender h = refl
 near_sender (Some name) sender h = by_test (is_unique name) h
   where
-    by_test : (u : Bool) → (if u then text_eq name (unique_text sender) else true) ≡ true → (if u then text_part name else 1) ≡ sender_if (if u then 2 else 1) (text_part (unique_text sender))
-    by_test true same = ap text_part (text_eq-true name (unique_text sender) same)
+    by_test : (u : Bool) → (if u then text_eq name sender else true) ≡ true → (if u then text_part name else 1) ≡ sender_if (if u then 2 else 1) (text_part sender)
+    by_test true same = ap text_part (text_eq-true name sender same)
     by_test false same = refl
 
 -- an argument that agrees is a string
@@ -187,7 +187,7 @@ near_parts facts rule near =
     let a = is_kind (kind_asked rule) facts.kind in
     let b = agrees (value_at Interface rule) facts.interface in
     let c = agrees (value_at Member rule) facts.member in
-    let d = is_near_sender (value_at Sender rule) facts.sender in
+    let d = is_near_sender (value_at Sender rule) (unique_text facts.sender) in
     let four : (is_near_by_header facts rule ≡ true) × (argument_agrees (value_at (Argument 0) rule) facts.arguments ≡ true) = and_parts (is_near_by_header facts rule) _ near in
     let three : ((a && b && c) ≡ true) × (d ≡ true) = and_parts (a && b && c) d four.0 in
     let two : ((a && b) ≡ true) × (c ≡ true) = and_parts (a && b) c three.0 in
@@ -196,4 +196,4 @@ near_parts facts rule near =
     let parts = message_parts facts in
     five_same _ _ _ _ _ _ _ _ _ _ (near_kind (kind_asked rule) facts.kind one.0 ∙ ap (λ t. part_if t parts.kind) (sym shape.0)) (near_text (value_at Interface rule) facts.interface one.1 ∙ ap (λ t. part_if t parts.interface) (sym shape.1))
     (near_text (value_at Member rule) facts.member two.1 ∙ ap (λ t. part_if t parts.member) (sym shape.2)) (near_argument (value_at (Argument 0) rule) facts.arguments four.1 ∙ ap (λ t. part_if t parts.argument) (sym shape.3))
-    (near_sender (value_at Sender rule) facts.sender three.1 ∙ ap (λ n. sender_if n parts.sender) (sym shape.4))
+    (near_sender (value_at Sender rule) (unique_text facts.sender) three.1 ∙ ap (λ n. sender_if n parts.sender) (sym shape.4))

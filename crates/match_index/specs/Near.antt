@@ -25,10 +25,10 @@ abbrev pub agrees : Option Text → Option Text → Bool
 agrees None text = true
 agrees (Some value) text = is_text value text
 
--- no sender, the sender's unique name, any well-known name or the bus
-abbrev pub is_near_sender : Option Text → ℕ → Bool
+-- no sender, the unique name of the message's sender, any well-known name or the bus
+abbrev pub is_near_sender : Option Text → Text → Bool
 is_near_sender None sender = true
-is_near_sender (Some name) sender = if is_unique name then text_eq name (unique_text sender) else true
+is_near_sender (Some name) sender = if is_unique name then text_eq name sender else true
 
 -- no first argument, or the string that the message has there
 abbrev pub argument_agrees : Option Text → List Value → Bool
@@ -39,7 +39,7 @@ argument_agrees (Some value) arguments = is_string_argument value (slice_get arg
 abbrev pub is_near_by_header : Facts → Rule → Bool
 is_near_by_header facts rule =
     is_kind (kind_asked rule) facts.kind && agrees (value_at Interface rule) facts.interface && agrees (value_at Member rule) facts.member
-    && is_near_sender (value_at Sender rule) facts.sender
+    && is_near_sender (value_at Sender rule) (unique_text facts.sender)
 
 -- a rule that is near by the header of the message, and whose first argument, where it is there, is the message's
 abbrev pub is_near : Facts → Rule → Bool

@@ -2,7 +2,6 @@
 
 ghost use Rattle.std.specs.Prelude.{◌≡◌, ◌<◌, ◌==◌, option_map, is_some, slice_get};
 ghost use Rattle.match_index.specs.Buckets.{argument_part, asked, bit, bucket_of, code_of, front_part, kind_part, message_parts, mixed, part_if, part_of, rule_parts, sender_class, sender_if, sender_part, shape_of, text_part, value_part};
-ghost use Rattle.names.specs.Texts.{text_eq};
 ghost use Rattle.names.specs.BusName.{is_unique};
 ghost use Rattle.names.specs.UniqueName.{unique_text};
 ghost use Rattle.match_rules.specs.FactsView.{argument_of};
@@ -10,7 +9,6 @@ ghost use Rattle.match_rules.specs.Fitting.{is_string_argument, is_text};
 ghost use Rattle.match_index.specs.Near.{agrees, argument_agrees, is_kind, is_near, is_near_sender, kind_asked};
 
 use match_rules::{Argument, Facts, MessageKind, Rule};
-use names::UniqueName;
 
 /// How many shapes of rules there are: each asks for a type or does not, for an interface, for a
 /// member, for a first argument, and for no sender, for a well-known name or the bus, or for a unique
@@ -43,8 +41,9 @@ pub(crate) struct Parts {
 }
 
 impl Parts {
-    /// What a message has.
-    pub(crate) fn of(facts: &Facts<'_>) -> Parts
+    /// What a message has whose sender has this unique name.
+    pub(crate) fn of(facts: &Facts<'_>, sender: &str) -> Parts
+        requires { sender.now ≡ unique_text facts.now.sender }
         ensures { result ≡ message_parts facts.now }
     {
         Parts {
@@ -52,7 +51,7 @@ impl Parts {
             interface: part_of(facts.interface),
             member: part_of(facts.member),
             argument: value_part(first_argument(facts)),
-            sender: text_part(UniqueName::of(facts.sender).as_str().as_bytes()),
+            sender: text_part(sender.as_bytes()),
         }
     }
 
@@ -97,14 +96,15 @@ pub(crate) fn bucket_of(rule: &Rule) -> Bucket
 }
 
 /// Whether a message may be one that a rule asks for, by its type, interface, member, sender and
-/// first argument.
-pub(crate) fn is_near(rule: &Rule, facts: &Facts<'_>) -> bool
+/// first argument. The sender has this unique name.
+pub(crate) fn is_near(rule: &Rule, facts: &Facts<'_>, sender: &str) -> bool
+    requires { sender.now ≡ unique_text facts.now.sender }
     ensures { result ≡ is_near facts.now rule.now }
 {
     is_kind(rule.kind(), facts.kind)
         && agrees(rule.interface(), facts.interface)
         && agrees(rule.member(), facts.member)
-        && is_near_sender(rule.sender(), facts.sender)
+        && is_near_sender(rule.sender(), sender)
         && argument_agrees(rule.argument0(), facts)
 }
 
@@ -160,20 +160,13 @@ fn is_string_argument(value: &[u8], argument: Option<Argument<'_>>) -> bool
     }
 }
 
-fn is_near_sender(name: Option<&str>, sender: u64) -> bool
-    ensures { result ≡ is_near_sender (option_map (λ t. t.now) name.entry) sender }
+fn is_near_sender(name: Option<&str>, sender: &str) -> bool
+    ensures { result ≡ is_near_sender (option_map (λ t. t.now) name.entry) sender.now }
 {
     match name {
-        Some(name) => !is_unique(name) || is_name_of(name, sender),
+        Some(name) => !is_unique(name) || name.as_bytes() == sender.as_bytes(),
         None => true,
     }
-}
-
-/// Whether the name is the one that the bus gives to the connection of a number.
-fn is_name_of(name: &str, number: u64) -> bool
-    ensures { result ≡ text_eq name.now (unique_text number) }
-{
-    UniqueName::of(number).as_str().as_bytes() == name.as_bytes()
 }
 
 fn is_unique(name: &str) -> bool

@@ -2,6 +2,7 @@
 
 ghost use Rattle.std.specs.Prelude.{◌≡◌, ◌≤◌, ◌<◌, ◌+◌, ◌||◌, ℕ, [], length, count_by};
 ghost use Rattle.std.specs.List.{AllByRecursion, list_any};
+ghost use Rattle.names.specs.UniqueName.{unique_text};
 ghost use Rattle.match_index.specs.Collecting.{AreAmong, AreOwned, connections_of, entries_at, is_tested, is_wanting};
 ghost use Rattle.match_index.specs.Entries.{ArePlaced, by_code, live};
 ghost use Rattle.match_index.specs.Indexed.{has_fitting};
@@ -16,6 +17,7 @@ use crate::entries::Entry;
 use crate::place_index::{Place, PlaceIndex};
 use crate::steps::Steps;
 use match_rules::{Facts, Owners};
+use names::UniqueName;
 use std::sync::ledger::Ledger;
 
 /// Adds the connections that have a rule that fits a message. Only the rules of the buckets that the
@@ -40,26 +42,30 @@ pub(crate) fn collect<O: Owners, L: Ledger>(
     ensures rising { AreRising found.new }
     ensures cost { steps.new ≤ steps.old + near_rules facts.now (live entries.now) }
 {
-    let parts = Parts::of(facts);
+    let name = UniqueName::of(facts.sender);
+    let sender = name.as_str();
+    let parts = Parts::of(facts, sender);
     for shape in 0..SHAPES {
         if shapes[shape] {
             let places = by_bucket.of(parts.code_for(shape));
-            collect_at(entries, places, shape, facts, owners, found, steps);
+            collect_at(entries, places, shape, facts, sender, owners, found, steps);
         }
     }
 }
 
 /// Adds the connections that have a rule of this shape at these places that fits. Once a connection is
-/// found, its other rules are passed over.
+/// found, its other rules are passed over. The sender has this unique name.
 pub(crate) fn collect_at<O: Owners, L: Ledger>(
     entries: &[Entry],
     places: &[Place],
     shape: usize,
     facts: &Facts<'_>,
+    sender: &str,
     owners: &O,
     found: &mut ConnSet,
     steps: &mut Steps<L>,
 )
+    requires named { sender.now ≡ unique_text facts.now.sender }
     requires there { AllByRecursion (λ p. p.place < length entries.now) places.now }
     requires few { length (connections_of (live entries.now)) ≤ ConnSet.MAX }
     requires owned { AreOwned (live entries.now) (entries_at entries.now (places_in places.now)) }
@@ -74,7 +80,7 @@ pub(crate) fn collect_at<O: Owners, L: Ledger>(
 {
     for place in places {
         let entry = &entries[place.place];
-        if !found.contains(entry.connection) && is_tested(entry, shape, facts) {
+        if !found.contains(entry.connection) && is_tested(entry, shape, facts, sender) {
             steps.tick();
             if entry.rule.fits(facts, owners) {
                 found.insert(entry.connection);
@@ -84,8 +90,9 @@ pub(crate) fn collect_at<O: Owners, L: Ledger>(
 }
 
 /// Whether a rule is of this shape and near.
-fn is_tested(entry: &Entry, shape: usize, facts: &Facts<'_>) -> bool
+fn is_tested(entry: &Entry, shape: usize, facts: &Facts<'_>, sender: &str) -> bool
+    requires { sender.now ≡ unique_text facts.now.sender }
     ensures { result ≡ is_tested shape facts.now entry.now }
 {
-    entry.bucket.shape == shape && is_near(&entry.rule, facts)
+    entry.bucket.shape == shape && is_near(&entry.rule, facts, sender)
 }
