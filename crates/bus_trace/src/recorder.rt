@@ -131,7 +131,8 @@ impl Recorder {
         number: u64,
         outcomes: &[Outcome],
     )
-        requires { (place + length outcomes.now ≤ 2 ^ 64) × (number + length outcomes.now ≤ 2 ^ 64) }
+        requires { (place + length outcomes.now ≤ 2 ^ 64)
+            × (number + length outcomes.now ≤ 2 ^ 64) }
         ensures { (changes : List Text) → IfSome words.now (λ words. words.items ≡ changes) →
             Records self.old (changes_ended place seat number changes outcomes.now) self.new }
     {

@@ -41,7 +41,8 @@ impl<V: BusView> Traced<V> {
     /// A view that records. No line is kept yet, and none is lost. It takes no memory.
     pub fn new(alloc: Global, view: V) -> Traced<V>
         ensures view { result.view ≡ view }
-        ensures recording { result.recording ≡ record { is_on = true; lines = []; is_lost = false } }
+        ensures recording { result.recording
+            ≡ record { is_on = true; lines = []; is_lost = false } }
     {
         Traced {
             view,
@@ -52,7 +53,8 @@ impl<V: BusView> Traced<V> {
     /// A view that records nothing. It takes no memory.
     pub fn silent(alloc: Global, view: V) -> Traced<V>
         ensures view { result.view ≡ view }
-        ensures recording { result.recording ≡ record { is_on = false; lines = []; is_lost = false } }
+        ensures recording { result.recording
+            ≡ record { is_on = false; lines = []; is_lost = false } }
     {
         Traced {
             view,

@@ -58,7 +58,8 @@ pub fn only_text(message: &Message) -> Option<&str>
 
 /// The text and the number, where these are the arguments.
 pub fn text_and_number(arguments: &[Value]) -> Option<(&str, u32)>
-    ensures { option_map (λ pair. (pair.0.now, pair.1)) result ≡ text_and_number (values_of arguments.now) }
+    ensures { option_map (λ pair. (pair.0.now, pair.1)) result
+        ≡ text_and_number (values_of arguments.now) }
 {
     let (first, others) = arguments.split_first()?;
     let (second, none) = others.split_first()?;
@@ -72,7 +73,8 @@ pub fn text_and_number(arguments: &[Value]) -> Option<(&str, u32)>
 
 /// The elements of an array of strings and the number, where these are the arguments.
 pub fn elements_and_number(arguments: &[Value]) -> Option<(&[Value], u32)>
-    ensures { option_map (λ pair. (values_of pair.0.now, pair.1)) result ≡ elements_and_number (values_of arguments.now) }
+    ensures { option_map (λ pair. (values_of pair.0.now, pair.1)) result
+        ≡ elements_and_number (values_of arguments.now) }
 {
     let (first, others) = arguments.split_first()?;
     let (second, none) = others.split_first()?;

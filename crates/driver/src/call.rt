@@ -135,7 +135,8 @@ fn rules_of(alloc: Global, texts: &[Value]) -> Result<MonitorRules, DriverFault>
 
 /// The rules of a monitor, of which there are at most 64.
 fn monitor_rules_in(alloc: Global, arguments: &[Value]) -> Result<MonitorRules, DriverFault>
-    ensures { AreMonitorRulesOf (elements_and_number (values_of arguments.now)) result ⊎ (result ≡ Err NoMemory) }
+    ensures { AreMonitorRulesOf (elements_and_number (values_of arguments.now)) result
+        ⊎ (result ≡ Err NoMemory) }
 {
     let Some((texts, flags)) = elements_and_number(arguments) else {
         return Err(DriverFault::InvalidArgs);
@@ -202,7 +203,8 @@ fn read_by(alloc: Global, method: Method, message: &Message) -> Result<Call, Dri
 
 /// The arguments of a message, as values of their own.
 fn arguments_of(alloc: Global, message: &Message) -> Result<Vec<Value>, DriverFault>
-    ensures values { IfOk result (λ arguments. values_of arguments.items ≡ (said message.now).body) }
+    ensures values { IfOk result (λ arguments. values_of arguments.items
+        ≡ (said message.now).body) }
     ensures memory { IfErr result (λ fault. fault ≡ NoMemory) }
 {
     match message.arguments(alloc) {

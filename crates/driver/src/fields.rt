@@ -29,7 +29,9 @@ pub const ROOM: usize = 512;
 fn put_start(fields: &mut Vec<u8>, field: HeaderField, letter: u8)
     requires room { length fields.old.items + 11 ≤ ROOM }
     requires capacity { ROOM ≤ vec_capacity fields.old }
-    ensures put { fields.new.items ≡ fields.old.items ++ (pads 8 (length fields.old.items) ++ (code_of field ∷ 1 ∷ letter ∷ 0 ∷ [])) }
+    ensures put { fields.new.items
+        ≡ fields.old.items ++ (pads 8 (length fields.old.items)
+        ++ (code_of field ∷ 1 ∷ letter ∷ 0 ∷ [])) }
     ensures capacity { vec_capacity fields.old ≤ vec_capacity fields.new }
     ensures room { length fields.new.items ≤ length fields.old.items + 11 }
 {
@@ -41,7 +43,10 @@ fn put_start(fields: &mut Vec<u8>, field: HeaderField, letter: u8)
 fn put_text(fields: &mut Vec<u8>, field: HeaderField, letter: u8, text: &str)
     requires room { length fields.old.items + length text.now + 16 ≤ ROOM }
     requires capacity { ROOM ≤ vec_capacity fields.old }
-    ensures put { fields.new.items ≡ fields.old.items ++ (pads 8 (length fields.old.items) ++ (code_of field ∷ 1 ∷ letter ∷ 0 ∷ []) ++ (number_bytes Little w32 (length text.now) ++ ended text.now)) }
+    ensures put { fields.new.items
+        ≡ fields.old.items ++ (pads 8 (length fields.old.items)
+        ++ (code_of field ∷ 1 ∷ letter ∷ 0 ∷ [])
+        ++ (number_bytes Little w32 (length text.now) ++ ended text.now)) }
     ensures utf8 { IsUtf8 text.now }
     ensures capacity { vec_capacity fields.old ≤ vec_capacity fields.new }
     ensures room { length fields.new.items ≤ length fields.old.items + length text.now + 16 }
@@ -55,7 +60,8 @@ pub fn put_string(fields: &mut Vec<u8>, field: HeaderField, text: &str)
     requires room { length fields.old.items + length text.now + 16 ≤ ROOM }
     requires capacity { ROOM ≤ vec_capacity fields.old }
     requires string { has_zero text.now ≡ false }
-    ensures put { (sent : List Field) → AreWritten Little sent fields.old.items → AreWritten Little (sent ++ known_field field (a_string text.now) ∷ []) fields.new.items }
+    ensures put { (sent : List Field) → AreWritten Little sent fields.old.items
+        → AreWritten Little (sent ++ known_field field (a_string text.now) ∷ []) fields.new.items }
     ensures capacity { vec_capacity fields.old ≤ vec_capacity fields.new }
     ensures room { length fields.new.items ≤ length fields.old.items + length text.now + 16 }
 {
@@ -66,7 +72,9 @@ pub fn put_string(fields: &mut Vec<u8>, field: HeaderField, text: &str)
 pub fn put_path(fields: &mut Vec<u8>)
     requires room { length fields.old.items + 64 ≤ ROOM }
     requires capacity { ROOM ≤ vec_capacity fields.old }
-    ensures put { (sent : List Field) → AreWritten Little sent fields.old.items → AreWritten Little (sent ++ known_field field_of.Path (an_object_path bus_path) ∷ []) fields.new.items }
+    ensures put { (sent : List Field) → AreWritten Little sent fields.old.items
+        → AreWritten Little (sent ++ known_field field_of.Path (an_object_path bus_path)
+        ∷ []) fields.new.items }
     ensures capacity { vec_capacity fields.old ≤ vec_capacity fields.new }
     ensures room { length fields.new.items ≤ length fields.old.items + 64 }
 {
@@ -76,7 +84,9 @@ pub fn put_path(fields: &mut Vec<u8>)
 pub fn put_reply_serial(fields: &mut Vec<u8>, serial: u32)
     requires room { length fields.old.items + 16 ≤ ROOM }
     requires capacity { ROOM ≤ vec_capacity fields.old }
-    ensures put { (sent : List Field) → AreWritten Little sent fields.old.items → AreWritten Little (sent ++ known_field field_of.ReplySerial (a_uint32 serial) ∷ []) fields.new.items }
+    ensures put { (sent : List Field) → AreWritten Little sent fields.old.items
+        → AreWritten Little (sent ++ known_field field_of.ReplySerial (a_uint32 serial)
+        ∷ []) fields.new.items }
     ensures capacity { vec_capacity fields.old ≤ vec_capacity fields.new }
     ensures room { length fields.new.items ≤ length fields.old.items + 16 }
 {
@@ -88,7 +98,9 @@ pub fn put_reply_serial(fields: &mut Vec<u8>, serial: u32)
 fn put_destination(fields: &mut Vec<u8>, number: Option<u64>)
     requires room { length fields.old.items + 271 ≤ ROOM }
     requires capacity { ROOM ≤ vec_capacity fields.old }
-    ensures put { (sent : List Field) → AreWritten Little sent fields.old.items → AreWritten Little (sent ++ optional_field field_of.Destination a_string (option_map unique_text number)) fields.new.items }
+    ensures put { (sent : List Field) → AreWritten Little sent fields.old.items
+        → AreWritten Little (sent ++ optional_field field_of.Destination a_string
+        (option_map unique_text number)) fields.new.items }
     ensures named { IsNamed number }
     ensures capacity { vec_capacity fields.old ≤ vec_capacity fields.new }
     ensures room { length fields.new.items ≤ length fields.old.items + 271 }
@@ -104,7 +116,9 @@ fn put_signature(fields: &mut Vec<u8>, signature: &str)
     requires room { length fields.old.items + 32 ≤ ROOM }
     requires capacity { ROOM ≤ vec_capacity fields.old }
     requires short { length signature.now ≤ 16 }
-    ensures put { (types : Tys) (sent : List Field) → signature.now ≡ signature_text types → IsSignature types → AreWritten Little sent fields.old.items → AreWritten Little (sent ++ signature_field types) fields.new.items }
+    ensures put { (types : Tys) (sent : List Field) → signature.now ≡ signature_text types
+        → IsSignature types → AreWritten Little sent fields.old.items
+        → AreWritten Little (sent ++ signature_field types) fields.new.items }
     ensures capacity { vec_capacity fields.old ≤ vec_capacity fields.new }
     ensures room { length fields.new.items ≤ length fields.old.items + 32 }
 {
@@ -123,7 +137,9 @@ pub fn put_end(fields: &mut Vec<u8>, destination: Option<u64>, signature: &str)
     requires room { length fields.old.items + 339 ≤ ROOM }
     requires capacity { ROOM ≤ vec_capacity fields.old }
     requires short { length signature.now ≤ 16 }
-    ensures put { (types : Tys) (sent : List Field) → signature.now ≡ signature_text types → IsSignature types → AreWritten Little sent fields.old.items → AreWritten Little (sent ++ end_fields destination types) fields.new.items }
+    ensures put { (types : Tys) (sent : List Field) → signature.now ≡ signature_text types
+        → IsSignature types → AreWritten Little sent fields.old.items
+        → AreWritten Little (sent ++ end_fields destination types) fields.new.items }
     ensures named { IsNamed destination }
     ensures capacity { vec_capacity fields.old ≤ vec_capacity fields.new }
     ensures fits { length fields.new.items ≤ ROOM }

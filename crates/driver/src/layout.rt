@@ -30,7 +30,8 @@ pub fn lay_out(
     out: &mut Vec<u8>,
 ) -> Result<(), AllocError>
     requires { length fields.now ≤ ROOM }
-    ensures ok { OnOk result (out.new.items ≡ out.old.items ++ own_bytes (kind_number kind) serial fields.now body.now) }
+    ensures ok { OnOk result (out.new.items
+        ≡ out.old.items ++ own_bytes (kind_number kind) serial fields.now body.now) }
     ensures fits { OnOk result (length body.now < 2 ^ 32) }
     ensures err { OnErr result (out.new.items ≡ out.old.items) }
 {

@@ -87,7 +87,8 @@ fn is_bus_interface(interface: &str) -> bool
 }
 
 fn method_within(interface: &str, member: Option<&str>) -> Result<Method, DriverFault>
-    ensures { (name : Option Text) → Lends member.entry name → result ≡ method_within interface.now name }
+    ensures { (name : Option Text) → Lends member.entry name
+        → result ≡ method_within interface.now name }
 {
     if !is_bus_interface(interface) {
         return Err(DriverFault::UnknownInterface);
@@ -101,7 +102,8 @@ fn method_within(interface: &str, member: Option<&str>) -> Result<Method, Driver
 }
 
 fn method_in(interface: Option<&str>, member: Option<&str>) -> Result<Method, DriverFault>
-    ensures { (in_interface name : Option Text) → Lends interface.entry in_interface → Lends member.entry name → result ≡ method_in in_interface name }
+    ensures { (in_interface name : Option Text) → Lends interface.entry in_interface
+        → Lends member.entry name → result ≡ method_in in_interface name }
 {
     match interface {
         Some(interface) => method_within(interface, member),

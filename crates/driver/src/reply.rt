@@ -55,7 +55,10 @@ fn put_reply(
     requires serial { 0 < serial }
     requires call { 0 < to.call }
     requires short { length signature.now ≤ 16 }
-    ensures ok { (types : Tys) (values : Vals) → signature.now ≡ signature_text types → Spells Little 0 types values body.now → OnOk result (Writes out.old.items out.new.items (message_of (reply_header serial to) types values)) }
+    ensures ok { (types : Tys) (values : Vals) → signature.now ≡ signature_text types
+        → Spells Little 0 types values body.now
+        → OnOk result (Writes out.old.items out.new.items
+        (message_of (reply_header serial to) types values)) }
     ensures err { OnErr result (out.new.items ≡ out.old.items) }
 {
     let mut fields = Vec::with_capacity(*out.allocator(), ROOM)?;
@@ -68,7 +71,8 @@ fn put_reply(
 fn put_number(serial: u32, to: ReplyTo, number: u32, out: &mut Vec<u8>) -> Result<(), AllocError>
     requires serial { 0 < serial }
     requires call { 0 < to.call }
-    ensures ok { OnOk result (Writes out.old.items out.new.items (message_of (reply_header serial to) number_types (number_values number))) }
+    ensures ok { OnOk result (Writes out.old.items out.new.items
+        (message_of (reply_header serial to) number_types (number_values number))) }
     ensures err { OnErr result (out.new.items ≡ out.old.items) }
 {
     put_reply(serial, to, "u", &number.to_le_bytes(), out)
@@ -83,7 +87,8 @@ fn put_unique_name(
 ) -> Result<(), AllocError>
     requires serial { 0 < serial }
     requires call { 0 < to.call }
-    ensures ok { OnOk result (Writes out.old.items out.new.items (of_strings (reply_header serial to) (unique_text number ∷ []))) }
+    ensures ok { OnOk result (Writes out.old.items out.new.items
+        (of_strings (reply_header serial to) (unique_text number ∷ []))) }
     ensures err { OnErr result (out.new.items ≡ out.old.items) }
 {
     let mut text = ArrayVec::<u8, { strings::ROOM }>::new();
@@ -105,7 +110,9 @@ pub fn write_reply(
 ) -> Result<(), AllocError>
     requires serial { 0 < serial }
     requires call { 0 < to.call }
-    ensures ok { (types : Tys) (values : Vals) → IsReplyBody body.entry types values → OnOk result (Writes out.old.items out.new.items (message_of (reply_header serial to) types values)) }
+    ensures ok { (types : Tys) (values : Vals) → IsReplyBody body.entry types values
+        → OnOk result (Writes out.old.items out.new.items
+        (message_of (reply_header serial to) types values)) }
     ensures err { OnErr result (out.new.items ≡ out.old.items) }
 {
     match body {

@@ -77,7 +77,8 @@ fn put_body(body: &mut ArrayVec<u8, { strings::ROOM }>, signal: &BusSignal)
 /// Where there is not enough memory, `out` is as it was.
 pub fn write_signal(serial: u32, signal: &BusSignal, out: &mut Vec<u8>) -> Result<(), AllocError>
     requires { 0 < serial }
-    ensures ok { OnOk result (Writes out.old.items out.new.items (signal_message serial signal.now)) }
+    ensures ok { OnOk result (Writes out.old.items out.new.items
+        (signal_message serial signal.now)) }
     ensures err { OnErr result (out.new.items ≡ out.old.items) }
 {
     let mut fields = Vec::with_capacity(*out.allocator(), ROOM)?;

@@ -14,7 +14,8 @@ pub const ROOM: usize = 1024;
 /// Puts a string: the padding to the next multiple of four, its length, the text and a zero byte.
 pub fn put_string(body: &mut ArrayVec<u8, ROOM>, text: &str)
     requires { length body.old.items + length text.now + 8 ≤ ROOM }
-    ensures put { body.new.items ≡ body.old.items ++ text_spelling Little (length body.old.items) text.now }
+    ensures put { body.new.items ≡ body.old.items
+        ++ text_spelling Little (length body.old.items) text.now }
     ensures utf8 { IsUtf8 text.now }
     ensures room { length body.new.items ≤ length body.old.items + length text.now + 8 }
 {
@@ -29,7 +30,8 @@ pub fn put_string(body: &mut ArrayVec<u8, ROOM>, text: &str)
 /// Puts a name.
 pub fn put_name(body: &mut ArrayVec<u8, ROOM>, name: &BusName)
     requires { length body.old.items + 263 ≤ ROOM }
-    ensures put { body.new.items ≡ body.old.items ++ text_spelling Little (length body.old.items) name.now }
+    ensures put { body.new.items ≡ body.old.items
+        ++ text_spelling Little (length body.old.items) name.now }
     ensures string { IsString name.now }
     ensures room { length body.new.items ≤ length body.old.items + 263 }
 {
@@ -39,7 +41,8 @@ pub fn put_name(body: &mut ArrayVec<u8, ROOM>, name: &BusName)
 /// Puts the unique name of the owner of a name, or an empty string where there is none.
 pub fn put_owner(body: &mut ArrayVec<u8, ROOM>, owner: Option<u64>)
     requires { length body.old.items + 263 ≤ ROOM }
-    ensures put { body.new.items ≡ body.old.items ++ text_spelling Little (length body.old.items) (owner_text owner) }
+    ensures put { body.new.items ≡ body.old.items
+        ++ text_spelling Little (length body.old.items) (owner_text owner) }
     ensures string { IsString (owner_text owner) }
     ensures room { length body.new.items ≤ length body.old.items + 263 }
 {

@@ -36,7 +36,8 @@ impl Model for Framer {
 fn whole_length(bytes: &[u8]) -> Result<Option<usize>, FrameFault>
     ensures some { IfOk result (λ found. IfSome found (λ n. IsFound MAXIMUM_LENGTH n bytes.now)) }
     ensures none { IfOk result (λ found. IfNone found (IsWaiting MAXIMUM_LENGTH bytes.now)) }
-    ensures fault { IfErr result (λ f. (FIXED_LENGTH ≤ length bytes.now) × (announced MAXIMUM_LENGTH bytes.now ≡ Err f)) }
+    ensures fault { IfErr result (λ f. (FIXED_LENGTH ≤ length bytes.now)
+        × (announced MAXIMUM_LENGTH bytes.now ≡ Err f)) }
     ensures memory { IfErr result (λ f. f ≢ NoMemory) }
 {
     if bytes.len() < FIXED_LENGTH {
@@ -72,7 +73,8 @@ impl Framer {
 
     /// Takes a piece of the stream. After a fault it takes nothing; without memory it stays as it was.
     pub fn feed(&mut self, piece: &[u8]) -> Result<(), AllocError>
-        ensures good { IfNone self.old.fault (OnOk result (self.new ≡ record self.old { bytes = self.old.bytes ++ piece.now })) }
+        ensures good { IfNone self.old.fault
+            (OnOk result (self.new ≡ record self.old { bytes = self.old.bytes ++ piece.now })) }
         ensures spent { IfSome self.old.fault (λ _. self.new ≡ self.old) }
         ensures err { OnErr result (self.new ≡ self.old) }
     {
@@ -94,7 +96,11 @@ impl Framer {
     /// Takes a piece as [`feed`](Framer::feed) does, and leaves none of it. Where all that came before was given out, it keeps the
     /// piece itself and copies nothing. Without memory the piece stays where it was.
     pub fn feed_owned(&mut self, piece: &mut Vec<u8>) -> Result<(), AllocError>
-        ensures good { IfNone self.old.fault (OnOk result (self.new ≡ record self.old { bytes = self.old.bytes ++ piece.old.items })) }
+        ensures good { IfNone self.old.fault
+            (OnOk result (self.new ≡ record self.old {
+              bytes = self.old.bytes
+                  ++ piece.old.items;
+            })) }
         ensures spent { IfSome self.old.fault (λ _. self.new ≡ self.old) }
         ensures taken { OnOk result (piece.new.items ≡ []) }
         ensures err { OnErr result (self.new ≡ self.old) }
@@ -112,8 +118,10 @@ impl Framer {
 
     /// Whether bytes are missing: then [`next`](Framer::next) answers `None`, and else a message or a fault.
     pub fn is_waiting(&self) -> bool
-        ensures waiting { result ≡ true → (self.now.fault ≡ None) × IsWaiting MAXIMUM_LENGTH self.now.bytes }
-        ensures ready { result ≡ false → self.now.fault ≡ None → IsWaiting MAXIMUM_LENGTH self.now.bytes → ⊥ }
+        ensures waiting { result ≡ true
+            → (self.now.fault ≡ None) × IsWaiting MAXIMUM_LENGTH self.now.bytes }
+        ensures ready { result ≡ false → self.now.fault ≡ None
+            → IsWaiting MAXIMUM_LENGTH self.now.bytes → ⊥ }
     {
         self.fault.is_none() && is_short(&self.buffer[self.from..])
     }
@@ -121,8 +129,10 @@ impl Framer {
     /// The next whole message; `None` where bytes are missing. The first fault is answered for good,
     /// want of memory changes nothing.
     pub fn next(&mut self) -> Result<Option<Message>, FrameFault>
-        ensures some { IfOk result (λ found. IfSome found (λ message. IsTaken MAXIMUM_LENGTH message self.old self.new)) }
-        ensures none { IfOk result (λ found. IfNone found ((self.old.fault ≡ None) × IsWaiting MAXIMUM_LENGTH self.old.bytes × (self.new ≡ self.old))) }
+        ensures some { IfOk result (λ found. IfSome found
+            (λ message. IsTaken MAXIMUM_LENGTH message self.old self.new)) }
+        ensures none { IfOk result (λ found. IfNone found ((self.old.fault ≡ None)
+            × IsWaiting MAXIMUM_LENGTH self.old.bytes × (self.new ≡ self.old))) }
         ensures fault { IfErr result (λ f. FaultIs MAXIMUM_LENGTH f self.old self.new) }
         ensures no_message { IfErr result (λ f. f ≢ NoMemory → IsNoFront MAXIMUM_LENGTH self.old) }
     {
@@ -155,8 +165,10 @@ impl Framer {
         requires found { IsFound MAXIMUM_LENGTH size self.old.bytes }
         ensures taken { IfOk result (λ message. IsTaken MAXIMUM_LENGTH message self.old self.new) }
         ensures refused { OnErr result (self.new ≡ self.old) }
-        ensures fault { IfErr result (λ f. f ≢ NoMemory → IsJudged MAXIMUM_LENGTH f self.old.bytes) }
-        ensures no_message { IfErr result (λ f. f ≢ NoMemory → BeginsNoMessage MAXIMUM_LENGTH self.old.bytes) }
+        ensures fault { IfErr result (λ f. f ≢ NoMemory
+            → IsJudged MAXIMUM_LENGTH f self.old.bytes) }
+        ensures no_message { IfErr result (λ f. f ≢ NoMemory
+            → BeginsNoMessage MAXIMUM_LENGTH self.old.bytes) }
     {
         if self.from == 0 && size == self.buffer.len() {
             return Message::take(self.alloc, &mut self.buffer);
@@ -170,5 +182,7 @@ impl Framer {
 
 /// A stream is cut into messages in one way, whatever pieces it comes in.
 pub fn one_stream()
-    ensures { (limit : ℕ) (bytes : List ℕ) (messages others : List Record) (rest left : List ℕ) → IsStream limit bytes messages rest → IsStream limit bytes others left → (messages ≡ others) × (rest ≡ left) }
+    ensures { (limit : ℕ) (bytes : List ℕ) (messages others : List Record) (rest left : List ℕ)
+        → IsStream limit bytes messages rest → IsStream limit bytes others left
+        → (messages ≡ others) × (rest ≡ left) }
 {}

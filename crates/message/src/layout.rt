@@ -42,7 +42,9 @@ pub fn count_below(places: &[FieldPlace], code: u8) -> usize
 pub fn fields_end(at: usize, fields: &[FieldPlace]) -> Result<usize, RelayFault>
     requires begins { at < 2 ^ 34 }
     requires within { AreWithin (2 ^ 33) fields.now }
-    ensures { result ≡ (if nat_lt last_end (end_of at fields.now) then Err TooLong else Ok (end_of at fields.now)) }
+    ensures { result
+        ≡ (if nat_lt last_end (end_of at fields.now) then Err TooLong else Ok
+        (end_of at fields.now)) }
 {
     let mut end = at;
     for field in fields {
@@ -78,12 +80,17 @@ pub struct Layout<'a> {
 pub fn lay_out<'a>(fields: &'a [FieldPlace], name: &str) -> Result<Layout<'a>, RelayFault>
     requires within { AreWithin (2 ^ 33) fields.now }
     requires short { length name.now ≤ 255 }
-    ensures before { IfOk result (λ layout. layout.before.now ≡ before_sender (known_places fields.now)) }
+    ensures before { IfOk result (λ layout. layout.before.now
+        ≡ before_sender (known_places fields.now)) }
     ensures sender { IfOk result (λ layout. layout.sender ≡ before_end (known_places fields.now)) }
-    ensures next { IfOk result (λ layout. layout.next ≡ sender_end name.now (known_places fields.now)) }
-    ensures after { IfOk result (λ layout. layout.after.now ≡ after_sender (known_places fields.now)) }
+    ensures next { IfOk result (λ layout. layout.next
+        ≡ sender_end name.now (known_places fields.now)) }
+    ensures after { IfOk result (λ layout. layout.after.now
+        ≡ after_sender (known_places fields.now)) }
     ensures end { IfOk result (λ layout. layout.end ≡ sent_end name.now (known_places fields.now)) }
-    ensures too_long { MatchResult result (λ _. sent_end name.now (known_places fields.now) ≤ last_end) (λ fault. (fault ≡ TooLong) × (last_end < sent_end name.now (known_places fields.now))) }
+    ensures too_long { MatchResult result (λ _. sent_end name.now (known_places fields.now)
+        ≤ last_end) (λ fault. (fault ≡ TooLong)
+        × (last_end < sent_end name.now (known_places fields.now))) }
 {
     let code = HeaderField::Sender.code();
     let known = known_fields(fields);

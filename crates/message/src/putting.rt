@@ -28,8 +28,10 @@ pub fn put_fields(output: &mut Vec<u8>, bytes: &[u8], fields: &[FieldPlace], at:
 /// Puts SENDER of a name, from a place on.
 pub fn put_sender(output: &mut Vec<u8>, order: Order, name: &str, at: usize)
     requires short { length name.now ≤ 255 }
-    requires room { length output.old.items + (pad_len 8 at + (9 + length name.now)) ≤ vec_capacity output.old }
-    ensures items { output.new.items ≡ output.old.items ++ (pads 8 at ++ sender_bytes order name.now) }
+    requires room { length output.old.items + (pad_len 8 at + (9 + length name.now))
+        ≤ vec_capacity output.old }
+    ensures items { output.new.items
+        ≡ output.old.items ++ (pads 8 at ++ sender_bytes order name.now) }
     ensures capacity { vec_capacity output.old ≤ vec_capacity output.new }
 {
     put_start(output, at, HeaderField::Sender, b's');

@@ -24,7 +24,9 @@ use names::UniqueName;
 fn whole_length(end: usize, body: usize) -> Result<usize, RelayFault>
     requires begins { end ≤ last_end }
     requires small { body < 2 ^ 33 }
-    ensures { result ≡ (if nat_lt max_message_length (place_behind end body) then Err TooLong else Ok (place_behind end body)) }
+    ensures { result
+        ≡ (if nat_lt max_message_length (place_behind end body) then Err TooLong else Ok
+        (place_behind end body)) }
 {
     let length = behind(end, body);
     if length > MAXIMUM_LENGTH {
@@ -38,9 +40,11 @@ fn make_room(output: &mut Vec<u8>, end: usize, body: usize) -> Result<(), RelayF
     requires begins { end ≤ last_end }
     requires small { body < 2 ^ 33 }
     ensures kept { output.new.items ≡ output.old.items }
-    ensures room { OnOk result (length output.old.items + place_behind end body ≤ vec_capacity output.new) }
+    ensures room { OnOk result (length output.old.items + place_behind end body
+        ≤ vec_capacity output.new) }
     ensures too_long { IsErrOf result TooLong ↔ (max_message_length < place_behind end body) }
-    ensures memory { IsErrOf result NoMemory → vec_capacity output.old < length output.old.items + place_behind end body }
+    ensures memory { IsErrOf result NoMemory
+        → vec_capacity output.old < length output.old.items + place_behind end body }
 {
     let length = whole_length(end, body)?;
     output.reserve(length)?;
@@ -53,7 +57,8 @@ fn put_start(output: &mut Vec<u8>, order: Order, bytes: &[u8], end: usize)
     requires begins { 16 ≤ end }
     requires small { end ≤ last_end }
     requires room { length output.old.items + 16 ≤ vec_capacity output.old }
-    ensures items { output.new.items ≡ output.old.items ++ (take 12 bytes.now ++ number_bytes order w32 (end - 16)) }
+    ensures items { output.new.items
+        ≡ output.old.items ++ (take 12 bytes.now ++ number_bytes order w32 (end - 16)) }
     ensures capacity { vec_capacity output.old ≤ vec_capacity output.new }
 {
     put(output, &bytes[..12]);
@@ -62,7 +67,8 @@ fn put_start(output: &mut Vec<u8>, order: Order, bytes: &[u8], end: usize)
 
 /// Puts the padding behind the fields, and the body.
 fn put_body(output: &mut Vec<u8>, end: usize, body: &[u8])
-    requires { length output.old.items + (pad_len 8 end + length body.now) ≤ vec_capacity output.old }
+    requires { length output.old.items + (pad_len 8 end + length body.now)
+        ≤ vec_capacity output.old }
     ensures items { output.new.items ≡ output.old.items ++ (pads 8 end ++ body.now) }
     ensures capacity { vec_capacity output.old ≤ vec_capacity output.new }
 {
@@ -86,7 +92,10 @@ fn put_sent_fields(
     requires small { layout.now.end ≤ last_end }
     requires short { length name.now ≤ 255 }
     requires room { length output.old.items + layout.now.end ≤ vec_capacity output.old + 16 }
-    ensures items { output.new.items ≡ output.old.items ++ (copied bytes.now 16 layout.now.before.now ++ ((pads 8 layout.now.sender ++ sender_bytes order name.now) ++ copied bytes.now layout.now.next layout.now.after.now)) }
+    ensures items { output.new.items
+        ≡ output.old.items ++ (copied bytes.now 16 layout.now.before.now
+        ++ ((pads 8 layout.now.sender ++ sender_bytes order name.now)
+        ++ copied bytes.now layout.now.next layout.now.after.now)) }
     ensures capacity { vec_capacity output.old ≤ vec_capacity output.new }
 {
     put_fields(output, bytes, layout.before, FIXED_LENGTH);
@@ -99,12 +108,16 @@ fn put_sent_fields(
 /// array of more than 67,108,864. Refused, the output is as before.
 pub fn write(message: &Message, output: &mut Vec<u8>) -> Result<(), RelayFault>
     // What is appended is the message, its fields by rising code.
-    ensures appended { OnOk result (output.new.items ≡ output.old.items ++ message_bytes (said message.now)) }
-    ensures written { OnOk result (IsWritten (message_bytes (said message.now)) (said message.now)) }
+    ensures appended { OnOk result (output.new.items
+        ≡ output.old.items ++ message_bytes (said message.now)) }
+    ensures written { OnOk result
+        (IsWritten (message_bytes (said message.now)) (said message.now)) }
     ensures kept { OnErr result (output.new.items ≡ output.old.items) }
     // It is refused where it is too long; memory is wanted only where there is no room for it.
     ensures too_long { IsErrOf result TooLong ↔ IsTrue (is_too_long (said message.now)) }
-    ensures memory { IsErrOf result NoMemory → vec_capacity output.old < length output.old.items + length (message_bytes (said message.now)) }
+    ensures memory { IsErrOf result NoMemory
+        → vec_capacity output.old < length output.old.items
+        + length (message_bytes (said message.now)) }
 {
     let parts = parts_of(message);
     let end = fields_end(FIXED_LENGTH, parts.fields)?;
@@ -125,12 +138,18 @@ pub fn with_sender(
     output: &mut Vec<u8>,
 ) -> Result<(), RelayFault>
     // What is appended is the message with that sender, its fields by rising code.
-    ensures appended { OnOk result (output.new.items ≡ output.old.items ++ message_bytes (sent_by sender.now (said message.now))) }
-    ensures written { OnOk result (IsWritten (message_bytes (sent_by sender.now (said message.now))) (sent_by sender.now (said message.now))) }
+    ensures appended { OnOk result (output.new.items
+        ≡ output.old.items ++ message_bytes (sent_by sender.now (said message.now))) }
+    ensures written { OnOk result
+        (IsWritten (message_bytes (sent_by sender.now (said message.now)))
+        (sent_by sender.now (said message.now))) }
     ensures kept { OnErr result (output.new.items ≡ output.old.items) }
     // It is refused where it is too long; memory is wanted only where there is no room for it.
-    ensures too_long { IsErrOf result TooLong ↔ IsTrue (is_too_long (sent_by sender.now (said message.now))) }
-    ensures memory { IsErrOf result NoMemory → vec_capacity output.old < length output.old.items + length (message_bytes (sent_by sender.now (said message.now))) }
+    ensures too_long { IsErrOf result TooLong
+        ↔ IsTrue (is_too_long (sent_by sender.now (said message.now))) }
+    ensures memory { IsErrOf result NoMemory
+        → vec_capacity output.old < length output.old.items
+        + length (message_bytes (sent_by sender.now (said message.now))) }
 {
     let parts = parts_of(message);
     let name = sender.as_str();
@@ -144,7 +163,9 @@ pub fn with_sender(
 
 /// How many bytes `with_sender` appends, or why it refuses.
 pub fn relayed_length(message: &Message, sender: &UniqueName) -> Result<usize, RelayFault>
-    ensures { result ≡ (if is_too_long (sent_by sender.now (said message.now)) then Err TooLong else Ok (length (message_bytes (sent_by sender.now (said message.now))))) }
+    ensures { result
+        ≡ (if is_too_long (sent_by sender.now (said message.now)) then Err TooLong else Ok
+        (length (message_bytes (sent_by sender.now (said message.now))))) }
 {
     let parts = parts_of(message);
     let layout = lay_out(parts.fields, sender.as_str())?;

@@ -18,7 +18,8 @@ use names::{BusName, ErrorName, Interface, Member, ObjectPath};
 
 /// The bytes that begin here as a string does: behind their length, and before a zero byte. They are not looked at.
 fn string(order: Order, bytes: &[u8]) -> Option<&[u8]>
-    ensures some { IfSome result (λ text. (length text.now < 2 ^ 32) × (rest : List ℕ) × (bytes.now ≡ number_bytes order w32 (length text.now) ++ (ended text.now ++ rest))) }
+    ensures some { IfSome result (λ text. (length text.now < 2 ^ 32) × (rest : List ℕ)
+        × (bytes.now ≡ number_bytes order w32 (length text.now) ++ (ended text.now ++ rest))) }
     ensures none { IfNone result (BeginsNoString order bytes.now) }
 {
     if bytes.len() < 4 {
@@ -128,8 +129,10 @@ fn signature_value(order: Order, field: HeaderField, bytes: &[u8]) -> Option<usi
 
 /// How many bytes the value takes that begins here, behind the code of its type.
 fn value(order: Order, field: HeaderField, code: u8, bytes: &[u8]) -> Option<usize>
-    ensures some { IfSome result (λ n. (b : BasicType) × (code ≡ basic_code b) × BeginsValue order field b bytes.now n) }
-    ensures none { IfNone result ((b : BasicType) → code ≡ basic_code b → BeginsNoValue order field b bytes.now) }
+    ensures some { IfSome result (λ n. (b : BasicType) × (code ≡ basic_code b)
+        × BeginsValue order field b bytes.now n) }
+    ensures none { IfNone result ((b : BasicType) → code ≡ basic_code b
+        → BeginsNoValue order field b bytes.now) }
 {
     if code == b's' {
         return string_value(order, field, bytes);

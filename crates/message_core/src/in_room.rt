@@ -50,7 +50,8 @@ pub fn put_padding(output: &mut Vec<u8>, at: usize)
 /// code, the letter of its type.
 pub fn put_start(output: &mut Vec<u8>, at: usize, field: HeaderField, letter: u8)
     requires { length output.old.items + (pad_len 8 at + 4) ≤ vec_capacity output.old }
-    ensures items { output.new.items ≡ output.old.items ++ (pads 8 at ++ (code_of field ∷ 1 ∷ letter ∷ 0 ∷ [])) }
+    ensures items { output.new.items
+        ≡ output.old.items ++ (pads 8 at ++ (code_of field ∷ 1 ∷ letter ∷ 0 ∷ [])) }
     ensures capacity { vec_capacity output.old ≤ vec_capacity output.new }
 {
     put_padding(output, at);
@@ -61,7 +62,8 @@ pub fn put_start(output: &mut Vec<u8>, at: usize, field: HeaderField, letter: u8
 pub fn put_string(output: &mut Vec<u8>, order: Order, text: &str)
     requires short { length text.now < 2 ^ 32 }
     requires room { length output.old.items + (5 + length text.now) ≤ vec_capacity output.old }
-    ensures items { output.new.items ≡ output.old.items ++ (number_bytes order w32 (length text.now) ++ ended text.now) }
+    ensures items { output.new.items
+        ≡ output.old.items ++ (number_bytes order w32 (length text.now) ++ ended text.now) }
     ensures capacity { vec_capacity output.old ≤ vec_capacity output.new }
 {
     put_number(output, order, text.len() as u32);

@@ -196,7 +196,8 @@ impl Message {
 
     /// The bytes of the body.
     pub fn body(&self) -> &[u8]
-        ensures { Spells (said self.now).order 0 (said self.now).types (said self.now).body result.now }
+        ensures { Spells (said self.now).order 0 (said self.now).types
+            (said self.now).body result.now }
     {
         let length = number(self.order(), 12, &self.bytes) as usize;
         &self.bytes[FIXED_LENGTH + (length + (8 - length % 8) % 8)..]
@@ -204,7 +205,8 @@ impl Message {
 
     /// The values of the body. Want of memory is the only fault.
     pub fn arguments(&self, alloc: Global) -> Result<Vec<Value>, MarshalFault>
-        ensures values { IfOk result (λ arguments. values_of arguments.items ≡ (said self.now).body) }
+        ensures values { IfOk result (λ arguments. values_of arguments.items
+            ≡ (said self.now).body) }
         ensures memory { IfErr result (λ fault. fault ≡ NoMemory) }
     {
         let body = self.body();

@@ -30,7 +30,8 @@ fn put_together(
     signature: &[u8],
     body: &[u8],
 ) -> Result<Message, FrameFault>
-    ensures { (types : Tys) (values : Vals) → signature.now ≡ codes types → Spells header.now.order 0 types values body.now
+    ensures { (types : Tys) (values : Vals) → signature.now ≡ codes types
+        → Spells header.now.order 0 types values body.now
         → MatchResult result (λ m. IsWritten m (message_of header.now types values)) (λ f. f ≢ WithoutMemory → IsOwnFault (message_of header.now types values) f × HasNoWriting (message_of header.now types values)) }
 {
     if header.kind.number() == 0 {
@@ -48,9 +49,14 @@ fn put_together(
 
 /// The bytes of values, from the beginning of a body.
 fn body_of(alloc: Global, header: &Header<'_>, values: &[Value]) -> Result<Vec<u8>, FrameFault>
-    ensures written { IfOk result (λ bytes. Spells header.now.order 0 (types_of_values (values_of values.now)) (values_of values.now) bytes.items) }
-    ensures encoded { IfOk result (λ bytes. encode_at header.now.order 0 (values_of values.now) ≡ Ok bytes.items) }
-    ensures refused { IfErr result (λ f. f ≢ WithoutMemory → (e : MarshalFault) × (f ≡ Body e) × (encode_at header.now.order 0 (values_of values.now) ≡ Err e)) }
+    ensures written { IfOk result
+        (λ bytes. Spells header.now.order 0 (types_of_values (values_of values.now))
+        (values_of values.now) bytes.items) }
+    ensures encoded { IfOk result (λ bytes. encode_at header.now.order 0 (values_of values.now)
+        ≡ Ok bytes.items) }
+    ensures refused { IfErr result (λ f. f ≢ WithoutMemory
+        → (e : MarshalFault) × (f ≡ Body e)
+        × (encode_at header.now.order 0 (values_of values.now) ≡ Err e)) }
 {
     let mut bytes = Vec::new(alloc);
     match encode(alloc, header.order, 0, values, &mut bytes) {
@@ -74,11 +80,16 @@ impl Message {
     /// field that the type requires ("Header Fields"). `NoMemory` where memory runs out.
     pub fn new(alloc: Global, header: &Header<'_>, values: &[Value]) -> Result<Message, FrameFault>
         // It is the message of this header and these values.
-        ensures message { IfOk result (λ m. IsWritten m (message_of header.now (types_of_values (values_of values.now)) (values_of values.now))) }
+        ensures message { IfOk result
+            (λ m. IsWritten m (message_of header.now (types_of_values (values_of values.now))
+            (values_of values.now))) }
         // It is refused only where there is no such message, unless memory runs out.
-        ensures none { IfErr result (λ f. f ≢ WithoutMemory → HasNoWriting (message_of header.now (types_of_values (values_of values.now)) (values_of values.now))) }
+        ensures none { IfErr result (λ f. f ≢ WithoutMemory
+            → HasNoWriting (message_of header.now (types_of_values (values_of values.now))
+            (values_of values.now))) }
         // Which fault it is.
-        ensures fault { IfErr result (λ f. f ≢ WithoutMemory → IsFaultOfValues header.now (values_of values.now) f) }
+        ensures fault { IfErr result (λ f. f ≢ WithoutMemory
+            → IsFaultOfValues header.now (values_of values.now) f) }
     {
         let body = body_of(alloc, header, values)?;
         let mut signature = Vec::new(alloc);
@@ -100,12 +111,16 @@ impl Message {
         body: &[u8],
     ) -> Result<Message, FrameFault>
         // It is the message of this header and of the values that the bytes are.
-        ensures message { IfOk result (λ m. (types : Tys) × (values : Vals) × (signature.now ≡ codes types) × Spells header.now.order 0 types values body.now × IsWritten m (message_of header.now types values)) }
+        ensures message { IfOk result (λ m. (types : Tys) × (values : Vals)
+            × (signature.now ≡ codes types) × Spells header.now.order 0 types values body.now
+            × IsWritten m (message_of header.now types values)) }
         // Where the header and the body make one, want of memory alone refuses it.
-        ensures made { (types : Tys) (values : Vals) → signature.now ≡ codes types → Spells header.now.order 0 types values body.now
+        ensures made { (types : Tys) (values : Vals) → signature.now ≡ codes types
+            → Spells header.now.order 0 types values body.now
             → MatchResult result (λ m. IsWritten m (message_of header.now types values)) (λ f. f ≢ WithoutMemory → HasNoWriting (message_of header.now types values)) }
         // Which fault it is.
-        ensures fault { IfErr result (λ f. f ≢ WithoutMemory → IsFaultOfBytes header.now signature.now body.now f) }
+        ensures fault { IfErr result (λ f. f ≢ WithoutMemory
+            → IsFaultOfBytes header.now signature.now body.now f) }
     {
         check_body(header.order, signature.as_bytes(), body)?;
         put_together(alloc, header, signature.as_bytes(), body)

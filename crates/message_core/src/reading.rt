@@ -65,7 +65,8 @@ fn required(kind: MessageKind) -> &'static [HeaderField]
 /// Looks for the first required field that isn't there.
 fn check_required(kind: MessageKind, places: &[FieldPlace]) -> Result<(), FrameFault>
     ensures complete { OnOk result (unplaced (required_of kind) places.now ≡ None) }
-    ensures missing { IfErr result (λ f. (k : HeaderField) × (f ≡ Missing (code_of k)) × (unplaced (required_of kind) places.now ≡ Some k)) }
+    ensures missing { IfErr result (λ f. (k : HeaderField) × (f ≡ Missing (code_of k))
+        × (unplaced (required_of kind) places.now ≡ Some k)) }
 {
     for field in required(kind) {
         if !has_code(places, field.code()) {
@@ -78,9 +79,12 @@ fn check_required(kind: MessageKind, places: &[FieldPlace]) -> Result<(), FrameF
 /// Checks that the body has the values that its signature says, and no byte more.
 pub fn check_body(order: Order, signature: &[u8], body: &[u8]) -> Result<(), FrameFault>
     ensures signed { OnOk result (is_ok (signature_of signature.now) ≡ true) }
-    ensures unsigned { IfErr result (λ f. is_ok (signature_of signature.now) ≡ false → f ≡ Field 8) }
-    ensures body { OnOk result ((types : Tys) → signature_of signature.now ≡ Ok types → IsBody order types body.now) }
-    ensures fault { IfErr result (λ f. (types : Tys) → signature_of signature.now ≡ Ok types → IsBodyFault order types body.now f) }
+    ensures unsigned { IfErr result (λ f. is_ok (signature_of signature.now) ≡ false
+        → f ≡ Field 8) }
+    ensures body { OnOk result ((types : Tys) → signature_of signature.now ≡ Ok types
+        → IsBody order types body.now) }
+    ensures fault { IfErr result (λ f. (types : Tys) → signature_of signature.now ≡ Ok types
+        → IsBodyFault order types body.now f) }
 {
     let Ok(types) = Types::from_bytes(signature) else {
         return Err(FrameFault::Field(8));

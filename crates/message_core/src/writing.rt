@@ -75,7 +75,8 @@ fn put_number(output: &mut Vec<u8>, order: Order, number: u32) -> Result<(), All
 
 /// Puts the padding to the next multiple of eight.
 fn put_padding(output: &mut Vec<u8>) -> Result<(), AllocError>
-    ensures { OnOk result (output.new.items ≡ output.old.items ++ pads 8 (length output.old.items)) }
+    ensures { OnOk result (output.new.items
+        ≡ output.old.items ++ pads 8 (length output.old.items)) }
 {
     output.reserve(8)?;
     let at = output.len();
@@ -85,7 +86,9 @@ fn put_padding(output: &mut Vec<u8>) -> Result<(), AllocError>
 
 /// Puts what comes before the value of a field of a basic type: the padding, its code, its signature.
 fn put_start(output: &mut Vec<u8>, field: HeaderField, letter: u8) -> Result<(), AllocError>
-    ensures { OnOk result (output.new.items ≡ output.old.items ++ (pads 8 (length output.old.items) ++ (code_of field ∷ 1 ∷ letter ∷ 0 ∷ []))) }
+    ensures { OnOk result (output.new.items
+        ≡ output.old.items ++ (pads 8 (length output.old.items)
+        ++ (code_of field ∷ 1 ∷ letter ∷ 0 ∷ []))) }
 {
     output.reserve(12)?;
     let at = output.len();
@@ -102,9 +105,13 @@ fn put_text(
     text: &str,
 ) -> Result<(), FrameFault>
     requires clean { has_zero text.now ≡ false }
-    ensures put { OnOk result (output.new.items ≡ output.old.items ++ (pads 8 (length output.old.items) ++ (code_of field ∷ 1 ∷ letter ∷ 0 ∷ []) ++ (number_bytes order w32 (length text.now) ++ ended text.now))) }
+    ensures put { OnOk result (output.new.items
+        ≡ output.old.items ++ (pads 8 (length output.old.items)
+        ++ (code_of field ∷ 1 ∷ letter ∷ 0 ∷ [])
+        ++ (number_bytes order w32 (length text.now) ++ ended text.now))) }
     ensures string { OnOk result (IsString text.now) }
-    ensures refused { IfErr result (λ f. f ≢ NoMemory → (f ≡ TooLong) × (2 ^ 32 ≤ length text.now)) }
+    ensures refused { IfErr result (λ f. f ≢ NoMemory
+        → (f ≡ TooLong) × (2 ^ 32 ≤ length text.now)) }
 {
     let Ok(length) = u32::try_from(text.len()) else {
         return Err(FrameFault::TooLong);
@@ -123,7 +130,9 @@ fn put_name<N: Name>(
     field: HeaderField,
     name: &Option<N>,
 ) -> Result<(), FrameFault>
-    ensures put { (sent : List Field) → AreWritten order sent output.old.items → OnOk result (AreWritten order (sent ++ optional_field field (λ n. a_string (N.text n)) name.now) output.new.items) }
+    ensures put { (sent : List Field) → AreWritten order sent output.old.items
+        → OnOk result (AreWritten order (sent
+        ++ optional_field field (λ n. a_string (N.text n)) name.now) output.new.items) }
     ensures memory { IfErr result (λ f. f ≡ NoMemory) }
 {
     match name {
@@ -138,8 +147,12 @@ fn put_path(
     order: Order,
     path: &Option<ObjectPath<'_>>,
 ) -> Result<(), FrameFault>
-    ensures put { (sent : List Field) → AreWritten order sent output.old.items → OnOk result (AreWritten order (sent ++ optional_field field_of.Path an_object_path path.now) output.new.items) }
-    ensures refused { IfErr result (λ f. f ≢ NoMemory → (f ≡ TooLong) × (AreKnownValues (optional_field field_of.Path an_object_path path.now) → ⊥)) }
+    ensures put { (sent : List Field) → AreWritten order sent output.old.items
+        → OnOk result (AreWritten order (sent
+        ++ optional_field field_of.Path an_object_path path.now) output.new.items) }
+    ensures refused { IfErr result (λ f. f ≢ NoMemory
+        → (f ≡ TooLong) × (AreKnownValues (optional_field field_of.Path an_object_path path.now)
+        → ⊥)) }
 {
     match path {
         Some(path) => put_text(output, order, HeaderField::Path, b'o', path.as_str()),
@@ -153,7 +166,9 @@ fn put_reply_serial(
     order: Order,
     serial: Option<u32>,
 ) -> Result<(), FrameFault>
-    ensures put { (sent : List Field) → AreWritten order sent output.old.items → OnOk result (AreWritten order (sent ++ optional_field field_of.ReplySerial a_uint32 serial) output.new.items) }
+    ensures put { (sent : List Field) → AreWritten order sent output.old.items
+        → OnOk result (AreWritten order (sent
+        ++ optional_field field_of.ReplySerial a_uint32 serial) output.new.items) }
     ensures memory { IfErr result (λ f. f ≡ NoMemory) }
 {
     match serial {
@@ -168,8 +183,11 @@ fn put_reply_serial(
 
 /// Puts SIGNATURE, where the body has values.
 fn put_signature(output: &mut Vec<u8>, signature: &[u8]) -> Result<(), FrameFault>
-    ensures put { (order : Order) (types : Tys) (sent : List Field) → signature.now ≡ codes types → IsSignature types → AreWritten order sent output.old.items → OnOk result (AreWritten order (sent ++ signature_field types) output.new.items) }
-    ensures refused { IfErr result (λ f. f ≢ NoMemory → (types : Tys) → signature.now ≡ codes types → IsSignature types → ⊥) }
+    ensures put { (order : Order) (types : Tys) (sent : List Field) → signature.now ≡ codes types
+        → IsSignature types → AreWritten order sent output.old.items
+        → OnOk result (AreWritten order (sent ++ signature_field types) output.new.items) }
+    ensures refused { IfErr result (λ f. f ≢ NoMemory → (types : Tys) → signature.now ≡ codes types
+        → IsSignature types → ⊥) }
 {
     if signature.is_empty() {
         return Ok(());
@@ -190,8 +208,11 @@ pub fn put_fields(
     header: &Header<'_>,
     signature: &[u8],
 ) -> Result<(), FrameFault>
-    ensures put { (types : Tys) → signature.now ≡ codes types → IsSignature types → output.old.items ≡ [] → OnOk result (AreWritten header.now.order (fields_of header.now types) output.new.items) }
-    ensures refused { IfErr result (λ f. f ≢ NoMemory → (types : Tys) → signature.now ≡ codes types → IsSignature types → (f ≡ TooLong) × (AreKnownValues (fields_of header.now types) → ⊥)) }
+    ensures put { (types : Tys) → signature.now ≡ codes types → IsSignature types
+        → output.old.items ≡ [] → OnOk result
+        (AreWritten header.now.order (fields_of header.now types) output.new.items) }
+    ensures refused { IfErr result (λ f. f ≢ NoMemory → (types : Tys) → signature.now ≡ codes types
+        → IsSignature types → (f ≡ TooLong) × (AreKnownValues (fields_of header.now types) → ⊥)) }
 {
     let order = header.order;
     put_path(output, order, &header.path)?;
@@ -220,8 +241,10 @@ pub fn lay_out(
     fields: &[u8],
     body: &[u8],
 ) -> Result<Vec<u8>, FrameFault>
-    ensures laid { IfOk result (λ bytes. (types : Tys) (values : Vals) → IsLaidOut (message_of header.now types values) fields.now body.now bytes.items) }
-    ensures refused { IfErr result (λ f. f ≢ NoMemory → (f ≡ TooLong) × ((2 ^ 32 ≤ length fields.now) ⊎ (2 ^ 32 ≤ length body.now))) }
+    ensures laid { IfOk result (λ bytes. (types : Tys) (values : Vals)
+        → IsLaidOut (message_of header.now types values) fields.now body.now bytes.items) }
+    ensures refused { IfErr result (λ f. f ≢ NoMemory
+        → (f ≡ TooLong) × ((2 ^ 32 ≤ length fields.now) ⊎ (2 ^ 32 ≤ length body.now))) }
 {
     let (Ok(fields_length), Ok(body_length)) = (
         u32::try_from(fields.len()),

@@ -26,7 +26,8 @@ impl<'a> Model for Deliveries<'a> {
 
     ghost Value = { List Conn };
 
-    ghost view = { λ d. d.to.now ++ filter (λ m. not (is_among d.recipients.now m)) d.monitors.now };
+    ghost view = { λ d. d.to.now ++ filter
+        (λ m. not (is_among d.recipients.now m)) d.monitors.now };
 }
 
 fn is_among(conns: &[Conn], conn: Conn) -> bool

@@ -48,7 +48,8 @@ fn place_among(members: &[Member], number: u64) -> usize
 
 /// The number of the connection that has this name, if there ever is one.
 pub fn number_of(name: &str) -> Option<u64>
-    ensures { (number : ℕ) → number < 2 ^ 64 → (result ≡ Some number) ↔ (name.now ≡ unique_text number) }
+    ensures { (number : ℕ) → number < 2 ^ 64 → (result ≡ Some number)
+        ↔ (name.now ≡ unique_text number) }
 {
     UniqueName::number_in(name)
 }

@@ -74,7 +74,8 @@ impl MemberTable {
 
     /// The connection of this number.
     pub fn member(&self, number: u64) -> Option<&Member>
-        ensures { option_map (λ m. m.now) result ≡ option_map member_of (find (λ c. c.number == number) self.now) }
+        ensures { option_map (λ m. m.now) result
+            ≡ option_map member_of (find (λ c. c.number == number) self.now) }
     {
         match find_place(&self.members, number) {
             Some(place) => Some(&self.members[place]),
@@ -105,7 +106,8 @@ impl MemberTable {
 
     /// Whether there is a connection of this number that proved to be its user's.
     pub fn is_privileged(&self, number: u64) -> bool
-        ensures { result ≡ option_map_or (λ c. c.privileged) (find (λ c. c.number == number) self.now) false }
+        ensures { result ≡ option_map_or (λ c. c.privileged)
+            (find (λ c. c.number == number) self.now) false }
     {
         match self.member(number) {
             Some(member) => member.privileged,

@@ -38,7 +38,8 @@ impl Model for NameIndex {
 
     ghost view = { λ t. record { holdings = t.holdings.items; names = t.names.items } };
 
-    ghost invariant = { λ t. IsIndex (record { holdings = t.holdings.items; names = t.names.items }) (vec_capacity t.holdings) };
+    ghost invariant = { λ t. IsIndex
+        (record { holdings = t.holdings.items; names = t.names.items }) (vec_capacity t.holdings) };
 }
 
 impl NameIndex {
@@ -62,7 +63,8 @@ impl NameIndex {
         requires unused { (c : ℕ) → held c id self.old.holdings ≡ 0 }
         ensures holdings { self.new.holdings ≡ self.old.holdings }
         ensures own { name_at self.new.names id ≡ name.now }
-        ensures others { (i : ℕ) → (id == i) ≡ false → name_at self.new.names i ≡ name_at self.old.names i }
+        ensures others { (i : ℕ) → (id == i) ≡ false
+            → name_at self.new.names i ≡ name_at self.old.names i }
     {
         self.names[id] = *name;
     }
@@ -78,7 +80,9 @@ impl NameIndex {
 
     /// One of the names that a connection owns or waits for, counted from 0 by rising bytes.
     pub fn nth_name(&self, connection: u64, n: usize) -> &str
-        ensures value { n < length (ids_of connection self.now.holdings) → result.now ≡ name_at self.now.names (get_or (ids_of connection self.now.holdings) n 0) }
+        ensures value { n < length (ids_of connection self.now.holdings)
+            → result.now ≡ name_at self.now.names
+            (get_or (ids_of connection self.now.holdings) n 0) }
         ensures sorted { AreSorted self.now.names self.now.holdings }
     {
         let start = start_of(self.holdings.as_slice(), connection);
@@ -92,9 +96,12 @@ impl NameIndex {
     pub fn replace(&mut self, id: usize, old: &Queue, new: &Queue)
         requires held { (c : ℕ) → (if is_in c old.now then 1 else 0) ≤ held c id self.old.holdings }
         requires few { length self.old.holdings + length new.now ≤ MAX_QUEUED + length old.now }
-        ensures its { (c : ℕ) → held c id self.new.holdings + (if is_in c old.now then 1 else 0) ≡ held c id self.old.holdings + (if is_in c new.now then 1 else 0) }
-        ensures others { (c i : ℕ) → (id == i) ≡ false → held c i self.new.holdings ≡ held c i self.old.holdings }
-        ensures all { length self.new.holdings + length old.now ≡ length self.old.holdings + length new.now }
+        ensures its { (c : ℕ) → held c id self.new.holdings + (if is_in c old.now then 1 else 0)
+            ≡ held c id self.old.holdings + (if is_in c new.now then 1 else 0) }
+        ensures others { (c i : ℕ) → (id == i) ≡ false
+            → held c i self.new.holdings ≡ held c i self.old.holdings }
+        ensures all { length self.new.holdings + length old.now
+            ≡ length self.old.holdings + length new.now }
         ensures names { self.new.names ≡ self.old.names }
     {
         self.take_all(id, old.as_slice());
@@ -104,8 +111,10 @@ impl NameIndex {
     /// Each connection of a queue has the name.
     pub fn add_all(&mut self, id: usize, queue: &[QueuedOwner])
         requires { length self.old.holdings + length queue.now ≤ MAX_QUEUED }
-        ensures its { (c : ℕ) → held c id self.new.holdings ≡ held c id self.old.holdings + count_by (λ o. o.connection == c) queue.now }
-        ensures others { (c i : ℕ) → (id == i) ≡ false → held c i self.new.holdings ≡ held c i self.old.holdings }
+        ensures its { (c : ℕ) → held c id self.new.holdings
+            ≡ held c id self.old.holdings + count_by (λ o. o.connection == c) queue.now }
+        ensures others { (c i : ℕ) → (id == i) ≡ false
+            → held c i self.new.holdings ≡ held c i self.old.holdings }
         ensures all { length self.new.holdings ≡ length self.old.holdings + length queue.now }
         ensures names { self.new.names ≡ self.old.names }
     {
@@ -116,9 +125,12 @@ impl NameIndex {
 
     /// Each connection of a queue has the name no longer.
     pub fn take_all(&mut self, id: usize, queue: &[QueuedOwner])
-        requires { (c : ℕ) → count_by (λ o. o.connection == c) queue.now ≤ held c id self.old.holdings }
-        ensures its { (c : ℕ) → held c id self.new.holdings + count_by (λ o. o.connection == c) queue.now ≡ held c id self.old.holdings }
-        ensures others { (c i : ℕ) → (id == i) ≡ false → held c i self.new.holdings ≡ held c i self.old.holdings }
+        requires { (c : ℕ) → count_by (λ o. o.connection == c) queue.now
+            ≤ held c id self.old.holdings }
+        ensures its { (c : ℕ) → held c id self.new.holdings
+            + count_by (λ o. o.connection == c) queue.now ≡ held c id self.old.holdings }
+        ensures others { (c i : ℕ) → (id == i) ≡ false
+            → held c i self.new.holdings ≡ held c i self.old.holdings }
         ensures all { length self.new.holdings + length queue.now ≡ length self.old.holdings }
         ensures names { self.new.names ≡ self.old.names }
     {
@@ -140,8 +152,10 @@ impl NameIndex {
     /// A connection has the name.
     fn add(&mut self, id: usize, connection: u64)
         requires { length self.old.holdings < MAX_QUEUED }
-        ensures its { (c : ℕ) → held c id self.new.holdings ≡ held c id self.old.holdings + (if connection == c then 1 else 0) }
-        ensures others { (c i : ℕ) → (id == i) ≡ false → held c i self.new.holdings ≡ held c i self.old.holdings }
+        ensures its { (c : ℕ) → held c id self.new.holdings
+            ≡ held c id self.old.holdings + (if connection == c then 1 else 0) }
+        ensures others { (c i : ℕ) → (id == i) ≡ false
+            → held c i self.new.holdings ≡ held c i self.old.holdings }
         ensures all { length self.new.holdings ≡ length self.old.holdings + 1 }
         ensures names { self.new.names ≡ self.old.names }
     {
@@ -154,8 +168,10 @@ impl NameIndex {
     /// A connection has the name no longer.
     pub fn take(&mut self, id: usize, connection: u64)
         requires { 0 < held connection id self.old.holdings }
-        ensures its { (c : ℕ) → held c id self.new.holdings + (if connection == c then 1 else 0) ≡ held c id self.old.holdings }
-        ensures others { (c i : ℕ) → (id == i) ≡ false → held c i self.new.holdings ≡ held c i self.old.holdings }
+        ensures its { (c : ℕ) → held c id self.new.holdings + (if connection == c then 1 else 0)
+            ≡ held c id self.old.holdings }
+        ensures others { (c i : ℕ) → (id == i) ≡ false
+            → held c i self.new.holdings ≡ held c i self.old.holdings }
         ensures all { length self.new.holdings + 1 ≡ length self.old.holdings }
         ensures names { self.new.names ≡ self.old.names }
     {
@@ -210,8 +226,10 @@ fn end_of(holdings: &[Holding], connection: u64) -> usize
 fn place_among(holdings: &[Holding], names: &[BusName], connection: u64, name: &str) -> usize
     requires { AreSorted names.now holdings.now }
     ensures bound { result ≤ length holdings.now }
-    ensures before { AllByRecursion (λ h. comes_before names.now connection name.now h ≡ true) (take result holdings.now) }
-    ensures behind { AllByRecursion (λ h. comes_before names.now connection name.now h ≡ false) (drop result holdings.now) }
+    ensures before { AllByRecursion (λ h. comes_before names.now connection name.now h
+        ≡ true) (take result holdings.now) }
+    ensures behind { AllByRecursion (λ h. comes_before names.now connection name.now h
+        ≡ false) (drop result holdings.now) }
 {
     holdings.partition_point(|holding| comes_before(holding, names, connection, name))
 }

@@ -46,7 +46,9 @@ impl Model for NameTable {
 
     ghost view = { λ t. map (λ b. owned_name b.value) t.entries.items };
 
-    ghost invariant = { λ t. AreInTable (map (λ b. owned_name b.value) t.entries.items) (length t.spare.items) t.queued (vec_capacity t.entries) (vec_capacity t.spare) × AreIndexed t.entries.items t.spare.items t.index t.queued };
+    ghost invariant = { λ t. AreInTable (map (λ b. owned_name b.value) t.entries.items)
+        (length t.spare.items) t.queued (vec_capacity t.entries) (vec_capacity t.spare)
+        × AreIndexed t.entries.items t.spare.items t.index t.queued };
 }
 
 impl NameTable {
@@ -97,7 +99,8 @@ impl NameTable {
 
     /// The queue of a name, if the name has an owner.
     pub fn queue(&self, name: &str) -> Option<&Queue>
-        ensures { MatchOption result (queue_of self.now name.now ≡ []) (λ queue. queue.now ≡ queue_of self.now name.now) }
+        ensures { MatchOption result (queue_of self.now name.now ≡ []) (λ queue. queue.now
+            ≡ queue_of self.now name.now) }
     {
         match search(self.entries.as_slice(), name) {
             Ok(place) => Some(&self.entries[place].queue),
@@ -174,8 +177,12 @@ impl NameTable {
     /// Takes a connection out of the queue at a place. A name goes with its last connection.
     fn leave_at(&mut self, place: usize, connection: u64)
         requires there { place < length self.old }
-        requires waits { (front back : List OwnedName) (n : OwnedName) → self.old ≡ front ++ n ∷ back → length front ≡ place → is_in connection n.queue ≡ true }
-        ensures { (front back : List OwnedName) (n : OwnedName) → self.old ≡ front ++ n ∷ back → length front ≡ place → self.new ≡ front ++ kept_name n.name (without connection n.queue) ++ back }
+        requires waits { (front back : List OwnedName) (n : OwnedName)
+            → self.old ≡ front ++ n ∷ back → length front ≡ place
+            → is_in connection n.queue ≡ true }
+        ensures { (front back : List OwnedName) (n : OwnedName) → self.old ≡ front ++ n ∷ back
+            → length front ≡ place → self.new
+            ≡ front ++ kept_name n.name (without connection n.queue) ++ back }
     {
         if self.entries[place].queue.as_slice().len() > 1 {
             self.shorten(place, connection);
@@ -188,8 +195,11 @@ impl NameTable {
     fn requeue(&mut self, place: usize, queue: &Queue)
         requires there { place < length self.old }
         requires owned { is_free queue.now ≡ false }
-        requires few_places { (front back : List OwnedName) (n : OwnedName) → self.old ≡ front ++ n ∷ back → length front ≡ place → queued_in (front ++ record n { queue = queue.now } ∷ back) ≤ MAX_QUEUED }
-        ensures { (front back : List OwnedName) (n : OwnedName) → self.old ≡ front ++ n ∷ back → length front ≡ place → self.new ≡ front ++ record n { queue = queue.now } ∷ back }
+        requires few_places { (front back : List OwnedName) (n : OwnedName)
+            → self.old ≡ front ++ n ∷ back → length front ≡ place
+            → queued_in (front ++ record n { queue = queue.now } ∷ back) ≤ MAX_QUEUED }
+        ensures { (front back : List OwnedName) (n : OwnedName) → self.old ≡ front ++ n ∷ back
+            → length front ≡ place → self.new ≡ front ++ record n { queue = queue.now } ∷ back }
     {
         let entry = &mut self.entries[place];
         self.queued -= entry.queue.as_slice().len();
@@ -201,9 +211,15 @@ impl NameTable {
     /// Takes a connection out of the queue at a place where others stand too.
     fn shorten(&mut self, place: usize, connection: u64)
         requires there { place < length self.old }
-        requires owned { (front back : List OwnedName) (n : OwnedName) → self.old ≡ front ++ n ∷ back → length front ≡ place → is_free (without connection n.queue) ≡ false }
-        requires waits { (front back : List OwnedName) (n : OwnedName) → self.old ≡ front ++ n ∷ back → length front ≡ place → is_in connection n.queue ≡ true }
-        ensures { (front back : List OwnedName) (n : OwnedName) → self.old ≡ front ++ n ∷ back → length front ≡ place → self.new ≡ front ++ record n { queue = without connection n.queue } ∷ back }
+        requires owned { (front back : List OwnedName) (n : OwnedName)
+            → self.old ≡ front ++ n ∷ back → length front ≡ place
+            → is_free (without connection n.queue) ≡ false }
+        requires waits { (front back : List OwnedName) (n : OwnedName)
+            → self.old ≡ front ++ n ∷ back → length front ≡ place
+            → is_in connection n.queue ≡ true }
+        ensures { (front back : List OwnedName) (n : OwnedName) → self.old ≡ front ++ n ∷ back
+            → length front ≡ place → self.new
+            ≡ front ++ record n { queue = without connection n.queue } ∷ back }
     {
         let entry = &mut self.entries[place];
         self.queued -= entry.queue.as_slice().len();
@@ -215,7 +231,8 @@ impl NameTable {
     /// Takes out the name at a place.
     fn remove_at(&mut self, place: usize)
         requires { place < length self.old }
-        ensures { (front back : List OwnedName) (n : OwnedName) → self.old ≡ front ++ n ∷ back → length front ≡ place → self.new ≡ front ++ back }
+        ensures { (front back : List OwnedName) (n : OwnedName) → self.old ≡ front ++ n ∷ back
+            → length front ≡ place → self.new ≡ front ++ back }
     {
         let entry = self.entries.remove(place);
         self.queued -= entry.queue.as_slice().len();
@@ -226,7 +243,8 @@ impl NameTable {
     /// A name that was not there, at its place.
     fn add(&mut self, place: usize, name: &BusName, queue: &Queue)
         requires there { place ≤ length self.old }
-        requires rise { NamesRise (insert self.old place (record { name = name.now; queue = queue.now })) }
+        requires rise { NamesRise (insert self.old place
+            (record { name = name.now; queue = queue.now })) }
         requires owned { is_free queue.now ≡ false }
         requires few_names { length self.old < MAX_NAMES }
         requires few_places { queued_in self.old + length queue.now ≤ MAX_QUEUED }
@@ -262,7 +280,9 @@ impl NameTable {
     pub fn place_of_nth(&self, connection: u64, n: usize) -> usize
         requires { n < names_of connection self.now }
         ensures there { result < length self.now }
-        ensures value { (d : OwnedName) → get_or self.now result d ≡ get_or (filter (λ m. is_in connection m.queue) self.now) n d }
+        ensures value { (d : OwnedName)
+            → get_or self.now result d ≡ get_or
+            (filter (λ m. is_in connection m.queue) self.now) n d }
     {
         place_among(self.entries.as_slice(), self.index.nth_name(connection, n))
     }
@@ -276,7 +296,8 @@ fn count(one: bool) -> usize
 
 /// Whether there may be so many names and places, and so many names of one connection.
 fn are_within(names: usize, queued: usize, of_one: usize) -> bool
-    ensures { result ≡ (nat_le names max_names && nat_le queued max_queued && nat_le of_one max_names_of_one) }
+    ensures { result ≡ (nat_le names max_names && nat_le queued max_queued
+        && nat_le of_one max_names_of_one) }
 {
     names <= MAX_NAMES && queued <= MAX_QUEUED && of_one <= MAX_NAMES_OF_ONE
 }
@@ -372,8 +393,10 @@ fn search(entries: &[Box<NameEntry>], name: &str) -> Result<usize, usize>
 fn place_among(entries: &[Box<NameEntry>], name: &str) -> usize
     requires { NamesRise (map (λ b. owned_name b.value) entries.now) }
     ensures bound { result ≤ length entries.now }
-    ensures before { AllByRecursion (λ n. text_lt n.name name.now ≡ true) (take result (map (λ b. owned_name b.value) entries.now)) }
-    ensures behind { AllByRecursion (λ n. text_lt n.name name.now ≡ false) (drop result (map (λ b. owned_name b.value) entries.now)) }
+    ensures before { AllByRecursion (λ n. text_lt n.name name.now
+        ≡ true) (take result (map (λ b. owned_name b.value) entries.now)) }
+    ensures behind { AllByRecursion (λ n. text_lt n.name name.now
+        ≡ false) (drop result (map (λ b. owned_name b.value) entries.now)) }
 {
     entries.partition_point(|entry| entry.name.as_str() < name)
 }

@@ -146,7 +146,8 @@ impl<V: BusView, P: Post<V>, S: Socket> Carrier<V, P, S> {
         name: Box<BusName>,
         start: u64,
     ) -> Result<(), Action<V::Note>>
-        ensures done { OnOk result (IsCarriedOut P.puts P.starts (Run name start) self.old self.new) }
+        ensures done { OnOk result (IsCarriedOut P.puts P.starts
+            (Run name start) self.old self.new) }
         ensures refused { OnErr result (self.new ≡ self.old) }
         ensures back { IfErr result (λ later. later ≡ Run name start) }
         ensures registry { P.registry self.new.post ≡ P.registry self.old.post }

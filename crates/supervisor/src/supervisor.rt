@@ -57,7 +57,8 @@ fn report_late(start: &Start) -> Deed
 
 /// Reports the starts whose programs have had their time.
 fn report_all_late(alloc: Global, starts: &[Start], now: u64) -> Result<Vec<Deed>, AllocError>
-    ensures { IfOk result (λ deeds. deeds.items ≡ map report_late (filter (is_late now) starts.now)) }
+    ensures { IfOk result (λ deeds. deeds.items
+        ≡ map report_late (filter (is_late now) starts.now)) }
 {
     starts
         .iter()

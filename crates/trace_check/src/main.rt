@@ -87,7 +87,8 @@ fn check_bytes<R: Print + Eprint + AllocGlobal>(
     file: &[u8],
     explains: bool,
 ) -> Result<ExitCode, CheckFault>
-    ensures { IfOk result (λ status. exit_status status ≡ verdict_status (verdict_of_file file.now)) }
+    ensures { IfOk result (λ status. exit_status status
+        ≡ verdict_status (verdict_of_file file.now)) }
 {
     let verdict = check(rt.alloc(), file)?;
     let status = tell(rt, verdict)?;
@@ -126,7 +127,8 @@ fn fail<R: Eprint>(rt: &R, fault: CheckFault) -> ExitCode
 
 /// Tells what is wrong with the command line, or prints the help that it asks for.
 fn refuse<R: Print + Eprint>(rt: &R, error: &Error) -> ExitCode
-    ensures { (exit_status result ≡ refusal_status (kind_of error.now)) ⊎ (exit_status result ≡ status_of Output) }
+    ensures { (exit_status result ≡ refusal_status (kind_of error.now))
+        ⊎ (exit_status result ≡ status_of Output) }
 {
     if error.kind() == ErrorKind::OutOfMemory {
         return fail(rt, CheckFault::Memory);

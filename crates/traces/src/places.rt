@@ -37,7 +37,8 @@ impl<'t> Place<'t> {
     /// Takes a line that stands there.
     fn take(&mut self, line: NumberedLine<'t>) -> Result<(), AllocError>
         requires { is_change line.line.now ≡ true → self.old.change ≡ None }
-        ensures { OnOk result (place_seen self.new ≡ with_line_there (place_seen self.old) (line_seen line.entry)) }
+        ensures { OnOk result (place_seen self.new
+            ≡ with_line_there (place_seen self.old) (line_seen line.entry)) }
     {
         if line.line.number().is_some() {
             self.change = Some(line);
