@@ -17,7 +17,7 @@ mod tables;
 
 use owned::Owned;
 use report::Report;
-use rules::{Facts, Rule};
+use rules::{Argument, Facts, Rule};
 use std::hint::black_box;
 use std::sync::atomic::{AtomicBool, Ordering};
 use std::sync::{Mutex, RwLock};
@@ -43,7 +43,7 @@ fn signal() -> Facts {
         interface: Some("org.freedesktop.login1.Manager"),
         member: Some("SessionNew"),
         destination: None,
-        arguments: Vec::new(),
+        arguments: vec![Argument::String("com.example.N7")],
     }
 }
 
@@ -75,6 +75,13 @@ fn add_rules(bus: &RwLock<Tables>, rule: &Rule, each: u64) {
     }
 }
 
+fn add_argument_rules(bus: &RwLock<Tables>, count: u64) {
+    for number in 0..count {
+        let text = format!("type='signal',interface='org.freedesktop.login1.Manager',member='SessionNew',arg0='com.example.N{number}'");
+        bus.write().unwrap().add(1 + number % CONNECTIONS, Rule::parse(&text).expect("it is a rule"));
+    }
+}
+
 fn route(report: &Report, name: &str, bus: &RwLock<Tables>, facts: &Facts) {
     report.tell(name, |_| 1 + bus.read().unwrap().route(black_box(facts)).len() as u64);
 }
@@ -100,6 +107,9 @@ fn measure_signals(report: &Report) {
     route(report, "signals: route a signal, 64 rules that it fits", &bus, &signal());
     add_rules(&bus, &rule, 252);
     route(report, "signals: route a signal, 4,096 rules that it fits", &bus, &signal());
+    let bus = opened();
+    add_argument_rules(&bus, 4_096);
+    route(report, "signals: route a signal, 4,096 rules with first arguments of their own", &bus, &signal());
 }
 
 fn tell_of_names(report: &Report, name: &str, names: &Mutex<Owned>) {

@@ -1,7 +1,7 @@
 //! The registry that is measured: its connections, rules and names, and messages that are routed by it.
 
 use arrayvec::ArrayVec;
-use match_rules::{Facts, MessageKind, Rule};
+use match_rules::{Argument, Facts, MessageKind, Rule};
 use names::BusName;
 use owner_queues::RequestFlags;
 use seq_bus_core::Change;
@@ -54,6 +54,8 @@ pub fn release(connection: u64, name: BusName) -> Change {
 }
 
 fn message(kind: MessageKind, destination: Option<&'static str>) -> Facts<'static> {
+    let mut arguments = ArrayVec::new();
+    arguments.push(Argument::String("com.example.N7"));
     Facts {
         kind,
         auto_start: true,
@@ -62,11 +64,11 @@ fn message(kind: MessageKind, destination: Option<&'static str>) -> Facts<'stati
         interface: Some("org.freedesktop.login1.Manager"),
         member: Some("SessionNew"),
         destination,
-        arguments: ArrayVec::new(),
+        arguments,
     }
 }
 
-/// A signal to everybody.
+/// A signal to everybody, with a name as its first argument.
 pub fn signal() -> Facts<'static> {
     message(MessageKind::Signal, None)
 }

@@ -13,7 +13,8 @@ use std::time::Clock;
 /// What is done once.
 ///
 /// It finds the same each time, which the checksum folds 64 times, and which follows from what is done: a call gets to one
-/// connection, and a signal to the 16 that have a rule that it fits or to none, and one is added; of rules 2 or 128 changes are
+/// connection, and a signal to the 16 that have a rule that it fits, to the one that asks for its first argument or to none, and
+/// one is added; of rules 2 or 128 changes are
 /// done; a name is owned and released, 2; a monitor comes and leaves, 2; of starts 100 wait and 100 are released, 100,100.
 #[derive(Drop)]
 enum Task {
@@ -73,6 +74,16 @@ fn change_rules<J: Naming, R: Wait>(
     }
 }
 
+/// The connections add rules in turn, so many in all, that ask for a first argument of their own, `com.example.N` and a number.
+fn add_argument_rules<J: Naming, R: Wait>(bus: &mut Bus<'_, J, R>, count: u64) -> Result<()> {
+    for number in 0..count {
+        let text = format!(in bus.alloc; "{OWN_RULE},arg0='com.example.N{number}'")?;
+        let rule = Rule::parse(text.as_str())?;
+        bus.change_rules(1 + number % CONNECTIONS, &rule, true, 1);
+    }
+    Ok(())
+}
+
 /// Measures routes, with rules that a signal does not fit and with rules that it fits.
 pub fn signals<J: Naming, R: Print + Clock + Wait>(
     report: &Report<'_, R>,
@@ -97,6 +108,10 @@ pub fn signals<J: Naming, R: Print + Clock + Wait>(
     bus = tell(report, bus, name, Task::Route(signal()))?;
     change_rules(&mut bus, &own, true, 252);
     let name = "signals: route a signal, 4,096 rules that it fits";
+    bus = tell(report, bus, name, Task::Route(signal()))?;
+    change_rules(&mut bus, &own, false, 256);
+    add_argument_rules(&mut bus, 4_096)?;
+    let name = "signals: route a signal, 4,096 rules with first arguments of their own";
     tell(report, bus, name, Task::Route(signal()))?;
     Ok(())
 }
