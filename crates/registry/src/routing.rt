@@ -36,7 +36,7 @@ impl Registry {
     }
 
     /// The same as `route_into`, where each rule that is tested is a step. Only rules are tested whose
-    /// type, interface and member are the message's, and whose sender may be its own.
+    /// type, interface, member and first argument are the message's, and whose sender may be its own.
     pub fn route_counted<L: Ledger>(
         &self,
         from: u64,
