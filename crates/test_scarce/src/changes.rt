@@ -3,10 +3,15 @@
 use match_rules::Rule;
 use names::BusName;
 use owner_queues::{Reply as QueueReply, RequestFlags};
-use seq_bus_core::{Change, Conn, Reply};
+use seq_bus_core::{Change, Conn, Outcome, Reply};
+use std::alloc::{AllocError, Global};
 
 /// How many changes are made. Their places are counted from 0.
 pub const CHANGES: u8 = 11;
+
+/// The places of the changes that are made once more at the end, as a batch: a connection comes, and the first gives up the name
+/// and takes it again.
+const AGAIN: [u8; 3] = [1, 9, 10];
 
 /// The first connection, served by the first router.
 const FIRST: Conn = Conn {
@@ -58,4 +63,28 @@ pub fn reply(place: u8, second: Conn) -> Reply {
         9 => Reply::OfQueue(QueueReply::Released),
         _ => Reply::Done,
     }
+}
+
+fn changes_again(alloc: Global, name: BusName) -> Result<Vec<Change>, AllocError> {
+    let mut changes = Vec::new(alloc);
+    for place in AGAIN {
+        changes.push(change(place, name))?;
+    }
+    Ok(changes)
+}
+
+/// The changes of the batch at the end. Where they find no memory they are made up again.
+pub fn batch(alloc: Global, name: BusName) -> Option<Vec<Change>> {
+    match changes_again(alloc, name) {
+        Ok(changes) => Some(changes),
+        Err(_) => changes_again(alloc, name).ok(),
+    }
+}
+
+/// Whether the changes of the batch have their replies, where this is the connection that comes by it.
+pub fn are_replied(outcomes: &[Outcome], third: Conn) -> bool {
+    outcomes
+        .iter()
+        .map(|outcome| outcome.reply)
+        .eq(AGAIN.iter().map(|place| reply(*place, third)))
 }

@@ -1,10 +1,10 @@
 //! What calls answer where memory is refused.
 //!
 //! The program reads and writes bodies and messages, lets a client in, opens a plain bus and a registry of two routers with
-//! its outboxes, makes the same changes on both buses, starts services in a registry, lets calls wait for a service in an engine, and
-//! serves clients as the host of a router. It says of each whether the calls answered as they should: with what was wanted; or that memory ran out, all as it was
-//! before, and with what was wanted once they are made again. It prints the same whichever one allocation is refused: `make memory`
-//! refuses each in turn.
+//! its outboxes, makes the same changes and a batch on both buses, starts services in a registry, lets calls wait for a
+//! service in an engine, and serves clients as the host of a router. It says of each whether the calls answered as they
+//! should: with what was wanted; or that memory ran out, all as it was before, and with what was wanted once they are made
+//! again. It prints the same whichever one allocation is refused: `make memory` refuses each in turn.
 #![tactic(auto)]
 
 mod authentication;

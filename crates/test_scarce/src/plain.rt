@@ -1,7 +1,8 @@
 //! A plain bus.
 
-use crate::changes::{CHANGES, change, clock, reply};
-use bus_view::{AskFault, Asked, Cause, can_open};
+use crate::changes::{CHANGES, are_replied, batch, change, clock, reply};
+use bus_view::{AskFault, Asked, BatchCause, Cause, can_open};
+use names::BusName;
 use owner_queues::Profile;
 use seq_bus::SeqBus;
 use seq_bus_core::{Change, Conn, Query, Reply};
@@ -10,6 +11,13 @@ use std::alloc::Global;
 /// The second connection: one router of a plain bus makes all changes.
 const SECOND: Conn = Conn {
     number: 2,
+    slot: 1,
+    router: 1,
+};
+
+/// The one that comes when the second has left.
+const THIRD: Conn = Conn {
+    number: 3,
     slot: 1,
     router: 1,
 };
@@ -46,7 +54,10 @@ pub fn is_answered(alloc: Global) -> Option<bool> {
             return Some(false);
         }
     }
-    Some(bus.history().len() == usize::from(CHANGES))
+    if bus.history().len() != usize::from(CHANGES) {
+        return Some(false);
+    }
+    Some(are_made(alloc, &mut bus, clock)? && bus.history().len() == usize::from(CHANGES) + 3)
 }
 
 fn open(alloc: Global) -> Option<SeqBus> {
@@ -71,6 +82,23 @@ fn made(bus: &mut SeqBus, change: Change) -> Option<Reply> {
             Some(bus.change(refused.change).ok()?.reply)
         }
     }
+}
+
+/// Whether the changes of the batch have their replies. One that is refused is made again, and till then the bus is as it was.
+fn are_made(alloc: Global, bus: &mut SeqBus, name: BusName) -> Option<bool> {
+    let changes = batch(alloc, name)?;
+    let length = bus.history().len();
+    let outcomes = match bus.change_all(changes) {
+        Ok(outcomes) => outcomes,
+        Err(refused) => {
+            let is_for_memory = refused.cause == BatchCause::Refused(Cause::NoMemory);
+            if !is_for_memory || bus.history().len() != length || bus.present(3) {
+                return None;
+            }
+            bus.change_all(refused.changes).ok()?
+        }
+    };
+    Some(are_replied(&outcomes, THIRD))
 }
 
 /// Whether a query is answered by this body, which is appended. One that is refused is asked again.
