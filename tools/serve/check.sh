@@ -1,10 +1,12 @@
 #!/usr/bin/env bash
 # Starts busd as its users do, and stops where it answers otherwise than it should: each fault at the start, the help, a
-# daemon that is told to end and one that nobody calls, services that start, and sessions of a command. BUSD names another program.
+# daemon that is told to end and one that nobody calls, services that start, runs that are recorded, and sessions of a
+# command. BUSD and BUS_CHECK name other programs.
 set -euo pipefail
 cd "$(dirname "$0")/../.."
 BUSD=$(realpath "${BUSD:-crates/busd/out/busd}")
 export BUSD
+checker=$(realpath -m "${BUS_CHECK:-crates/trace_check/out/trace_check}")
 session=$PWD/tools/busd-run-session
 client=$PWD/tools/serve/client.py
 room=$(TMPDIR=/tmp mktemp -d)
@@ -12,7 +14,7 @@ bus=
 trap '[ -z "$bus" ] || kill "$bus"; rm -rf "$room"' EXIT
 cd "$room"
 
-mkdir services home session
+mkdir services home session trace
 : > empty
 printf '5 1700000000 c0ffee\n' > keyring
 printf '5 1700000000 c0ffee\n5 1700000000\n' > bad_line
@@ -93,6 +95,7 @@ $usage$more" serve
 $usage$more" serve --address bus --routers 1 --services services --user 1000
     fault 2 "error: a value is required for '--user <NAME>' but none was supplied$more" \
         serve --address bus --routers 1 --services services --keyring keyring --user
+    refused 2 "error: a value is required for '--trace <DIR>' but none was supplied$more" --trace
     refused 2 "error: invalid value '0' for '--routers <N>': 0 is not in 1..=8$more" routers=0
     refused 2 "error: invalid value '9' for '--routers <N>': 9 is not in 1..=8$more" routers=9
     refused 2 "error: invalid value 'two' for '--routers <N>': invalid digit found in string$more" routers=two
@@ -110,6 +113,11 @@ files() {
     refused 4 'busd: keyring: 37/2' keyring=bad_line
     refused 4 'busd: device: input' services=none
     refused 4 'busd: device: input' services=keyring
+    refused 4 'busd: device: trace' --trace none
+    refused 4 'busd: device: trace' --trace ''
+    refused 4 'busd: device: trace' --trace keyring
+    mkdir -p half/router-2.trace
+    refused 4 'busd: device: trace' --trace half
     refused 4 'busd: device: listen' address=taken
     refused 4 'busd: device: listen' address=services
     refused 4 'busd: device: listen' address=none/bus
@@ -120,6 +128,7 @@ files() {
         chmod 000 closed closed_folder
         refused 4 'busd: device: input' keyring=closed
         refused 4 'busd: device: input' services=closed_folder
+        refused 4 'busd: device: trace' --trace closed_folder
         refused 4 'busd: device: listen' address=closed_folder/bus
         chmod 700 closed_folder
     fi
@@ -178,6 +187,10 @@ order() {
     refused 4 'busd: keyring: 36' keyring=empty services=none
     refused 4 'busd: device: input' services=none address=taken
     refused 4 'busd: keyring: 36' keyring=empty address=taken
+    refused 2 'busd: address' address='the bus' --trace none
+    refused 4 'busd: keyring: 36' keyring=empty --trace none
+    refused 4 'busd: services: a.service: 55/4' services=wrong_line --trace none
+    refused 4 'busd: device: trace' --trace none address=taken
 }
 
 full_device() {
@@ -193,6 +206,10 @@ full_device() {
     status=0
     "$BUSD" --help > /dev/full 2> err || status=$?
     [ "$status" = 4 ] || wrong --help
+    mkdir full_head full_router
+    ln -s /dev/full full_head/head.trace
+    refused 4 'busd: device: trace' --trace full_head
+    ln -s /dev/full full_router/router-1.trace
 }
 
 # told ARGUMENT..: it is told on standard output, with status 0
@@ -356,6 +373,70 @@ starts() {
     rm runs.*
 }
 
+# The trace that a daemon has written so far.
+joined() {
+    cat trace/head.trace trace/main.trace trace/router-*.trace
+}
+
+says() {
+    [ "$(joined | "$checker" -)" = "$1" ]
+}
+
+# A run is recorded, and is explained by one history of the bus. How many lines that is was worked out by hand: three for
+# a client that comes and goes (its Hello, the reply, its leave), and what is told behind each call.
+traces() {
+    if ! command -v python3 > /dev/null; then
+        echo "there is no python3 here: no run was recorded"
+        return
+    fi
+    local bus_name=org.freedesktop.DBus
+    if [ -e full_router ]; then
+        begin routers=1 --anonymous --trace full_router
+        timeout 20 "$client" "$address" ask ListNames > out 2>&1 || true
+        status=0
+        wait "$bus" || status=$?
+        bus=
+        [ "$status" = 4 ] && [ "$(< said)" = 'busd: device: trace' ] || wrong "writes no trace: $(< said)"
+        rm bus
+    fi
+    # Of an earlier trace nothing is left.
+    for file in head main router-1 router-2; do
+        printf 'c 1 1 1 hello 1\n' > "trace/$file.trace"
+    done
+    service recorded 1 "$group" 'Name=com.example.Owns' "Exec=$client unix:path=bus own com.example.Owns"
+    service recorded 2 "$group" 'Name=com.example.Fails' 'Exec=false'
+    begin routers=2 services=recorded --anonymous --trace trace
+    # The message, the query, the reply.
+    told_to "$bus_name com.example.Fails com.example.Owns" ask ListActivatableNames
+    # The message, the error.
+    told_to "$bus_name.Error.ServiceUnknown" call com.example.Unknown
+    # The message, the change that holds it; of the service Hello, the reply, RequestName, the change, the reply; its answer.
+    told_to here call com.example.Owns
+    # The message, the change, the reply.
+    told_to 2 start com.example.Owns
+    # The message, the change that holds it; of the main thread the change that fails it, and the error.
+    told_to "$bus_name.Error.Spawn.ChildExited" call com.example.Fails
+    if [ ! -x "$checker" ]; then
+        echo "there is no $checker: no trace was checked"
+        finish
+        return
+    fi
+    waits says "yes 35" || wrong "records a run of which is said: $(joined | "$checker" --explain - 2>&1)"
+    finish
+    says "yes 35" || wrong "has no trace once it is ended"
+    printf 'dbus-trace 2\nrouters 2\nservice com.example.Fails\nservice com.example.Owns\n' | cmp - trace/head.trace
+    # The first line behind the head is the main thread's: how the program of com.example.Fails ended.
+    status=0
+    joined | sed '5s/ r=ok / r=ignored /' | "$checker" - > out || status=$?
+    [ "$status" = 1 ] && [ "$(< out)" = 'no 5 73' ] || wrong "a line was changed: $(< out)"
+    # A client that does not read is put out. Two lines for each Hello, three for AddMatch and for the names, one for each
+    # signal; the one that is put out leaves, and has left when its socket is closed; the other leaves.
+    begin routers=2 --anonymous --trace trace
+    told_to "$bus_name :1.1" flood 600
+    waits says "yes 613" || wrong "puts out who does not read: $(joined | "$checker" --explain - 2>&1)"
+    finish
+}
+
 # session STATUS ARGUMENT..: a session ends so, and leaves nothing
 session() {
     local wanted=$1
@@ -383,5 +464,6 @@ full_device
 help
 daemons
 starts routers=3
+traces
 sessions
 echo "busd serve: $tried runs tried, each answered as it should be"

@@ -4,10 +4,12 @@
 client.py ADDRESS call NAME       calls a method of the owner of a name, and prints what comes back
 client.py ADDRESS call-only NAME  the same, but no service may be started for it
 client.py ADDRESS start NAME      calls StartServiceByName
+client.py ADDRESS ask MEMBER      calls a method of the bus that takes nothing
 client.py ADDRESS calls PREFIX N  calls the owners of N names at once, and prints how often each answer came
+client.py ADDRESS flood N         sends N signals to a listener that does not read, and asks for the names then
 client.py ADDRESS own NAME        owns a name, and answers every call until the bus is gone
 
-An answer is printed as the text or the number that it has, an error as its name.
+An answer is printed as the text, the texts or the number that it has, an error as its name.
 """
 import collections
 import socket
@@ -15,7 +17,7 @@ import struct
 import sys
 
 BUS = "org.freedesktop.DBus"
-CALL, RETURN, ERROR = 1, 2, 3
+CALL, RETURN, ERROR, SIGNAL = 1, 2, 3, 4
 NO_AUTO_START = 2
 PATH, INTERFACE, MEMBER, ERROR_NAME, REPLY_SERIAL, DESTINATION, SENDER, SIGNATURE = range(1, 9)
 
@@ -45,6 +47,23 @@ def message(kind, flags, serial, fields, body):
         array = padded(array, 8) + field(code, value)
     head = struct.pack("<cBBBIII", b"l", kind, flags, 1, len(body), serial, len(array))
     return padded(head + array, 8) + body
+
+
+def texts_of(data):
+    texts, at = [], 4
+    while at < len(data):
+        length, start = struct.unpack_from("<I", data, at)[0], at + 4
+        texts.append(data[start : start + length].decode())
+        at = start + length + 1
+        at += -at % 4
+    return texts
+
+
+def shown(types, body):
+    number = struct.unpack_from("<I", body)[0] if body else 0
+    if types == "s":
+        return body[4 : 4 + number].decode()
+    return " ".join(texts_of(body)) if types == "as" else str(number)
 
 
 def fields_of(data):
@@ -103,9 +122,7 @@ class Client:
             if kind == ERROR:
                 yield fields[REPLY_SERIAL], fields[ERROR_NAME]
             elif kind == RETURN:
-                number = struct.unpack_from("<I", body)[0] if body else 0
-                is_text = fields.get(SIGNATURE) == "s"
-                yield fields[REPLY_SERIAL], body[4 : 4 + number].decode() if is_text else str(number)
+                yield fields[REPLY_SERIAL], shown(fields.get(SIGNATURE), body)
 
     def answer(self, serial):
         return next((what for to, what in self.answers() if to == serial), "gone")
@@ -126,6 +143,15 @@ def main(address, what, name, count="0"):
         client.own(name)
     elif what == "start":
         print(client.answer(client.call(BUS, "StartServiceByName", "su", padded(text(name), 4) + bytes(4))))
+    elif what == "ask":
+        print(client.answer(client.call(BUS, name)))
+    elif what == "flood":
+        listener = Client(address)
+        listener.answer(listener.call(BUS, "AddMatch", "s", text("member='Flood'")))
+        fields = [(PATH, "/"), (INTERFACE, "com.example.Test"), (MEMBER, "Flood"), (SIGNATURE, "s")]
+        for _ in range(int(name)):
+            client.send(SIGNAL, 0, fields, text("x" * 4000))
+        print(client.answer(client.call(BUS, "ListNames")))
     elif what == "calls":
         calls = {client.call(f"{name}{i}", "Ask") for i in range(int(count))}
         told = collections.Counter()

@@ -20,7 +20,10 @@ fn print_address<R: Print>(rt: &R, address: BusAddress<'_>) -> Result<(), ServeF
 ///
 /// What is wrong at the start, the first of: the command line, what [`Bus::open`] tells, standard output; and later what the
 /// system gave no more.
-fn serve_bus<R: DaemonRuntime + Print>(rt: &R, found: &ArgMatches<'_>) -> Result<(), ServeFault> {
+fn serve_bus<R: DaemonRuntime + Print>(rt: &R, found: &ArgMatches<'_>) -> Result<(), ServeFault>
+where
+    R::File: Send,
+{
     let options = Options::of(found)?;
     let (bus, listening) = Bus::open(rt, options)?;
     if options.prints_address {
@@ -30,7 +33,10 @@ fn serve_bus<R: DaemonRuntime + Print>(rt: &R, found: &ArgMatches<'_>) -> Result
 }
 
 /// Serves the clients of a socket, and tells why it ends.
-pub(crate) fn serve_clients<R: DaemonRuntime + Print>(rt: &R, found: &ArgMatches<'_>) -> ExitCode {
+pub(crate) fn serve_clients<R: DaemonRuntime + Print>(rt: &R, found: &ArgMatches<'_>) -> ExitCode
+where
+    R::File: Send,
+{
     let Err(fault) = serve_bus(rt, found) else {
         return ExitCode::SUCCESS;
     };

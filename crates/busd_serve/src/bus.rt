@@ -5,12 +5,15 @@ use crate::login::LoginSettings;
 use crate::polls::{RouterPolls, open_polls};
 use crate::runtime::DaemonRuntime;
 use crate::serving::begin;
+use crate::tracing::{TraceFile, trace_files};
 use busd_sockets::{NewConnections, PollWaker};
 use busd_start::{
     Device, Options, ServeFault, SocketPath, open_random, random_bytes, read_cookie, read_services,
+    rising_names,
 };
 use mio::Poll;
 use mio::net::UnixListener;
+use names::WellKnown;
 use routers::Coordinator;
 use service_files::Service;
 use std::fmt;
@@ -42,6 +45,10 @@ pub(crate) struct Entrance<F: Drop> {
 pub struct Listening<F: Drop> {
     pub(crate) entrance: Entrance<F>,
     pub(crate) services: Vec<Service>,
+    /// Their names, which rise.
+    pub(crate) names: Vec<WellKnown>,
+    /// By seats.
+    pub(crate) traces: Vec<TraceFile<F>>,
     /// What ends the wait of the thread that accepts.
     pub(crate) waker: PollWaker,
     /// By routers.
@@ -65,12 +72,12 @@ impl fmt::Display for BusAddress<'_> {
 }
 
 impl<'a> Bus<'a> {
-    /// Reads what the options name and makes the socket. From then on clients can connect; they are served once
-    /// [`Bus::serve`] runs.
+    /// Reads what the options name, begins the trace where they want one, and makes the socket. From then on clients can connect;
+    /// they are served once [`Bus::serve`] runs.
     ///
     /// # Errors
     ///
-    /// What is wrong at the start, the first of: the keyring, the services, random bytes, the socket, the polls.
+    /// What is wrong at the start, the first of: the keyring, the services, the trace, random bytes, the socket, the polls.
     pub fn open<R: Net + Files + AllocGlobal + Clone + Drop>(
         rt: &R,
         options: Options<'a>,
@@ -78,6 +85,8 @@ impl<'a> Bus<'a> {
         let alloc = rt.alloc();
         let cookie = read_cookie(rt, options.keyring)?;
         let services = read_services(rt, options.services)?;
+        let names = rising_names(alloc, services.as_slice())?;
+        let traces = trace_files(rt, &options, names.as_slice())?;
         let mut random = open_random(rt)?;
         let guid = random_bytes(&mut random)?;
         let Ok(listener) = UnixListener::bind(rt, options.path.as_str()) else {
@@ -109,6 +118,8 @@ impl<'a> Bus<'a> {
                 poll,
             },
             services,
+            names,
+            traces,
             waker: main_waker,
             router_polls: polls,
         };
@@ -125,16 +136,21 @@ impl<'a> Bus<'a> {
 
     /// Serves the clients that connect, until the bus is stopped: each router in a thread of its own, and this one accepts, and
     /// starts the programs of services that are called. Programs that run when the bus is stopped go on.
-    /// What is told of connections, where the options want that, goes to standard error.
+    /// What is told of connections, where the options want that, goes to standard error. Where they want a trace, each thread
+    /// writes its lines at the end of a turn: so all are written while the bus is idle, and once this has returned.
     ///
     /// # Errors
     ///
-    /// What the system gave no more: memory, word of the sockets, or random bytes. Then all connections are closed.
+    /// What the system gave no more: memory, word of the sockets, random bytes, or files of the trace that take its lines. Then all
+    /// connections are closed.
     pub fn serve<R: DaemonRuntime>(
         &self,
         rt: &R,
         listening: Listening<R::File>,
-    ) -> Result<(), ServeFault> {
+    ) -> Result<(), ServeFault>
+    where
+        R::File: Send,
+    {
         begin(rt, self, listening)
     }
 

@@ -1,56 +1,31 @@
 //! What the main thread does beside accepting.
 
-use bus_view::BusView;
-use busd_sockets::Chores;
-use router_core::Gate;
-use router_host::{Post, Socket};
-use routers::{Programs, Starter};
-use std::alloc::AllocError;
+use busd_sockets::{Chores, ClientSocket, PollWaker};
+use registry_snapshots::Naming;
+use routers::{Fault, MainSeat, Programs, TraceSink};
 use std::rt::Clock;
 use std::sync::Wait;
 use std::time::Instant;
 
-/// How long is waited where there was no memory, in milliseconds.
-const LATER: u64 = 100;
-
-/// The starter of a bus, by the clock of the system.
+/// The seat of the main thread, by the clock of the system.
 #[derive(Drop)]
-pub(crate) struct Starting<
-    'a,
-    R: Clock,
-    V: BusView,
-    G: Gate,
-    P: Post<V>,
-    S: Socket,
-    Q: Programs + Drop,
-> {
+pub(crate) struct SeatByClock<'a, J: Naming, Q: Programs + Drop, T, R: Wait + Clock> {
     rt: &'a R,
-    right: &'a V::Right,
-    starter: Starter<V, G, P, S, Q>,
+    seat: MainSeat<'a, J, ClientSocket, PollWaker, Q, T, R>,
     /// When it was made.
     begun: Option<Instant>,
     /// The last moment that the clock told, in milliseconds.
     now: u64,
 }
 
-impl<'a, R: Clock, V: BusView, G: Gate, P: Post<V>, S: Socket, Q: Programs + Drop> Starting<
-    'a,
-    R,
-    V,
-    G,
-    P,
-    S,
-    Q,
-> {
+impl<'a, J: Naming, Q: Programs + Drop, T, R: Wait + Clock> SeatByClock<'a, J, Q, T, R> {
     pub(crate) fn new(
         rt: &'a R,
-        right: &'a V::Right,
-        starter: Starter<V, G, P, S, Q>,
-    ) -> Starting<'a, R, V, G, P, S, Q> {
-        Starting {
+        seat: MainSeat<'a, J, ClientSocket, PollWaker, Q, T, R>,
+    ) -> SeatByClock<'a, J, Q, T, R> {
+        SeatByClock {
             rt,
-            right,
-            starter,
+            seat,
             begun: Instant::now(rt).ok(),
             now: 0,
         }
@@ -66,14 +41,10 @@ impl<'a, R: Clock, V: BusView, G: Gate, P: Post<V>, S: Socket, Q: Programs + Dro
     }
 }
 
-impl<'a, R: Clock, V: BusView, G: Gate, P: Post<V>, S: Socket, Q: Programs + Drop> Chores
-    for Starting<'a, R, V, G, P, S, Q> {
-    fn turn<W: Wait>(&mut self, rt: &W) -> Option<u64> {
+impl<'a, J: Naming, Q: Programs + Drop, T: TraceSink + Drop, R: Wait + Clock> Chores
+    for SeatByClock<'a, J, Q, T, R> {
+    fn turn<W: Wait>(&mut self, rt: &W) -> Result<Option<u64>, Fault> {
         let now = self.moment();
-        match self.starter.turn(rt, self.right, now) {
-            Ok(true) => Some(0),
-            Ok(false) => Some(self.starter.due()?.saturating_sub(now)),
-            Err(AllocError) => Some(LATER),
-        }
+        self.seat.turn(rt, now)
     }
 }

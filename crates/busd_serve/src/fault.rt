@@ -17,6 +17,7 @@ pub(crate) fn fault_of(fault: Fault) -> ServeFault {
     match fault {
         Fault::Poll => ServeFault::Device(Device::Poll),
         Fault::Random => ServeFault::Device(Device::Random),
+        Fault::Trace => ServeFault::Device(Device::Trace),
         Fault::Memory => ServeFault::Memory,
     }
 }

@@ -13,6 +13,7 @@ mod programs;
 mod runner;
 mod runtime;
 mod serving;
+mod tracing;
 
 pub use bus::{Bus, BusAddress, Listening};
 pub use runner::{ProgramEnd, RunsPrograms};

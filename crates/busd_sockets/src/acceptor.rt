@@ -25,7 +25,11 @@ pub trait AcceptLog {
 /// What the thread that accepts does besides.
 pub trait Chores {
     /// Does what there is to do. Tells in how many milliseconds it is to be called again though nobody wakes the thread.
-    fn turn<R: Wait>(&mut self, rt: &R) -> Option<u64>;
+    ///
+    /// # Errors
+    ///
+    /// The bus is to end.
+    fn turn<R: Wait>(&mut self, rt: &R) -> Result<Option<u64>, Fault>;
 }
 
 /// How accepting came to its end for now.
@@ -142,7 +146,7 @@ impl<'a, F: Read + Drop, L: AcceptLog + Drop, C: Chores + Drop> MainTask for Acc
                 return Ok(());
             }
             let accepted = self.accept_all(rt)?;
-            timeout = wait_of(accepted, self.chores.turn(rt));
+            timeout = wait_of(accepted, self.chores.turn(rt)?);
         }
         unreachable!()
     }

@@ -1,2 +1,3 @@
 pub mod Addresses
+pub mod Heads
 pub mod Statuses

@@ -5,7 +5,7 @@ use clap::{Arg, ArgAction, Command};
 use std::alloc::{AllocError, Global};
 
 /// What stands behind the options in the help of `busd serve`.
-const NOTES: &str = "All options with a value are needed; the others are off unless given.
+const NOTES: &str = "All options with a value but --trace are needed; others are off unless given.
 
 Example:
   busd serve --address \"$XDG_RUNTIME_DIR/bus.sock\" --routers 2 \\
@@ -21,6 +21,11 @@ busd-run-session writes such a line, and runs a command with a bus of its own.
 A socket's file that is there already is not replaced: remove it where no other
 bus uses it.
 
+With --trace each change of the bus, each query and where each message went is
+written to the folder's files, which are made anew. Whether they tell of a
+legal run is checked by
+  cat DIR/head.trace DIR/main.trace DIR/router-*.trace | bus-check -
+
 Exit status:
   2  the command line is wrong
   4  a file, a socket or another device of the system fails
@@ -31,6 +36,14 @@ fn value<'a>(alloc: Global, name: &'a str, shown: &'a str, help: &'a str) -> Arg
         .long(name)
         .value_name(shown)
         .required(true)
+        .action(ArgAction::Set)
+        .help(help)
+}
+
+fn optional<'a>(alloc: Global, name: &'a str, shown: &'a str, help: &'a str) -> Arg<'a> {
+    Arg::new(alloc, name)
+        .long(name)
+        .value_name(shown)
         .action(ArgAction::Set)
         .help(help)
 }
@@ -74,6 +87,7 @@ pub fn serve_command<'a>(alloc: Global) -> Result<Command<'a>, AllocError> {
             "NAME",
             "Who clients say that they are; most tell their user's number",
         ))?
+        .arg(optional(alloc, "trace", "DIR", "Folder that the run is recorded in"))?
         .arg(flag(
             alloc,
             "anonymous",

@@ -15,6 +15,8 @@ pub enum Device {
     Input,
     /// Standard output.
     Output,
+    /// A file of the trace.
+    Trace,
     /// Random bytes.
     Random,
     /// The socket that clients connect to.
@@ -28,6 +30,7 @@ impl fmt::Display for Device {
         f.write_str(match self {
             Device::Input => "input",
             Device::Output => "output",
+            Device::Trace => "trace",
             Device::Random => "random",
             Device::Listen => "listen",
             Device::Poll => "poll",

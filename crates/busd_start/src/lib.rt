@@ -1,5 +1,5 @@
-//! What `busd serve` needs before it serves: its command line, the keyring, the services of a folder, and random bytes; and
-//! why it can't begin, or ends.
+//! What `busd serve` needs before it serves: its command line, the keyring, the services of a folder, the files of a trace, and
+//! random bytes; and why it can't begin, or ends.
 #![tactic(auto)]
 
 mod address;
@@ -9,6 +9,7 @@ mod files;
 mod options;
 mod service_fault;
 mod services;
+mod trace;
 
 pub use address::SocketPath;
 pub use command::serve_command;
@@ -16,4 +17,5 @@ pub use fault::{Device, ServeFault};
 pub use files::{open_random, random_bytes, read_cookie};
 pub use options::Options;
 pub use service_fault::{FileName, ServiceCode};
-pub use services::read_services;
+pub use services::{read_services, rising_names};
+pub use trace::begin_trace;

@@ -18,6 +18,8 @@ pub struct Options<'a> {
     pub keyring: &'a str,
     /// The name of the user whose cookies they are.
     pub user: &'a str,
+    /// The folder that the run is recorded in, if it is to be.
+    pub trace: Option<&'a str>,
     pub allow_anonymous: bool,
     pub prints_address: bool,
     pub is_verbose: bool,
@@ -41,6 +43,7 @@ impl<'a> Options<'a> {
             services: found.get_str("services").unwrap_or(""),
             keyring: found.get_str("keyring").unwrap_or(""),
             user: found.get_str("user").unwrap_or(""),
+            trace: found.get_str("trace"),
             allow_anonymous: found.get_flag("anonymous"),
             prints_address: found.get_flag("print-address"),
             is_verbose: found.get_flag("verbose"),

@@ -11,6 +11,9 @@ pub enum Fault {
     /// The system gives no more random bytes.
     #[error("device: random")]
     Random,
+    /// The lines of the trace can't be written.
+    #[error("device: trace")]
+    Trace,
     #[error("memory")]
     Memory,
 }

@@ -6,6 +6,7 @@ ghost use Rattle.routers.specs.Posts.{Puts};
 use crate::coordinator::{Coordinator, Wake};
 use outbox::{EnvelopeOf, Lane, Tap};
 use registry_snapshots::{Desk, Naming, Note};
+use router::Traced;
 use router_host::{Full, Post, StartRequest, TooManyStarts};
 use seq_bus_core::Conn;
 use std::marker::Model;
@@ -52,7 +53,8 @@ impl<'a, J: Naming, W: Wake + Drop> LanePost<'a, J, W> {
     }
 }
 
-impl<'a, 'b, J: Naming, W: Wake + Drop, R: Wait> Post<Desk<'b, J, R>> for LanePost<'a, J, W> {
+impl<'a, 'b, J: Naming, W: Wake + Drop, R: Wait> Post<Traced<Desk<'b, J, R>>>
+    for LanePost<'a, J, W> {
     ghost use Rattle.routers.specs.Posts.{Puts};
 
     ghost registry = { λ _. J.book.number };

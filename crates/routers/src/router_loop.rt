@@ -3,6 +3,7 @@
 use crate::coordinator::{Coordinator, Wake};
 use crate::fault::Fault;
 use crate::source::{Source, SourceEvent, Timeout};
+use crate::trace_sink::Recorder;
 use bus_view::BusView;
 use router_core::Gate;
 use router_host::{Host, Post, Socket};
@@ -28,18 +29,25 @@ impl<
     E: Source<S> + Drop,
     W: Wake + Drop,
 > Router<'a, V, G, P, S, E, W> {
-    /// Serves until all are to end, or nothing happens any more.
+    /// Serves until all are to end, or nothing happens any more. What a turn recorded is written at its end: so all of it is written
+    /// while the router waits.
     ///
     /// # Errors
     ///
-    /// Its source fails.
-    pub fn run<R: Wait>(mut self, rt: &R, right: &V::Right) -> Result<(), Fault> {
+    /// Its source fails, or what it recorded can't be written.
+    pub fn run<R: Wait, T: Recorder<V, G, P, S>>(
+        mut self,
+        rt: &R,
+        right: &V::Right,
+        recorder: &mut T,
+    ) -> Result<(), Fault> {
         for _ in rt.forever() {
             self.rest()?;
             if self.coordinator.is_over() || self.take_events(rt, right) {
                 return Ok(());
             }
             self.turn(right);
+            recorder.record(&mut self.host)?;
         }
         unreachable!()
     }

@@ -3,6 +3,8 @@
 ghost use Rattle.std.specs.Prelude.{◌≡◌, ◌<◌, ◌++◌, ◌∷◌, [], IfErr, OnOk, OnErr, reverse, vec_capacity, vec_len};
 ghost use Rattle.routers.specs.Ends.{AreDone, HasEnded, IsDone, MayCatchUp, end_of};
 
+use crate::fault::Fault;
+use crate::trace_sink::Recorder;
 use bus_view::BusView;
 use names::BusName;
 use router_core::{Gate, HowEnded, StartEnd};
@@ -97,6 +99,15 @@ impl<V: BusView, G: Gate, P: Post<V>, S: Socket, Q: Programs + Drop> Starter<V, 
             true => Err(AllocError),
             false => told,
         }
+    }
+
+    /// Writes what the turns up to now recorded.
+    ///
+    /// # Errors
+    ///
+    /// It can't be written, or there was no memory for a part of it.
+    pub fn record<T: Recorder<V, G, P, S>>(&mut self, recorder: &mut T) -> Result<(), Fault> {
+        recorder.record(&mut self.host)
     }
 
     fn tell_all<R: Wait>(

@@ -7,10 +7,11 @@ use crate::fault::Fault;
 use crate::post::LanePost;
 use crate::router_loop::Router;
 use crate::source::Source;
+use crate::trace_sink::{TraceSink, traced};
 use outbox::{EnvelopeOf, Lane, Tap};
 use registry_snapshots::{Desk, Naming, Seat, Shared};
 use router::{Engine, Login};
-use router_core::{Gate, OpenGate};
+use router_core::Gate;
 use router_host::{Host, Socket};
 use std::alloc::{AllocError, Global};
 use std::marker::PhantomData;
@@ -20,7 +21,7 @@ use std::thread::{Scope, Threads};
 
 /// What a router begins with.
 #[derive(Drop)]
-pub struct RouterSetup<J: Naming, E, G: Gate> {
+pub struct RouterSetup<J: Naming, E, G: Gate, T> {
     pub seat: Seat<J>,
     pub lane: Lane<EnvelopeOf<J>>,
     /// The outboxes of its places.
@@ -29,6 +30,8 @@ pub struct RouterSetup<J: Naming, E, G: Gate> {
     pub source: E,
     pub gate: G,
     pub login: Option<Login>,
+    /// Where it writes what it recorded.
+    pub trace: T,
 }
 
 /// What the thread that started the routers does meanwhile: in a daemon it accepts connections.
@@ -41,21 +44,6 @@ fn no_memory(_refused: AllocError) -> Fault {
     Fault::Memory
 }
 
-/// The host of the thread that started the routers, which has the seat and the lane that are no router's: it serves no connection, and
-/// tells the bus of other things. There is none where there is no memory for it.
-pub fn main_host<'a, J: Naming, S: Socket, W: Wake + Drop, R: Wait>(
-    alloc: Global,
-    shared: &'a Shared<J>,
-    coordinator: &'a Coordinator<W>,
-    seat: Seat<J>,
-    lane: Lane<EnvelopeOf<J>>,
-) -> Option<Host<Desk<'a, J, R>, OpenGate, LanePost<'a, J, W>, S>> {
-    let view: Desk<'_, J, R> = Desk::new(seat, shared);
-    let engine = Engine::new(alloc, view, OpenGate, None).ok()?;
-    let post = LanePost::new(usize::MAX, lane, Vec::new(alloc), coordinator);
-    Host::new(alloc, engine, post, 0, 0).ok()
-}
-
 /// Serves as one router.
 fn serve_as_router<
     J: Naming,
@@ -63,6 +51,7 @@ fn serve_as_router<
     E: Source<S> + Drop,
     G: Gate + Drop,
     W: Wake + Drop,
+    T: TraceSink + Drop,
     R: Wait,
 >(
     rt: &R,
@@ -70,7 +59,7 @@ fn serve_as_router<
     me: usize,
     shared: &Shared<J>,
     coordinator: &Coordinator<W>,
-    setup: RouterSetup<J, E, G>,
+    setup: RouterSetup<J, E, G, T>,
 ) -> Result<(), Fault> {
     let RouterSetup {
         seat,
@@ -79,8 +68,10 @@ fn serve_as_router<
         source,
         gate,
         login,
+        mut trace,
     } = setup;
-    let view: Desk<'_, J, R> = Desk::new(seat, shared);
+    let desk: Desk<'_, J, R> = Desk::new(seat, shared);
+    let view = traced(alloc, desk, trace.records());
     let Ok(engine) = Engine::new(alloc, view, gate, login) else {
         return Err(Fault::Memory);
     };
@@ -93,7 +84,7 @@ fn serve_as_router<
         return Err(Fault::Memory);
     };
     let router = Router::new(me, coordinator, host, source);
-    router.run(rt, rt)
+    router.run(rt, rt, &mut trace)
 }
 
 /// What one thread does.
@@ -103,17 +94,24 @@ trait Task {
 
 /// The task to serve as a router.
 #[derive(Drop)]
-struct RouterTask<'a, J: Naming, S: Socket, E, G: Gate, W: Wake + Drop> {
+struct RouterTask<'a, J: Naming, S: Socket, E, G: Gate, W: Wake + Drop, T> {
     alloc: Global,
     me: usize,
     shared: &'a Shared<J>,
     coordinator: &'a Coordinator<W>,
-    setup: RouterSetup<J, E, G>,
+    setup: RouterSetup<J, E, G, T>,
     socket: PhantomData<S>,
 }
 
-impl<'a, J: Naming, S: Socket, E: Source<S> + Drop, G: Gate + Drop, W: Wake + Drop> Task
-    for RouterTask<'a, J, S, E, G, W> {
+impl<
+    'a,
+    J: Naming,
+    S: Socket,
+    E: Source<S> + Drop,
+    G: Gate + Drop,
+    W: Wake + Drop,
+    T: TraceSink + Drop,
+> Task for RouterTask<'a, J, S, E, G, W, T> {
     /// Serves as a router, and tells the coordinator where it can't go on.
     fn run<R: Wait>(self, rt: &R) {
         let RouterTask {
@@ -124,7 +122,14 @@ impl<'a, J: Naming, S: Socket, E: Source<S> + Drop, G: Gate + Drop, W: Wake + Dr
             setup,
             socket: _,
         } = self;
-        let served = serve_as_router::<J, S, E, G, W, R>(rt, alloc, me, shared, coordinator, setup);
+        let served = serve_as_router::<J, S, E, G, W, T, R>(
+            rt,
+            alloc,
+            me,
+            shared,
+            coordinator,
+            setup,
+        );
         if let Err(fault) = served {
             coordinator.fail(rt, fault);
         }
@@ -176,6 +181,7 @@ pub fn serve<
     E: Source<S> + Send + Drop,
     G: Gate + Send + Drop,
     W: Wake + Sync + Drop,
+    T: TraceSink + Send + Drop,
     M: MainTask,
     R: Threads + Wait + Sync,
 >(
@@ -183,12 +189,12 @@ pub fn serve<
     alloc: Global,
     shared: &Shared<J>,
     coordinator: &Coordinator<W>,
-    setups: Vec<RouterSetup<J, E, G>>,
+    setups: Vec<RouterSetup<J, E, G, T>>,
     main: &mut M,
 ) -> Result<(), Fault> {
     let mut tasks = Vec::with_capacity(alloc, setups.len()).map_err(no_memory)?;
     for (me, setup) in setups.into_iter().enumerate() {
-        let task: RouterTask<'_, J, S, E, G, W> = RouterTask {
+        let task: RouterTask<'_, J, S, E, G, W, T> = RouterTask {
             alloc,
             me,
             shared,

@@ -10,7 +10,7 @@ use crate::watch::{Findings, Lookout, Watch};
 use anyhow::{Result, bail};
 use outbox::Outboxes;
 use registry_snapshots::{Desk, Naming, Seat, Serve, Shared, start};
-use router::Engine;
+use router::{Engine, Traced};
 use router_host::Host;
 use routers::{Coordinator, LanePost, Wake};
 use std::alloc::{AllocError, Global};
@@ -40,7 +40,7 @@ fn add<T: Drop>(list: &mut Vec<T>, item: T) -> Result<(), AllocError> {
 
 /// A router of a registry.
 type SharedHost<'b, 'c, J, R> = StageHost<
-    Desk<'b, J, R>,
+    Traced<Desk<'b, J, R>>,
     Watch<'b, J, R>,
     LanePost<'c, J, NoWaker>,
 >;
@@ -149,7 +149,8 @@ impl<'a, R: Wait> Stage<'a, R> {
         first: usize,
         gate: Watch<'b, J, R>,
     ) -> Result<SharedHost<'b, 'c, J, R>> {
-        let view: Desk<'b, J, R> = Desk::new(seat, shared);
+        let desk: Desk<'b, J, R> = Desk::new(seat, shared);
+        let view = Traced::silent(self.alloc, desk);
         let login = self.scenario.login(self.alloc)?;
         let engine = Engine::new(self.alloc, view, gate, login)?;
         let places = 256 / u16::from(self.routers.max(1));

@@ -2,7 +2,7 @@
 
 use crate::scenario::ClientMessage;
 use anyhow::Result;
-use marshal::{BasicValue, Order, Value};
+use marshal::{BasicType, BasicValue, DataType, Order, Value};
 use match_rules::MessageKind;
 use message::{Header, Message, NO_REPLY_EXPECTED};
 use names::{BusName, Interface, Member, ObjectPath};
@@ -59,6 +59,15 @@ fn call_with(alloc: Global, serial: u32, member: &str, argument: &str) -> Result
     bytes_of(alloc, &to_bus(serial, member), &arguments)
 }
 
+/// A call by which a client becomes a monitor of all messages.
+fn become_monitor(alloc: Global, serial: u32) -> Result<Vec<u8>> {
+    let mut header = to_bus(serial, "BecomeMonitor");
+    header.interface = Interface::parse("org.freedesktop.DBus.Monitoring").ok();
+    let rules = Value::Array(DataType::Basic(BasicType::String), Vec::new(alloc));
+    let flags = Value::Basic(BasicValue::Uint32(0));
+    bytes_of(alloc, &header, &[rules, flags])
+}
+
 /// Signals, one behind the other.
 fn ticks(alloc: Global, serial: u32, to: Option<&str>, count: u32) -> Result<Vec<u8>> {
     let mut bytes = Vec::new(alloc);
@@ -78,6 +87,11 @@ impl ClientMessage {
             ClientMessage::ListNames => bytes_of(alloc, &to_bus(serial, "ListNames"), &[]),
             ClientMessage::AddMatch(rule) => call_with(alloc, serial, "AddMatch", rule),
             ClientMessage::GetNameOwner(name) => call_with(alloc, serial, "GetNameOwner", name),
+            ClientMessage::Calls(member) => bytes_of(alloc, &to_bus(serial, member), &[]),
+            ClientMessage::CallsWith(member, argument) => {
+                call_with(alloc, serial, member, argument)
+            }
+            ClientMessage::BecomeMonitor => become_monitor(alloc, serial),
             ClientMessage::RequestName(name) => {
                 let flags = Value::Basic(BasicValue::Uint32(0));
                 let arguments = [text(alloc, name)?, flags];

@@ -1,14 +1,14 @@
 //! How a bus ends.
 
 use crate::playing::play;
-use crate::scenario::{ClientMessage, Condition, Scenario, Step};
+use crate::scenario::{ClientMessage, Condition, Scenario, Step, Tracing};
 use routers::Fault;
 use std::test::Fail;
 
 /// The first router fails, and then, as it is to end, the second one too.
 const FAILING: Scenario = Scenario {
     rooms: &[1_000_000],
-    steps: [
+    steps: &[
         &[
             Step::Connects(0),
             Step::Sends(0, ClientMessage::Hello),
@@ -19,17 +19,19 @@ const FAILING: Scenario = Scenario {
     ],
     stops: &[Condition::Received(0, 3)],
     holds: false,
+    tracing: Tracing::Off,
 };
 
 /// The main thread stops both routers.
 const STOPPED: Scenario = Scenario {
     rooms: &[1_000_000],
-    steps: [
+    steps: &[
         &[],
         &[Step::Connects(0), Step::Sends(0, ClientMessage::Hello)],
     ],
     stops: &[Condition::Received(0, 2)],
     holds: false,
+    tracing: Tracing::Off,
 };
 
 const GREETED: &str = "client 0
@@ -39,7 +41,7 @@ const GREETED: &str = "client 0
 
 #[test]
 fn the_first_fault_ends_all(rt: HostRuntime) -> Result<(), Fail> {
-    let told = play(&rt, rt.alloc(), &FAILING)?;
+    let told = play(&rt, rt.alloc(), &FAILING)?.told;
     assert!(rt;
         told.strip_prefix(GREETED) == Some("fault: memory\n"),
         "{told}"
@@ -49,7 +51,7 @@ fn the_first_fault_ends_all(rt: HostRuntime) -> Result<(), Fail> {
 
 #[test]
 fn a_bus_is_stopped(rt: HostRuntime) -> Result<(), Fail> {
-    let told = play(&rt, rt.alloc(), &STOPPED)?;
+    let told = play(&rt, rt.alloc(), &STOPPED)?.told;
     assert_eq!(rt; told.as_str(), GREETED);
     Ok(())
 }

@@ -2,7 +2,7 @@
 
 use crate::playing::play;
 use crate::progress::{Progress, pause};
-use crate::scenario::{ClientMessage, Condition, Scenario, Step};
+use crate::scenario::{ClientMessage, Condition, Scenario, Step, Tracing};
 use driver::Call;
 use router_core::Gate;
 use std::rt::Clock;
@@ -61,7 +61,7 @@ impl<'a, R: Clock> Gate for HoldingGate<'a, R> {
 /// Seat 1's second call is held until seat 2, whose second call is answered meanwhile, is asked for its third.
 const GATED: Scenario = Scenario {
     rooms: &[1_000_000, 1_000_000],
-    steps: [
+    steps: &[
         &[
             Step::Connects(0),
             Step::Sends(0, ClientMessage::Hello),
@@ -85,6 +85,7 @@ const GATED: Scenario = Scenario {
     ],
     stops: &[],
     holds: true,
+    tracing: Tracing::Off,
 };
 
 const GATED_TOLD: &str = "client 0
@@ -100,7 +101,7 @@ client 1
 
 #[test]
 fn gate_two_routers(rt: HostRuntime) -> Result<(), Fail> {
-    let told = play(&rt, rt.alloc(), &GATED)?;
+    let told = play(&rt, rt.alloc(), &GATED)?.told;
     assert_eq!(rt; told.as_str(), GATED_TOLD);
     Ok(())
 }

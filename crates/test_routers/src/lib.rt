@@ -25,3 +25,7 @@ mod scenario;
 mod source;
 #[cfg(test)]
 mod stopper;
+#[cfg(test)]
+mod trace_sink;
+#[cfg(test)]
+mod traced;

@@ -1,7 +1,7 @@
 //! What comes from the clients of one router to those of another.
 
 use crate::playing::play;
-use crate::scenario::{ClientMessage, Condition, Scenario, Step};
+use crate::scenario::{ClientMessage, Condition, Scenario, Step, Tracing};
 use std::alloc::AllocError;
 use std::test::Fail;
 use test_support::messages::{ACQUIRED, WELCOME};
@@ -15,7 +15,7 @@ const GREETING: usize = WELCOME.len() + ACQUIRED.len();
 /// A client that does not read leaves while mail waits for it, and another takes its place.
 const NEWCOMER: Scenario = Scenario {
     rooms: &[GREETING, ROOM, ROOM],
-    steps: [
+    steps: &[
         &[
             Step::Connects(0),
             Step::Sends(0, ClientMessage::Hello),
@@ -43,6 +43,7 @@ const NEWCOMER: Scenario = Scenario {
     ],
     stops: &[],
     holds: false,
+    tracing: Tracing::Off,
 };
 
 const NEWCOMER_TOLD: &str = "client 0
@@ -62,7 +63,7 @@ over: end of input
 /// A call goes to a name that a client of the other router has just become the owner of.
 const OWNER: Scenario = Scenario {
     rooms: &[ROOM, ROOM],
-    steps: [
+    steps: &[
         &[
             Step::Connects(0),
             Step::Sends(0, ClientMessage::Hello),
@@ -84,6 +85,7 @@ const OWNER: Scenario = Scenario {
     ],
     stops: &[],
     holds: false,
+    tracing: Tracing::Off,
 };
 
 const OWNER_TOLD: &str = "client 0
@@ -102,7 +104,7 @@ client 1
 /// 256 envelopes wait for a client that does not read. The next is one too many: the client is put out, and others are told.
 const SLOW: Scenario = Scenario {
     rooms: &[GREETING, ROOM, ROOM],
-    steps: [
+    steps: &[
         &[
             Step::Connects(0),
             Step::Sends(0, ClientMessage::Hello),
@@ -134,6 +136,7 @@ const SLOW: Scenario = Scenario {
     ],
     stops: &[],
     holds: false,
+    tracing: Tracing::Off,
 };
 
 const SLOW_TOLD: &str = "client 0
@@ -161,7 +164,7 @@ fn mail_goes_to_whom_it_is_for(rt: HostRuntime) -> Result<(), Fail> {
         (OWNER, OWNER_TOLD),
         (SLOW, SLOW_TOLD),
     ] {
-        let told = play(&rt, rt.alloc(), &scenario)?;
+        let told = play(&rt, rt.alloc(), &scenario)?.told;
         assert_eq!(rt; told.as_str(), expected);
     }
     Ok(())
@@ -172,7 +175,7 @@ const HEARS: ClientMessage = ClientMessage::AddMatch("interface='com.example.Clo
 /// Three clients of one router listen to a client of the other.
 const LISTENING: Scenario = Scenario {
     rooms: &[ROOM, ROOM, ROOM, ROOM],
-    steps: [
+    steps: &[
         &[
             Step::Awaits(Condition::Received(3, 3)),
             Step::Connects(0),
@@ -203,6 +206,7 @@ const LISTENING: Scenario = Scenario {
     ],
     stops: &[],
     holds: false,
+    tracing: Tracing::Off,
 };
 
 /// Adds the lines of signals of this sender, whose serials follow one another.
@@ -215,7 +219,7 @@ fn add_ticks(lines: &mut String, sender: &str, first: u32, count: u32) -> Result
 
 #[test]
 fn signals_come_to_all_in_order(rt: HostRuntime) -> Result<(), Fail> {
-    let told = play(&rt, rt.alloc(), &LISTENING)?;
+    let told = play(&rt, rt.alloc(), &LISTENING)?.told;
     let mut expected = String::new(rt.alloc());
     writeln!(expected, "client 0\n1 reply 1 :1.4")?;
     writeln!(expected, "2 org.freedesktop.DBus NameAcquired :1.4")?;
@@ -234,7 +238,7 @@ fn signals_come_to_all_in_order(rt: HostRuntime) -> Result<(), Fail> {
 /// 256 envelopes wait for a client that does not read, until it does.
 const RESUMED: Scenario = Scenario {
     rooms: &[GREETING, ROOM],
-    steps: [
+    steps: &[
         &[
             Step::Connects(0),
             Step::Sends(0, ClientMessage::Hello),
@@ -257,11 +261,12 @@ const RESUMED: Scenario = Scenario {
     ],
     stops: &[],
     holds: false,
+    tracing: Tracing::Off,
 };
 
 #[test]
 fn who_reads_again_gets_all(rt: HostRuntime) -> Result<(), Fail> {
-    let told = play(&rt, rt.alloc(), &RESUMED)?;
+    let told = play(&rt, rt.alloc(), &RESUMED)?.told;
     let mut expected = String::new(rt.alloc());
     writeln!(expected, "client 0\n1 reply 1 :1.1")?;
     writeln!(expected, "2 org.freedesktop.DBus NameAcquired :1.1")?;

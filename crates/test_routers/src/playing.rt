@@ -1,4 +1,4 @@
-//! Two routers that follow a scenario.
+//! Routers that follow a scenario.
 
 ghost use Rattle.std.specs.Prelude.{◌≡◌, []};
 ghost use Rattle.owner_queues.specs.declared.request.Profile.TheVariants.{Two};
@@ -9,6 +9,7 @@ use crate::progress::{FlagWaker, MAIN, Progress};
 use crate::scenario::Scenario;
 use crate::source::ScenarioSource;
 use crate::stopper::Stopper;
+use crate::trace_sink::SharedTrace;
 use outbox::Outboxes;
 use registry_snapshots::{Naming, Opened, Seat, Shared};
 use routers::{Coordinator, Fault, RouterSetup, serve};
@@ -19,13 +20,23 @@ use std::sync::Wait;
 use std::test::Fail;
 use std::thread::Threads;
 
-/// Runs a scenario: what each client was written, why connections are over, and the fault that the bus ended with.
+/// What is told of a scenario.
+#[derive(Drop)]
+pub(crate) struct Played {
+    /// What each client was written, why connections are over, and the fault that the bus ended with.
+    pub(crate) told: String,
+    /// The lines that routers recorded.
+    pub(crate) trace: String,
+}
+
+/// Runs a scenario of 1 to 4 routers.
 pub(crate) fn play<R: Threads + Wait + Clock + Sync>(
     rt: &R,
     alloc: Global,
     scenario: &Scenario,
-) -> Result<String, Fail> {
-    open::<Brand, R>(rt, alloc, Opened::new(), scenario)
+) -> Result<Played, Fail> {
+    let routers = u8::try_from(scenario.steps.len()).unwrap_or(0);
+    open::<Brand, R>(rt, alloc, Opened::new(), routers, scenario)
 }
 
 /// Opens the registry that the routers share.
@@ -33,11 +44,12 @@ fn open<J: Naming + Send + Sync, R: Threads + Wait + Clock + Sync>(
     rt: &R,
     alloc: Global,
     opened: Opened,
+    routers: u8,
     scenario: &Scenario,
-) -> Result<String, Fail>
-    requires { (opened ≡ J.book) × (J.opening ≡ opening_bus Two 2 []) }
+) -> Result<Played, Fail>
+    requires { (opened ≡ J.book) × (J.opening ≡ opening_bus Two routers []) }
 {
-    let Ok((shared, seats)) = Shared::<J>::new(rt, alloc, opened, &[], 2) else {
+    let Ok((shared, seats)) = Shared::<J>::new(rt, alloc, opened, &[], routers) else {
         return Err(Fail::from("no registry"));
     };
     let told = serve_over(rt, alloc, &shared, seats, scenario);
@@ -52,9 +64,7 @@ fn serve_over<J: Naming + Send + Sync, R: Threads + Wait + Clock + Sync>(
     shared: &Shared<J>,
     seats: Vec<Seat<J>>,
     scenario: &Scenario,
-) -> Result<String, Fail>
-    requires { J.opening ≡ opening_bus Two 2 [] }
-{
+) -> Result<Played, Fail> {
     let progress = Progress::new(alloc, scenario.rooms)?;
     let fault = follow(rt, alloc, shared, seats, &progress, scenario)?;
     let mut told = String::new(alloc);
@@ -62,10 +72,11 @@ fn serve_over<J: Naming + Send + Sync, R: Threads + Wait + Clock + Sync>(
     if let Some(fault) = fault {
         writeln!(told, "fault: {fault}")?;
     }
-    Ok(told)
+    let trace = progress.trace(rt)?;
+    Ok(Played { told, trace })
 }
 
-/// Runs both routers and the main task, until all have ended: the fault that came first.
+/// Runs the routers and the main task, until all have ended: the fault that came first.
 fn follow<'a, J: Naming + Send + Sync, R: Threads + Wait + Clock + Sync>(
     rt: &'a R,
     alloc: Global,
@@ -73,10 +84,8 @@ fn follow<'a, J: Naming + Send + Sync, R: Threads + Wait + Clock + Sync>(
     seats: Vec<Seat<J>>,
     progress: &'a Progress,
     scenario: &Scenario,
-) -> Result<Option<Fault>, Fail>
-    requires { J.opening ≡ opening_bus Two 2 [] }
-{
-    let coordinator = coordinator_of(alloc, progress)?;
+) -> Result<Option<Fault>, Fail> {
+    let coordinator = coordinator_of(alloc, progress, scenario.steps.len())?;
     let setups = setups_of(rt, alloc, shared, seats, progress, scenario)?;
     let mut stopper = Stopper {
         clock: rt,
@@ -87,22 +96,25 @@ fn follow<'a, J: Naming + Send + Sync, R: Threads + Wait + Clock + Sync>(
     Ok(serve(rt, alloc, shared, &coordinator, setups, &mut stopper).err())
 }
 
-/// What both routers and the main thread are woken by.
+/// What so many routers and the main thread are woken by.
 fn coordinator_of(
     alloc: Global,
     progress: &Progress,
+    routers: usize,
 ) -> Result<Coordinator<FlagWaker<'_>>, AllocError> {
-    let mut wakers = Vec::with_capacity(alloc, 2)?;
-    for router in 0..2 {
+    let mut wakers = Vec::new(alloc);
+    for router in 0..routers {
         wakers.push(progress.waker(router))?;
     }
     Coordinator::new(alloc, wakers, progress.waker(MAIN))
 }
 
 /// What the routers begin with.
-type Setups<'a, J, R> = Vec<RouterSetup<J, ScenarioSource<'a, R>, HoldingGate<'a, R>>>;
+type Setups<'a, J, R> = Vec<
+    RouterSetup<J, ScenarioSource<'a, R>, HoldingGate<'a, R>, SharedTrace<'a, R>>,
+>;
 
-/// What both routers begin with.
+/// What each router begins with.
 fn setups_of<'a, J: Naming, R: Wait + Clock>(
     rt: &'a R,
     alloc: Global,
@@ -110,12 +122,10 @@ fn setups_of<'a, J: Naming, R: Wait + Clock>(
     mut seats: Vec<Seat<J>>,
     progress: &'a Progress,
     scenario: &Scenario,
-) -> Result<Setups<'a, J, R>, Fail>
-    requires { J.opening ≡ opening_bus Two 2 [] }
-{
+) -> Result<Setups<'a, J, R>, Fail> {
     let (mut lanes, mut taps) = Outboxes::new(alloc, shared)?;
     let mut setups = Vec::new(alloc);
-    for (me, steps) in [(1, scenario.steps[1]), (0, scenario.steps[0])] {
+    for (me, steps) in scenario.steps.iter().enumerate().rev() {
         let (Some(seat), Some(lane), Some(taps)) = (seats.pop(), lanes.pop(), taps.pop()) else {
             return Err(Fail::from("no seat"));
         };
@@ -126,6 +136,11 @@ fn setups_of<'a, J: Naming, R: Wait + Clock>(
             source: ScenarioSource::new(rt, progress, me, steps),
             gate: HoldingGate::new(rt, progress, scenario.holds),
             login: None,
+            trace: SharedTrace {
+                rt,
+                progress,
+                tracing: scenario.tracing,
+            },
         })?;
     }
     setups.reverse();

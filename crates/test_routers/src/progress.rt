@@ -38,11 +38,11 @@ struct Endings {
     causes: String,
 }
 
-/// How many threads there are: one for each router, by its number, and the main thread.
-const THREADS: usize = 3;
+/// How many threads there are at most: one for each router, by its number, and the main thread.
+const THREADS: usize = 5;
 
 /// The main thread.
-pub(crate) const MAIN: usize = 2;
+pub(crate) const MAIN: usize = 4;
 
 /// How far a scenario has come, as all its threads see it.
 #[derive(Drop)]
@@ -51,6 +51,8 @@ pub(crate) struct Progress {
     endings: Mutex<Endings>,
     /// Which threads were woken.
     woken: [AtomicBool; THREADS],
+    /// The lines that all routers recorded.
+    trace: Mutex<String>,
     /// Seat 1 waits in its gate.
     pub(crate) is_held: AtomicBool,
     /// Seat 2 was asked for its third call.
@@ -76,7 +78,10 @@ impl Progress {
                 AtomicBool::new(false),
                 AtomicBool::new(false),
                 AtomicBool::new(false),
+                AtomicBool::new(false),
+                AtomicBool::new(false),
             ],
+            trace: Mutex::new(String::new(alloc)),
             is_held: AtomicBool::new(false),
             is_free: AtomicBool::new(false),
             is_late: AtomicBool::new(false),
@@ -134,6 +139,16 @@ impl Progress {
         let endings = &mut *guard;
         endings.count = endings.count.saturating_add(1);
         let _short = writeln!(endings.causes, "over: {}", ended.cause);
+    }
+
+    /// Lines of a router are kept behind the others. False where there is no memory for them.
+    pub(crate) fn keep<R: Wait>(&self, rt: &R, lines: &str) -> bool {
+        self.trace.lock(rt).push_str(lines).is_ok()
+    }
+
+    /// The lines that all routers recorded.
+    pub(crate) fn trace<R: Wait>(&self, rt: &R) -> Result<String, AllocError> {
+        self.trace.lock(rt).clone()
     }
 
     /// Whether this holds, for a thread.

@@ -1,4 +1,4 @@
-//! What happens to two routers in a test.
+//! What happens to the routers of a test.
 
 use routers::Fault;
 
@@ -13,6 +13,12 @@ pub(crate) enum ClientMessage {
     RequestName(&'static str),
     GetNameOwner(&'static str),
     ListNames,
+    /// Another call of the bus that takes nothing.
+    Calls(&'static str),
+    /// Another call of the bus that takes a text.
+    CallsWith(&'static str, &'static str),
+    /// It wants to be shown all messages.
+    BecomeMonitor,
     /// A call of a method that another client has.
     Wind(&'static str),
     /// So many signals, to one client or to all who listen.
@@ -53,15 +59,26 @@ pub(crate) enum Step {
     Ends,
 }
 
-/// Two routers and their clients.
+/// What becomes of the lines that routers record.
+#[derive(Clone, Copy, PartialEq, Eq)]
+pub(crate) enum Tracing {
+    /// None is recorded.
+    Off,
+    Kept,
+    /// None can be written.
+    Refused,
+}
+
+/// The routers of a bus and their clients.
 #[derive(Clone, Copy)]
 pub(crate) struct Scenario {
     /// How many bytes the socket of each client takes.
     pub(crate) rooms: &'static [usize],
     /// What happens to each router.
-    pub(crate) steps: [&'static [Step]; 2],
+    pub(crate) steps: &'static [&'static [Step]],
     /// When the main thread stops the bus. Where there is no condition, the routers end by themselves.
     pub(crate) stops: &'static [Condition],
     /// Whether the second call of seat 1 is held until the third of seat 2.
     pub(crate) holds: bool,
+    pub(crate) tracing: Tracing,
 }

@@ -5,4 +5,4 @@ use Rattle.test_routers.proofs.playing.play.Given as goal
 
 -- the registry that is just opened
 abbrev pub ghosts-open : goal.ghosts-open
-ghosts-open g a = record { book = a.opened; opening = opening_bus Two 2 [] }
+ghosts-open g a = record { book = a.opened; opening = opening_bus Two a.routers [] }

@@ -1,6 +1,6 @@
 use Rattle.std.proofs.Common.{rules}
 use Rattle.routers.proofs.Slots.{at_slot}
-use Rattle.routers.proofs.post.LanePostPostDesk.put.Goals as goal
+use Rattle.routers.proofs.post.LanePostPostTracedDesk.put.Goals as goal
 
 -- src/post.rt:73:13
 pub returns-in-Err-clause-refused : goal.returns-in-Err-clause-refused

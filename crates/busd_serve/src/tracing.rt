@@ -1,0 +1,51 @@
+//! The files that the threads of a bus write their lines to.
+
+use crate::polls::push;
+use busd_start::{Options, ServeFault, begin_trace};
+use names::WellKnown;
+use routers::{Fault, TraceSink};
+use std::io::{ErrorKind, Write};
+use std::rt::Files;
+
+/// The file of one thread's lines, if the run is recorded.
+#[derive(Drop)]
+pub(crate) struct TraceFile<F> {
+    file: Option<F>,
+}
+
+impl<F: Write + Drop> TraceSink for TraceFile<F> {
+    fn records(&self) -> bool {
+        self.file.is_some()
+    }
+
+    fn write(&mut self, lines: &[u8]) -> Result<(), Fault> {
+        let Some(file) = &mut self.file else {
+            return Ok(());
+        };
+        match file.write_all(lines) {
+            Ok(()) => Ok(()),
+            Err(error) => Err(match error.kind() {
+                ErrorKind::OutOfMemory => Fault::Memory,
+                _ => Fault::Trace,
+            }),
+        }
+    }
+}
+
+/// Where each thread of a bus with these services writes its lines, the main thread's first.
+pub(crate) fn trace_files<R: Files + AllocGlobal>(
+    rt: &R,
+    options: &Options<'_>,
+    services: &[WellKnown],
+) -> Result<Vec<TraceFile<R::File>>, ServeFault> {
+    let mut traces = Vec::new(rt.alloc());
+    match options.trace {
+        Some(folder) => for file in begin_trace(rt, folder, options.routers, services)? {
+            push(&mut traces, TraceFile { file: Some(file) })?;
+        },
+        None => for _seat in 0..=options.routers {
+            push(&mut traces, TraceFile { file: None })?;
+        },
+    }
+    Ok(traces)
+}

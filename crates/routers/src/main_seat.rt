@@ -1,0 +1,87 @@
+//! The seat of the thread that started the routers.
+
+use crate::coordinator::{Coordinator, Wake};
+use crate::fault::Fault;
+use crate::post::LanePost;
+use crate::starter::{Programs, Starter};
+use crate::trace_sink::{Recorder, TraceSink, traced};
+use outbox::{EnvelopeOf, Lane};
+use registry_snapshots::{Desk, Naming, Seat, Shared};
+use router::{Engine, Traced};
+use router_core::OpenGate;
+use router_host::{Host, Socket};
+use std::alloc::{AllocError, Global};
+use std::marker::Model;
+use std::sync::Wait;
+
+/// How long is waited where there was no memory, in milliseconds.
+const LATER: u64 = 100;
+
+/// The seat and the lane that are no router's, in the hands of the thread that started the routers. It serves no connection: it runs
+/// the programs of services, tells the bus how starts end, and writes what it recorded.
+///
+/// Contracts see nothing of it.
+#[derive(Drop)]
+pub struct MainSeat<'a, J: Naming, S: Socket, W: Wake + Drop, Q: Programs + Drop, T, R: Wait> {
+    rt: &'a R,
+    starter: Starter<Traced<Desk<'a, J, R>>, OpenGate, LanePost<'a, J, W>, S, Q>,
+    trace: T,
+}
+
+impl<'a, J: Naming, S: Socket, W: Wake + Drop, Q: Programs + Drop, T, R: Wait> Model
+    for MainSeat<'a, J, S, W, Q, T, R> {
+    ghost use Rattle.std.specs.Prelude.{ℕ};
+
+    ghost Value = { ℕ };
+
+    ghost view = { λ _. 0 };
+}
+
+impl<
+    'a,
+    J: Naming,
+    S: Socket,
+    W: Wake + Drop,
+    Q: Programs + Drop,
+    T: TraceSink + Drop,
+    R: Wait,
+> MainSeat<'a, J, S, W, Q, T, R> {
+    /// The main thread's part of a bus. There is none where there is no memory for it.
+    pub fn new(
+        rt: &'a R,
+        alloc: Global,
+        shared: &'a Shared<J>,
+        coordinator: &'a Coordinator<W>,
+        seat: Seat<J>,
+        lane: Lane<EnvelopeOf<J>>,
+        programs: Q,
+        trace: T,
+    ) -> Option<MainSeat<'a, J, S, W, Q, T, R>> {
+        let desk: Desk<'_, J, R> = Desk::new(seat, shared);
+        let view = traced(alloc, desk, trace.records());
+        let engine = Engine::new(alloc, view, OpenGate, None).ok()?;
+        let post = LanePost::new(usize::MAX, lane, Vec::new(alloc), coordinator);
+        let host = Host::new(alloc, engine, post, 0, 0).ok()?;
+        Some(MainSeat {
+            rt,
+            starter: Starter::new(alloc, host, programs),
+            trace,
+        })
+    }
+
+    /// Runs what is asked for, tells the bus how starts ended, and writes what it recorded, at this moment in milliseconds. Answers
+    /// in how many the next turn is due though nothing happens, 0 where more may be waiting.
+    ///
+    /// # Errors
+    ///
+    /// What it recorded can't be written.
+    pub fn turn<X: Wait>(&mut self, rt: &X, now: u64) -> Result<Option<u64>, Fault> {
+        let turned = self.starter.turn(rt, self.rt, now);
+        self.starter.record(&mut self.trace)?;
+        Ok(match turned {
+            Ok(true) => Some(0),
+            Ok(false) => self.starter.due().map(|due| due.saturating_sub(now)),
+            Err(AllocError) => Some(LATER),
+        })
+    }
+}

@@ -1,0 +1,68 @@
+//! Where the lines of a recorded run go.
+
+ghost use Rattle.std.specs.Prelude.{◌≡◌};
+
+use crate::coordinator::Wake;
+use crate::fault::Fault;
+use crate::post::LanePost;
+use bus_view::BusView;
+use registry_snapshots::{Desk, Naming};
+use router::Traced;
+use router_core::Gate;
+use router_host::{Host, Post, Socket};
+use std::alloc::Global;
+use std::sync::Wait;
+
+/// Where a thread writes the lines of its trace.
+pub trait TraceSink {
+    /// Whether the run is recorded. Where it is not, there is nothing to write.
+    fn records(&self) -> bool;
+
+    /// Writes lines, each ended by a line feed, behind those that were written before.
+    ///
+    /// # Errors
+    ///
+    /// `Trace` where they can't be written, `Memory` where that finds no memory. The bus ends then.
+    fn write(&mut self, lines: &[u8]) -> Result<(), Fault>;
+}
+
+/// The view of a thread, which records what it does where that is wanted.
+pub(crate) fn traced<V: BusView>(alloc: Global, view: V, records: bool) -> Traced<V>
+    ensures { result.view ≡ view }
+{
+    match records {
+        true => Traced::new(alloc, view),
+        false => Traced::silent(alloc, view),
+    }
+}
+
+/// Who writes what a host recorded.
+pub trait Recorder<V: BusView, G: Gate, P: Post<V>, S: Socket> {
+    /// Writes what the host recorded since this was done last.
+    ///
+    /// # Errors
+    ///
+    /// It can't be written, or there was no memory for a part of it.
+    fn record(&mut self, host: &mut Host<V, G, P, S>) -> Result<(), Fault>;
+}
+
+impl<'a, J: Naming, W: Wake + Drop, R: Wait, G: Gate, S: Socket, T: TraceSink> Recorder<
+    Traced<Desk<'a, J, R>>,
+    G,
+    LanePost<'a, J, W>,
+    S,
+> for T {
+    fn record(
+        &mut self,
+        host: &mut Host<Traced<Desk<'a, J, R>>, G, LanePost<'a, J, W>, S>,
+    ) -> Result<(), Fault> {
+        let lines = host.take_lines();
+        if !lines.is_empty() {
+            self.write(lines.as_slice())?;
+        }
+        match host.lost() {
+            true => Err(Fault::Memory),
+            false => Ok(()),
+        }
+    }
+}
