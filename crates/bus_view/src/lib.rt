@@ -6,6 +6,26 @@
 //! they are [`RefusedAll`], with their [`BatchCause`]. Whether a bus can be opened with given services is said by
 //! [`can_open`]. Bodies of replies are written by [`append_owner`] and [`append_whether`], and those that are lists of
 //! names by [`begin_names`], [`push_name`], [`end_names`] and [`undo_names`], for whoever answers queries.
+//!
+//! ```
+//! use bus_view::{AskFault, Asked, BusView};
+//! use names::BusName;
+//! use seq_bus_core::Query;
+//! use std::alloc::Global;
+//!
+//! /// The body of the reply to GetNameOwner, if the name has an owner.
+//! fn owner_of<V: BusView>(
+//!     alloc: Global,
+//!     bus: &mut V,
+//!     name: BusName,
+//! ) -> Result<Option<Vec<u8>>, AskFault> {
+//!     let mut body = Vec::new(alloc);
+//!     Ok(match bus.ask(&Query::GetNameOwner(name), &mut body)? {
+//!         Asked::Body => Some(body),
+//!         Asked::NameHasNoOwner => None,
+//!     })
+//! }
+//! ```
 #![tactic(auto)]
 
 mod again;

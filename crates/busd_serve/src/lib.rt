@@ -1,5 +1,19 @@
 //! A bus over a Unix socket, as `busd serve` runs it: [`Bus::open`] makes the socket, and [`Bus::serve`] serves its clients,
 //! each router in a thread of its own, until the bus is told to stop or the system gives no more.
+//!
+//! ```
+//! use busd_serve::{Bus, DaemonRuntime};
+//! use busd_start::{Options, ServeFault};
+//!
+//! /// Serves the clients of a socket, as long as the system gives what that takes.
+//! fn serve_clients<R: DaemonRuntime>(rt: &R, options: Options<'_>) -> Result<(), ServeFault>
+//! where
+//!     R::File: Send,
+//! {
+//!     let (bus, listening) = Bus::open(rt, options)?;
+//!     bus.serve(rt, listening)
+//! }
+//! ```
 #![tactic(auto)]
 
 mod bus;

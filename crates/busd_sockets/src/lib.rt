@@ -3,6 +3,27 @@
 //!
 //! [`Acceptor`] is the task of the main thread, [`Sockets`] the source of a router. Readiness is told by edges:
 //! once, when it begins.
+//!
+//! ```
+//! use busd_sockets::{EndLog, NewConnections, PollWaker, Sockets};
+//! use mio::Poll;
+//! use std::alloc::Global;
+//! use std::io;
+//! use std::net::Net;
+//!
+//! /// What a router hears of its sockets by, and what wakes it.
+//! fn open<'a, L: EndLog + Drop, R: Net>(
+//!     rt: &R,
+//!     alloc: Global,
+//!     new_connections: &'a NewConnections,
+//!     log: L,
+//! ) -> io::Result<(Sockets<'a, L>, PollWaker)> {
+//!     let poll = Poll::new(rt)?;
+//!     let waker = PollWaker::new(alloc, &poll)?;
+//!     let sockets = Sockets::new(alloc, poll, new_connections, log)?;
+//!     Ok((sockets, waker))
+//! }
+//! ```
 #![tactic(auto)]
 
 mod acceptor;

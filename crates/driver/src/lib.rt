@@ -4,6 +4,24 @@
 //! answered is written by [`write_reply`] and [`write_error`], and signals of the bus by [`write_signal`].
 //! `specs/Calls` and `specs/OwnMessages` say which call a message is, and which messages these are.
 //! ("Message Bus Messages" of the D-Bus Specification.) Nothing here knows of connections or of a bus's state.
+//!
+//! ```
+//! use driver::{Call, DriverFault, is_call_to_bus, read_call};
+//! use message_core::Message;
+//! use names::BusName;
+//! use std::alloc::Global;
+//!
+//! /// The name that a message requests, if it is a call to the bus that does.
+//! fn name_requested(alloc: Global, message: &Message) -> Result<Option<BusName>, DriverFault> {
+//!     if !is_call_to_bus(message) {
+//!         return Ok(None);
+//!     }
+//!     Ok(match read_call(alloc, message)? {
+//!         Call::RequestName { name, .. } => Some(name),
+//!         _ => None,
+//!     })
+//! }
+//! ```
 #![tactic(auto)]
 
 mod arguments;

@@ -2,6 +2,22 @@
 //!
 //! `check` says of bytes what `marshal::decode` says of them, and takes no memory, since it builds
 //! no values. The types are given as `Types`, a signature that borrows its text.
+//!
+//! ```
+//! use marshal_check::{Argument, Arguments, Types, check};
+//! use marshal_core::{MarshalFault, Order};
+//!
+//! /// The text of a body that is to be a string and a number, lent out of it.
+//! fn text_of(body: &[u8]) -> Result<Option<&str>, MarshalFault> {
+//!     let types = Types::parse("su")?;
+//!     check(Order::Little, 0, types, body)?;
+//!     let mut arguments = Arguments::new(Order::Little, 0, types, body);
+//!     Ok(match arguments.next() {
+//!         Some(Argument::String(text)) => Some(text),
+//!         _ => None,
+//!     })
+//! }
+//! ```
 #![tactic(auto)]
 
 mod basic;

@@ -4,6 +4,28 @@
 //! `specs/RuleTexts.antt` says which text is which rule, `specs/RuleFaults.antt` what is wrong with
 //! any other text, and `specs/Fitting.antt` which rules fit a message.
 //! (D-Bus Specification: "Match Rules".)
+//!
+//! ```
+//! ghost use Rattle.std.specs.Prelude.{None};
+//!
+//! use match_rules::{Facts, Owners, Rule, RuleFault};
+//!
+//! /// A bus on which no name has an owner.
+//! struct Nobody;
+//!
+//! impl Owners for Nobody {
+//!     ghost heads = { λ owners name. None };
+//!
+//!     fn head(&self, name: &str) -> Option<u64> {
+//!         None
+//!     }
+//! }
+//!
+//! fn fits_below(facts: &Facts<'_>) -> Result<bool, RuleFault> {
+//!     let rule = Rule::parse("type='signal',path_namespace='/com/example'")?;
+//!     Ok(rule.fits(facts, &Nobody))
+//! }
+//! ```
 #![tactic(auto)]
 
 mod canonical;

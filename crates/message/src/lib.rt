@@ -4,6 +4,20 @@
 //! What a message is stands in `message_core`. `specs/Framing` says what a `Framer` holds and when it waits, and the
 //! others which bytes a message is written as and what setting its sender is, after "Message Protocol", "Message Format"
 //! and "Header Fields" of the D-Bus Specification.
+//!
+//! ```
+//! use message::{FrameFault, Framer, Message};
+//! use std::alloc::Global;
+//!
+//! /// The first message of a stream that comes in pieces, if none of its bytes is missing.
+//! fn first_message(alloc: Global, stream: &[u8]) -> Result<Option<Message>, FrameFault> {
+//!     let mut framer = Framer::new(alloc);
+//!     for piece in stream.chunks(20) {
+//!         framer.feed(piece)?;
+//!     }
+//!     framer.next()
+//! }
+//! ```
 #![tactic(auto)]
 
 mod fault;

@@ -2,6 +2,32 @@
 //!
 //! `specs/` says which bytes are which message, what the first bytes of a stream announce, and how
 //! a stream is cut into messages, after "Message Protocol" of the D-Bus Specification.
+//!
+//! ```
+//! use marshal_core::Order;
+//! use match_rules::MessageKind;
+//! use message_core::{Header, Message};
+//! use names::{Interface, Member, ObjectPath};
+//! use std::alloc::Global;
+//!
+//! /// A signal without arguments.
+//! fn ticked(alloc: Global) -> Option<Message> {
+//!     let header = Header {
+//!         order: Order::Little,
+//!         kind: MessageKind::Signal,
+//!         flags: 0,
+//!         serial: 1,
+//!         path: Some(ObjectPath::parse("/com/example/Clock").ok()?),
+//!         interface: Some(Interface::parse("com.example.Clock").ok()?),
+//!         member: Some(Member::parse("Ticked").ok()?),
+//!         error_name: None,
+//!         reply_serial: None,
+//!         destination: None,
+//!         sender: None,
+//!     };
+//!     Message::new(alloc, &header, &[]).ok()
+//! }
+//! ```
 #![tactic(auto)]
 
 mod announcement;

@@ -1,4 +1,20 @@
 //! The names of the D-Bus Specification, each checked when it is made.
+//!
+//! ```
+//! use names::{BusName, BusNameKind, Interface, NameFault, UniqueName};
+//!
+//! fn are_told_apart() -> Result<bool, NameFault> {
+//!     let clock = BusName::parse("com.example.Clock")?;
+//!     let first = UniqueName::of(1);
+//!     Ok(
+//!         clock.kind() == BusNameKind::WellKnown
+//!             && first.as_str() == ":1.1"
+//!             && first.connection() == Some(1)
+//!             && BusName::from(first).kind() == BusNameKind::Unique
+//!             && Interface::check(b"com..example") == Err(NameFault::BadByte(4)),
+//!     )
+//! }
+//! ```
 #![tactic(auto)]
 
 mod bus_name;

@@ -6,6 +6,19 @@
 //!
 //! What reached the socket is a beginning of what was pushed, and what waits is the rest, however much the socket takes at
 //! a time and wherever it fails: [`laws`].
+//!
+//! ```
+//! use outgoing::{Flushed, Outgoing, Socket};
+//! use std::alloc::Global;
+//! use std::io;
+//!
+//! /// Whether a socket takes all of these bytes now.
+//! fn takes_all<S: Socket>(alloc: Global, socket: &mut S, bytes: Vec<u8>) -> io::Result<bool> {
+//!     let mut outgoing = Outgoing::new(alloc);
+//!     outgoing.push(bytes)?;
+//!     Ok(outgoing.flush(socket)? == Flushed::All)
+//! }
+//! ```
 #![tactic(auto)]
 
 mod chunk;

@@ -3,6 +3,27 @@
 //! [`RequestFlags`], [`QueuedOwner`] and [`Reply`] are the words of the members RequestName and
 //! ReleaseName; what these do to a [`Queue`] is defined in `specs/Queues.antt`. The laws of a queue
 //! stand in [`laws`].
+//!
+//! ```
+//! use owner_queues::{Profile, Queue, Reply, RequestFlags};
+//!
+//! fn waits_and_owns() -> bool {
+//!     let mut queue = Queue::new();
+//!     let flags = RequestFlags::default();
+//!     if !queue.has_room(1) {
+//!         return false;
+//!     }
+//!     let first = queue.request(1, flags, Profile::Two);
+//!     if !queue.has_room(2) {
+//!         return false;
+//!     }
+//!     let second = queue.request(2, flags, Profile::Two);
+//!     first == Reply::PrimaryOwner
+//!         && second == Reply::InQueue
+//!         && queue.release(1) == Reply::Released
+//!         && queue.head() == Some(2)
+//! }
+//! ```
 #![tactic(auto)]
 
 pub mod laws;

@@ -5,6 +5,21 @@
 //! starts of services that run, with the calls that wait for them. All room is made with a table. [`listening`] finds
 //! those connections that a message is for by its facts. Where the heads of names are asked for, any `Owners` will do:
 //! those of the bus as it is, or as it will be after a change.
+//!
+//! ```
+//! use match_rules::Rule;
+//! use registry_core::{MemberTable, RuleTable};
+//! use seq_bus_core::limits::MAX_RULES;
+//!
+//! /// Adds a match rule of a client, where there is such a client and room for the rule.
+//! fn add_rule(members: &MemberTable, rules: &mut RuleTable, number: u64, rule: Rule) -> bool {
+//!     if !members.is_client(number) || rules.len() >= MAX_RULES {
+//!         return false;
+//!     }
+//!     rules.push(number, rule);
+//!     rules.contains(number, &rule)
+//! }
+//! ```
 #![tactic(auto)]
 
 pub mod listening;

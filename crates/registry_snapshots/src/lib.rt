@@ -8,6 +8,28 @@
 //! engine sees a bus.
 //!
 //! All changes of a registry stand in one history. It exists in the proofs alone: what is kept of it is its length.
+//!
+//! ```
+//! use registry_snapshots::{Naming, Seat, Shared};
+//! use seq_bus_core::{Change, Reply};
+//! use std::sync::Wait;
+//!
+//! /// A connection says Hello by one seat, and another sees it once it takes the note.
+//! fn is_seen<J: Naming, R: Wait>(
+//!     rt: &R,
+//!     shared: &Shared<J>,
+//!     one: &mut Seat<J>,
+//!     other: &mut Seat<J>,
+//! ) -> Option<bool> {
+//!     let hello = Change::Hello { privileged: false };
+//!     let (told, note) = one.change(rt, shared, hello).ok()?;
+//!     let Reply::Welcome(conn) = told.reply else {
+//!         return None;
+//!     };
+//!     other.take_note(&note);
+//!     other.present(conn.number).ok()
+//! }
+//! ```
 #![tactic(auto)]
 
 mod copies;

@@ -3,6 +3,29 @@
 //! An engine serves connections over any view of a bus. [`Served`] is the table of its connections, with the context in
 //! which one at a time is served. Each of its methods serves one event, as `router_core` defines its script. An engine over a
 //! [`Traced`] view hands out the lines of its trace.
+//!
+//! ```
+//! use bus_view::BusView;
+//! use router::Engine;
+//! use router_core::{Event, Gate};
+//! use std::alloc::AllocError;
+//!
+//! /// A connection comes, and bytes of it: whether they are a whole message, to be served next.
+//! fn comes<V: BusView, G: Gate>(
+//!     engine: &mut Engine<V, G>,
+//!     right: &V::Right,
+//!     piece: Vec<u8>,
+//! ) -> Result<bool, AllocError> {
+//!     let key = engine.free_key();
+//!     let mut opened = Event::Opened {
+//!         key,
+//!         challenge: None,
+//!     };
+//!     engine.event(right, &mut opened)?;
+//!     engine.event(right, &mut Event::Bytes { key, piece })?;
+//!     Ok(engine.has_next(key))
+//! }
+//! ```
 #![tactic(auto)]
 
 mod engine;

@@ -7,6 +7,28 @@
 //! The definitions stand in `specs/`: `Serving` says what is done for a message, `Events` what is done at an event, as a
 //! script of calls of the bus whose answers decide what comes next; `OneThread` says what the scripts come to over a bus
 //! of one thread, and which bytes go to each connection. Their laws stand in [`laws`].
+//!
+//! ```
+//! use router_core::Action;
+//! use std::alloc::{AllocError, Global};
+//!
+//! /// What the actions of a router write to the connection of a key.
+//! fn written<N: Drop>(
+//!     alloc: Global,
+//!     key: usize,
+//!     actions: &[Action<N>],
+//! ) -> Result<Vec<u8>, AllocError> {
+//!     let mut all = Vec::new(alloc);
+//!     for action in actions {
+//!         if let Action::Write { key: to, bytes } = action {
+//!             if *to == key {
+//!                 all.extend_from_slice(bytes.as_slice())?;
+//!             }
+//!         }
+//!     }
+//!     Ok(all)
+//! }
+//! ```
 #![tactic(auto)]
 
 mod action;

@@ -4,6 +4,25 @@
 //! serves what is ready. Bytes that a [`Socket`] gives go to the engine, what the engine writes goes to the connection's
 //! outgoing bytes, and what it puts goes to other routers by a [`Post`]. The host waits for nothing and knows no clock:
 //! the loop round it does.
+//!
+//! ```
+//! use router::Engine;
+//! use router_core::OpenGate;
+//! use router_host::{Ended, Host, LocalPost, Socket};
+//! use seq_bus::SeqBus;
+//! use std::alloc::Global;
+//!
+//! /// A connection comes to a bus of one thread, and can be read: what is over after a turn.
+//! fn serve_turn<S: Socket>(alloc: Global, bus: SeqBus, socket: S) -> Option<Vec<Ended>> {
+//!     let engine = Engine::new(alloc, bus, OpenGate, None).ok()?;
+//!     let post = LocalPost::new(alloc).ok()?;
+//!     let mut host = Host::new(alloc, engine, post, 0, 256).ok()?;
+//!     let key = host.open(&(), socket, None).ok()?;
+//!     host.readable(key, false);
+//!     host.turn(&()).ok()?;
+//!     Some(host.take_ended())
+//! }
+//! ```
 #![tactic(auto)]
 
 mod host;

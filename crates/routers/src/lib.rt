@@ -5,6 +5,28 @@
 //! end. What they share stands in the [`Coordinator`]. The thread that accepts has a [`MainSeat`], whose [`Starter`] runs the
 //! programs of services for them. Where the run is recorded, each thread writes the lines of its trace to a [`TraceSink`], those of a turn at
 //! its end.
+//!
+//! ```
+//! use routers::{Coordinator, Fault, Wake};
+//! use std::alloc::{AllocError, Global};
+//! use std::sync::Wait;
+//!
+//! /// What wakes a thread that does not wait.
+//! #[derive(Drop)]
+//! struct Awake;
+//!
+//! impl Wake for Awake {
+//!     fn wake(&self) {}
+//! }
+//!
+//! /// A router can't go on: all threads are to end.
+//! fn ends_all<R: Wait>(rt: &R, alloc: Global) -> Result<bool, AllocError> {
+//!     let wakers = vec![in alloc; Awake, Awake]?;
+//!     let coordinator = Coordinator::new(alloc, wakers, Awake)?;
+//!     coordinator.fail(rt, Fault::Memory);
+//!     Ok(coordinator.is_over() && coordinator.fault() == Some(Fault::Memory))
+//! }
+//! ```
 #![tactic(auto)]
 
 mod coordinator;

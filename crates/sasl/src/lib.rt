@@ -3,6 +3,32 @@
 //! [`Server`] is one conversation. `specs/Table.antt` is the table of its states, `specs/Conversations.antt` what a whole
 //! conversation is, after "Authentication Protocol" of the D-Bus Specification, with the mechanisms DBUS_COOKIE_SHA1 and, where
 //! it is allowed, ANONYMOUS. [`read_keyring`] reads the cookies of the former. The laws stand in [`laws`].
+//!
+//! ```
+//! use sasl::{Identity, KeyringFault, Progress, Server, read_keyring};
+//! use std::alloc::Global;
+//! use std::sync::ArcStr;
+//!
+//! /// Whether a client that does not say who it is comes in, where that is allowed.
+//! fn lets_anonymous_in(
+//!     alloc: Global,
+//!     keyring: &[u8],
+//!     user: ArcStr,
+//!     guid: [u8; 16],
+//!     challenge: [u8; 16],
+//! ) -> Result<bool, KeyringFault> {
+//!     let cookie = read_keyring(alloc, keyring)?;
+//!     let mut server = Server::new(alloc, guid, user, cookie, challenge, true);
+//!     let step = server.feed(b"\0AUTH ANONYMOUS\r\nBEGIN\r\n");
+//!     Ok(matches!(
+//!         step.progress,
+//!         Progress::Done {
+//!             identity: Identity::Anonymous,
+//!             ..
+//!         }
+//!     ))
+//! }
+//! ```
 #![tactic(auto)]
 
 mod command;

@@ -4,6 +4,26 @@
 //! [`Change`] and [`Query`] are what is asked of a bus, [`Outcome`] and [`Verdict`] what it answers, and an
 //! [`Entry`] is one line of its history. [`ErrorKind`] names the errors of the bus.
 //! The laws of the definitions stand in [`laws`], the limits of a bus in [`limits`].
+//!
+//! ```
+//! use names::BusName;
+//! use owner_queues::{Reply as QueueReply, RequestFlags};
+//! use seq_bus_core::{Change, Outcome, Reply};
+//!
+//! /// That a connection requests a name.
+//! fn request(connection: u64, name: BusName) -> Change {
+//!     Change::Request {
+//!         connection,
+//!         name,
+//!         flags: RequestFlags::default(),
+//!     }
+//! }
+//!
+//! /// Whether it owns the name once the bus has told this.
+//! fn is_owner(told: &Outcome) -> bool {
+//!     told.reply == Reply::OfQueue(QueueReply::PrimaryOwner)
+//! }
+//! ```
 #![tactic(auto)]
 
 mod addressees;

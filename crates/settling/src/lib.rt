@@ -5,6 +5,31 @@
 //! Then nothing can be refused. [`prepare_all`] does the same for a batch, which is made whole or not at all: it makes the
 //! changes on a registry of its own as it goes, so that each is prepared on the state that those before it leave, and
 //! gives [`Settlings`].
+//!
+//! ```
+//! ghost use Rattle.settling.specs.Settlings.{IsSomeBus, SettlesAt};
+//!
+//! use held_calls::HeldCalls;
+//! use registry::Registry;
+//! use seq_bus_core::{Change, Outcome};
+//! use settling::prepare;
+//! use std::alloc::{AllocError, Global};
+//!
+//! /// Makes a change of seat 1 on a registry, beside which the calls stand that its bus holds.
+//! fn make(
+//!     alloc: Global,
+//!     registry: &mut Registry,
+//!     calls: &mut HeldCalls,
+//!     change: &Change,
+//! ) -> Result<Outcome, AllocError>
+//!     requires { (settling : _) → SettlesAt registry.old 1 change.now settling
+//!         → IsSomeBus change.now settling calls.old }
+//! {
+//!     let (prepared, settling) = prepare(alloc, registry, 1, change)?;
+//!     registry.absorb(&prepared);
+//!     Ok(settling.settle(calls, change))
+//! }
+//! ```
 #![tactic(auto)]
 
 mod batch;

@@ -6,6 +6,26 @@
 //!
 //! [`Trace::read`] reads a file. [`Trace::out_of_order`] and [`Trace::places`] look for lines that stand wrong. What the
 //! lines record is compared by who steps a bus through the [`Place`]s.
+//!
+//! ```
+//! use std::alloc::{AllocError, Global};
+//! use traces::{Cause, Trace, Verdict};
+//!
+//! /// What is wrong with a trace, as far as that needs no bus.
+//! fn fault_of(alloc: Global, file: &[u8]) -> Result<Option<Verdict>, AllocError> {
+//!     let (line, cause) = match Trace::read(alloc, file)? {
+//!         Err(line) => (line, Cause::Form),
+//!         Ok(trace) => match trace.out_of_order() {
+//!             Some(line) => (line, Cause::Order),
+//!             None => match trace.places(alloc)? {
+//!                 Err(line) => (line, Cause::Place),
+//!                 Ok(_places) => return Ok(None),
+//!             },
+//!         },
+//!     };
+//!     Ok(Some(Verdict::No { line, cause }))
+//! }
+//! ```
 #![tactic(auto)]
 
 mod file_lines;
