@@ -34,7 +34,8 @@ impl PlainTimes {
 
     /// The time of the first work of this name.
     pub fn of(&self, name: &str) -> Option<u64>
-        ensures { result ≡ option_map (λ line. line.1) (find (λ line. bytes_eq (string_bytes line.0) name.now) self.now.times.items) }
+        ensures { result ≡ option_map (λ line. line.1)
+            (find (λ line. bytes_eq (string_bytes line.0) name.now) self.now.times.items) }
     {
         let line = self.times.iter().find(|line| line.0.as_str() == name)?;
         Some(line.1)

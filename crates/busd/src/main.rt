@@ -73,7 +73,8 @@ fn command_line<'a>(alloc: Global) -> Result<Command<'a>, AllocError> {
 
 /// Tells what is wrong with the command line, or prints the help that it asks for.
 fn refuse<R: Print + Eprint>(rt: &R, error: &Error) -> ExitCode
-    ensures { (exit_status result ≡ refusal_status (kind_of error.now)) ⊎ (exit_status result ≡ status_of Output) }
+    ensures { (exit_status result ≡ refusal_status (kind_of error.now))
+        ⊎ (exit_status result ≡ status_of Output) }
 {
     if error.kind() == ErrorKind::OutOfMemory {
         return fail(rt, RunFault::Memory);

@@ -21,7 +21,8 @@ pub fn basic(
     bytes: &[u8],
 ) -> Result<(BasicValue, usize, &[u8]), MarshalFault>
     requires room { at + length bytes.now < 2 ^ 64 }
-    ensures reads { Gives (λ x. (basic_of x.0, x.1, x.2.now)) result (basic_at order short of at bytes.now) }
+    ensures reads { Gives (λ x. (basic_of x.0, x.1, x.2.now)) result
+        (basic_at order short of at bytes.now) }
     ensures place { IfOk result (λ x. x.1 + length x.2.now ≡ at + length bytes.now) }
     ensures shorter { IfOk result (λ x. length x.2.now < length bytes.now) }
 {

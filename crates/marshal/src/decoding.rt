@@ -38,7 +38,8 @@ fn sized(
     requires align { 0 < align }
     requires most { align ≤ 8 }
     requires room { at + length bytes.now < 2 ^ 64 }
-    ensures reads { Tells (λ x. ((x.0, x.1.now), x.2, x.3.now)) result (sized_at short align len at bytes.now) }
+    ensures reads { Tells (λ x. ((x.0, x.1.now), x.2, x.3.now)) result
+        (sized_at short align len at bytes.now) }
     ensures place { IfOk result (λ x. x.2 + length x.3.now ≡ at + length bytes.now) }
     ensures inside { IfOk result (λ x. x.0 + length x.1.now ≡ x.2) }
     ensures within { IfOk result (λ x. length x.3.now ≤ length bytes.now) }
@@ -66,7 +67,8 @@ pub fn array_bytes(
     requires align { 0 < align }
     requires most { align ≤ 8 }
     requires room { at + length bytes.now < 2 ^ 64 }
-    ensures reads { Tells (λ x. ((x.0, x.1.now), x.2, x.3.now)) result (inside_at order short align at bytes.now) }
+    ensures reads { Tells (λ x. ((x.0, x.1.now), x.2, x.3.now)) result
+        (inside_at order short align at bytes.now) }
     ensures place { IfOk result (λ x. x.2 + length x.3.now ≡ at + length bytes.now) }
     ensures inside { IfOk result (λ x. x.0 + length x.1.now ≡ x.2) }
     ensures shorter { IfOk result (λ x. length x.3.now < length bytes.now) }
@@ -84,7 +86,8 @@ fn basic_value(
     bytes: &[u8],
 ) -> Result<(Value, usize, &[u8]), MarshalFault>
     requires room { at + length bytes.now < 2 ^ 64 }
-    ensures reads { Gives (λ x. (val_of x.0, x.1, x.2.now)) result (as_a a_basic (basic_at order short of at bytes.now)) }
+    ensures reads { Gives (λ x. (val_of x.0, x.1, x.2.now)) result
+        (as_a a_basic (basic_at order short of at bytes.now)) }
     ensures place { IfOk result (λ x. x.1 + length x.2.now ≡ at + length bytes.now) }
     ensures shorter { IfOk result (λ x. length x.2.now < length bytes.now) }
 {
@@ -104,7 +107,8 @@ fn value<'a>(
     bytes: &'a [u8],
 ) -> Result<(Value, usize, &'a [u8]), MarshalFault>
     requires room { at + length bytes.now < 2 ^ 64 }
-    ensures reads { Gives (λ x. (val_of x.0, x.1, x.2.now)) result (value_at depth order short (ty_of of.now) at bytes.now) }
+    ensures reads { Gives (λ x. (val_of x.0, x.1, x.2.now)) result
+        (value_at depth order short (ty_of of.now) at bytes.now) }
     ensures place { IfOk result (λ x. x.1 + length x.2.now ≡ at + length bytes.now) }
     ensures shorter { IfOk result (λ x. length x.2.now < length bytes.now) }
 {
@@ -148,7 +152,8 @@ fn variant(
     bytes: &[u8],
 ) -> Result<(Value, usize, &[u8]), MarshalFault>
     requires room { at + length bytes.now < 2 ^ 64 }
-    ensures reads { Gives (λ x. (val_of x.0, x.1, x.2.now)) result (variant_at (value_at depth order) short at bytes.now) }
+    ensures reads { Gives (λ x. (val_of x.0, x.1, x.2.now)) result
+        (variant_at (value_at depth order) short at bytes.now) }
     ensures place { IfOk result (λ x. x.1 + length x.2.now ≡ at + length bytes.now) }
     ensures shorter { IfOk result (λ x. length x.2.now < length bytes.now) }
 {
@@ -169,7 +174,8 @@ fn array<'a>(
     bytes: &'a [u8],
 ) -> Result<(Value, usize, &'a [u8]), MarshalFault>
     requires room { at + length bytes.now < 2 ^ 64 }
-    ensures reads { Gives (λ x. (val_of x.0, x.1, x.2.now)) result (array_at (value_at depth order) order short (ty_of of.now) at bytes.now) }
+    ensures reads { Gives (λ x. (val_of x.0, x.1, x.2.now)) result
+        (array_at (value_at depth order) order short (ty_of of.now) at bytes.now) }
     ensures place { IfOk result (λ x. x.1 + length x.2.now ≡ at + length bytes.now) }
     ensures shorter { IfOk result (λ x. length x.2.now < length bytes.now) }
 {
@@ -192,7 +198,8 @@ fn dictionary<'a>(
     bytes: &'a [u8],
 ) -> Result<(Value, usize, &'a [u8]), MarshalFault>
     requires room { at + length bytes.now < 2 ^ 64 }
-    ensures reads { Gives (λ x. (val_of x.0, x.1, x.2.now)) result (array_at (value_at depth order) order short (entry key (ty_of of.now)) at bytes.now) }
+    ensures reads { Gives (λ x. (val_of x.0, x.1, x.2.now)) result
+        (array_at (value_at depth order) order short (entry key (ty_of of.now)) at bytes.now) }
     ensures place { IfOk result (λ x. x.1 + length x.2.now ≡ at + length bytes.now) }
     ensures shorter { IfOk result (λ x. length x.2.now < length bytes.now) }
 {
@@ -213,7 +220,8 @@ fn one_entry<'a>(
     bytes: &'a [u8],
 ) -> Result<((BasicValue, Value), usize, &'a [u8]), MarshalFault>
     requires room { at + length bytes.now < 2 ^ 64 }
-    ensures reads { Gives (λ x. (entry_of x.0, x.1, x.2.now)) result (value_at depth order MarshalFault.ArrayLength (entry key (ty_of of.now)) at bytes.now) }
+    ensures reads { Gives (λ x. (entry_of x.0, x.1, x.2.now)) result
+        (value_at depth order MarshalFault.ArrayLength (entry key (ty_of of.now)) at bytes.now) }
     ensures place { IfOk result (λ x. x.1 + length x.2.now ≡ at + length bytes.now) }
     ensures shorter { IfOk result (λ x. length x.2.now < length bytes.now) }
 {
@@ -235,7 +243,9 @@ fn key_and_value<'a>(
     bytes: &'a [u8],
 ) -> Result<((BasicValue, Value), usize, &'a [u8]), MarshalFault>
     requires room { at + length bytes.now < 2 ^ 64 }
-    ensures reads { Gives (λ x. (entry_of x.0, x.1, x.2.now)) result (entry_at (value_at depth order) order MarshalFault.ArrayLength key (ty_of of.now) at bytes.now) }
+    ensures reads { Gives (λ x. (entry_of x.0, x.1, x.2.now)) result
+        (entry_at (value_at depth order) order MarshalFault.ArrayLength key
+        (ty_of of.now) at bytes.now) }
     ensures place { IfOk result (λ x. x.1 + length x.2.now ≡ at + length bytes.now) }
     ensures shorter { IfOk result (λ x. length x.2.now < length bytes.now) }
 {
@@ -257,7 +267,8 @@ fn structure<'a>(
     bytes: &'a [u8],
 ) -> Result<(Value, usize, &'a [u8]), MarshalFault>
     requires room { at + length bytes.now < 2 ^ 64 }
-    ensures reads { Gives (λ x. (val_of x.0, x.1, x.2.now)) result (struct_at (value_at depth order) short (types_of of.now) at bytes.now) }
+    ensures reads { Gives (λ x. (val_of x.0, x.1, x.2.now)) result
+        (struct_at (value_at depth order) short (types_of of.now) at bytes.now) }
     ensures place { IfOk result (λ x. x.1 + length x.2.now ≡ at + length bytes.now) }
     ensures shorter { IfOk result (λ x. length x.2.now < length bytes.now) }
 {
@@ -281,7 +292,8 @@ fn fields_of<'a>(
 ) -> Result<(Value, usize, &'a [u8]), MarshalFault>
     requires some { 0 < length of.now }
     requires room { at + length bytes.now < 2 ^ 64 }
-    ensures reads { Gives (λ x. (val_of x.0, x.1, x.2.now)) result (struct_fields_at (value_at depth order) short (types_of of.now) at bytes.now) }
+    ensures reads { Gives (λ x. (val_of x.0, x.1, x.2.now)) result
+        (struct_fields_at (value_at depth order) short (types_of of.now) at bytes.now) }
     ensures place { IfOk result (λ x. x.1 + length x.2.now ≡ at + length bytes.now) }
     ensures shorter { IfOk result (λ x. length x.2.now < length bytes.now) }
 {
@@ -300,7 +312,8 @@ fn elements(
     bytes: &[u8],
 ) -> Result<Vec<Value>, MarshalFault>
     requires room { at + length bytes.now < 2 ^ 64 }
-    ensures { Gives (λ x. values_of x.items) result (elements_at (value_at depth order) (ty_of of.now) (length bytes.now) at bytes.now) }
+    ensures { Gives (λ x. values_of x.items) result
+        (elements_at (value_at depth order) (ty_of of.now) (length bytes.now) at bytes.now) }
 {
     let mut items = Vec::new(alloc);
     let mut rest = bytes;
@@ -333,7 +346,9 @@ fn entries(
     bytes: &[u8],
 ) -> Result<Vec<(BasicValue, Value)>, MarshalFault>
     requires room { at + length bytes.now < 2 ^ 64 }
-    ensures { Gives (λ x. values (map entry_of x.items)) result (elements_at (value_at depth order) (entry key (ty_of of.now)) (length bytes.now) at bytes.now) }
+    ensures { Gives (λ x. values (map entry_of x.items)) result
+        (elements_at (value_at depth order) (entry key (ty_of of.now))
+        (length bytes.now) at bytes.now) }
 {
     let mut items = Vec::new(alloc);
     let mut rest = bytes;
@@ -358,7 +373,8 @@ fn fields<'a>(
     bytes: &'a [u8],
 ) -> Result<(Vec<Value>, usize, &'a [u8]), MarshalFault>
     requires room { at + length bytes.now < 2 ^ 64 }
-    ensures reads { Gives (λ x. (values_of x.0.items, x.1, x.2.now)) result (fields_at (value_at depth order) short (types_of of.now) at bytes.now) }
+    ensures reads { Gives (λ x. (values_of x.0.items, x.1, x.2.now)) result
+        (fields_at (value_at depth order) short (types_of of.now) at bytes.now) }
     ensures place { IfOk result (λ x. x.1 + length x.2.now ≡ at + length bytes.now) }
     ensures shorter { IfOk result (λ x. length x.2.now ≤ length bytes.now) }
     ensures some { IfOk result (λ x. 0 < length of.now → length x.2.now < length bytes.now) }
@@ -382,7 +398,8 @@ fn all_values(
     of: &[DataType],
     bytes: &[u8],
 ) -> Result<(Vec<Value>, usize), MarshalFault>
-    ensures { Gives (λ x. (values_of x.0.items, x.1)) result (decode_at order (types_of of.now) offset bytes.now) }
+    ensures { Gives (λ x. (values_of x.0.items, x.1)) result
+        (decode_at order (types_of of.now) offset bytes.now) }
 {
     let at = offset % 8;
     let (items, end, _rest) = fields(
@@ -408,12 +425,16 @@ pub fn decode(
     bytes: &[u8],
 ) -> Result<(Vec<Value>, usize), MarshalFault>
     // What is read is spelled by the bytes that it takes.
-    ensures found { IfOk result (λ x. (x.1 ≤ length bytes.now) × Spells order offset (types_of signature.now.types.items) (values_of x.0.items) (take x.1 bytes.now)) }
+    ensures found { IfOk result (λ x. (x.1 ≤ length bytes.now)
+        × Spells order offset (types_of signature.now.types.items)
+        (values_of x.0.items) (take x.1 bytes.now)) }
     // Where the bytes begin with a spelling of any values of these types, they are read, unless memory runs out.
-    ensures only { (vs : Vals) (front rest : List ℕ) → bytes.now ≡ front ++ rest → Spells order offset (types_of signature.now.types.items) vs front
+    ensures only { (vs : Vals) (front rest : List ℕ) → bytes.now ≡ front ++ rest
+        → Spells order offset (types_of signature.now.types.items) vs front
         → Gives (λ x. (values_of x.0.items, x.1)) result (decoded vs (length front)) }
     // Which fault it is.
-    ensures exact { Gives (λ x. (values_of x.0.items, x.1)) result (decode_at order (types_of signature.now.types.items) offset bytes.now) }
+    ensures exact { Gives (λ x. (values_of x.0.items, x.1)) result
+        (decode_at order (types_of signature.now.types.items) offset bytes.now) }
 {
     all_values(alloc, order, offset, &signature.types, bytes)
 }
@@ -421,11 +442,13 @@ pub fn decode(
 /// No spelling under given types, order and offset begins another: what was written is read again,
 /// whatever follows.
 pub fn one_spelling()
-    ensures { (vs ws : Vals) (order : Order) (offset : ℕ) (ts : Tys) (a b x y : List ℕ) → Spells order offset ts vs a → Spells order offset ts ws b
-        → a ++ x ≡ b ++ y → (a ≡ b) × (vs ≡ ws) }
+    ensures { (vs ws : Vals) (order : Order) (offset : ℕ) (ts : Tys) (a b x y : List ℕ)
+        → Spells order offset ts vs a → Spells order offset ts ws b → a ++ x ≡ b ++ y
+        → (a ≡ b) × (vs ≡ ws) }
 {}
 
 /// Values have one spelling under given types, order and offset.
 pub fn one_text()
-    ensures { (vs : Vals) (order : Order) (offset : ℕ) (ts : Tys) (a b : List ℕ) → Spells order offset ts vs a → Spells order offset ts vs b → a ≡ b }
+    ensures { (vs : Vals) (order : Order) (offset : ℕ) (ts : Tys) (a b : List ℕ)
+        → Spells order offset ts vs a → Spells order offset ts vs b → a ≡ b }
 {}

@@ -27,7 +27,8 @@ fn padding(align: usize, at: usize, output: &mut Vec<u8>) -> Result<(), AllocErr
     requires align { 0 < align }
     requires most { align ≤ 8 }
     requires place { at < 8 }
-    ensures { OnOk result (output.new.items ≡ output.old.items ++ pads align (at + length output.old.items)) }
+    ensures { OnOk result (output.new.items
+        ≡ output.old.items ++ pads align (at + length output.old.items)) }
 {
     let zeros = [0u8; 8];
     let count = gap(align, at + output.len());
@@ -36,7 +37,8 @@ fn padding(align: usize, at: usize, output: &mut Vec<u8>) -> Result<(), AllocErr
 
 fn number16(order: Order, at: usize, number: u16, output: &mut Vec<u8>) -> Result<(), MarshalFault>
     requires place { at < 8 }
-    ensures { Gives (λ _. output.new.items) result (Ok (output.old.items ++ number_spelling order w16 (at + length output.old.items) number)) }
+    ensures { Gives (λ _. output.new.items) result
+        (Ok (output.old.items ++ number_spelling order w16 (at + length output.old.items) number)) }
 {
     padding(2, at, output)?;
     let mut two = [0; 2];
@@ -50,7 +52,8 @@ fn number16(order: Order, at: usize, number: u16, output: &mut Vec<u8>) -> Resul
 
 fn number32(order: Order, at: usize, number: u32, output: &mut Vec<u8>) -> Result<(), MarshalFault>
     requires place { at < 8 }
-    ensures { Gives (λ _. output.new.items) result (Ok (output.old.items ++ number_spelling order w32 (at + length output.old.items) number)) }
+    ensures { Gives (λ _. output.new.items) result
+        (Ok (output.old.items ++ number_spelling order w32 (at + length output.old.items) number)) }
 {
     padding(4, at, output)?;
     let mut four = [0; 4];
@@ -64,7 +67,8 @@ fn number32(order: Order, at: usize, number: u32, output: &mut Vec<u8>) -> Resul
 
 fn number64(order: Order, at: usize, number: u64, output: &mut Vec<u8>) -> Result<(), MarshalFault>
     requires place { at < 8 }
-    ensures { Gives (λ _. output.new.items) result (Ok (output.old.items ++ number_spelling order w64 (at + length output.old.items) number)) }
+    ensures { Gives (λ _. output.new.items) result
+        (Ok (output.old.items ++ number_spelling order w64 (at + length output.old.items) number)) }
 {
     padding(8, at, output)?;
     let mut eight = [0; 8];
@@ -101,7 +105,8 @@ fn text(
 ) -> Result<(), MarshalFault>
     requires place { at < 8 }
     requires len { len ≡ length text.now }
-    ensures { Gives (λ _. output.new.items) result (Ok (output.old.items ++ text_spelling order (at + length output.old.items) text.now)) }
+    ensures { Gives (λ _. output.new.items) result
+        (Ok (output.old.items ++ text_spelling order (at + length output.old.items) text.now)) }
 {
     number32(order, at, len, output)?;
     output.extend_from_slice(text.as_bytes())?;
@@ -112,7 +117,8 @@ fn text(
 #[tactic(auto, unfolding(crate::specs::Writing::basic_written))]
 fn string(order: Order, at: usize, content: &str, output: &mut Vec<u8>) -> Result<(), MarshalFault>
     requires place { at < 8 }
-    ensures { Gives (λ _. output.new.items) result (basic_written order at (a_string content.now) output.old.items) }
+    ensures { Gives (λ _. output.new.items) result
+        (basic_written order at (a_string content.now) output.old.items) }
 {
     let len = string_length(content)?;
     text(order, at, len, content, output)
@@ -121,7 +127,8 @@ fn string(order: Order, at: usize, content: &str, output: &mut Vec<u8>) -> Resul
 #[tactic(auto, unfolding(crate::specs::Writing::basic_written))]
 fn path(order: Order, at: usize, content: &str, output: &mut Vec<u8>) -> Result<(), MarshalFault>
     requires place { at < 8 }
-    ensures { Gives (λ _. output.new.items) result (basic_written order at (an_object_path content.now) output.old.items) }
+    ensures { Gives (λ _. output.new.items) result
+        (basic_written order at (an_object_path content.now) output.old.items) }
 {
     let len = string_length(content)?;
     if ObjectPath::parse(content).is_err() {
@@ -133,7 +140,8 @@ fn path(order: Order, at: usize, content: &str, output: &mut Vec<u8>) -> Result<
 /// The text of a signature after its length.
 fn short_text(text: &[u8], output: &mut Vec<u8>) -> Result<(), MarshalFault>
     requires { length text.now ≤ 255 }
-    ensures { Gives (λ _. output.new.items) result (Ok (output.old.items ++ (length text.now ∷ ended text.now))) }
+    ensures { Gives (λ _. output.new.items) result
+        (Ok (output.old.items ++ (length text.now ∷ ended text.now))) }
 {
     output.push(text.len() as u8)?;
     output.extend_from_slice(text)?;
@@ -143,7 +151,8 @@ fn short_text(text: &[u8], output: &mut Vec<u8>) -> Result<(), MarshalFault>
 
 fn signature(alloc: Global, types: &[DataType], output: &mut Vec<u8>) -> Result<(), MarshalFault>
     requires { IsSignature (types_of types.now) }
-    ensures { Gives (λ _. output.new.items) result (Ok (output.old.items ++ signature_spelling (types_of types.now))) }
+    ensures { Gives (λ _. output.new.items) result
+        (Ok (output.old.items ++ signature_spelling (types_of types.now))) }
 {
     let mut text = Vec::new(alloc);
     type_codes(types, &mut text)?;
@@ -159,7 +168,8 @@ fn basic(
     output: &mut Vec<u8>,
 ) -> Result<(), MarshalFault>
     requires place { at < 8 }
-    ensures { Gives (λ _. output.new.items) result (basic_written order at (basic_of value.now) output.old.items) }
+    ensures { Gives (λ _. output.new.items) result
+        (basic_written order at (basic_of value.now) output.old.items) }
 {
     match value {
         BasicValue::Byte(number) => {
@@ -187,7 +197,8 @@ fn basic(
 /// The signature of a variant that holds the value.
 #[tactic(auto, unfolding(crate::specs::Writing::variant_type_written))]
 fn variant_type(alloc: Global, held: &Value, output: &mut Vec<u8>) -> Result<(), MarshalFault>
-    ensures { Gives (λ _. output.new.items) result (variant_type_written (type_of (val_of held.now)) output.old.items) }
+    ensures { Gives (λ _. output.new.items) result
+        (variant_type_written (type_of (val_of held.now)) output.old.items) }
 {
     let mut text = Vec::new(alloc);
     value_code(held, &mut text)?;
@@ -218,7 +229,8 @@ fn sized(
     requires align { 0 < align }
     requires most { align ≤ 8 }
     requires place { at < 8 }
-    ensures { Gives (λ _. output.new.items) result (array_written order align at output.old.items inside.now) }
+    ensures { Gives (λ _. output.new.items) result
+        (array_written order align at output.old.items inside.now) }
 {
     if inside.len() > MAX_ARRAY_LENGTH {
         return Err(MarshalFault::ArrayLength);
@@ -253,7 +265,8 @@ fn value(
     output: &mut Vec<u8>,
 ) -> Result<(), MarshalFault>
     requires place { at < 8 }
-    ensures { Gives (λ _. output.new.items) result (value_written (val_of one.now) depth order at output.old.items) }
+    ensures { Gives (λ _. output.new.items) result
+        (value_written (val_of one.now) depth order at output.old.items) }
 {
     match one {
         Value::Basic(one) => basic(alloc, order, one, at, output),
@@ -294,7 +307,9 @@ fn variant(
     output: &mut Vec<u8>,
 ) -> Result<(), MarshalFault>
     requires place { at < 8 }
-    ensures { Gives (λ _. output.new.items) result (and_then (variant_type_written (type_of (val_of held.now)) output.old.items) (value_written (val_of held.now) depth order at)) }
+    ensures { Gives (λ _. output.new.items) result
+        (and_then (variant_type_written (type_of (val_of held.now)) output.old.items)
+        (value_written (val_of held.now) depth order at)) }
 {
     variant_type(alloc, held, output)?;
     value(alloc, depth, order, held, at, output)
@@ -311,7 +326,10 @@ fn array(
     output: &mut Vec<u8>,
 ) -> Result<(), MarshalFault>
     requires place { at < 8 }
-    ensures { Gives (λ _. output.new.items) result (and_then (elements_written (values_of items.now) depth order (first_place (ty_of of.now) (at + length output.old.items) % 8) (ty_of of.now) []) (array_written order (alignment (ty_of of.now)) at output.old.items)) }
+    ensures { Gives (λ _. output.new.items) result
+        (and_then (elements_written (values_of items.now) depth order
+        (first_place (ty_of of.now) (at + length output.old.items) % 8) (ty_of of.now) [])
+        (array_written order (alignment (ty_of of.now)) at output.old.items)) }
 {
     let align = of.alignment();
     let place = first(align, at + output.len());
@@ -331,7 +349,10 @@ fn dictionary(
     output: &mut Vec<u8>,
 ) -> Result<(), MarshalFault>
     requires place { at < 8 }
-    ensures { Gives (λ _. output.new.items) result (and_then (elements_written (values (map entry_of items.now)) depth order (first_place (entry key (ty_of of.now)) (at + length output.old.items) % 8) (entry key (ty_of of.now)) []) (array_written order 8 at output.old.items)) }
+    ensures { Gives (λ _. output.new.items) result
+        (and_then (elements_written (values (map entry_of items.now)) depth order
+        (first_place (entry key (ty_of of.now)) (at + length output.old.items) % 8)
+        (entry key (ty_of of.now)) []) (array_written order 8 at output.old.items)) }
 {
     let place = first(ENTRY_ALIGNMENT, at + output.len());
     let inside = entries(alloc, depth, order, key, of, items, place)?;
@@ -349,7 +370,9 @@ fn one_entry(
     output: &mut Vec<u8>,
 ) -> Result<(), MarshalFault>
     requires place { at < 8 }
-    ensures { Gives (λ _. output.new.items) result (value_written (an_entry (basic_of key.now) (val_of held.now)) depth order at output.old.items) }
+    ensures { Gives (λ _. output.new.items) result
+        (value_written (an_entry (basic_of key.now) (val_of held.now))
+        depth order at output.old.items) }
 {
     if depth == 0 {
         return Err(MarshalFault::Depth);
@@ -369,7 +392,10 @@ fn structure(
     output: &mut Vec<u8>,
 ) -> Result<(), MarshalFault>
     requires place { at < 8 }
-    ensures { Gives (λ _. output.new.items) result (if has_types (types_of_values (values_of of.now)) then fields_written (values_of of.now) depth order at (padded 8 at output.old.items) else Err NotSigned) }
+    ensures { Gives (λ _. output.new.items) result
+        (if has_types (types_of_values (values_of of.now))
+        then fields_written (values_of of.now) depth order at (padded 8 at output.old.items)
+        else Err NotSigned) }
 {
     if of.is_empty() {
         return Err(MarshalFault::Signature);
@@ -388,7 +414,8 @@ fn elements(
     at: usize,
 ) -> Result<Vec<u8>, MarshalFault>
     requires place { at < 8 }
-    ensures { Gives (λ x. x.items) result (elements_written (values_of items.now) depth order at (ty_of of.now) []) }
+    ensures { Gives (λ x. x.items) result
+        (elements_written (values_of items.now) depth order at (ty_of of.now) []) }
 {
     let mut wanted = Vec::new(alloc);
     type_code(of, &mut wanted)?;
@@ -404,7 +431,8 @@ fn elements(
 
 /// The code of a dict entry's type, where its value has this code.
 fn entry_code(key: BasicType, of: &[u8], output: &mut Vec<u8>) -> Result<(), AllocError>
-    ensures { OnOk result (output.new.items ≡ output.old.items ++ (entry_begin ∷ basic_code key ∷ (of.now ++ entry_end ∷ []))) }
+    ensures { OnOk result (output.new.items
+        ≡ output.old.items ++ (entry_begin ∷ basic_code key ∷ (of.now ++ entry_end ∷ []))) }
 {
     output.push(b'{')?;
     output.push(key.code())?;
@@ -420,7 +448,8 @@ fn entry_has_code(
     held: &Value,
     wanted: &[u8],
 ) -> Result<bool, AllocError>
-    ensures { IfOk result (λ b. b ≡ text_eq (code (type_of (an_entry (basic_of key.now) (val_of held.now)))) wanted.now) }
+    ensures { IfOk result (λ b.
+        b ≡ text_eq (code (type_of (an_entry (basic_of key.now) (val_of held.now)))) wanted.now) }
 {
     if let Value::Basic(basic) = held {
         let own = [
@@ -449,7 +478,8 @@ fn entries(
     at: usize,
 ) -> Result<Vec<u8>, MarshalFault>
     requires place { at < 8 }
-    ensures { Gives (λ x. x.items) result (elements_written (values (map entry_of items.now)) depth order at (entry key (ty_of of.now)) []) }
+    ensures { Gives (λ x. x.items) result (elements_written (values (map entry_of items.now))
+        depth order at (entry key (ty_of of.now)) []) }
 {
     let mut of_value = Vec::new(alloc);
     type_code(of, &mut of_value)?;
@@ -475,7 +505,8 @@ fn fields(
     output: &mut Vec<u8>,
 ) -> Result<(), MarshalFault>
     requires place { at < 8 }
-    ensures { Gives (λ _. output.new.items) result (fields_written (values_of of.now) depth order at output.old.items) }
+    ensures { Gives (λ _. output.new.items) result
+        (fields_written (values_of of.now) depth order at output.old.items) }
 {
     for one in of {
         value(alloc, depth, order, one, at, output)?;
@@ -520,12 +551,18 @@ pub fn encode(
     output: &mut Vec<u8>,
 ) -> Result<(), MarshalFault>
     // What is appended is a spelling of the values, under the types that they have.
-    ensures appended { OnOk result ((bytes : List ℕ) × (output.new.items ≡ output.old.items ++ bytes) × Spells order offset (types_of_values (values_of values.now)) (values_of values.now) bytes) }
+    ensures appended { OnOk result ((bytes : List ℕ)
+        × (output.new.items ≡ output.old.items ++ bytes)
+        × Spells order offset (types_of_values (values_of values.now))
+        (values_of values.now) bytes) }
     ensures kept { OnErr result (output.new.items ≡ output.old.items) }
     // Values are refused only where they have no spelling, unless memory runs out.
-    ensures refused { IfErr result (λ e. e ≢ NoMemory → (ts : Tys) (bytes : List ℕ) → Spells order offset ts (values_of values.now) bytes → ⊥) }
+    ensures refused { IfErr result (λ e. e ≢ NoMemory → (ts : Tys) (bytes : List ℕ)
+        → Spells order offset ts (values_of values.now) bytes → ⊥) }
     // Which fault it is.
-    ensures exact { Gives (λ _. output.new.items) result (and_then (encode_at order offset (values_of values.now)) (λ bytes. Ok (output.old.items ++ bytes))) }
+    ensures exact { Gives (λ _. output.new.items) result
+        (and_then (encode_at order offset (values_of values.now))
+        (λ bytes. Ok (output.old.items ++ bytes))) }
 {
     let bytes = all_written(alloc, order, offset, values)?;
     output.extend_from_slice(&bytes)?;

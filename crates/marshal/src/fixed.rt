@@ -88,7 +88,8 @@ pub fn number16(
     bytes: &[u8],
 ) -> Result<(u16, usize, &[u8]), MarshalFault>
     requires room { at + length bytes.now < 2 ^ 64 }
-    ensures reads { Tells (λ x. (x.0, x.1, x.2.now)) result (number_at order w16 short at bytes.now) }
+    ensures reads { Tells (λ x. (x.0, x.1, x.2.now)) result
+        (number_at order w16 short at bytes.now) }
     ensures place { IfOk result (λ x. x.1 + length x.2.now ≡ at + length bytes.now) }
     ensures shorter { IfOk result (λ x. length x.2.now < length bytes.now) }
 {
@@ -107,7 +108,8 @@ pub fn number32(
     bytes: &[u8],
 ) -> Result<(u32, usize, &[u8]), MarshalFault>
     requires room { at + length bytes.now < 2 ^ 64 }
-    ensures reads { Tells (λ x. (x.0, x.1, x.2.now)) result (number_at order w32 short at bytes.now) }
+    ensures reads { Tells (λ x. (x.0, x.1, x.2.now)) result
+        (number_at order w32 short at bytes.now) }
     ensures place { IfOk result (λ x. x.1 + length x.2.now ≡ at + length bytes.now) }
     ensures shorter { IfOk result (λ x. length x.2.now < length bytes.now) }
 {
@@ -126,7 +128,8 @@ pub fn number64(
     bytes: &[u8],
 ) -> Result<(u64, usize, &[u8]), MarshalFault>
     requires room { at + length bytes.now < 2 ^ 64 }
-    ensures reads { Tells (λ x. (x.0, x.1, x.2.now)) result (number_at order w64 short at bytes.now) }
+    ensures reads { Tells (λ x. (x.0, x.1, x.2.now)) result
+        (number_at order w64 short at bytes.now) }
     ensures place { IfOk result (λ x. x.1 + length x.2.now ≡ at + length bytes.now) }
     ensures shorter { IfOk result (λ x. length x.2.now < length bytes.now) }
 {

@@ -34,7 +34,8 @@ fn content(
     bytes: &[u8],
 ) -> Result<(&[u8], usize, &[u8]), MarshalFault>
     requires room { at + length bytes.now < 2 ^ 64 }
-    ensures reads { Tells (λ x. (x.0.now, x.1, x.2.now)) result (content_at short len at bytes.now) }
+    ensures reads { Tells (λ x. (x.0.now, x.1, x.2.now)) result
+        (content_at short len at bytes.now) }
     ensures place { IfOk result (λ x. x.1 + length x.2.now ≡ at + length bytes.now) }
     ensures shorter { IfOk result (λ x. length x.2.now < length bytes.now) }
     ensures size { IfOk result (λ x. length x.0.now ≡ len) }
@@ -62,7 +63,8 @@ pub fn string(
     bytes: &[u8],
 ) -> Result<(&str, usize, &[u8]), MarshalFault>
     requires room { at + length bytes.now < 2 ^ 64 }
-    ensures reads { Tells (λ x. (x.0.now, x.1, x.2.now)) result (string_at order short at bytes.now) }
+    ensures reads { Tells (λ x. (x.0.now, x.1, x.2.now)) result
+        (string_at order short at bytes.now) }
     ensures place { IfOk result (λ x. x.1 + length x.2.now ≡ at + length bytes.now) }
     ensures shorter { IfOk result (λ x. length x.2.now < length bytes.now) }
 {
@@ -118,7 +120,8 @@ pub fn signature(
     bytes: &[u8],
 ) -> Result<(Signature, usize, &[u8]), MarshalFault>
     requires room { at + length bytes.now < 2 ^ 64 }
-    ensures reads { Gives (λ x. (types_of x.0.types.items, x.1, x.2.now)) result (signature_at short at bytes.now) }
+    ensures reads { Gives (λ x. (types_of x.0.types.items, x.1, x.2.now)) result
+        (signature_at short at bytes.now) }
     ensures place { IfOk result (λ x. x.1 + length x.2.now ≡ at + length bytes.now) }
     ensures shorter { IfOk result (λ x. length x.2.now < length bytes.now) }
 {
@@ -136,7 +139,8 @@ pub fn variant_type(
     bytes: &[u8],
 ) -> Result<(DataType, usize, &[u8]), MarshalFault>
     requires room { at + length bytes.now < 2 ^ 64 }
-    ensures reads { Gives (λ x. (ty_of x.0, x.1, x.2.now)) result (variant_type_at short at bytes.now) }
+    ensures reads { Gives (λ x. (ty_of x.0, x.1, x.2.now)) result
+        (variant_type_at short at bytes.now) }
     ensures place { IfOk result (λ x. x.1 + length x.2.now ≡ at + length bytes.now) }
     ensures shorter { IfOk result (λ x. length x.2.now < length bytes.now) }
 {

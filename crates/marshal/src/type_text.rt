@@ -49,7 +49,8 @@ pub fn type_codes(types: &[DataType], output: &mut Vec<u8>) -> Result<(), AllocE
 
 /// Appends the code of a value's type.
 pub fn value_code(value: &Value, output: &mut Vec<u8>) -> Result<(), AllocError>
-    ensures { OnOk result (output.new.items ≡ output.old.items ++ code (type_of (val_of value.now))) }
+    ensures { OnOk result (output.new.items
+        ≡ output.old.items ++ code (type_of (val_of value.now))) }
 {
     match value {
         Value::Basic(basic) => output.push(basic.basic_type().code())?,
@@ -77,7 +78,8 @@ pub fn value_code(value: &Value, output: &mut Vec<u8>) -> Result<(), AllocError>
 
 /// Appends the codes of the values' types, one after the other: the signature of a body.
 pub fn value_codes(values: &[Value], output: &mut Vec<u8>) -> Result<(), AllocError>
-    ensures { OnOk result (output.new.items ≡ output.old.items ++ codes (types_of_values (values_of values.now))) }
+    ensures { OnOk result (output.new.items
+        ≡ output.old.items ++ codes (types_of_values (values_of values.now))) }
 {
     for value in values {
         value_code(value, output)?;

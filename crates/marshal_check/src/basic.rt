@@ -130,7 +130,8 @@ pub fn variant_text(
     bytes: &[u8],
 ) -> Result<(&[u8], usize, &[u8]), MarshalFault>
     requires room { at + length bytes.now < 2 ^ 64 }
-    ensures reads { HoldsType (λ x. (x.0.now, x.1, x.2.now)) result (variant_type_at short at bytes.now) }
+    ensures reads { HoldsType (λ x. (x.0.now, x.1, x.2.now)) result
+        (variant_type_at short at bytes.now) }
     ensures place { IfOk result (λ x. x.1 + length x.2.now ≡ at + length bytes.now) }
     ensures shorter { IfOk result (λ x. length x.2.now < length bytes.now) }
 {

@@ -40,7 +40,8 @@ impl<'a> CheckedArguments<'a> {
         body: &'a [u8],
     ) -> CheckedArguments<'a>
         requires { (vs : Vals) × Spells order offset (types_in types.text.now) vs body.now }
-        ensures { (vs : Vals) → Spells order offset (types_in types.entry.text.now) vs body.now → checked_left result ≡ arguments vs }
+        ensures { (vs : Vals) → Spells order offset (types_in types.entry.text.now) vs body.now
+            → checked_left result ≡ arguments vs }
     {
         CheckedArguments {
             order,
@@ -52,7 +53,8 @@ impl<'a> CheckedArguments<'a> {
 
     /// The first argument and the others; `None` where there is none.
     fn split_first(self) -> Option<(Argument<'a>, CheckedArguments<'a>)>
-        ensures { MatchOption result (checked_left self.entry ≡ []) (λ x. checked_left self.entry ≡ seen x.0 ∷ checked_left x.1) }
+        ensures { MatchOption result (checked_left self.entry ≡ [])
+            (λ x. checked_left self.entry ≡ seen x.0 ∷ checked_left x.1) }
     {
         let (letter, others) = self.types.text.split_first()?;
         if *letter == b's' {

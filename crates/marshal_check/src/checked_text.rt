@@ -24,7 +24,8 @@ fn number(order: Order, four: &[u8]) -> u32
 pub fn checked_text<'a>(order: Order, at: usize, bytes: &'a [u8]) -> (&'a str, usize, &'a [u8])
     requires room { at + length bytes.now < 2 ^ 64 }
     requires there { is_ok (string_at order Truncated at bytes.now) ≡ true }
-    ensures reads { string_at order Truncated at bytes.now ≡ Ok (result.0.now, result.1, result.2.now) }
+    ensures reads { string_at order Truncated at bytes.now
+        ≡ Ok (result.0.now, result.1, result.2.now) }
     ensures place { result.1 + length result.2.now ≡ at + length bytes.now }
 {
     let gap = (4 - at % 4) % 4;

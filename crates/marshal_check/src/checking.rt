@@ -34,7 +34,8 @@ pub fn value<'a>(
     bytes: &'a [u8],
 ) -> Result<(usize, &'a [u8]), MarshalFault>
     requires room { at + length bytes.now < 2 ^ 64 }
-    ensures reads { (t : Ty) (tail : List ℕ) → of.now ≡ code t ++ tail → Skips (λ x. (x.0, x.1.now)) result (value_at depth order short t at bytes.now) }
+    ensures reads { (t : Ty) (tail : List ℕ) → of.now ≡ code t ++ tail
+        → Skips (λ x. (x.0, x.1.now)) result (value_at depth order short t at bytes.now) }
     ensures place { IfOk result (λ x. x.0 + length x.1.now ≡ at + length bytes.now) }
     ensures shorter { IfOk result (λ x. length x.1.now < length bytes.now) }
 {
@@ -59,7 +60,9 @@ fn container<'a>(
     bytes: &'a [u8],
 ) -> Result<(usize, &'a [u8]), MarshalFault>
     requires room { at + length bytes.now < 2 ^ 64 }
-    ensures reads { (t : Ty) (tail : List ℕ) → letter ∷ inner.now ≡ code t ++ tail → with_code letter basic_types ≡ None → Skips (λ x. (x.0, x.1.now)) result (value_at depth order short t at bytes.now) }
+    ensures reads { (t : Ty) (tail : List ℕ) → letter ∷ inner.now ≡ code t ++ tail
+        → with_code letter basic_types ≡ None
+        → Skips (λ x. (x.0, x.1.now)) result (value_at depth order short t at bytes.now) }
     ensures place { IfOk result (λ x. x.0 + length x.1.now ≡ at + length bytes.now) }
     ensures shorter { IfOk result (λ x. length x.1.now < length bytes.now) }
 {
@@ -87,7 +90,8 @@ fn variant(
     bytes: &[u8],
 ) -> Result<(usize, &[u8]), MarshalFault>
     requires room { at + length bytes.now < 2 ^ 64 }
-    ensures reads { Skips (λ x. (x.0, x.1.now)) result (variant_at (value_at depth order) short at bytes.now) }
+    ensures reads { Skips (λ x. (x.0, x.1.now)) result
+        (variant_at (value_at depth order) short at bytes.now) }
     ensures place { IfOk result (λ x. x.0 + length x.1.now ≡ at + length bytes.now) }
     ensures shorter { IfOk result (λ x. length x.1.now < length bytes.now) }
 {
@@ -106,7 +110,9 @@ fn array<'a>(
     bytes: &'a [u8],
 ) -> Result<(usize, &'a [u8]), MarshalFault>
     requires room { at + length bytes.now < 2 ^ 64 }
-    ensures reads { (t : Ty) (tail : List ℕ) → of.now ≡ code t ++ tail → Skips (λ x. (x.0, x.1.now)) result (array_at (value_at depth order) order short t at bytes.now) }
+    ensures reads { (t : Ty) (tail : List ℕ) → of.now ≡ code t ++ tail
+        → Skips (λ x. (x.0, x.1.now)) result
+        (array_at (value_at depth order) order short t at bytes.now) }
     ensures place { IfOk result (λ x. x.0 + length x.1.now ≡ at + length bytes.now) }
     ensures shorter { IfOk result (λ x. length x.1.now < length bytes.now) }
 {
@@ -120,7 +126,8 @@ fn array<'a>(
 #[cycle(values)]
 fn elements(depth: u8, order: Order, of: &[u8], at: usize, bytes: &[u8]) -> Result<(), MarshalFault>
     requires room { at + length bytes.now < 2 ^ 64 }
-    ensures { (t : Ty) (tail : List ℕ) → of.now ≡ code t ++ tail → at % alignment t ≡ 0 → Ends result (elements_at (value_at depth order) t (length bytes.now) at bytes.now) }
+    ensures { (t : Ty) (tail : List ℕ) → of.now ≡ code t ++ tail → at % alignment t ≡ 0
+        → Ends result (elements_at (value_at depth order) t (length bytes.now) at bytes.now) }
 {
     match free_element(of) {
         Some(size) => {
@@ -143,7 +150,8 @@ fn each_element(
     bytes: &[u8],
 ) -> Result<(), MarshalFault>
     requires room { at + length bytes.now < 2 ^ 64 }
-    ensures { (t : Ty) (tail : List ℕ) → of.now ≡ code t ++ tail → Ends result (elements_at (value_at depth order) t (length bytes.now) at bytes.now) }
+    ensures { (t : Ty) (tail : List ℕ) → of.now ≡ code t ++ tail
+        → Ends result (elements_at (value_at depth order) t (length bytes.now) at bytes.now) }
 {
     let mut rest = bytes;
     let mut place = at;
@@ -164,7 +172,10 @@ fn entry<'a>(
     bytes: &'a [u8],
 ) -> Result<(usize, &'a [u8]), MarshalFault>
     requires room { at + length bytes.now < 2 ^ 64 }
-    ensures reads { (k : BasicType) (t : Ty) (tail : List ℕ) → of.now ≡ basic_code k ∷ (code t ++ entry_end ∷ tail) → Skips (λ x. (x.0, x.1.now)) result (entry_at (value_at depth order) order short k t at bytes.now) }
+    ensures reads { (k : BasicType) (t : Ty) (tail : List ℕ)
+        → of.now ≡ basic_code k ∷ (code t ++ entry_end ∷ tail)
+        → Skips (λ x. (x.0, x.1.now)) result
+        (entry_at (value_at depth order) order short k t at bytes.now) }
     ensures place { IfOk result (λ x. x.0 + length x.1.now ≡ at + length bytes.now) }
     ensures shorter { IfOk result (λ x. length x.1.now < length bytes.now) }
 {
@@ -184,7 +195,9 @@ fn structure<'a>(
     bytes: &'a [u8],
 ) -> Result<(usize, &'a [u8]), MarshalFault>
     requires room { at + length bytes.now < 2 ^ 64 }
-    ensures reads { (ts : Tys) (tail : List ℕ) → of.now ≡ codes ts ++ struct_end ∷ tail → Skips (λ x. (x.0, x.1.now)) result (struct_at (value_at depth order) short ts at bytes.now) }
+    ensures reads { (ts : Tys) (tail : List ℕ) → of.now ≡ codes ts ++ struct_end ∷ tail
+        → Skips (λ x. (x.0, x.1.now)) result
+        (struct_at (value_at depth order) short ts at bytes.now) }
     ensures place { IfOk result (λ x. x.0 + length x.1.now ≡ at + length bytes.now) }
     ensures shorter { IfOk result (λ x. length x.1.now < length bytes.now) }
 {
@@ -206,7 +219,9 @@ fn fields<'a>(
     bytes: &'a [u8],
 ) -> Result<(usize, &'a [u8]), MarshalFault>
     requires room { at + length bytes.now < 2 ^ 64 }
-    ensures reads { (ts : Tys) (tail : List ℕ) → of.now ≡ codes ts ++ tail → is_end tail ≡ true → Skips (λ x. (x.0, x.1.now)) result (fields_at (value_at depth order) short ts at bytes.now) }
+    ensures reads { (ts : Tys) (tail : List ℕ) → of.now ≡ codes ts ++ tail → is_end tail ≡ true
+        → Skips (λ x. (x.0, x.1.now)) result
+        (fields_at (value_at depth order) short ts at bytes.now) }
     ensures place { IfOk result (λ x. x.0 + length x.1.now ≡ at + length bytes.now) }
     ensures within { IfOk result (λ x. length x.1.now ≤ length bytes.now) }
     ensures some { IfOk result (λ x. is_end of.now ≡ false → length x.1.now < length bytes.now) }
@@ -228,11 +243,15 @@ fn fields<'a>(
 /// It says what `marshal::decode` says, and takes no memory.
 pub fn check(order: Order, offset: usize, types: Types, bytes: &[u8]) -> Result<usize, MarshalFault>
     // The bytes that are taken spell some values.
-    ensures found { IfOk result (λ n. (n ≤ length bytes.now) × (vs : Vals) × Spells order offset (types_in types.entry.text.now) vs (take n bytes.now)) }
+    ensures found { IfOk result (λ n. (n ≤ length bytes.now) × (vs : Vals)
+        × Spells order offset (types_in types.entry.text.now) vs (take n bytes.now)) }
     // Where the bytes begin with a spelling of any values of these types, its length is the answer.
-    ensures only { (vs : Vals) (front rest : List ℕ) → bytes.now ≡ front ++ rest → Spells order offset (types_in types.entry.text.now) vs front → result ≡ Ok (length front) }
+    ensures only { (vs : Vals) (front rest : List ℕ) → bytes.now ≡ front ++ rest
+        → Spells order offset (types_in types.entry.text.now) vs front
+        → result ≡ Ok (length front) }
     // Which fault it is.
-    ensures exact { Leaves (λ n. n) result (decode_at order (types_in types.entry.text.now) offset bytes.now) }
+    ensures exact { Leaves (λ n. n) result
+        (decode_at order (types_in types.entry.text.now) offset bytes.now) }
 {
     let at = offset % 8;
     let (end, _rest) = fields(

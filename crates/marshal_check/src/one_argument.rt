@@ -21,7 +21,9 @@ pub fn one_argument<'a>(
     bytes: &'a [u8],
 ) -> Result<(Argument<'a>, usize, &'a [u8]), MarshalFault>
     requires room { at + length bytes.now < 2 ^ 64 }
-    ensures reads { (t : Ty) (tail : List ℕ) → of.now ≡ code t ++ tail → Shows (λ x. (seen x.0, x.1, x.2.now)) result (value_at max_container_depth order Truncated t at bytes.now) }
+    ensures reads { (t : Ty) (tail : List ℕ) → of.now ≡ code t ++ tail
+        → Shows (λ x. (seen x.0, x.1, x.2.now)) result
+        (value_at max_container_depth order Truncated t at bytes.now) }
     ensures place { IfOk result (λ x. x.1 + length x.2.now ≡ at + length bytes.now) }
 {
     let Some((first, _)) = of.split_first() else {

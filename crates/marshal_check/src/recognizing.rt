@@ -62,7 +62,8 @@ fn after_entry_end(text: &[u8]) -> Result<&[u8], MarshalFault>
 #[tactic(auto, unfolding(marshal_core::specs::Signatures::entry_type_at))]
 fn after_entry(arrays: u8, structs: u8, text: &[u8]) -> Result<&[u8], MarshalFault>
     requires { arrays + structs < 65 }
-    ensures reads { Leaves (λ x. x.now) result (entry_type_at (type_at (arrays + structs + 1) arrays structs) text.now) }
+    ensures reads { Leaves (λ x. x.now) result
+        (entry_type_at (type_at (arrays + structs + 1) arrays structs) text.now) }
     ensures shorter { IfOk result (λ x. length x.now < length text.now) }
 {
     let rest = after_basic(text)?;
@@ -75,7 +76,8 @@ fn after_entry(arrays: u8, structs: u8, text: &[u8]) -> Result<&[u8], MarshalFau
 #[tactic(auto, unfolding(marshal_core::specs::Signatures::array_type_at, marshal_core::specs::Signatures::element_type_at))]
 fn after_array(arrays: u8, structs: u8, text: &[u8]) -> Result<&[u8], MarshalFault>
     requires { arrays + structs < 65 }
-    ensures reads { Leaves (λ x. x.now) result (array_type_at (type_at (arrays + structs + 1) arrays structs) text.now) }
+    ensures reads { Leaves (λ x. x.now) result
+        (array_type_at (type_at (arrays + structs + 1) arrays structs) text.now) }
     ensures shorter { IfOk result (λ x. length x.now < length text.now) }
 {
     if let Some((first, behind)) = text.split_first() {
@@ -90,7 +92,8 @@ fn after_array(arrays: u8, structs: u8, text: &[u8]) -> Result<&[u8], MarshalFau
 #[cycle(types)]
 fn after_struct(arrays: u8, structs: u8, text: &[u8]) -> Result<&[u8], MarshalFault>
     requires { arrays + structs < 65 }
-    ensures reads { Leaves (λ x. x.now) result (struct_type_at (type_at (arrays + structs + 1) arrays structs) text.now) }
+    ensures reads { Leaves (λ x. x.now) result
+        (struct_type_at (type_at (arrays + structs + 1) arrays structs) text.now) }
     ensures within { IfOk result (λ x. length x.now ≤ length text.now) }
 {
     if at_end(text) {
@@ -104,7 +107,8 @@ fn after_struct(arrays: u8, structs: u8, text: &[u8]) -> Result<&[u8], MarshalFa
 #[cycle(types)]
 fn after_type(arrays: u8, structs: u8, text: &[u8]) -> Result<&[u8], MarshalFault>
     requires { arrays + structs < 65 }
-    ensures reads { Leaves (λ x. x.now) result (type_at (arrays + structs + 1) arrays structs text.now) }
+    ensures reads { Leaves (λ x. x.now) result
+        (type_at (arrays + structs + 1) arrays structs text.now) }
     ensures shorter { IfOk result (λ x. length x.now < length text.now) }
 {
     let Some((first, rest)) = text.split_first() else {
@@ -133,7 +137,9 @@ fn after_type(arrays: u8, structs: u8, text: &[u8]) -> Result<&[u8], MarshalFaul
 #[cycle(types)]
 fn after_types(inside: bool, arrays: u8, structs: u8, text: &[u8]) -> Result<&[u8], MarshalFault>
     requires { arrays + structs < 65 }
-    ensures reads { Leaves (λ x. x.now) result (types_at inside (type_at (arrays + structs + 1) arrays structs) (length text.now) text.now) }
+    ensures reads { Leaves (λ x. x.now) result
+        (types_at inside (type_at (arrays + structs + 1) arrays structs)
+        (length text.now) text.now) }
     ensures within { IfOk result (λ x. length x.now ≤ length text.now) }
 {
     let mut rest = text;

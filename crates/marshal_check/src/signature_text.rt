@@ -37,7 +37,9 @@ impl<'a> Types<'a> {
     /// The first complete type, as a signature of one type, and the others; `None` where there is
     /// none.
     pub fn split_first(self) -> Option<(Types<'a>, Types<'a>)>
-        ensures { MatchOption result (types_in self.entry.text.now ≡ no_types) (λ x. BeginsWith (types_in self.entry.text.now) (types_in x.0.text.now) (types_in x.1.text.now)) }
+        ensures { MatchOption result (types_in self.entry.text.now ≡ no_types)
+            (λ x. BeginsWith (types_in self.entry.text.now) (types_in x.0.text.now)
+            (types_in x.1.text.now)) }
     {
         if self.text.is_empty() {
             return None;

@@ -77,7 +77,8 @@ fn entry_type(
     text: &[u8],
 ) -> Result<(BasicType, DataType, &[u8]), MarshalFault>
     requires { arrays + structs < 65 }
-    ensures reads { Gives (λ x. (entry x.0 (ty_of x.1), x.2.now)) result (entry_type_at (type_at (arrays + structs + 1) arrays structs) text.now) }
+    ensures reads { Gives (λ x. (entry x.0 (ty_of x.1), x.2.now)) result
+        (entry_type_at (type_at (arrays + structs + 1) arrays structs) text.now) }
     ensures shorter { IfOk result (λ x. length x.2.now < length text.now) }
 {
     let (key, rest) = basic_type(text)?;
@@ -96,7 +97,8 @@ fn array_type(
     text: &[u8],
 ) -> Result<(DataType, &[u8]), MarshalFault>
     requires { arrays + structs < 65 }
-    ensures reads { Gives (λ x. (ty_of x.0, x.1.now)) result (array_type_at (type_at (arrays + structs + 1) arrays structs) text.now) }
+    ensures reads { Gives (λ x. (ty_of x.0, x.1.now)) result
+        (array_type_at (type_at (arrays + structs + 1) arrays structs) text.now) }
     ensures shorter { IfOk result (λ x. length x.1.now < length text.now) }
 {
     if let Some((first, behind)) = text.split_first() {
@@ -119,7 +121,8 @@ fn struct_type(
     text: &[u8],
 ) -> Result<(DataType, &[u8]), MarshalFault>
     requires { arrays + structs < 65 }
-    ensures reads { Gives (λ x. (ty_of x.0, x.1.now)) result (struct_type_at (type_at (arrays + structs + 1) arrays structs) text.now) }
+    ensures reads { Gives (λ x. (ty_of x.0, x.1.now)) result
+        (struct_type_at (type_at (arrays + structs + 1) arrays structs) text.now) }
     ensures within { IfOk result (λ x. length x.1.now ≤ length text.now) }
 {
     let (fields, rest) = types(alloc, true, arrays, structs, text)?;
@@ -138,7 +141,8 @@ fn complete_type(
     text: &[u8],
 ) -> Result<(DataType, &[u8]), MarshalFault>
     requires { arrays + structs < 65 }
-    ensures reads { Gives (λ x. (ty_of x.0, x.1.now)) result (type_at (arrays + structs + 1) arrays structs text.now) }
+    ensures reads { Gives (λ x. (ty_of x.0, x.1.now)) result
+        (type_at (arrays + structs + 1) arrays structs text.now) }
     ensures shorter { IfOk result (λ x. length x.1.now < length text.now) }
 {
     let Some((first, rest)) = text.split_first() else {
@@ -172,7 +176,9 @@ fn types(
     text: &[u8],
 ) -> Result<(Vec<DataType>, &[u8]), MarshalFault>
     requires { arrays + structs < 65 }
-    ensures reads { Gives (λ x. (types_of x.0.items, x.1.now)) result (types_at inside (type_at (arrays + structs + 1) arrays structs) (length text.now) text.now) }
+    ensures reads { Gives (λ x. (types_of x.0.items, x.1.now)) result
+        (types_at inside (type_at (arrays + structs + 1) arrays structs)
+        (length text.now) text.now) }
     ensures within { IfOk result (λ x. length x.1.now ≤ length text.now) }
 {
     let mut types = Vec::new(alloc);

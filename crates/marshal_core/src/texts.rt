@@ -29,7 +29,8 @@ fn string_fault(text: &str) -> Option<MarshalFault>
 impl BasicValue {
     /// A text as a D-Bus string. `NulInText` is the fault of a zero byte, `ArrayLength` that of 2^32 bytes or more.
     pub fn from_str(alloc: Global, text: &str) -> Result<BasicValue, MarshalFault>
-        ensures { Gives (λ x. basic_of x) result (unless (string_fault text.now) (a_string text.now)) }
+        ensures { Gives (λ x. basic_of x) result
+            (unless (string_fault text.now) (a_string text.now)) }
     {
         match string_fault(text) {
             Some(fault) => Err(fault),
@@ -39,7 +40,8 @@ impl BasicValue {
 
     /// An object path as a value. `ArrayLength` is the fault of 2^32 bytes or more.
     pub fn from_path(alloc: Global, path: &ObjectPath) -> Result<BasicValue, MarshalFault>
-        ensures { Gives (λ x. basic_of x) result (unless (path_fault_after (string_fault path.now) path.now) (an_object_path path.now)) }
+        ensures { Gives (λ x. basic_of x) result
+            (unless (path_fault_after (string_fault path.now) path.now) (an_object_path path.now)) }
     {
         let text = path.as_str();
         match string_fault(text) {
@@ -52,14 +54,17 @@ impl BasicValue {
 impl Value {
     /// A text as a D-Bus string, with the faults of [`BasicValue::from_str`].
     pub fn from_str(alloc: Global, text: &str) -> Result<Value, MarshalFault>
-        ensures { Gives (λ x. val_of x) result (unless (string_fault text.now) (a_basic (a_string text.now))) }
+        ensures { Gives (λ x. val_of x) result
+            (unless (string_fault text.now) (a_basic (a_string text.now))) }
     {
         Ok(Value::Basic(BasicValue::from_str(alloc, text)?))
     }
 
     /// An object path as a value, with the fault of [`BasicValue::from_path`].
     pub fn from_path(alloc: Global, path: &ObjectPath) -> Result<Value, MarshalFault>
-        ensures { Gives (λ x. val_of x) result (unless (path_fault_after (string_fault path.now) path.now) (a_basic (an_object_path path.now))) }
+        ensures { Gives (λ x. val_of x) result
+            (unless (path_fault_after (string_fault path.now) path.now)
+            (a_basic (an_object_path path.now))) }
     {
         Ok(Value::Basic(BasicValue::from_path(alloc, path)?))
     }

@@ -24,7 +24,8 @@ impl Model for EntryMap {
 
     ghost view = { λ map. rule_in map.bytes };
 
-    ghost invariant = { λ map. ∥ IsRule (rule_in map.bytes) ∥₁ × (map.bytes ≡ rule_bytes (rule_in map.bytes)) };
+    ghost invariant = { λ map.
+        ∥ IsRule (rule_in map.bytes) ∥₁ × (map.bytes ≡ rule_bytes (rule_in map.bytes)) };
 
     ghost inverse = { λ rule. record { bytes = rule_bytes rule } };
 

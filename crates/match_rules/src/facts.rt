@@ -38,5 +38,14 @@ impl<'a> Model for Facts<'a> {
 
     ghost Value = { Parts };
 
-    ghost view = { λ facts. record { kind = facts.kind; auto_start = facts.auto_start; sender = facts.sender; path = option_map (λ t. t.now) facts.path; interface = option_map (λ t. t.now) facts.interface; member = option_map (λ t. t.now) facts.member; destination = option_map (λ t. t.now) facts.destination; arguments = map argument_of facts.arguments.items } };
+    ghost view = { λ facts. record {
+      kind = facts.kind;
+      auto_start = facts.auto_start;
+      sender = facts.sender;
+      path = option_map (λ t. t.now) facts.path;
+      interface = option_map (λ t. t.now) facts.interface;
+      member = option_map (λ t. t.now) facts.member;
+      destination = option_map (λ t. t.now) facts.destination;
+      arguments = map argument_of facts.arguments.items;
+    } };
 }

@@ -40,7 +40,8 @@ impl Rule {
 impl Entry<'_> {
     fn holds<O: Owners>(self, facts: &Facts<'_>, owners: &O) -> bool
         requires { takes self.key self.value.now ≡ true }
-        ensures { result ≡ holds (O.heads owners.now) self.entry.key self.entry.value.now facts.now }
+        ensures { result ≡ holds (O.heads owners.now)
+            self.entry.key self.entry.value.now facts.now }
     {
         let value = self.value;
         match self.key {
@@ -133,7 +134,8 @@ fn is_number(number: u64, head: Option<u64>) -> bool
 }
 
 fn is_destination<O: Owners>(name: &str, destination: Option<&str>, owners: &O) -> bool
-    ensures { result ≡ is_destination (O.heads owners.now) name.now (option_map (λ t. t.now) destination.entry) }
+    ensures { result ≡ is_destination (O.heads owners.now) name.now
+        (option_map (λ t. t.now) destination.entry) }
 {
     let Some(destination) = destination else {
         return false;

@@ -67,7 +67,8 @@ impl Quoting {
     fn append_meant(self, byte: u8, value: &mut ValueBytes)
         requires { array_vec_len value.old + held_back (quoting_of self) < MAX_RULE_LENGTH }
         ensures bytes { value.new.items ≡ value.old.items ++ meant (quoting_of self) byte }
-        ensures room { array_vec_len value.new + held_back (next (quoting_of self) byte) ≤ array_vec_len value.old + held_back (quoting_of self) + 1 }
+        ensures room { array_vec_len value.new + held_back (next (quoting_of self) byte)
+            ≤ array_vec_len value.old + held_back (quoting_of self) + 1 }
     {
         match self {
             Quoting::Outside => {

@@ -20,7 +20,8 @@ impl Rule {
     ///
     /// The fault of a text that is no rule: that it is too long, else that of its first item that has one.
     pub fn parse(text: &str) -> Result<Self, RuleFault>
-        ensures { MatchResult result (λ rule. IsRuleText text.now rule) (λ fault. rule_fault text.now ≡ Some fault) }
+        ensures { MatchResult result (λ rule. IsRuleText text.now rule)
+            (λ fault. rule_fault text.now ≡ Some fault) }
     {
         let mut rest = text.as_bytes();
         if rest.len() > MAX_RULE_LENGTH {
@@ -47,9 +48,12 @@ impl EntryMap {
     /// Adds an item's key and value.
     fn read_item(&mut self, item: &[u8]) -> Result<(), RuleFault>
         requires { length (rule_bytes self.old) + length item.now ≤ MAX_RULE_LENGTH }
-        ensures fault { MatchResult result (λ _. item_fault (keys_of self.old) item.now (item_key item.now) ≡ None) (λ fault. item_fault (keys_of self.old) item.now (item_key item.now) ≡ Some fault) }
+        ensures fault { MatchResult result
+            (λ _. item_fault (keys_of self.old) item.now (item_key item.now) ≡ None)
+            (λ fault. item_fault (keys_of self.old) item.now (item_key item.now) ≡ Some fault) }
         ensures rule { OnOk result (self.new ≡ with_item self.old item.now) }
-        ensures room { OnOk result (length (rule_bytes self.new) ≤ length (rule_bytes self.old) + length item.now) }
+        ensures room { OnOk result (length (rule_bytes self.new)
+            ≤ length (rule_bytes self.old) + length item.now) }
     {
         let Some((key, at)) = key_of(item) else {
             return Err(RuleFault::Key);
@@ -76,7 +80,8 @@ impl EntryMap {
         requires new { is_among key (keys_of self.old) ≡ false }
         requires not_excluded { is_excluded key (keys_of self.old) ≡ false }
         requires room { length (rule_bytes self.old) + 3 + length value.now ≤ MAX_RULE_LENGTH }
-        ensures fault { MatchResult result (λ _. takes key value.now ≡ true) (λ fault. (takes key value.now ≡ false) × (fault ≡ RuleFault.Value)) }
+        ensures fault { MatchResult result (λ _. takes key value.now ≡ true)
+            (λ fault. (takes key value.now ≡ false) × (fault ≡ RuleFault.Value)) }
         ensures rule { OnOk result (self.new ≡ put (key, value.now) self.old) }
     {
         if !takes(key, value) {
@@ -89,7 +94,10 @@ impl EntryMap {
 
 /// The key of an item, and the place of its first equals sign.
 fn key_of(item: &[u8]) -> Option<(Key, usize)>
-    ensures { MatchOption result (item_key item.now ≡ None) (λ found. (item_key item.now ≡ Some found.0) × (item_value item.now ≡ value_from Outside (drop (found.1 + 1) item.now)) × (found.1 < length item.now) × (1 < found.1)) }
+    ensures { MatchOption result (item_key item.now ≡ None)
+        (λ found. (item_key item.now ≡ Some found.0)
+        × (item_value item.now ≡ value_from Outside (drop (found.1 + 1) item.now))
+        × (found.1 < length item.now) × (1 < found.1)) }
 {
     let Some(at) = equals_place(item) else {
         return None;

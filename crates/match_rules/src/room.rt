@@ -23,13 +23,17 @@ impl Model for Room {
 
     ghost view = { λ room. take room.length room.bytes };
 
-    ghost invariant = { λ room. (room.length ≤ 1024) × (len room.bytes ≡ 1024) × (drop room.length room.bytes ≡ replicate (1024 - room.length) 0) };
+    ghost invariant = { λ room. (room.length ≤ 1024) × (len room.bytes ≡ 1024)
+        × (drop room.length room.bytes ≡ replicate (1024 - room.length) 0) };
 
-    ghost inverse = { λ bytes. record { bytes = bytes ++ replicate (1024 - len bytes) 0; length = len bytes } };
+    ghost inverse = { λ bytes.
+        record { bytes = bytes ++ replicate (1024 - len bytes) 0; length = len bytes } };
 
     ghost inverse_ok = { λ room h.
         let long = length-take-le room.length room.bytes (omega (arith, h.0, h.1)) in
-        let whole = ap (λ n. take room.length room.bytes ++ replicate (1024 - n) 0) long ∙ ap (λ rest. take room.length room.bytes ++ rest) (sym h.2) ∙ take-append-drop room.length room.bytes in
+        let whole = ap (λ n. take room.length room.bytes ++ replicate (1024 - n) 0) long
+        ∙ ap (λ rest. take room.length room.bytes ++ rest) (sym h.2)
+        ∙ take-append-drop room.length room.bytes in
         λ i. record { bytes = whole i; length = long i } };
 }
 
@@ -63,7 +67,9 @@ impl Room {
     /// Moves the last bytes, as many as `count`, to a place before them.
     pub fn move_last(&mut self, count: usize, at: usize)
         requires { at + count ≤ length self.old }
-        ensures { self.new ≡ take at self.old ++ (drop (length self.old - count) self.old ++ take (length self.old - count - at) (drop at self.old)) }
+        ensures { self.new ≡ take at self.old
+            ++ (drop (length self.old - count) self.old
+            ++ take (length self.old - count - at) (drop at self.old)) }
     {
         let end = usize::from(self.length);
         self.bytes[at..end].rotate_right(count);

@@ -32,7 +32,9 @@ fn put_together(
 ) -> Result<Message, FrameFault>
     ensures { (types : Tys) (values : Vals) → signature.now ≡ codes types
         → Spells header.now.order 0 types values body.now
-        → MatchResult result (λ m. IsWritten m (message_of header.now types values)) (λ f. f ≢ WithoutMemory → IsOwnFault (message_of header.now types values) f × HasNoWriting (message_of header.now types values)) }
+        → MatchResult result (λ m. IsWritten m (message_of header.now types values))
+        (λ f. f ≢ WithoutMemory → IsOwnFault (message_of header.now types values) f
+        × HasNoWriting (message_of header.now types values)) }
 {
     if header.kind.number() == 0 {
         return Err(FrameFault::Kind);
@@ -117,7 +119,8 @@ impl Message {
         // Where the header and the body make one, want of memory alone refuses it.
         ensures made { (types : Tys) (values : Vals) → signature.now ≡ codes types
             → Spells header.now.order 0 types values body.now
-            → MatchResult result (λ m. IsWritten m (message_of header.now types values)) (λ f. f ≢ WithoutMemory → HasNoWriting (message_of header.now types values)) }
+            → MatchResult result (λ m. IsWritten m (message_of header.now types values))
+            (λ f. f ≢ WithoutMemory → HasNoWriting (message_of header.now types values)) }
         // Which fault it is.
         ensures fault { IfErr result (λ f. f ≢ WithoutMemory
             → IsFaultOfBytes header.now signature.now body.now f) }

@@ -47,7 +47,8 @@ impl BusName {
     /// known as UTF-8: what is such a name is ASCII.
     pub fn check(text: &[u8]) -> Result<(), NameFault>
         ensures variant { IsOk result ↔ IsBusName text.now }
-        ensures fault { MatchResult result (λ _. bus_name_fault text.now ≡ None) (λ fault. bus_name_fault text.now ≡ Some fault) }
+        ensures fault { MatchResult result (λ _. bus_name_fault text.now ≡ None)
+            (λ fault. bus_name_fault text.now ≡ Some fault) }
     {
         if !text.is_empty() && text[0] == b':' {
             UniqueName::check(text)
@@ -60,7 +61,8 @@ impl BusName {
     pub fn parse(text: &str) -> Result<Self, NameFault>
         ensures value { IfOk result (λ name. name ≡ text.now) }
         ensures variant { IsOk result ↔ IsBusName text.now }
-        ensures fault { MatchResult result (λ _. bus_name_fault text.now ≡ None) (λ fault. bus_name_fault text.now ≡ Some fault) }
+        ensures fault { MatchResult result (λ _. bus_name_fault text.now ≡ None)
+            (λ fault. bus_name_fault text.now ≡ Some fault) }
     {
         match BusName::check(text.as_bytes()) {
             Ok(()) => Ok(BusName {

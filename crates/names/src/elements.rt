@@ -30,7 +30,11 @@ impl Style {
     }
 
     fn is_element_byte(self, byte: u8) -> bool
-        ensures { result ≡ is_element_byte record { separator = self.separator; hyphen = self.hyphen; digit_first = self.digit_first } byte }
+        ensures { result ≡ is_element_byte record {
+          separator = self.separator;
+          hyphen = self.hyphen;
+          digit_first = self.digit_first;
+        } byte }
     {
         match byte {
             b'A'..=b'Z' | b'a'..=b'z' | b'0'..=b'9' | b'_' => true,
@@ -45,7 +49,11 @@ impl Style {
     pub fn fault(self, enough: bool, from: usize, name: &[u8]) -> Option<NameFault>
         requires begins { from ≤ length name.now }
         requires separator { IfSome self.separator IsNoLetter }
-        ensures { result ≡ elements_fault record { separator = self.separator; hyphen = self.hyphen; digit_first = self.digit_first } true enough from (drop from name.now) }
+        ensures { result ≡ elements_fault record {
+          separator = self.separator;
+          hyphen = self.hyphen;
+          digit_first = self.digit_first;
+        } true enough from (drop from name.now) }
     {
         let mut begins = true;
         let mut enough_now = enough;
@@ -84,7 +92,15 @@ impl Style {
     pub fn check(self, one_is_enough: bool, text: &[u8]) -> Result<(), NameFault>
         requires { IfSome self.separator IsNoLetter }
         ensures fits { OnOk result (length text.now ≤ 255) }
-        ensures fault { let style : ElementStyle = record { separator = self.separator; hyphen = self.hyphen; digit_first = self.digit_first } in MatchResult result (λ _. sized_fault (elements_fault style true one_is_enough 0) text.now ≡ None) (λ fault. sized_fault (elements_fault style true one_is_enough 0) text.now ≡ Some fault) }
+        ensures fault { let style : ElementStyle = record {
+          separator = self.separator;
+          hyphen = self.hyphen;
+          digit_first = self.digit_first;
+        } in
+            MatchResult result
+            (λ _. sized_fault (elements_fault style true one_is_enough 0) text.now ≡ None)
+            (λ fault.
+            sized_fault (elements_fault style true one_is_enough 0) text.now ≡ Some fault) }
     {
         if text.is_empty() {
             return Err(NameFault::Empty);

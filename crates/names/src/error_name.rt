@@ -39,7 +39,8 @@ impl ErrorName {
     /// known as UTF-8: what is such a name is ASCII.
     pub fn check(text: &[u8]) -> Result<(), NameFault>
         ensures variant { IsOk result ↔ IsErrorName text.now }
-        ensures fault { MatchResult result (λ _. error_name_fault text.now ≡ None) (λ fault. error_name_fault text.now ≡ Some fault) }
+        ensures fault { MatchResult result (λ _. error_name_fault text.now ≡ None)
+            (λ fault. error_name_fault text.now ≡ Some fault) }
     {
         STYLE.check(false, text)
     }
@@ -48,7 +49,8 @@ impl ErrorName {
     pub fn parse(text: &str) -> Result<Self, NameFault>
         ensures value { IfOk result (λ name. name ≡ text.now) }
         ensures variant { IsOk result ↔ IsErrorName text.now }
-        ensures fault { MatchResult result (λ _. error_name_fault text.now ≡ None) (λ fault. error_name_fault text.now ≡ Some fault) }
+        ensures fault { MatchResult result (λ _. error_name_fault text.now ≡ None)
+            (λ fault. error_name_fault text.now ≡ Some fault) }
     {
         match ErrorName::check(text.as_bytes()) {
             Ok(()) => Ok(ErrorName {

@@ -39,7 +39,8 @@ impl Member {
     /// known as UTF-8: what is such a name is ASCII.
     pub fn check(text: &[u8]) -> Result<(), NameFault>
         ensures variant { IsOk result ↔ IsMember text.now }
-        ensures fault { MatchResult result (λ _. member_fault text.now ≡ None) (λ fault. member_fault text.now ≡ Some fault) }
+        ensures fault { MatchResult result (λ _. member_fault text.now ≡ None)
+            (λ fault. member_fault text.now ≡ Some fault) }
     {
         STYLE.check(true, text)
     }
@@ -48,7 +49,8 @@ impl Member {
     pub fn parse(text: &str) -> Result<Self, NameFault>
         ensures value { IfOk result (λ name. name ≡ text.now) }
         ensures variant { IsOk result ↔ IsMember text.now }
-        ensures fault { MatchResult result (λ _. member_fault text.now ≡ None) (λ fault. member_fault text.now ≡ Some fault) }
+        ensures fault { MatchResult result (λ _. member_fault text.now ≡ None)
+            (λ fault. member_fault text.now ≡ Some fault) }
     {
         match Member::check(text.as_bytes()) {
             Ok(()) => Ok(Member {

@@ -44,7 +44,8 @@ impl<'a> ObjectPath<'a> {
     /// be known as UTF-8: what is such a path is ASCII.
     pub fn check(text: &[u8]) -> Result<(), NameFault>
         ensures variant { IsOk result ↔ IsObjectPath text.now }
-        ensures fault { MatchResult result (λ _. object_path_fault text.now ≡ None) (λ fault. object_path_fault text.now ≡ Some fault) }
+        ensures fault { MatchResult result (λ _. object_path_fault text.now ≡ None)
+            (λ fault. object_path_fault text.now ≡ Some fault) }
     {
         if text.is_empty() {
             return Err(NameFault::Empty);
@@ -65,7 +66,8 @@ impl<'a> ObjectPath<'a> {
     pub fn parse(text: &'a str) -> Result<Self, NameFault>
         ensures value { IfOk result (λ path. path ≡ text.now) }
         ensures variant { IsOk result ↔ IsObjectPath text.now }
-        ensures fault { MatchResult result (λ _. object_path_fault text.now ≡ None) (λ fault. object_path_fault text.now ≡ Some fault) }
+        ensures fault { MatchResult result (λ _. object_path_fault text.now ≡ None)
+            (λ fault. object_path_fault text.now ≡ Some fault) }
     {
         match ObjectPath::check(text.as_bytes()) {
             Ok(()) => Ok(ObjectPath { text }),

@@ -29,13 +29,18 @@ impl Model for ShortText {
 
     ghost view = { λ t. take t.length t.bytes };
 
-    ghost invariant = { λ t. (t.length ≤ 255) × (len t.bytes ≡ 255) × (drop t.length t.bytes ≡ replicate (255 - t.length) 0) × ∥ IsUtf8 (take t.length t.bytes) ∥₁ };
+    ghost invariant = { λ t. (t.length ≤ 255) × (len t.bytes ≡ 255)
+        × (drop t.length t.bytes ≡ replicate (255 - t.length) 0)
+        × ∥ IsUtf8 (take t.length t.bytes) ∥₁ };
 
-    ghost inverse = { λ text. record { bytes = text ++ replicate (255 - len text) 0; length = len text } };
+    ghost inverse = { λ text.
+        record { bytes = text ++ replicate (255 - len text) 0; length = len text } };
 
     ghost inverse_ok = { λ t h.
         let long = length-take-le t.length t.bytes (omega (arith, h.0, h.1)) in
-        let whole = ap (λ n. take t.length t.bytes ++ replicate (255 - n) 0) long ∙ ap (λ room. take t.length t.bytes ++ room) (sym h.2) ∙ take-append-drop t.length t.bytes in
+        let whole = ap (λ n. take t.length t.bytes ++ replicate (255 - n) 0) long
+        ∙ ap (λ room. take t.length t.bytes ++ room) (sym h.2)
+        ∙ take-append-drop t.length t.bytes in
         λ i. record { bytes = whole i; length = long i } };
 }
 
@@ -71,7 +76,8 @@ impl ShortText {
 
 fn write_at(room: &mut [u8], place: usize, bytes: &[u8])
     requires { place + text_length bytes.now ≤ text_length room.old }
-    ensures { room.new ≡ take place room.old ++ bytes.now ++ drop (place + text_length bytes.now) room.old }
+    ensures { room.new ≡ take place room.old ++ bytes.now
+        ++ drop (place + text_length bytes.now) room.old }
 {
     room[place..place + bytes.len()].copy_from_slice(bytes);
 }

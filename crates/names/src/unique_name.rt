@@ -39,7 +39,8 @@ impl UniqueName {
     /// known as UTF-8: what is such a name is ASCII.
     pub fn check(text: &[u8]) -> Result<(), NameFault>
         ensures variant { IsOk result ↔ IsUniqueName text.now }
-        ensures fault { MatchResult result (λ _. unique_name_fault text.now ≡ None) (λ fault. unique_name_fault text.now ≡ Some fault) }
+        ensures fault { MatchResult result (λ _. unique_name_fault text.now ≡ None)
+            (λ fault. unique_name_fault text.now ≡ Some fault) }
     {
         if text.is_empty() {
             return Err(NameFault::Empty);
@@ -60,7 +61,8 @@ impl UniqueName {
     pub fn parse(text: &str) -> Result<Self, NameFault>
         ensures value { IfOk result (λ name. name ≡ text.now) }
         ensures variant { IsOk result ↔ IsUniqueName text.now }
-        ensures fault { MatchResult result (λ _. unique_name_fault text.now ≡ None) (λ fault. unique_name_fault text.now ≡ Some fault) }
+        ensures fault { MatchResult result (λ _. unique_name_fault text.now ≡ None)
+            (λ fault. unique_name_fault text.now ≡ Some fault) }
     {
         match UniqueName::check(text.as_bytes()) {
             Ok(()) => Ok(UniqueName {
@@ -82,7 +84,8 @@ impl UniqueName {
 
     /// The number of the connection to which the bus gives the name of this text, if there is one.
     pub fn number_in(text: &str) -> Option<u64>
-        ensures { (number : ℕ) → number < 2 ^ 64 → (result ≡ Some number) ↔ (text.now ≡ unique_text number) }
+        ensures { (number : ℕ) → number < 2 ^ 64
+            → (result ≡ Some number) ↔ (text.now ≡ unique_text number) }
     {
         let digits = text.strip_prefix(":1.")?;
         let number = digits.parse().ok()?;
@@ -95,7 +98,8 @@ impl UniqueName {
 
     /// The number of the connection to which the bus gives this name, if there is one.
     pub fn connection(&self) -> Option<u64>
-        ensures { (number : ℕ) → number < 2 ^ 64 → (result ≡ Some number) ↔ (self.now ≡ unique_text number) }
+        ensures { (number : ℕ) → number < 2 ^ 64
+            → (result ≡ Some number) ↔ (self.now ≡ unique_text number) }
     {
         UniqueName::number_in(self.as_str())
     }

@@ -39,7 +39,8 @@ impl WellKnown {
     /// known as UTF-8: what is such a name is ASCII.
     pub fn check(text: &[u8]) -> Result<(), NameFault>
         ensures variant { IsOk result ↔ IsWellKnownName text.now }
-        ensures fault { MatchResult result (λ _. well_known_fault text.now ≡ None) (λ fault. well_known_fault text.now ≡ Some fault) }
+        ensures fault { MatchResult result (λ _. well_known_fault text.now ≡ None)
+            (λ fault. well_known_fault text.now ≡ Some fault) }
     {
         STYLE.check(false, text)
     }
@@ -48,7 +49,8 @@ impl WellKnown {
     pub fn parse(text: &str) -> Result<Self, NameFault>
         ensures value { IfOk result (λ name. name ≡ text.now) }
         ensures variant { IsOk result ↔ IsWellKnownName text.now }
-        ensures fault { MatchResult result (λ _. well_known_fault text.now ≡ None) (λ fault. well_known_fault text.now ≡ Some fault) }
+        ensures fault { MatchResult result (λ _. well_known_fault text.now ≡ None)
+            (λ fault. well_known_fault text.now ≡ Some fault) }
     {
         match WellKnown::check(text.as_bytes()) {
             Ok(()) => Ok(WellKnown {

@@ -176,7 +176,8 @@ fn replace_owner(places: &mut Places, owner: QueuedOwner, entry: QueuedOwner)
     requires owned { places.old.items ≡ owner ∷ drop 1 places.old.items }
     requires another { (owner.connection == entry.connection) ≡ false }
     requires room { length (without entry.connection places.old.items) < MAX_PLACES }
-    ensures { places.new.items ≡ entry ∷ demoted owner ++ without entry.connection (drop 1 places.old.items) }
+    ensures { places.new.items
+        ≡ entry ∷ demoted owner ++ without entry.connection (drop 1 places.old.items) }
 {
     take_out(places, entry.connection);
     if owner.do_not_queue {
@@ -191,7 +192,8 @@ fn wait_first(places: &mut Places, owner: QueuedOwner, entry: QueuedOwner)
     requires owned { places.old.items ≡ owner ∷ drop 1 places.old.items }
     requires another { (owner.connection == entry.connection) ≡ false }
     requires room { length (without entry.connection places.old.items) < MAX_PLACES }
-    ensures { places.new.items ≡ owner ∷ entry ∷ without entry.connection (drop 1 places.old.items) }
+    ensures { places.new.items
+        ≡ owner ∷ entry ∷ without entry.connection (drop 1 places.old.items) }
 {
     take_out(places, entry.connection);
     places.insert(1, entry);

@@ -80,7 +80,8 @@ pub(crate) fn refuse<V: BusView, G: Gate>(
     requires room { 0 < context.old.room }
     requires crowds { 0 < context.old.crowds }
     ensures comes { Comes V.told V.registry_of G.passes V.alone
-        (and_stays (erring (said call.now) caller error)) context.old.world result context.new.world }
+        (and_stays (erring (said call.now) caller error))
+        context.old.world result context.new.world }
     ensures room { context.old.room ≤ context.new.room + 1 }
 {
     context.err_with(call, caller, error);
@@ -161,9 +162,10 @@ fn reply_body<V: BusView, G: Gate>(
     requires room { 0 < context.old.room }
     requires crowds { 0 < context.old.crowds }
     requires answered { (told : Answer) × IsAnswerTo query.now body.items told }
-    ensures comes { (told : Answer) → IsAnswerTo query.now body.items told →
-        Comes V.told V.registry_of G.passes V.alone
-        (answered (said call.now) caller (Says (Some told))) context.old.world tt context.new.world }
+    ensures comes { (told : Answer) → IsAnswerTo query.now body.items told
+        → Comes V.told V.registry_of G.passes V.alone
+        (answered (said call.now) caller (Says (Some told)))
+        context.old.world tt context.new.world }
     ensures room { context.old.room ≤ context.new.room + 1 }
 {
     match Arc::new(alloc, body) {

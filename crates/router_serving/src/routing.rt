@@ -69,8 +69,8 @@ fn relay_plainly<V: BusView, G: Gate>(
     requires crowds { 0 < context.old.crowds }
     requires plain { verdict.value.kind ≡ VerdictKind.Plain }
     ensures comes { Comes V.told V.registry_of G.passes V.alone
-        (relaying (said message.now) sender verdict.value verdict.value.kind) context.old.world result
-        context.new.world }
+        (relaying (said message.now) sender verdict.value verdict.value.kind)
+        context.old.world result context.new.world }
     ensures room { context.old.room ≤ context.new.room + 2 }
 {
     match context.relay(message, sender, verdict) {
@@ -90,8 +90,8 @@ fn relay_to_nobody<V: BusView, G: Gate>(
     requires crowds { 0 < context.old.crowds }
     requires nobody { verdict.value.kind ≡ VerdictKind.Nobody }
     ensures comes { Comes V.told V.registry_of G.passes V.alone
-        (relaying (said message.now) sender verdict.value verdict.value.kind) context.old.world result
-        context.new.world }
+        (relaying (said message.now) sender verdict.value verdict.value.kind)
+        context.old.world result context.new.world }
     ensures room { context.old.room ≤ context.new.room + 2 }
 {
     match context.relay_to_monitors(message, sender, verdict) {
@@ -113,8 +113,8 @@ fn relay_to_bus<V: BusView, G: Gate>(
     requires crowds { 0 < context.old.crowds }
     requires bus { verdict.value.kind ≡ VerdictKind.Bus }
     ensures comes { Comes V.told V.registry_of G.passes V.alone
-        (relaying (said message.now) sender verdict.value verdict.value.kind) context.old.world result
-        context.new.world }
+        (relaying (said message.now) sender verdict.value verdict.value.kind)
+        context.old.world result context.new.world }
     ensures room { context.old.room ≤ context.new.room + MAX_TICKETS + 3 }
 {
     match context.show(message, sender, verdict) {
@@ -136,8 +136,8 @@ fn relay_to_service<V: BusView, G: Gate>(
     requires crowds { 0 < context.old.crowds }
     requires start { verdict.value.kind ≡ VerdictKind.Start }
     ensures comes { Comes V.told V.registry_of G.passes V.alone
-        (relaying (said message.now) sender verdict.value verdict.value.kind) context.old.world result
-        context.new.world }
+        (relaying (said message.now) sender verdict.value verdict.value.kind)
+        context.old.world result context.new.world }
     ensures room { context.old.room ≤ context.new.room + 2 }
 {
     match context.relay_to_monitors(message, sender, verdict) {
@@ -158,8 +158,8 @@ fn relay<V: BusView, G: Gate>(
     requires room { MAX_TICKETS + 2 < context.old.room }
     requires crowds { 0 < context.old.crowds }
     ensures comes { Comes V.told V.registry_of G.passes V.alone
-        (relaying (said message.now) sender verdict.value verdict.value.kind) context.old.world result
-        context.new.world }
+        (relaying (said message.now) sender verdict.value verdict.value.kind)
+        context.old.world result context.new.world }
     ensures room { context.old.room ≤ context.new.room + MAX_TICKETS + 3 }
 {
     match verdict.kind {

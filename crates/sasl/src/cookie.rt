@@ -25,7 +25,8 @@ impl Model for Cookie {
 
     ghost Value = { Said };
 
-    ghost view = { λ c. record { id = (arc_value c.parts).id.items; secret = (arc_value c.parts).secret.items } };
+    ghost view = { λ c.
+        record { id = (arc_value c.parts).id.items; secret = (arc_value c.parts).secret.items } };
 }
 
 impl Cookie {

@@ -75,7 +75,12 @@ impl Server {
         allow_anonymous: bool,
     ) -> Server
         ensures { result ≡ newcomer (record {
-          login = record { guid = guid; user = arc_str_bytes user; cookie = cookie; allow_anonymous = allow_anonymous };
+          login = record {
+            guid = guid;
+            user = arc_str_bytes user;
+            cookie = cookie;
+            allow_anonymous = allow_anonymous;
+          };
           challenge = challenge;
         }) }
     {
@@ -140,7 +145,8 @@ impl Server {
     /// Takes one byte, and adds what is to be sent.
     fn hear(&mut self, byte: u8, sent: &mut Vec<u8>) -> Result<(), AllocError>
         requires { is_open self.old.state.phase ≡ true }
-        ensures ok { OnOk result (Hears self.old (brought_by self.old byte) sent.old.items self.new sent.new.items) }
+        ensures ok { OnOk result
+            (Hears self.old (brought_by self.old byte) sent.old.items self.new sent.new.items) }
         ensures err { OnErr result (HearsNothing self.old sent.old.items self.new sent.new.items) }
     {
         if let Phase::WaitingForNul = self.phase {
@@ -157,7 +163,8 @@ impl Server {
     /// Takes one byte of a line, and adds what is to be sent.
     fn hear_in_line(&mut self, byte: u8, sent: &mut Vec<u8>) -> Result<(), AllocError>
         requires { reads_lines self.old.state.phase ≡ true }
-        ensures ok { OnOk result (Hears self.old (brought_in_line self.old byte) sent.old.items self.new sent.new.items) }
+        ensures ok { OnOk result (Hears self.old (brought_in_line self.old byte)
+            sent.old.items self.new sent.new.items) }
         ensures err { OnErr result (HearsNothing self.old sent.old.items self.new sent.new.items) }
     {
         if completes_end(&self.line, byte) {
@@ -175,7 +182,8 @@ impl Server {
     /// Answers the line that has come, without its end, and adds what is to be sent.
     fn hear_line(&mut self, sent: &mut Vec<u8>) -> Result<(), AllocError>
         requires { reads_lines self.old.state.phase ≡ true }
-        ensures ok { OnOk result (Hears self.old (brought_by_line self.old) sent.old.items self.new sent.new.items) }
+        ensures ok { OnOk result
+            (Hears self.old (brought_by_line self.old) sent.old.items self.new sent.new.items) }
         ensures err { OnErr result (HearsNothing self.old sent.old.items self.new sent.new.items) }
     {
         let (reply, next) = self.setting.answer(self.alloc, self.phase, &self.line)?;

@@ -93,7 +93,12 @@ impl Model for Setting {
     ghost Value = { Said };
 
     ghost view = { λ s. record {
-      login = record { guid = s.guid; user = arc_str_bytes s.user; cookie = s.cookie; allow_anonymous = s.allow_anonymous };
+      login = record {
+        guid = s.guid;
+        user = arc_str_bytes s.user;
+        cookie = s.cookie;
+        allow_anonymous = s.allow_anonymous;
+      };
       challenge = s.challenge;
     } };
 }
@@ -107,7 +112,12 @@ impl Setting {
         allow_anonymous: bool,
     ) -> Setting
         ensures { result ≡ record {
-          login = record { guid = guid; user = arc_str_bytes user; cookie = cookie; allow_anonymous = allow_anonymous };
+          login = record {
+            guid = guid;
+            user = arc_str_bytes user;
+            cookie = cookie;
+            allow_anonymous = allow_anonymous;
+          };
           challenge = challenge;
         } }
     {

@@ -22,7 +22,8 @@ fn end_of_line(text: &[u8]) -> Option<usize>
 
 /// Cuts a text at its first line feed: the first line, and what stands behind it where there is a line feed.
 fn cut_line(text: &[u8]) -> (&[u8], Option<&[u8]>)
-    ensures lines { slice_split (λ b. b == line_feed) text.now ≡ result.0.now ∷ lines_left result.1 }
+    ensures lines { slice_split (λ b. b == line_feed) text.now
+        ≡ result.0.now ∷ lines_left result.1 }
     ensures shorter { IfSome result.1 (λ behind. length behind.now < length text.now) }
 {
     match end_of_line(text) {

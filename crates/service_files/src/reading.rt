@@ -55,7 +55,8 @@ impl<'a> Reading<'a> {
 
     fn open(&mut self, is_service: bool) -> Result<(), FileFault>
         ensures { MatchResult result
-            (λ _. (header_fault (above_of self.old) is_service ≡ None) × (above_of self.new ≡ with_header (above_of self.old) is_service))
+            (λ _. (header_fault (above_of self.old) is_service ≡ None)
+            × (above_of self.new ≡ with_header (above_of self.old) is_service))
             (λ fault. header_fault (above_of self.old) is_service ≡ Some fault) }
     {
         if is_service && self.has_service {
@@ -73,7 +74,8 @@ impl<'a> Reading<'a> {
     /// Takes a key of the service's group.
     fn enter(&mut self, key: &str, value: &'a str) -> Result<(), FileFault>
         ensures { MatchResult result
-            (λ _. (entry_fault (above_of self.old) key.now value.now ≡ None) × (above_of self.new ≡ with_entry (above_of self.old) key.now value.now))
+            (λ _. (entry_fault (above_of self.old) key.now value.now ≡ None)
+            × (above_of self.new ≡ with_entry (above_of self.old) key.now value.now))
             (λ fault. entry_fault (above_of self.old) key.now value.now ≡ Some fault) }
     {
         if key == NAME {
@@ -96,8 +98,10 @@ impl<'a> Reading<'a> {
     /// Takes line `number`, or tells what is wrong with it.
     pub fn take(&mut self, number: usize, line: Option<Line<'a>>) -> Result<(), FileFault>
         ensures { MatchResult result
-            (λ _. (fault_at number (above_of self.old) (option_map line_said line.entry) ≡ None) × (above_of self.new ≡ below (above_of self.old) (option_map line_said line.entry)))
-            (λ fault. fault_at number (above_of self.old) (option_map line_said line.entry) ≡ Some fault) }
+            (λ _. (fault_at number (above_of self.old) (option_map line_said line.entry) ≡ None)
+            × (above_of self.new ≡ below (above_of self.old) (option_map line_said line.entry)))
+            (λ fault.
+            fault_at number (above_of self.old) (option_map line_said line.entry) ≡ Some fault) }
     {
         match (line, self.place) {
             (None, _) => Err(FileFault::Line(number)),

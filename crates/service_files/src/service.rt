@@ -32,7 +32,8 @@ impl Service {
     /// A service of this name, started by this command. It takes memory.
     pub(crate) fn new(alloc: Global, name: WellKnown, command: &str) -> Result<Service, AllocError>
         requires { 0 < length (words_of command.now) }
-        ensures { IfOk result (λ service. service ≡ record { name = name; words = words_of command.now }) }
+        ensures { IfOk result (λ service.
+            service ≡ record { name = name; words = words_of command.now }) }
     {
         let command = String::from_str(alloc, command)?;
         Ok(Service { name, command })

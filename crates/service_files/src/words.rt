@@ -7,7 +7,8 @@ ghost use Rattle.service_files.specs.Words.{words_left};
 
 /// The first word of a command, and what stands behind it.
 fn first_word(command: &str) -> Option<(&str, &str)>
-    ensures { MatchOption result (words_of command.now ≡ []) (λ cut. words_of command.now ≡ cut.0.now ∷ words_of cut.1.now) }
+    ensures { MatchOption result (words_of command.now ≡ [])
+        (λ cut. words_of command.now ≡ cut.0.now ∷ words_of cut.1.now) }
 {
     let mut rest = command;
     while let Some((word, behind)) = rest.split_once(' ') {

@@ -13,7 +13,10 @@ use test_support::{Row, signal};
 struct OwnedBy(u64);
 
 impl Owners for OwnedBy {
-    ghost heads = { λ owners name. if text_eq name (codes "com.example.A") then Some owners.0 else if text_eq name (codes ":1.1") then Some 1 else if text_eq name (codes ":1.2") then Some 2 else None };
+    ghost heads = { λ owners name. if text_eq name (codes "com.example.A") then Some owners.0
+        else if text_eq name (codes ":1.1") then Some 1
+        else if text_eq name (codes ":1.2") then Some 2
+        else None };
 
     fn head(&self, name: &str) -> Option<u64> {
         if name == "com.example.A" {

@@ -65,7 +65,8 @@ fn bus(alloc: Global, services: &[WellKnown]) -> Result<SeqBus> {
 
 /// Whether an event can happen to an engine: a connection comes with a key that is free. Mail brings no note here.
 fn can_happen(engine: &Plain, event: &Event<()>) -> bool
-    ensures { IsTrue result → CanHappen (λ _. 0) engine.now.view.registry engine.now.standing event.now }
+    ensures { IsTrue result
+        → CanHappen (λ _. 0) engine.now.view.registry engine.now.standing event.now }
 {
     match event {
         Event::Opened {

@@ -19,7 +19,8 @@ fn make<J: Naming, R: Wait>(
     mut seat: Seat<J>,
     change: Change,
 ) -> Made<J>
-    ensures changed { IfOk result.1 (λ r. IsChanged J.opening seat.seen seat.number seat.made change r.0 result.0.seen) }
+    ensures changed { IfOk result.1 (λ r.
+        IsChanged J.opening seat.seen seat.number seat.made change r.0 result.0.seen) }
     ensures told { IfOk result.1 (λ r. r.1 ≡ result.0.seen) }
     ensures refused { IfErr result.1 (λ e. e.change ≡ change) }
     ensures unchanged { OnErr result.1 (result.0 ≡ seat) }
@@ -36,7 +37,8 @@ pub(crate) fn publish<J: Naming + Send + Sync, R: Threads + Wait + Sync>(
     seat: Seat<J>,
     change: Change,
 ) -> (Seat<J>, Result<(Outcome, Note<J>), Refused>)
-    ensures changed { IfOk result.1 (λ r. IsChanged J.opening seat.seen seat.number seat.made change r.0 result.0.seen) }
+    ensures changed { IfOk result.1 (λ r.
+        IsChanged J.opening seat.seen seat.number seat.made change r.0 result.0.seen) }
     ensures told { IfOk result.1 (λ r. r.1 ≡ result.0.seen) }
     ensures refused { IfErr result.1 (λ e. e.change ≡ change) }
     ensures unchanged { OnErr result.1 (result.0 ≡ seat) }
@@ -53,8 +55,10 @@ pub(crate) fn publish_to<J: Naming + Send + Sync, R: Threads + Wait + Sync>(
     reader: &mut Seat<J>,
     change: Change,
 ) -> (Seat<J>, Result<Outcome, Refused>)
-    ensures changed { IfOk result.1 (λ outcome. IsChanged J.opening seat.seen seat.number seat.made change outcome result.0.seen) }
-    ensures told { OnOk result.1 (Begins result.0.seen reader.new.seen × Begins reader.old.seen reader.new.seen) }
+    ensures changed { IfOk result.1 (λ outcome.
+        IsChanged J.opening seat.seen seat.number seat.made change outcome result.0.seen) }
+    ensures told { OnOk result.1 (Begins result.0.seen reader.new.seen
+        × Begins reader.old.seen reader.new.seen) }
     ensures kept { (reader.new.number ≡ reader.old.number) × (reader.new.made ≡ reader.old.made) }
     ensures refused { IfErr result.1 (λ e. e.change ≡ change) }
     ensures unchanged { OnErr result.1 ((result.0 ≡ seat) × (reader.new ≡ reader.old)) }

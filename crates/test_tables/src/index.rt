@@ -15,7 +15,8 @@ use test_support::{once_more, signal, ticked};
 struct OwnedBy(u64);
 
 impl Owners for OwnedBy {
-    ghost heads = { λ owners name. if text_eq name (codes "com.example.A") then Some owners.0 else None };
+    ghost heads = { λ owners name.
+        if text_eq name (codes "com.example.A") then Some owners.0 else None };
 
     fn head(&self, name: &str) -> Option<u64> {
         if name == "com.example.A" {

@@ -66,7 +66,8 @@ fn the_257th_comes_back(rt: HostRuntime) -> Result<(), Fail> {
 
 // The lane and the tap of a queue of its own.
 fn one_way(alloc: Global) -> Result<Option<(Lane<u64>, Tap<u64>)>, AllocError>
-    ensures { IfOk result (λ way. IfSome way (λ w. (w.0 ≡ lane_end 0 w.1 ∷ []) × (w.1.hand.to ≤ w.1.hand.from))) }
+    ensures { IfOk result (λ way.
+        IfSome way (λ w. (w.0 ≡ lane_end 0 w.1 ∷ []) × (w.1.hand.to ≤ w.1.hand.from))) }
 {
     let (mut lanes, mut groups) = open_lanes::<u64>(alloc, 1, 1, 1)?;
     let Some(lane) = lanes.pop() else {

@@ -165,14 +165,16 @@ pub(crate) fn write_query(draft: &mut Draft, query: &Query) -> Result<(), AllocE
 
 /// Writes a part of a message, or a dash for none.
 fn write_text(draft: &mut Draft, text: Option<&str>) -> Result<(), AllocError>
-    ensures { OnOk result (draft.new ≡ draft.old ++ text_or_dash (option_map (λ t. t.now) text.entry)) }
+    ensures { OnOk result (draft.new ≡ draft.old
+        ++ text_or_dash (option_map (λ t. t.now) text.entry)) }
 {
     draft.push(text.unwrap_or("-"))
 }
 
 #[tactic(auto, using(crate::proofs::WrittenLists::lent_arguments))]
 fn write_arguments(draft: &mut Draft, arguments: &[Argument<'_>]) -> Result<(), AllocError>
-    ensures { OnOk result (draft.new ≡ draft.old ++ arguments_text (map argument_of arguments.now)) }
+    ensures { OnOk result (draft.new ≡ draft.old
+        ++ arguments_text (map argument_of arguments.now)) }
 {
     if arguments.is_empty() {
         return draft.push(".");
@@ -182,7 +184,8 @@ fn write_arguments(draft: &mut Draft, arguments: &[Argument<'_>]) -> Result<(), 
 
 /// Writes what match rules and the choice of recipients look at in a message, which comes from this connection.
 pub(crate) fn write_facts(draft: &mut Draft, from: u64, facts: &Facts<'_>) -> Result<(), AllocError>
-    ensures { OnOk result (draft.new ≡ draft.old ++ facts_text (record facts.now { sender = from })) }
+    ensures { OnOk result (draft.new ≡ draft.old
+        ++ facts_text (record facts.now { sender = from })) }
 {
     draft.push_number(from)?;
     draft.push(" ")?;

@@ -47,7 +47,8 @@ pub fn service_line(alloc: Global, name: &WellKnown) -> Result<String, AllocErro
 
 /// Writes a place and a seat.
 fn write_where(line: &mut Draft, place: u64, seat: u64) -> Result<(), AllocError>
-    ensures { OnOk result (line.new ≡ line.old ++ decimal place ++ codes " " ++ decimal seat ++ codes " ") }
+    ensures { OnOk result (line.new
+        ≡ line.old ++ decimal place ++ codes " " ++ decimal seat ++ codes " ") }
 {
     line.push_number(place)?;
     line.push(" ")?;
@@ -124,7 +125,8 @@ impl ChangeWords {
         number: u64,
     ) -> Result<(), AllocError>
         ensures { OnOk result (line.new ≡ line.old ++ codes "c " ++ decimal place ++ codes " "
-            ++ decimal seat ++ codes " " ++ decimal number ++ codes " " ++ self.now ++ codes " => ") }
+            ++ decimal seat ++ codes " " ++ decimal number ++ codes " "
+            ++ self.now ++ codes " => ") }
     {
         line.push("c ")?;
         write_where(line, place, seat)?;
