@@ -1,9 +1,5 @@
 -- Parts of a message that are appended one after the other.
-use Rattle.std.proofs.Common.{◌≡◌, ℕ, List, ◌++◌, Result, Ok, ap, ◌∙◌, append_assoc}
-use Rattle.std.specs.Prelude.{is_ok, if◌then◌else◌}
-
-pub extended : {E : Type 0} → (r : Result (Unit {0}) E) (u : Unit {0}) (new old more : List ℕ) → new ≡ (if is_ok r then old ++ more else old) → r ≡ Ok u → new ≡ old ++ more
-extended {E = E} r u new old more e is = e ∙ ap (λ (x : Result (Unit {0}) E). if is_ok x then old ++ more else old) is
+use Rattle.std.proofs.Common.{◌≡◌, ℕ, List, ◌++◌, append_assoc}
 
 pub all_laid : (old start bodies serial sizes fields pad body n0 n1 n2 n3 n4 n5 n6 n7 : List ℕ) → n0 ≡ old → n1 ≡ n0 ++ start → n2 ≡ n1 ++ bodies → n3 ≡ n2 ++ serial → n4 ≡ n3 ++ sizes → n5 ≡ n4 ++ fields
     → n6 ≡ n5 ++ pad → n7 ≡ n6 ++ body → n7 ≡ old ++ (start ++ (bodies ++ (serial ++ (sizes ++ (fields ++ (pad ++ body))))))

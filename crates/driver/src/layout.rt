@@ -1,24 +1,15 @@
 //! Messages of the bus, laid out in their bytes.
 
-ghost use Rattle.std.specs.Prelude.{◌≡◌, ◌<◌, ◌≤◌, ◌^◌, ◌+◌, ◌++◌, length, OnOk, OnErr};
-ghost use Rattle.marshal_core.specs.Spelling.{pads};
+ghost use Rattle.std.specs.Prelude.{◌≡◌, ◌<◌, ◌≤◌, ◌^◌, ◌++◌, length, OnOk, OnErr};
 ghost use Rattle.match_rules.specs.Kinds.{kind_number};
-ghost use Rattle.message_core.specs.Announcements.{fixed_length};
 ghost use Rattle.driver.specs.Layout.{own_bytes};
 
 use crate::fields::ROOM;
+use marshal_core::Order;
 use match_rules::MessageKind;
-use message_core::NO_REPLY_EXPECTED;
+use message_core::in_room::{gap, put, put_number, put_padding};
+use message_core::{FIXED_LENGTH, NO_REPLY_EXPECTED};
 use std::alloc::AllocError;
-
-/// The padding between the header fields and the body.
-fn padding_after(fields: &[u8]) -> &'static [u8]
-    ensures zeros { result.now ≡ pads 8 (fixed_length + length fields.now) }
-    ensures short { length result.now < 8 }
-{
-    let zeros: &'static [u8] = b"\0\0\0\0\0\0\0\0";
-    &zeros[..(8 - fields.len() % 8) % 8]
-}
 
 /// Appends a message of the bus: the fixed part, the header fields, the padding, the body. A body of 2^32 bytes has no
 /// room in any message.
@@ -38,16 +29,14 @@ pub fn lay_out(
     let Ok(body_length) = u32::try_from(body.len()) else {
         return Err(AllocError);
     };
-    let padding = padding_after(fields);
-    out.reserve(16 + fields.len() + padding.len() + body.len())?;
-    let start = [b'l', kind.number(), NO_REPLY_EXPECTED, 1];
-    out.extend_from_slice(&start).unwrap();
-    out.extend_from_slice(&body_length.to_le_bytes()).unwrap();
-    out.extend_from_slice(&serial.to_le_bytes()).unwrap();
-    out.extend_from_slice(&(fields.len() as u32).to_le_bytes())
-        .unwrap();
-    out.extend_from_slice(fields).unwrap();
-    out.extend_from_slice(padding).unwrap();
-    out.extend_from_slice(body).unwrap();
+    let end = FIXED_LENGTH + fields.len();
+    out.reserve(end + gap(end) + body.len())?;
+    put(out, &[b'l', kind.number(), NO_REPLY_EXPECTED, 1]);
+    put_number(out, Order::Little, body_length);
+    put_number(out, Order::Little, serial);
+    put_number(out, Order::Little, fields.len() as u32);
+    put(out, fields);
+    put_padding(out, end);
+    put(out, body);
     Ok(())
 }
