@@ -25,6 +25,8 @@ struct RouterState<W: Wake + Drop> {
     waker: W,
     /// It waits, or is about to: whoever has something for it wakes it.
     sleeps: AtomicBool,
+    /// There is mail from another router for a place of it: which one, the flag of the place says.
+    mail: AtomicBool,
     /// A connection of it was full for another router.
     looks: AtomicBool,
     /// A connection came for it.
@@ -76,6 +78,7 @@ impl<W: Wake + Drop> Coordinator<W> {
             states.push(RouterState {
                 waker,
                 sleeps: AtomicBool::new(false),
+                mail: AtomicBool::new(false),
                 looks: AtomicBool::new(false),
                 comes: AtomicBool::new(false),
                 owed: AtomicBool::new(false),
@@ -115,8 +118,18 @@ impl<W: Wake + Drop> Coordinator<W> {
         if let Some(flag) = self.mail.get(slot) {
             raise(flag);
         }
+        // Behind the place's flag: whoever sees this one sees that one.
         if let Some(state) = self.states.get(self.router_of(slot)) {
+            raise(&state.mail);
             raise(&state.owed);
+        }
+    }
+
+    /// Whether there is mail for any place of a router. It is asked for once, before the places are.
+    pub(crate) fn takes_any_mail(&self, router: usize) -> bool {
+        match self.states.get(router) {
+            Some(state) => lower(&state.mail),
+            None => false,
         }
     }
 
@@ -159,27 +172,16 @@ impl<W: Wake + Drop> Coordinator<W> {
         }
     }
 
-    /// Whether there is mail for a router.
-    fn has_mail(&self, router: usize) -> bool {
-        let first = router.saturating_mul(self.places());
-        for slot in first..first.saturating_add(self.places()) {
-            if let Some(flag) = self.mail.get(slot) {
-                if flag.load(Ordering::SeqCst) {
-                    return true;
-                }
-            }
-        }
-        false
-    }
-
     /// A router is about to wait. It is not to, where something came for it meanwhile.
     pub(crate) fn falls_asleep(&self, router: usize) -> bool {
         let Some(state) = self.states.get(router) else {
             return false;
         };
         state.sleeps.store(true, Ordering::SeqCst);
-        let is_awaited = state.looks.load(Ordering::SeqCst) || state.comes.load(Ordering::SeqCst);
-        !(is_awaited || self.is_over() || self.has_mail(router))
+        let is_awaited = state.mail.load(Ordering::SeqCst)
+            || state.looks.load(Ordering::SeqCst)
+            || state.comes.load(Ordering::SeqCst);
+        !(is_awaited || self.is_over())
     }
 
     /// A router waits no more.

@@ -145,6 +145,16 @@ impl<'a, V: BusView, G: Gate, P: Post<V>, S: Socket, E: Source<S>, W: Wake + Dro
 
     /// Tells the host what other routers brought.
     fn take_flags(&mut self) {
+        if self.coordinator.takes_any_mail(self.me) {
+            self.take_mail_flags();
+        }
+        if self.coordinator.takes_look(self.me) {
+            self.host.look_came();
+        }
+    }
+
+    /// Tells the host which of its places have mail from other routers.
+    fn take_mail_flags(&mut self) {
         let places = self.coordinator.places();
         let first = self.me.saturating_mul(places);
         for slot in first..first.saturating_add(places) {
@@ -153,9 +163,6 @@ impl<'a, V: BusView, G: Gate, P: Post<V>, S: Socket, E: Source<S>, W: Wake + Dro
                     self.host.mail_came(slot);
                 }
             }
-        }
-        if self.coordinator.takes_look(self.me) {
-            self.host.look_came();
         }
     }
 }
