@@ -1,12 +1,12 @@
 //! A bus, as far as it is asked who gets a message.
 
-ghost use Rattle.std.specs.Prelude.{◌≡◌, ◌≤◌, [], Some, length};
+ghost use Rattle.std.specs.Prelude.{◌≡◌, ◌≤◌, [], Some, false, length, option_to_list};
 ghost use Rattle.seq_bus_core.specs.BusState.{BusState, head_of, is_client, is_service};
 ghost use Rattle.seq_bus_core.specs.Recipients.{all_that_want, conn_at, monitors_shown};
 ghost use Rattle.match_rules.specs.Facts.{Facts as Parts};
 
 use match_rules::{Facts, Owners};
-use seq_bus_core::Recipients;
+use seq_bus_core::{Conn, Recipients};
 
 /// A bus, as far as it is asked who gets a message: as it is, or as it will be once a change is made.
 pub trait Audience: Owners {
@@ -33,10 +33,13 @@ pub trait Audience: Owners {
         ensures value { shown.new ≡ monitors_shown (state self.now) facts.now }
         ensures few { length shown.new ≤ Recipients.MAX };
 
-    /// Adds the connection of a number, if it is there.
-    fn add_conn(&self, number: u64, to: &mut Recipients)
-        requires { to.old ≡ [] }
-        ensures { to.new ≡ conn_at (state self.now) (Some number) };
+    /// Whether a monitor may be shown a message. Where it says no, none is shown any.
+    fn has_monitors(&self) -> bool
+        ensures { result ≡ false → (facts : Parts) → monitors_shown (state self.now) facts ≡ [] };
+
+    /// The connection of a number, if it is there.
+    fn conn(&self, number: u64) -> Option<Conn>
+        ensures { option_to_list result ≡ conn_at (state self.now) (Some number) };
 
     /// Whether there is a connection of this number that is no monitor.
     fn is_client(&self, number: u64) -> bool

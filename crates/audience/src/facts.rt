@@ -1,15 +1,18 @@
 //! What match rules see of the signals of the bus.
 
-ghost use Rattle.std.specs.Prelude.{◌≡◌, Some, true, [], codes, option_map, unwrap_or};
+ghost use Rattle.std.specs.Prelude.{◌≡◌, Some, [], map, option_map, unwrap_or};
 ghost use Rattle.names.specs.UniqueName.{unique_text};
-ghost use Rattle.match_rules.specs.Facts.{bus_number};
-ghost use Rattle.match_rules.specs.declared.kind.MessageKind.TheVariants.{Signal};
-ghost use Rattle.seq_bus_core.specs.Steps.{bus_path, facts_of};
+ghost use Rattle.match_rules.specs.FactsView.{argument_of};
+ghost use Rattle.seq_bus_core.specs.Steps.{facts_of};
+ghost use Rattle.audience.specs.SignalNames.{blank_facts};
 
 use arrayvec::ArrayVec;
 use match_rules::{Argument, Facts, MessageKind};
 use names::UniqueName;
 use seq_bus_core::{BusSignal, bus_path};
+
+/// As many arguments of a message as match rules look at.
+type Arguments<'a> = ArrayVec<Argument<'a>, 64>;
 
 /// The unique names that a signal of the bus speaks of. Its facts are lent out of both.
 #[derive(Drop)]
@@ -62,47 +65,49 @@ impl SignalNames {
         }
     }
 
-    /// What match rules see of the signal.
-    pub fn facts<'a>(&'a self, signal: &'a BusSignal) -> Facts<'a>
+    /// Puts what match rules see of the signal where nothing of it stands yet: the room for arguments is
+    /// large, and is not moved.
+    pub fn put_facts<'a>(&'a self, signal: &'a BusSignal, facts: &mut Facts<'a>)
+        requires names { AreNamesOf signal.now self.now }
+        requires blank { facts.old ≡ blank_facts }
+        ensures { facts.new ≡ facts_of signal.entry.now }
+    {
+        facts.member = Some(member_of(signal));
+        facts.destination = self.destination(signal);
+        self.push_arguments(signal, &mut facts.arguments);
+    }
+
+    fn destination(&self, signal: &BusSignal) -> Option<&str>
         requires { AreNamesOf signal.now self.now }
-        ensures { result ≡ facts_of signal.entry.now }
+        ensures { option_map (λ t. t.now) result ≡ (facts_of signal.now).destination }
+    {
+        match signal {
+            BusSignal::NameOwnerChanged { .. } => None,
+            BusSignal::NameLost { .. } => Some(text_of(&self.first)),
+            BusSignal::NameAcquired { .. } => Some(text_of(&self.first)),
+        }
+    }
+
+    fn push_arguments<'a>(&'a self, signal: &'a BusSignal, arguments: &mut Arguments<'a>)
+        requires names { AreNamesOf signal.now self.now }
+        requires empty { arguments.old.items ≡ [] }
+        ensures { map argument_of arguments.new.items ≡ (facts_of signal.entry.now).arguments }
     {
         match signal {
             BusSignal::NameOwnerChanged { name, .. } => {
-                let mut facts = signal_facts("NameOwnerChanged", None);
-                facts.arguments.push(Argument::String(name.as_str()));
-                facts.arguments.push(Argument::String(text_of(&self.first)));
-                facts
-                    .arguments
-                    .push(Argument::String(text_of(&self.second)));
-                facts
+                arguments.push(Argument::String(name.as_str()));
+                arguments.push(Argument::String(text_of(&self.first)));
+                arguments.push(Argument::String(text_of(&self.second)));
             }
-            BusSignal::NameLost { name, .. } => {
-                let mut facts = signal_facts("NameLost", Some(text_of(&self.first)));
-                facts.arguments.push(Argument::String(name.as_str()));
-                facts
-            }
-            BusSignal::NameAcquired { name, .. } => {
-                let mut facts = signal_facts("NameAcquired", Some(text_of(&self.first)));
-                facts.arguments.push(Argument::String(name.as_str()));
-                facts
-            }
+            BusSignal::NameLost { name, .. } => arguments.push(Argument::String(name.as_str())),
+            BusSignal::NameAcquired { name, .. } => arguments.push(Argument::String(name.as_str())),
         }
     }
 }
 
-/// What is seen of a signal of the bus without arguments.
-fn signal_facts<'a>(member: &'a str, destination: Option<&'a str>) -> Facts<'a>
-    ensures { result ≡ record {
-      kind = Signal;
-      auto_start = true;
-      sender = bus_number;
-      path = Some bus_path;
-      interface = Some (codes "org.freedesktop.DBus");
-      member = Some member.entry.now;
-      destination = option_map (λ t. t.now) destination.entry;
-      arguments = [];
-    } }
+/// What all signals of the bus have in common.
+pub fn blank_facts<'a>() -> Facts<'a>
+    ensures { result ≡ blank_facts }
 {
     Facts {
         kind: MessageKind::Signal,
@@ -110,8 +115,18 @@ fn signal_facts<'a>(member: &'a str, destination: Option<&'a str>) -> Facts<'a>
         sender: 0,
         path: Some(bus_path()),
         interface: Some("org.freedesktop.DBus"),
-        member: Some(member),
-        destination,
+        member: None,
+        destination: None,
         arguments: ArrayVec::new(),
+    }
+}
+
+fn member_of(signal: &BusSignal) -> &'static str
+    ensures { Some result.now ≡ (facts_of signal.now).member }
+{
+    match signal {
+        BusSignal::NameOwnerChanged { .. } => "NameOwnerChanged",
+        BusSignal::NameLost { .. } => "NameLost",
+        BusSignal::NameAcquired { .. } => "NameAcquired",
     }
 }

@@ -1,12 +1,12 @@
 //! Where messages go. (D-Bus Specification: "Message Bus Message Routing")
 
-ghost use Rattle.std.specs.Prelude.{◌≡◌, ◌⊎◌, [], is_some};
-ghost use Rattle.seq_bus_core.specs.Recipients.{destination_head, is_call, is_for_bus, is_signal, may_send, may_start, verdict, verdict_of};
+ghost use Rattle.std.specs.Prelude.{◌≡◌, ◌⊎◌, [], Some, is_some};
+ghost use Rattle.seq_bus_core.specs.Recipients.{conn_at, destination_head, is_call, is_for_bus, is_signal, may_send, may_start, verdict, verdict_of};
 ghost use Rattle.seq_bus_core.specs.declared.verdict.VerdictKind.TheVariants.{Absent};
 
 use crate::audience::Audience;
 use match_rules::{Facts, MessageKind, Owners};
-use seq_bus_core::{Verdict, VerdictKind};
+use seq_bus_core::{Recipients, Verdict, VerdictKind};
 
 /// The name of the bus itself.
 const BUS: &str = "org.freedesktop.DBus";
@@ -28,7 +28,7 @@ pub fn judge<A: Audience>(audience: &A, facts: &Facts<'_>, told: &mut Verdict, c
     }
     if let Some(head) = destination_head(audience, facts) {
         told.kind = VerdictKind::Plain;
-        audience.add_conn(head, &mut told.to);
+        add_conn(audience, head, &mut told.to);
         return;
     }
     if may_start(audience, facts) {
@@ -45,6 +45,16 @@ pub fn judge<A: Audience>(audience: &A, facts: &Facts<'_>, told: &mut Verdict, c
     }
     told.kind = VerdictKind::Plain;
     audience.add_wanting(facts, &mut told.to, count);
+}
+
+/// Adds the connection of a number, if it is there.
+pub(crate) fn add_conn<A: Audience>(audience: &A, number: u64, to: &mut Recipients)
+    requires { to.old ≡ [] }
+    ensures { to.new ≡ conn_at (A.state audience.now) (Some number) }
+{
+    if let Some(conn) = audience.conn(number) {
+        to.push(conn);
+    }
 }
 
 /// Whether a message may come from here: from the bus, or from a connection that is no monitor.

@@ -2,11 +2,13 @@
 
 ghost use Rattle.std.specs.Prelude.{◌≡◌, ◌≤◌, ◌++◌, ◌∷◌, ◌==◌, [], Some, filter, length, map, not, IfOk, OnOk};
 ghost use Rattle.std.specs.List.{list_any};
+ghost use Rattle.seq_bus_core.specs.Recipients.{addressed_to, all_that_want, conn_at};
 ghost use Rattle.seq_bus_core.specs.Steps.{acquired, addressed, facts_of, is_among, is_owner, lost, owner_signals, recipients_of};
 ghost use Rattle.seq_bus_core.specs.declared.signal.BusSignal.TheVariants.{NameOwnerChanged};
 
 use crate::audience::Audience;
-use crate::facts::SignalNames;
+use crate::facts::{SignalNames, blank_facts};
+use crate::judging::add_conn;
 use match_rules::Facts;
 use names::BusName;
 use seq_bus_core::{AddressedSignal, BusSignal, Conn, Recipients, Signals};
@@ -22,9 +24,65 @@ pub fn address<A: Audience>(
 ) -> Result<AddressedSignal, AllocError>
     ensures { IfOk result (λ told. told ≡ addressed (A.state audience.now) signal) }
 {
-    let names = SignalNames::of(&signal);
-    let facts = names.facts(&signal);
+    if audience.has_monitors() {
+        return address_watched(audience, alloc, signal, count);
+    }
+    match signal {
+        BusSignal::NameOwnerChanged { .. } => address_all(audience, alloc, signal, count),
+        BusSignal::NameLost { owner, .. } => address_one(audience, alloc, signal, owner),
+        BusSignal::NameAcquired { owner, .. } => address_one(audience, alloc, signal, owner),
+    }
+}
+
+/// A signal that goes to the connection of a number, if it is there, and is shown to no monitor.
+fn address_one<A: Audience>(
+    audience: &A,
+    alloc: Global,
+    signal: BusSignal,
+    number: u64,
+) -> Result<AddressedSignal, AllocError>
+    ensures { IfOk result (λ told. told
+        ≡ addressed_to signal (conn_at (A.state audience.now) (Some number)) []) }
+{
+    match audience.conn(number) {
+        Some(conn) => AddressedSignal::new(alloc, signal, &[conn], &[]),
+        None => AddressedSignal::new(alloc, signal, &[], &[]),
+    }
+}
+
+/// A signal that goes to all that want it, and is shown to no monitor.
+fn address_all<A: Audience>(
+    audience: &A,
+    alloc: Global,
+    signal: BusSignal,
+    count: &mut A::Count,
+) -> Result<AddressedSignal, AllocError>
+    ensures { IfOk result (λ told. told
+        ≡ addressed_to signal (all_that_want (A.state audience.now) (facts_of signal)) []) }
+{
     let mut to = Recipients::new();
+    let names = SignalNames::of(&signal);
+    let mut facts = blank_facts();
+    names.put_facts(&signal, &mut facts);
+    audience.add_wanting(&facts, &mut to, count);
+    AddressedSignal::new(alloc, signal, to.as_slice(), &[])
+}
+
+/// The same as `address`, where monitors may be shown the signal. Its room for them is large, and is kept
+/// out of the way of those that nobody watches.
+#[inline(never)]
+fn address_watched<A: Audience>(
+    audience: &A,
+    alloc: Global,
+    signal: BusSignal,
+    count: &mut A::Count,
+) -> Result<AddressedSignal, AllocError>
+    ensures { IfOk result (λ told. told ≡ addressed (A.state audience.now) signal) }
+{
+    let mut to = Recipients::new();
+    let names = SignalNames::of(&signal);
+    let mut facts = blank_facts();
+    names.put_facts(&signal, &mut facts);
     add_recipients(audience, &signal, &facts, &mut to, count);
     let mut shown = Recipients::new();
     audience.add_shown(&facts, &mut shown);
@@ -50,8 +108,8 @@ fn add_recipients<A: Audience>(
 {
     match signal {
         BusSignal::NameOwnerChanged { .. } => audience.add_wanting(facts, to, count),
-        BusSignal::NameLost { owner, .. } => audience.add_conn(*owner, to),
-        BusSignal::NameAcquired { owner, .. } => audience.add_conn(*owner, to),
+        BusSignal::NameLost { owner, .. } => add_conn(audience, *owner, to),
+        BusSignal::NameAcquired { owner, .. } => add_conn(audience, *owner, to),
     }
 }
 
