@@ -1,7 +1,7 @@
 -- What a Leave does.
 use Rattle.std.proofs.Common.{◌≡◌, ℕ, ◌<◌, ◌==◌, Bool, true, false, cond, not, ◌&&◌, ◌||◌, Option, Some, None, is_some, List, [], ◌∷◌, ◌++◌, map, filter, flat_map, refl, sym, ap, ◌∙◌, arith, if◌then◌else◌}
-use Rattle.std.specs.List.{AllByRecursion as Each, find}
-use Rattle.std.proofs.lemmas.Bool.{or_parts}
+use Rattle.std.specs.List.{AllByRecursion as Each, find, list_any}
+use Rattle.std.proofs.lemmas.Bool.{or_parts, true≢false}
 use Rattle.std.proofs.lemmas.List.{map-append}
 use Rattle.std.proofs.lemmas.Bool.Decides.{nat_tests}
 use Rattle.owner_queues.specs.Queues.{Queue, is_in, queue_head}
@@ -120,6 +120,19 @@ pub left_shown : (s : BusState) (n : ℕ) (facts : Facts) →
     monitors_shown (without_connection s n) facts ≡ conns_that (λ c. stays (Some n) c.number && watches_by (head_of (without_connection s n)) facts c) s.connections
 left_shown s n facts =
     shown_same (without_connection s n) facts ∙ ap (map conn_of) (filter_twice (λ c. not (c.number == n)) (watches_by (head_of (without_connection s n)) facts) s.connections)
+
+-- no monitor comes by a Leave
+pub left_unwatched : (n : ℕ) (cs : List Connection) → list_any is_monitor cs ≡ false → list_any is_monitor (filter (λ c. not (c.number == n)) cs) ≡ false
+left_unwatched n [] none = refl
+left_unwatched n (c ∷ cs) none = by_tests (c.number == n) (is_monitor c) refl none (λ others. left_unwatched n cs others)
+  where
+    those : List Connection
+    those = filter (λ d. not (d.number == n)) cs
+
+    by_tests : (a m : Bool) → is_monitor c ≡ m → (m || list_any is_monitor cs) ≡ false → (list_any is_monitor cs ≡ false → list_any is_monitor those ≡ false) → list_any is_monitor (cond (not a) (c ∷ those) those) ≡ false
+    by_tests a true is e others = absurd (true≢false e)
+    by_tests true false is e others = others e
+    by_tests false false is e others = rw is (others e)
 
 -- ## The connection of a number
 

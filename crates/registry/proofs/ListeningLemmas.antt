@@ -1,7 +1,8 @@
 -- Who listens to messages and signals, by the heads of names.
-use Rattle.std.proofs.Common.{◌≡◌, ℕ, ◌<◌, ◌==◌, ◌&&◌, ◌||◌, not, Bool, true, false, cond, option_map, Option, Some, None, List, [], ◌∷◌, ◌++◌, map, filter, refl, sym, ap, ◌∙◌, append-nil, arith, if◌then◌else◌}
+use Rattle.std.proofs.Common.{◌≡◌, ℕ, ◌<◌, ◌==◌, ◌&&◌, ◌||◌, not, Bool, true, false, cond, option_map, Option, Some, None, List, [], ◌∷◌, ◌++◌, is_some, map, filter, refl, sym, ap, ◌∙◌, append-nil, arith, if◌then◌else◌}
 use Rattle.std.specs.List.{AllByRecursion as Each, list_any, find}
-use Rattle.std.specs.Option.{option_to_list}
+use Rattle.std.specs.Option.{option_map_or, option_to_list}
+use Rattle.std.proofs.lemmas.Bool.{true≢false}
 use Rattle.std.proofs.lemmas.Bool.Decides.{nat_tests}
 use Rattle.match_rules.specs.Facts.{Facts}
 use Rattle.match_rules.specs.Fitting.{Heads, fits}
@@ -12,7 +13,7 @@ use Rattle.seq_bus_core.specs.Recipients.{conn_at, monitors_shown, watches}
 use Rattle.seq_bus_core.specs.declared.connection.Conn.{Conn}
 use Rattle.seq_bus_core.proofs.Lists.{any_having, any_map, each_weaker}
 use Rattle.registry_core.specs.declared.member.Member.{Member}
-use Rattle.registry_core.specs.Listening.{conns_that, has_fitting, has_number, member_wants, stays, wants_by, watches_by}
+use Rattle.registry_core.specs.Listening.{conns_that, has_fitting, has_number, member_wants, stays, wants_by, watched, watches_by}
 use Rattle.registry_core.specs.MemberTables.{member_of}
 use Rattle.registry_core.proofs.Members.{filter_alike}
 use Rattle.registry_core.proofs.Places.{one_done}
@@ -31,6 +32,27 @@ watches_same s facts c = by_rules c.monitor
 
 pub shown_same : (s : BusState) (facts : Facts) → monitors_shown s facts ≡ conns_that (watches_by (head_of s) facts) s.connections
 shown_same s facts = ap (map conn_of) (filter_alike (watches s facts) (watches_by (head_of s) facts) s.connections (watches_same s facts))
+
+-- ## Where there is no monitor
+
+-- who watches is a monitor
+plain_watches_nothing : (heads : Heads) (facts : Facts) (c : Connection) → is_monitor c ≡ false → watches_by heads facts c ≡ false
+plain_watches_nothing heads facts c e = by_rules c.monitor e
+  where
+    by_rules : (o : Option (List Rule)) → is_some o ≡ false → option_map_or (watched heads facts) o false ≡ false
+    by_rules None e = refl
+    by_rules (Some rules) e = absurd (true≢false e)
+
+pub nobody_watches : (heads : Heads) (facts : Facts) (cs : List Connection) → list_any is_monitor cs ≡ false → conns_that (watches_by heads facts) cs ≡ []
+nobody_watches heads facts [] none = refl
+nobody_watches heads facts (c ∷ cs) none = by_test (is_monitor c) refl none (λ others. nobody_watches heads facts cs others)
+  where
+    by_test : (m : Bool) → is_monitor c ≡ m → (m || list_any is_monitor cs) ≡ false → (list_any is_monitor cs ≡ false → conns_that (watches_by heads facts) cs ≡ []) → conns_that (watches_by heads facts) (c ∷ cs) ≡ []
+    by_test true is e others = absurd (true≢false e)
+    by_test false is e others = rw (plain_watches_nothing heads facts c is) (others e)
+
+pub nobody_shown : (s : BusState) (facts : Facts) → list_any is_monitor s.connections ≡ false → monitors_shown s facts ≡ []
+nobody_shown s facts none = shown_same s facts ∙ nobody_watches (head_of s) facts s.connections none
 
 -- ## A connection that has just come
 

@@ -13,7 +13,6 @@ use Rattle.seq_bus_core.specs.declared.outcome.Reply.TheVariants.{Gone, LimitsEx
 use Rattle.seq_bus_core.specs.declared.signal.AddressedSignal.{AddressedSignal}
 use Rattle.seq_bus_core.specs.declared.ticket.Fate.TheVariants.{Served}
 use Rattle.registry_core.specs.NameTables.{are_within}
-use Rattle.registry.specs.declared.requests.QueueChange.{QueueChange}
 
 -- the state once a name has this queue
 abbrev pub requeued : BusState → Text → Queue → BusState
@@ -23,42 +22,44 @@ requeued s name queue = record s { names = with_queue name queue s.names }
 abbrev pub signals_of_owners : BusState → Text → Queue → List AddressedSignal
 signals_of_owners s name queue = map (addressed (requeued s name queue)) (owner_signals name (queue_head (queue_of s.names name)) (queue_head queue))
 
-abbrev pub queue_change : Queue × QueueReply → QueueChange
-queue_change result = record { queue = result.0; reply = result.1 }
+-- the queue with the reply, where the change is made
+abbrev pub changed : Queue → Result QueueReply Reply → Result (Queue × QueueReply) Reply
+changed queue (Ok reply) = Ok (queue, reply)
+changed queue (Err reply) = Err reply
 
-abbrev pub if_within : BusState → ℕ → Text → Queue × QueueReply → Result QueueChange Reply
-if_within s number name result = if are_within (with_queue name result.0 s.names) number then Ok (queue_change result) else Err LimitsExceeded
+abbrev pub if_within : BusState → ℕ → Text → Queue × QueueReply → Result (Queue × QueueReply) Reply
+if_within s number name change = if are_within (with_queue name change.0 s.names) number then Ok change else Err LimitsExceeded
 
 -- what a request does to the queue, or what it is told where it changes nothing
-abbrev pub when_requested : BusState → ℕ → Text → RequestFlags → Result QueueChange Reply
+abbrev pub when_requested : BusState → ℕ → Text → RequestFlags → Result (Queue × QueueReply) Reply
 when_requested s number name flags =
     if not (is_client s.connections number) then Err Gone
     else if is_reserved name then Err InvalidName
     else if_within s number name (requested s.profile number flags (queue_of s.names name))
 
 -- the same of a release
-abbrev pub when_released : BusState → ℕ → Text → Result QueueChange Reply
+abbrev pub when_released : BusState → ℕ → Text → Result (Queue × QueueReply) Reply
 when_released s number name =
     if not (is_client s.connections number) then Err Gone
     else if is_reserved name then Err InvalidName
-    else Ok (queue_change (released number (queue_of s.names name)))
+    else Ok (released number (queue_of s.names name))
 
 -- the state after a release
-abbrev pub requeue_state : BusState → Text → Result QueueChange Reply → BusState
-requeue_state s name (Ok change) = requeued s name change.queue
+abbrev pub requeue_state : BusState → Text → Result (Queue × QueueReply) Reply → BusState
+requeue_state s name (Ok change) = requeued s name change.0
 requeue_state s name (Err reply) = s
 
 -- what it is told
-abbrev pub requeue_outcome : BusState → Text → Result QueueChange Reply → NumberedOutcome
-requeue_outcome s name (Ok change) = record (replied (OfQueue change.reply)) { signals = signals_of_owners s name change.queue }
+abbrev pub requeue_outcome : BusState → Text → Result (Queue × QueueReply) Reply → NumberedOutcome
+requeue_outcome s name (Ok change) = record (replied (OfQueue change.1)) { signals = signals_of_owners s name change.0 }
 requeue_outcome s name (Err reply) = replied reply
 
 -- the state after a request
-abbrev pub request_state : BusState → Text → Result QueueChange Reply → BusState
-request_state s name (Ok change) = with_owned s name change.queue
+abbrev pub request_state : BusState → Text → Result (Queue × QueueReply) Reply → BusState
+request_state s name (Ok change) = with_owned s name change.0
 request_state s name (Err reply) = s
 
 -- what it is told
-abbrev pub request_outcome : BusState → Text → Result QueueChange Reply → NumberedOutcome
+abbrev pub request_outcome : BusState → Text → Result (Queue × QueueReply) Reply → NumberedOutcome
 request_outcome s name (Ok change) = record (requeue_outcome s name (Ok change)) { tickets = settled Served (start_of s name) }
 request_outcome s name (Err reply) = replied reply

@@ -103,21 +103,28 @@ impl<'a> Audience for After<'a> {
         }
     }
 
-    fn add_conn(&self, number: u64, to: &mut Recipients) {
+    fn has_monitors(&self) -> bool {
         match &self.pending {
-            Pending::Left { connection } => {
-                if *connection != number {
-                    self.registry.add_conn(number, to);
-                }
-            }
+            Pending::Becoming { .. } => true,
+            Pending::Joined { .. } => self.registry.has_monitors(),
+            Pending::Requeued { .. } => self.registry.has_monitors(),
+            Pending::Left { .. } => self.registry.has_monitors(),
+        }
+    }
+
+    fn conn(&self, number: u64) -> Option<Conn> {
+        let there = self.registry.only_conn(number);
+        match &self.pending {
+            Pending::Left { connection } => { if *connection == number { None } else { there } }
             Pending::Joined { conn, .. } => {
-                self.registry.add_conn(number, to);
                 if conn.number == number {
-                    to.push(*conn);
+                    Some(*conn)
+                } else {
+                    there
                 }
             }
-            Pending::Requeued { .. } => self.registry.add_conn(number, to),
-            Pending::Becoming { .. } => self.registry.add_conn(number, to),
+            Pending::Requeued { .. } => there,
+            Pending::Becoming { .. } => there,
         }
     }
 

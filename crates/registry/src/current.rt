@@ -6,7 +6,7 @@ use crate::registry::Registry;
 use audience::Audience;
 use match_index::Steps;
 use match_rules::{Facts, Owners};
-use seq_bus_core::Recipients;
+use seq_bus_core::{Conn, Recipients};
 use std::marker::PhantomData;
 use std::sync::ledger::Ledger;
 
@@ -58,8 +58,12 @@ impl<'a, L: Ledger> Audience for Current<'a, L> {
         self.registry.add_monitors_shown(facts, self, shown);
     }
 
-    fn add_conn(&self, number: u64, to: &mut Recipients) {
-        self.registry.add_conn(number, to);
+    fn has_monitors(&self) -> bool {
+        self.registry.has_monitors()
+    }
+
+    fn conn(&self, number: u64) -> Option<Conn> {
+        self.registry.only_conn(number)
     }
 
     fn is_client(&self, number: u64) -> bool {

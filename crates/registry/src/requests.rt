@@ -1,11 +1,12 @@
 //! RequestName and ReleaseName.
 
 ghost use Rattle.std.specs.Prelude.{◌≡◌, [], IfOk, OnOk};
+ghost use Rattle.owner_queues.specs.Queues.{queue_head};
 ghost use Rattle.seq_bus_core.specs.BusState.{queue_of};
 ghost use Rattle.seq_bus_core.specs.Steps.{is_reserved, step};
 ghost use Rattle.seq_bus_core.specs.declared.change.Change.TheVariants.{Request, Release};
 ghost use Rattle.registry.specs.PreparedChanges.{prepared_on};
-ghost use Rattle.registry.specs.Requests.{when_requested, when_released, request_outcome, requeue_outcome, signals_of_owners};
+ghost use Rattle.registry.specs.Requests.{changed, when_requested, when_released, request_outcome, requeue_outcome, signals_of_owners};
 
 use crate::after::{After, Pending};
 use crate::owners::is_unique;
@@ -16,13 +17,6 @@ use names::BusName;
 use owner_queues::{Queue, Reply as QueueReply, RequestFlags};
 use seq_bus_core::{Fate, NumberedOutcome, Reply, Signals};
 use std::alloc::{AllocError, Global};
-
-/// The queue of a name after a request or a release, and what that is told.
-#[derive(Drop)]
-pub struct QueueChange {
-    pub queue: Queue,
-    pub reply: QueueReply,
-}
 
 impl Registry {
     pub(crate) fn prepare_request(
@@ -37,7 +31,10 @@ impl Registry {
             ≡ prepared_on self.now seat (Request connection name.now flags)) }
     {
         let _ = &self.members;
-        let change = self.when_requested(connection, name, flags);
+        let mut queue = Queue::new();
+        self.copy_queue(name, &mut queue);
+        let owner = queue.head();
+        let change = self.when_requested(connection, name, flags, &mut queue);
         Ok(Prepared {
             seat,
             act: Act::Request {
@@ -45,7 +42,7 @@ impl Registry {
                 name: *name,
                 flags,
             },
-            outcome: self.outcome_of_request(alloc, name, &change)?,
+            outcome: self.outcome_of_request(alloc, name, owner, &queue, change)?,
         })
     }
 
@@ -60,14 +57,17 @@ impl Registry {
             ≡ prepared_on self.now seat (Release connection name.now)) }
     {
         let _ = &self.members;
-        let change = self.when_released(connection, name);
+        let mut queue = Queue::new();
+        self.copy_queue(name, &mut queue);
+        let owner = queue.head();
+        let change = self.when_released(connection, name, &mut queue);
         Ok(Prepared {
             seat,
             act: Act::Release {
                 connection,
                 name: *name,
             },
-            outcome: self.outcome_of_requeue(alloc, name, &change)?,
+            outcome: self.outcome_of_requeue(alloc, name, owner, &queue, change)?,
         })
     }
 
@@ -75,9 +75,11 @@ impl Registry {
     pub(crate) fn request(&mut self, seat: u8, connection: u64, name: &BusName, flags: RequestFlags)
         ensures { self.new ≡ (step self.old seat (Request connection name.now flags)).0 }
     {
-        match self.when_requested(connection, name, flags) {
-            Ok(change) => {
-                self.names.set_queue(name, &change.queue);
+        let mut queue = Queue::new();
+        self.copy_queue(name, &mut queue);
+        match self.when_requested(connection, name, flags, &mut queue) {
+            Ok(_) => {
+                self.names.set_queue(name, &queue);
                 self.starts.end(name);
             }
             Err(_) => {}
@@ -88,20 +90,25 @@ impl Registry {
     pub(crate) fn release(&mut self, seat: u8, connection: u64, name: &BusName)
         ensures { self.new ≡ (step self.old seat (Release connection name.now)).0 }
     {
-        match self.when_released(connection, name) {
-            Ok(change) => self.names.set_queue(name, &change.queue),
+        let mut queue = Queue::new();
+        self.copy_queue(name, &mut queue);
+        match self.when_released(connection, name, &mut queue) {
+            Ok(_) => self.names.set_queue(name, &queue),
             Err(_) => {}
         }
     }
 
-    /// What a request does to the queue of its name, or what it is told where it changes nothing.
+    /// What a request is told. The copy of the queue of its name becomes the queue after it, where it
+    /// changes that: a queue is large, and is not moved.
     fn when_requested(
         &self,
         connection: u64,
         name: &BusName,
         flags: RequestFlags,
-    ) -> Result<QueueChange, Reply>
-        ensures { result ≡ when_requested self.now connection name.now flags }
+        queue: &mut Queue,
+    ) -> Result<QueueReply, Reply>
+        requires { queue.old ≡ queue_of self.now.names name.now }
+        ensures { changed queue.new result ≡ when_requested self.now connection name.now flags }
     {
         if !self.is_client(connection) {
             return Err(Reply::Gone);
@@ -109,18 +116,23 @@ impl Registry {
         if is_reserved(name) {
             return Err(Reply::InvalidName);
         }
-        let mut queue = self.queue_of(name);
         let reply = queue.request(connection, flags, self.profile);
-        if self.names.would_fit(name.as_str(), &queue, connection) {
-            Ok(QueueChange { queue, reply })
+        if self.names.would_fit(name.as_str(), queue, connection) {
+            Ok(reply)
         } else {
             Err(Reply::LimitsExceeded)
         }
     }
 
-    /// What a release does to the queue of its name, or what it is told where it changes nothing.
-    fn when_released(&self, connection: u64, name: &BusName) -> Result<QueueChange, Reply>
-        ensures { result ≡ when_released self.now connection name.now }
+    /// The same of a release.
+    fn when_released(
+        &self,
+        connection: u64,
+        name: &BusName,
+        queue: &mut Queue,
+    ) -> Result<QueueReply, Reply>
+        requires { queue.old ≡ queue_of self.now.names name.now }
+        ensures { changed queue.new result ≡ when_released self.now connection name.now }
     {
         if !self.is_client(connection) {
             return Err(Reply::Gone);
@@ -128,21 +140,18 @@ impl Registry {
         if is_reserved(name) {
             return Err(Reply::InvalidName);
         }
-        let mut queue = self.queue_of(name);
-        let reply = queue.release(connection);
-        Ok(QueueChange { queue, reply })
+        Ok(queue.release(connection))
     }
 
-    /// A copy of the queue of a name.
-    fn queue_of(&self, name: &BusName) -> Queue
-        ensures { result ≡ queue_of self.now.names name.now }
+    /// Copies the queue of a name.
+    fn copy_queue(&self, name: &BusName, copy: &mut Queue)
+        requires { copy.old ≡ [] }
+        ensures { copy.new ≡ queue_of self.now.names name.now }
     {
-        let mut copy = Queue::new();
         match self.names.queue(name.as_str()) {
             Some(queue) => copy.copy_from(queue),
             None => {}
         }
-        copy
     }
 
     /// What a request is told: where it gets into the queue, the calls that wait for the name are
@@ -151,11 +160,15 @@ impl Registry {
         &self,
         alloc: Global,
         name: &BusName,
-        change: &Result<QueueChange, Reply>,
+        owner: Option<u64>,
+        queue: &Queue,
+        change: Result<QueueReply, Reply>,
     ) -> Result<NumberedOutcome, AllocError>
-        ensures { IfOk result (λ outcome. outcome ≡ request_outcome self.now name.now change.now) }
+        requires { owner ≡ queue_head (queue_of self.now.names name.now) }
+        ensures { IfOk result (λ outcome. outcome
+            ≡ request_outcome self.now name.now (changed queue.now change)) }
     {
-        let mut outcome = self.outcome_of_requeue(alloc, name, change)?;
+        let mut outcome = self.outcome_of_requeue(alloc, name, owner, queue, change)?;
         match change {
             Ok(_) => {
                 self.starts
@@ -170,38 +183,43 @@ impl Registry {
         &self,
         alloc: Global,
         name: &BusName,
-        change: &Result<QueueChange, Reply>,
+        owner: Option<u64>,
+        queue: &Queue,
+        change: Result<QueueReply, Reply>,
     ) -> Result<NumberedOutcome, AllocError>
-        ensures { IfOk result (λ outcome. outcome ≡ requeue_outcome self.now name.now change.now) }
+        requires { owner ≡ queue_head (queue_of self.now.names name.now) }
+        ensures { IfOk result (λ outcome. outcome
+            ≡ requeue_outcome self.now name.now (changed queue.now change)) }
     {
         match change {
-            Ok(change) => {
-                let mut outcome = replied(alloc, Reply::OfQueue(change.reply));
-                self.tell_owners(alloc, *name, &change.queue, &mut outcome.signals)?;
+            Ok(reply) => {
+                let mut outcome = replied(alloc, Reply::OfQueue(reply));
+                self.tell_owners(alloc, *name, owner, queue, &mut outcome.signals)?;
                 Ok(outcome)
             }
-            Err(reply) => Ok(replied(alloc, *reply)),
+            Err(reply) => Ok(replied(alloc, reply)),
         }
     }
 
-    /// The signals of a name that has another queue.
+    /// The signals of a name that had this owner, and has another queue.
     fn tell_owners(
         &self,
         alloc: Global,
         name: BusName,
+        owner: Option<u64>,
         queue: &Queue,
         signals: &mut Signals,
     ) -> Result<(), AllocError>
-        requires { signals.old ≡ [] }
+        requires owner { owner ≡ queue_head (queue_of self.now.names name) }
+        requires empty { signals.old ≡ [] }
         ensures { OnOk result (signals.new ≡ signals_of_owners self.now name queue.now) }
     {
-        let old_owner = self.names.head(name.as_str());
-        let new_owner = queue.head();
+        let next = queue.head();
         let after = After {
             registry: self,
             pending: Pending::Requeued { name, queue },
         };
-        push_owner_signals(&after, alloc, signals, name, old_owner, new_owner, &mut ())
+        push_owner_signals(&after, alloc, signals, name, owner, next, &mut ())
     }
 }
 

@@ -1,6 +1,6 @@
 //! Where messages go. (D-Bus Specification: "Message Bus Message Routing")
 
-ghost use Rattle.std.specs.Prelude.{◌≡◌, ◌≤◌, ◌<◌, ◌+◌, [], Some};
+ghost use Rattle.std.specs.Prelude.{◌≡◌, ◌≤◌, ◌<◌, ◌+◌, [], Some, option_to_list};
 ghost use Rattle.registry_core.specs.Listening.{near_rules};
 ghost use Rattle.seq_bus_core.specs.BusState.{is_service};
 ghost use Rattle.seq_bus_core.specs.Consistency.{IsConsistent};
@@ -13,7 +13,7 @@ use arrayvec::ArrayVec;
 use audience::judge;
 use match_index::Steps;
 use match_rules::Facts;
-use seq_bus_core::{Recipients, Verdict};
+use seq_bus_core::{Conn, Verdict};
 use std::marker::Brand;
 use std::sync::ledger::{Blank, Ledger};
 
@@ -83,17 +83,13 @@ impl Registry {
         judge(&Current::new(self), facts, told, steps);
     }
 
-    /// Adds the connection of a number.
-    pub(crate) fn add_conn(&self, number: u64, to: &mut Recipients)
-        requires { to.old ≡ [] }
-        ensures value { to.new ≡ conn_at self.now (Some number) }
+    /// The connection of a number, of which there is one at most.
+    pub(crate) fn only_conn(&self, number: u64) -> Option<Conn>
+        ensures value { option_to_list result ≡ conn_at self.now (Some number) }
         ensures consistent { IsConsistent self.now }
     {
         let _ = &self.members;
-        match self.conn(number) {
-            Some(conn) => to.push(conn),
-            None => {}
-        }
+        self.conn(number)
     }
 
     /// Whether a name is that of a service.

@@ -4,7 +4,7 @@ use Rattle.seq_bus_core.specs.BusState.{BusState, OwnedName, RunningStart}
 use Rattle.seq_bus_core.specs.Steps.{step}
 use Rattle.seq_bus_core.specs.declared.change.Change.TheVariants.{Request}
 use Rattle.registry.specs.declared.registry.Registry.TheInside.{Inside}
-use Rattle.registry.specs.Requests.{when_requested, request_state}
+use Rattle.registry.specs.Requests.{changed, when_requested, request_state}
 use Rattle.registry.specs.Tables.{state_of}
 use Rattle.registry.proofs.Kept.{kept}
 use Rattle.registry.proofs.RequestLemmas.{request_step, owned_after}
@@ -19,7 +19,7 @@ unfolding next
 after c =
     let s : BusState = state_of c.self.inside in
     let name = c.args.name.now in
-    let change : when_requested s c.args.connection name c.args.flags ≡ Ok c.in-Ok.change = ap (λ (t : BusState). when_requested t c.args.connection name c.args.flags) c.self.view_is ∙ sym c.when_requested.ensures ∙ c.in-Ok.is in
+    let change : when_requested s c.args.connection name c.args.flags ≡ changed c.when_requested.new.queue (Ok _) = ap (λ (t : BusState). when_requested t c.args.connection name c.args.flags) c.self.view_is ∙ sym c.when_requested.ensures ∙ ap (changed c.when_requested.new.queue) c.in-Ok.is in
     ap (λ r. r.0) (request_step s c.args.seat c.args.connection name c.args.flags) ∙ owned_after s name (when_requested s c.args.connection name c.args.flags) ∙ ap (request_state s name) change
     ∙ ap (λ (names : List OwnedName). record s { names = names; starts = filter (λ r. not (text_eq r.name name)) s.starts }) (sym c.set_queue.ensures)
     ∙ ap (λ (starts : List RunningStart). record s { names = c.set_queue.new.self; starts = starts }) (sym c.end.ensures)
@@ -35,4 +35,4 @@ returns-in-Ok c = rw (← c.self.view_is) (sym (after c))
 pub returns-in-Err : goal.returns-in-Err
 returns-in-Err c =
     let s : BusState = c.args.self.now in
-    sym (ap (λ r. r.0) (request_step s c.args.seat c.args.connection c.args.name.now c.args.flags) ∙ owned_after s c.args.name.now (when_requested s c.args.connection c.args.name.now c.args.flags) ∙ ap (request_state s c.args.name.now) (sym c.when_requested.ensures ∙ c.in-Err.is))
+    sym (ap (λ r. r.0) (request_step s c.args.seat c.args.connection c.args.name.now c.args.flags) ∙ owned_after s c.args.name.now (when_requested s c.args.connection c.args.name.now c.args.flags) ∙ ap (request_state s c.args.name.now) (sym c.when_requested.ensures ∙ ap (changed c.when_requested.new.queue) c.in-Err.is))

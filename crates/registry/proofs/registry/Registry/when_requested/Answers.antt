@@ -15,4 +15,4 @@ request-reply-requires c =
     let limits : IsWithinLimits s = subst IsWithinLimits c.self.view_is c.self.invariant.within_limits in
     let once : IsQueue (queue_of s.names c.args.name.now) = queue_of_each IsQueue tt s.names c.args.name.now (each_weaker (IsOwned s.connections) (λ n. IsQueue n.queue) (λ n o. o.once) s.names h.names_owned) in
     let clients = queue_of_each (λ q. list_all (λ p. is_client s.connections p.connection) q ≡ true) refl s.names c.args.name.now (each_weaker (IsOwned s.connections) (λ n. list_all (λ p. is_client s.connections p.connection) n.queue ≡ true) (λ n o. o.clients) s.names h.names_owned) in
-    subst (HasRoom c.args.connection) (sym c.queue_of-queue.ensures) (has_room s.connections c.args.connection (queue_of s.names c.args.name.now) once clients (sym c.if-not-is_client.ensures) limits.connections)
+    subst (HasRoom c.args.connection) (sym c.requires) (has_room s.connections c.args.connection (queue_of s.names c.args.name.now) once clients (sym c.if-not-is_client.ensures) limits.connections)
