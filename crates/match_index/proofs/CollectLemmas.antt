@@ -1,14 +1,20 @@
 -- Connections that are found.
 use Rattle.std.proofs.Common.{◌≡◌, ℕ, zero, suc, ◌+◌, ◌<◌, ◌≤◌, nat_lt, ◌==◌, Bool, true, false, cond, ◌&&◌, ◌||◌, List, [], ◌∷◌, ◌++◌, map, filter, length, take, get_or, refl, sym, ap, ◌∙◌, subst, arith, if◌then◌else◌}
 use Rattle.std.specs.List.{AllByRecursion as Each, flat_map, list_any, count_by}
+use Rattle.std.proofs.Math.Logic.{∥∥₁_elim}
+use Rattle.std.proofs.Props.{props}
 use Rattle.std.proofs.lemmas.Bool.{and_parts, eq-eqb, eqb-true, ne_eqb, true≢false}
 use Rattle.std.proofs.lemmas.Bool.Decides.{nat_tests}
 use Rattle.std.proofs.lemmas.Grind.{flat_map-append}
 use Rattle.std.proofs.lemmas.List.{append-nil, map-append, take_more}
 use Rattle.std.proofs.lemmas.List.Folds.{list_any-append}
 use Rattle.std.proofs.lemmas.List.Sums.{sum_by-append, sum_by-cons}
+use Rattle.match_rules.specs.CanonicalTexts.{rule_text}
 use Rattle.match_rules.specs.Facts.{Facts}
 use Rattle.match_rules.specs.Fitting.{Heads, fits}
+use Rattle.match_rules.specs.RuleTexts.{IsRuleText}
+use Rattle.match_rules.specs.Rules.{Rule, same_rule}
+use Rattle.match_rules.proofs.RuleLemmas.{same_rule-true}
 use Rattle.match_index.specs.Buckets.{asked, bucket_of, code_of, message_parts, shape_of}
 use Rattle.match_index.specs.Collecting.{AreAmong, AreOwned, connections_of, entries_at, entry_at, is_near_below, is_tested, is_wanting, is_wanting_below}
 use Rattle.match_index.specs.Entries.{by_code, has_key, is_there, live, owned_rule, positions}
@@ -122,23 +128,27 @@ each_entry P es [] i q d h lt there = absurd (omega (arith, lt))
 each_entry P es (p ∷ ps) zero q d h lt there = (subst (λ xs. Each P (xs ++ entries_at es (places_in ps))) (entry_at_is es p.place d there) h).0
 each_entry P es (p ∷ ps) (suc i) q d h lt there = each_entry P es ps i q d (each_right P (entry_at es p.place) (entries_at es (places_in ps)) h) (omega (arith, lt)) there
 
+-- ## Equal rules
+
+-- rules that have texts are one where they compare equal
+pub one_rule : (a b : Rule) → ∥ IsRuleText (rule_text a) a ∥₁ → ∥ IsRuleText (rule_text b) b ∥₁ → same_rule a b ≡ true → a ≡ b
+one_rule a b ha hb same = ∥∥₁_elim ha (hlevel props) (λ x. ∥∥₁_elim hb (hlevel props) (λ y. same_rule-true a b x.0.1 y.0.1 same))
+
 -- ## One entry more
 
-pub fits_here : (a b s t f : Bool) → t ≡ true → f ≡ true → ((a || b) || s) ≡ (a || (b || (s && (t && f))))
-fits_here true b s true true p q = refl
-fits_here false true s true true p q = refl
-fits_here false false true true true p q = refl
-fits_here false false false true true p q = refl
-fits_here a b s true false p q = absurd (true≢false (sym q))
-fits_here a b s false f p q = absurd (true≢false (sym p))
+pub wanted_here : (a b s w : Bool) → w ≡ true → ((a || b) || s) ≡ (a || (b || (s && w)))
+wanted_here true b s true is = refl
+wanted_here false true s true is = refl
+wanted_here false false true true is = refl
+wanted_here false false false true is = refl
+wanted_here a b s false is = absurd (true≢false (sym is))
 
-pub none_here : (a b s t f : Bool) → (t && f) ≡ false → (a || b) ≡ (a || (b || (s && (t && f))))
-none_here true b s t f none = refl
-none_here false true s t f none = refl
-none_here false false true true true none = absurd (true≢false none)
-none_here false false true true false none = refl
-none_here false false true false f none = refl
-none_here false false false t f none = refl
+pub none_here : (a b s w : Bool) → w ≡ false → (a || b) ≡ (a || (b || (s && w)))
+none_here true b s w none = refl
+none_here false true s w none = refl
+none_here false false true true none = absurd (true≢false none)
+none_here false false true false none = refl
+none_here false false false w none = refl
 
 -- where the connection of the entry is found already
 pub found_here : (a b s w : Bool) → (s ≡ true → (a || b) ≡ true) → (a || b) ≡ (a || (b || (s && w)))

@@ -7,6 +7,7 @@ use Rattle.match_index.specs.Buckets.{shape_of}
 use Rattle.match_index.specs.Indexed.{OwnedRule, is_of}
 use Rattle.match_index.specs.Near.{is_near}
 use Rattle.match_index.specs.Sets.{AreRising, is_in, with_number}
+use Rattle.match_index.specs.declared.collecting.Tested.{Tested}
 use Rattle.match_index.specs.declared.entries.Entry.{Entry}
 
 -- the connections that have rules, which rise
@@ -35,8 +36,16 @@ entries_at entries places = flat_map (entry_at entries) places
 abbrev pub is_tested : ℕ → Facts → Entry → Bool
 is_tested shape facts e = (e.bucket.shape == shape) && is_near facts e.rule
 
+-- whether a rule is tested and fits
+abbrev pub is_wanted : Heads → ℕ → Facts → Entry → Bool
+is_wanted heads shape facts e = is_tested shape facts e && fits heads e.rule facts
+
+-- What is kept of a rule that was tested is what came of the test.
+abbrev pub IsKnown : Heads → ℕ → Facts → Tested → Type 0
+IsKnown heads shape facts t = t.is_wanted ≡ is_wanted heads shape facts t.entry.now
+
 abbrev pub is_wanting : Heads → ℕ → Facts → ℕ → Entry → Bool
-is_wanting heads shape facts connection e = (e.connection == connection) && (is_tested shape facts e && fits heads e.rule facts)
+is_wanting heads shape facts connection e = (e.connection == connection) && is_wanted heads shape facts e
 
 -- the rules of the shapes below this one that are near
 abbrev pub is_near_below : ℕ → Facts → OwnedRule → Bool

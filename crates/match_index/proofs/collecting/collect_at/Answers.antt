@@ -1,18 +1,17 @@
-use Rattle.std.proofs.Common.{◌≡◌, ◌+◌, ◌<◌, ◌&&◌, ◌||◌, ◌==◌, ℕ, true, false, List, ◌∷◌, [], ◌++◌, cond, length, take, sym, ap, ◌∙◌, subst, arith}
+use Rattle.std.proofs.Common.{◌≡◌, ◌+◌, ◌<◌, ◌||◌, ◌==◌, ℕ, IfSome, true, false, List, ◌∷◌, [], ◌++◌, cond, length, take, sym, ap, ◌∙◌, subst, arith}
 use Rattle.std.specs.List.{count_by, list_any}
 use Rattle.std.proofs.lemmas.Bool.{eqb-true}
-use Rattle.match_rules.specs.Fitting.{fits}
-use Rattle.match_index.specs.Collecting.{AreAmong, connections_of, entries_at, is_tested, is_wanting}
+use Rattle.match_index.specs.Collecting.{AreAmong, IsKnown, connections_of, entries_at, is_tested, is_wanted, is_wanting}
 use Rattle.match_index.specs.Entries.{live}
 use Rattle.match_index.specs.PlaceIndexes.{places_in}
 use Rattle.match_index.specs.Sets.{is_in}
 use Rattle.match_index.specs.declared.entries.Entry.{Entry}
 use Rattle.match_index.specs.declared.place_index.Place.{Place}
-use Rattle.match_index.proofs.CollectLemmas.{among_with, any_more, count_more, each_entry, entries_more, fits_here, found_here, none_here, room_for}
+use Rattle.match_index.proofs.CollectLemmas.{among_with, any_more, count_more, each_entry, entries_more, found_here, none_here, room_for, wanted_here}
 use Rattle.match_index.proofs.Lists.{each_at}
 use Rattle.match_index.proofs.SetLemmas.{in_with}
-use Rattle.match_index.proofs.collecting.collect_at.Goals.{then-not-contains+then-is_tested+then-fits, then-not-contains+then-is_tested+else-fits}
-use Rattle.match_index.proofs.collecting.collect_at.Goals.{else-not-contains, else-not-contains-via-then-not-contains+else-is_tested, else-not-contains-via-else-not-contains}
+use Rattle.match_index.proofs.collecting.collect_at.Goals.{then-not-contains+then-is_wanted, else-not-contains}
+use Rattle.match_index.proofs.collecting.collect_at.Goals.{else-not-contains-via-then-not-contains+else-is_wanted, else-not-contains-via-else-not-contains}
 use Rattle.match_index.proofs.collecting.collect_at.Goals as goal
 
 nowhere : Place
@@ -49,42 +48,36 @@ loop-place-preserved g c =
     let any_now : (n : ℕ) → list_any (is_wanting heads shape facts n) (entries_at es (places_in (take (i + 1) ps))) ≡ (list_any (is_wanting heads shape facts n) done || is_wanting heads shape facts n e) = λ n. ap (list_any (is_wanting heads shape facts n)) grown ∙ any_more (is_wanting heads shape facts n) done e in
     let count_now : count_by (is_tested shape facts) (entries_at es (places_in (take (i + 1) ps))) ≡ count_by (is_tested shape facts) done + cond (is_tested shape facts e) 1 0 = ap (count_by (is_tested shape facts)) grown ∙ count_more (is_tested shape facts) done e in
     elim c.if-not-contains.branch [
-      | then-not-contains+then-is_tested+then-fits w ↦
-          let tested : is_tested shape facts e ≡ true = sym w.is_tested.ensures ∙ w.if-is_tested.true in
-          let fit : fits heads e.rule facts ≡ true = sym w.fits.ensures ∙ w.if-fits.true in
+      | then-not-contains+then-is_wanted w ↦
+          let wanted : is_wanted heads shape facts e ≡ true = sym w.is_wanted.ensures.value ∙ w.if-is_wanted.true in
           let with_it = w.found-is ∙ w.insert.ensures in
-          let one : ◌≡◌ {A = ℕ} (cond (is_tested shape facts e) 1 0) 1 = ap (λ t. cond t 1 0) tested in
           record {
             found = λ n. ap (is_in n) with_it ∙ in_with n e.connection c.loop-place.found ∙ ap (λ t. t || (e.connection == n)) (c.loop-place.invariant.found n)
-                ∙ fits_here (is_in n c.args.found.now) (list_any (is_wanting heads shape facts n) done) (e.connection == n) (is_tested shape facts e) (fits heads e.rule facts) tested fit ∙ ap (λ t. is_in n c.args.found.now || t) (sym (any_now n));
+                ∙ wanted_here (is_in n c.args.found.now) (list_any (is_wanting heads shape facts n) done) (e.connection == n) (is_wanted heads shape facts e) wanted ∙ ap (λ t. is_in n c.args.found.now || t) (sym (any_now n));
             among = subst (AreAmong (live es)) (sym with_it) (among_with (live es) c.loop-place.found e.connection c.loop-place.invariant.among owned);
-            cost = omega (arith, w.steps-is, w.tick.ensures, one, count_now, c.loop-place.invariant.cost);
-          }
-      | then-not-contains+then-is_tested+else-fits w ↦
-          let tested : is_tested shape facts e ≡ true = sym w.is_tested.ensures ∙ w.if-is_tested.true in
-          let unfit : fits heads e.rule facts ≡ false = sym w.fits.ensures ∙ w.if-fits.false in
-          let one : ◌≡◌ {A = ℕ} (cond (is_tested shape facts e) 1 0) 1 = ap (λ t. cond t 1 0) tested in
-          let none : (is_tested shape facts e && fits heads e.rule facts) ≡ false = ap (λ t. t && fits heads e.rule facts) tested ∙ unfit in
-          record {
-            found = λ n. ap (is_in n) w.found-is ∙ c.loop-place.invariant.found n
-                ∙ none_here (is_in n c.args.found.now) (list_any (is_wanting heads shape facts n) done) (e.connection == n) (is_tested shape facts e) (fits heads e.rule facts) none ∙ ap (λ t. is_in n c.args.found.now || t) (sym (any_now n));
-            among = subst (AreAmong (live es)) (sym w.found-is) c.loop-place.invariant.among;
-            cost = omega (arith, w.steps-is, w.tick.ensures, one, count_now, c.loop-place.invariant.cost);
+            last = subst (λ last. IfSome last (IsKnown heads shape facts)) (sym w.last-is) w.is_wanted.ensures.last;
+            cost = omega (arith, w.steps-is, w.is_wanted.ensures.cost, count_now, c.loop-place.invariant.cost);
           }
       | else-not-contains w ↦
-          let more = λ (n : ℕ). is_in n c.args.found.now || list_any (is_wanting heads shape facts n) done in
-          let same : (n : ℕ) → more n ≡ (is_in n c.args.found.now || (list_any (is_wanting heads shape facts n) done || is_wanting heads shape facts n e)) = elim w.else-not-contains.branch [
-            | else-not-contains-via-then-not-contains+else-is_tested v ↦
-                let untested : is_tested shape facts e ≡ false = sym v.is_tested.ensures ∙ v.if-is_tested.false in
-                λ n. none_here (is_in n c.args.found.now) (list_any (is_wanting heads shape facts n) done) (e.connection == n) (is_tested shape facts e) (fits heads e.rule facts) (ap (λ t. t && fits heads e.rule facts) untested)
+          elim w.else-not-contains.branch [
+            | else-not-contains-via-then-not-contains+else-is_wanted v ↦
+                let unwanted : is_wanted heads shape facts e ≡ false = sym v.is_wanted.ensures.value ∙ v.if-is_wanted.false in
+                record {
+                  found = λ n. ap (is_in n) w.found-is ∙ c.loop-place.invariant.found n
+                      ∙ none_here (is_in n c.args.found.now) (list_any (is_wanting heads shape facts n) done) (e.connection == n) (is_wanted heads shape facts e) unwanted ∙ ap (λ t. is_in n c.args.found.now || t) (sym (any_now n));
+                  among = subst (AreAmong (live es)) (sym w.found-is) c.loop-place.invariant.among;
+                  last = subst (λ last. IfSome last (IsKnown heads shape facts)) (sym (w.last-is ∙ v.last-is)) v.is_wanted.ensures.last;
+                  cost = omega (arith, w.steps-is, v.steps-is, v.is_wanted.ensures.cost, count_now, c.loop-place.invariant.cost);
+                }
             | else-not-contains-via-else-not-contains v ↦
                 let there : is_in e.connection c.loop-place.found ≡ true = sym c.contains.ensures ∙ v.if-not-contains.false in
-                λ n. found_here (is_in n c.args.found.now) (list_any (is_wanting heads shape facts n) done) (e.connection == n) (is_tested shape facts e && fits heads e.rule facts)
-                (λ is. sym (c.loop-place.invariant.found n) ∙ ap (λ m. is_in m c.loop-place.found) (sym (eqb-true e.connection n is)) ∙ there)
-          ] in
-          record {
-            found = λ n. ap (is_in n) w.found-is ∙ c.loop-place.invariant.found n ∙ same n ∙ ap (λ t. is_in n c.args.found.now || t) (sym (any_now n));
-            among = subst (AreAmong (live es)) (sym w.found-is) c.loop-place.invariant.among;
-            cost = omega (arith, w.steps-is, count_now, c.loop-place.invariant.cost);
-          }
+                record {
+                  found = λ n. ap (is_in n) w.found-is ∙ c.loop-place.invariant.found n
+                      ∙ found_here (is_in n c.args.found.now) (list_any (is_wanting heads shape facts n) done) (e.connection == n) (is_wanted heads shape facts e)
+                      (λ is. sym (c.loop-place.invariant.found n) ∙ ap (λ m. is_in m c.loop-place.found) (sym (eqb-true e.connection n is)) ∙ there) ∙ ap (λ t. is_in n c.args.found.now || t) (sym (any_now n));
+                  among = subst (AreAmong (live es)) (sym w.found-is) c.loop-place.invariant.among;
+                  last = subst (λ last. IfSome last (IsKnown heads shape facts)) (sym (w.last-is ∙ v.last-is)) c.loop-place.invariant.last;
+                  cost = omega (arith, w.steps-is, v.steps-is, count_now, c.loop-place.invariant.cost);
+                }
+          ]
     ]
