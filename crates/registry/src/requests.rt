@@ -5,6 +5,7 @@ ghost use Rattle.owner_queues.specs.Queues.{queue_head};
 ghost use Rattle.seq_bus_core.specs.BusState.{queue_of};
 ghost use Rattle.seq_bus_core.specs.Steps.{is_reserved, step};
 ghost use Rattle.seq_bus_core.specs.declared.change.Change.TheVariants.{Request, Release};
+ghost use Rattle.registry_core.specs.NameTables.{SearchGives};
 ghost use Rattle.registry.specs.PreparedChanges.{prepared_on};
 ghost use Rattle.registry.specs.Requests.{changed, when_requested, when_released, request_outcome, requeue_outcome, signals_of_owners};
 
@@ -32,9 +33,9 @@ impl Registry {
     {
         let _ = &self.members;
         let mut queue = Queue::new();
-        self.copy_queue(name, &mut queue);
+        let found = self.copy_queue(name, &mut queue);
         let owner = queue.head();
-        let change = self.when_requested(connection, name, flags, &mut queue);
+        let change = self.when_requested(connection, name, found, flags, &mut queue);
         Ok(Prepared {
             seat,
             act: Act::Request {
@@ -58,7 +59,7 @@ impl Registry {
     {
         let _ = &self.members;
         let mut queue = Queue::new();
-        self.copy_queue(name, &mut queue);
+        let _ = self.copy_queue(name, &mut queue);
         let owner = queue.head();
         let change = self.when_released(connection, name, &mut queue);
         Ok(Prepared {
@@ -76,10 +77,10 @@ impl Registry {
         ensures { self.new ≡ (step self.old seat (Request connection name.now flags)).0 }
     {
         let mut queue = Queue::new();
-        self.copy_queue(name, &mut queue);
-        match self.when_requested(connection, name, flags, &mut queue) {
+        let found = self.copy_queue(name, &mut queue);
+        match self.when_requested(connection, name, found, flags, &mut queue) {
             Ok(_) => {
-                self.names.set_queue(name, &queue);
+                self.names.set_queue_at(found, name, &queue);
                 self.starts.end(name);
             }
             Err(_) => {}
@@ -91,23 +92,25 @@ impl Registry {
         ensures { self.new ≡ (step self.old seat (Release connection name.now)).0 }
     {
         let mut queue = Queue::new();
-        self.copy_queue(name, &mut queue);
+        let found = self.copy_queue(name, &mut queue);
         match self.when_released(connection, name, &mut queue) {
-            Ok(_) => self.names.set_queue(name, &queue),
+            Ok(_) => self.names.set_queue_at(found, name, &queue),
             Err(_) => {}
         }
     }
 
-    /// What a request is told. The copy of the queue of its name becomes the queue after it, where it
-    /// changes that: a queue is large, and is not moved.
+    /// What a request is told of a name that was looked for. The copy of the queue of its name becomes the
+    /// queue after it, where it changes that: a queue is large, and is not moved.
     fn when_requested(
         &self,
         connection: u64,
         name: &BusName,
+        found: Result<usize, usize>,
         flags: RequestFlags,
         queue: &mut Queue,
     ) -> Result<QueueReply, Reply>
-        requires { queue.old ≡ queue_of self.now.names name.now }
+        requires found { SearchGives self.now.names name.now found }
+        requires queue { queue.old ≡ queue_of self.now.names name.now }
         ensures { changed queue.new result ≡ when_requested self.now connection name.now flags }
     {
         if !self.is_client(connection) {
@@ -117,7 +120,7 @@ impl Registry {
             return Err(Reply::InvalidName);
         }
         let reply = queue.request(connection, flags, self.profile);
-        if self.names.would_fit(name.as_str(), queue, connection) {
+        if self.names.would_fit_at(found, queue, connection) {
             Ok(reply)
         } else {
             Err(Reply::LimitsExceeded)
@@ -143,15 +146,18 @@ impl Registry {
         Ok(queue.release(connection))
     }
 
-    /// Copies the queue of a name.
-    fn copy_queue(&self, name: &BusName, copy: &mut Queue)
+    /// Looks for a name, and copies its queue.
+    fn copy_queue(&self, name: &BusName, copy: &mut Queue) -> Result<usize, usize>
         requires { copy.old ≡ [] }
-        ensures { copy.new ≡ queue_of self.now.names name.now }
+        ensures found { SearchGives self.now.names name.now result }
+        ensures queue { copy.new ≡ queue_of self.now.names name.now }
     {
-        match self.names.queue(name.as_str()) {
-            Some(queue) => copy.copy_from(queue),
-            None => {}
+        let found = self.names.find(name.as_str());
+        match found {
+            Ok(place) => copy.copy_from(self.names.queue_at(place)),
+            Err(_) => {}
         }
+        found
     }
 
     /// What a request is told: where it gets into the queue, the calls that wait for the name are

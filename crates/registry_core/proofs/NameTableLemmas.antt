@@ -1,9 +1,10 @@
 -- Names by rising bytes, and the place of one of them.
-use Rattle.std.proofs.Common.{inl, inr, ◌≡◌, ℕ, zero, suc, ◌+◌, ◌-◌, ◌<◌, ◌≤◌, nat_le, ◌&&◌, not, true, false, cond, if◌then◌else◌, List, [], ◌∷◌, ◌++◌, map, filter, length, take, drop, insert, remove, get_or, refl, sym, ap, ◌∙◌, subst, arith, append_assoc, append-nil}
+use Rattle.std.proofs.Common.{inl, inr, Result, Ok, Err, ◌≡◌, ℕ, zero, suc, ◌+◌, ◌-◌, ◌<◌, ◌≤◌, nat_le, ◌&&◌, not, true, false, cond, if◌then◌else◌, List, [], ◌∷◌, ◌++◌, map, filter, length, take, drop, insert, remove, get_or, refl, sym, ap, ◌∙◌, subst, arith, append_assoc, append-nil}
 use Rattle.std.specs.List.{AllByRecursion as Each, AllWithin, sum_by}
 use Rattle.std.specs.List.Sorted.{IsPartitionedBy}
 use Rattle.std.proofs.Math.ListN.{set}
 use Rattle.std.proofs.lemmas.Bool.{true≢false, cases_Bool}
+use Rattle.std.proofs.lemmas.Bool.Decides.{nat_tests}
 use Rattle.std.proofs.lemmas.List.{length-append, take-append-drop}
 use Rattle.std.proofs.lemmas.List.Edits.{length-insert}
 use Rattle.std.proofs.lemmas.List.Sums.{sum_by-cons, sum_by-append, length-filter}
@@ -14,7 +15,7 @@ use Rattle.seq_bus_core.specs.BusState.{OwnedName, queue_of, with_queue, kept_na
 use Rattle.seq_bus_core.specs.Steps.{names_without}
 use Rattle.seq_bus_core.proofs.Lists.{each_weaker, each_always, each_passing}
 use Rattle.seq_bus_core.proofs.TextLemmas.{text_lt-trans, text_eq-true, text_eq-swapped, text_lt-itself, text_lt-back, text_lt-other}
-use Rattle.registry_core.specs.NameTables.{NamesRise, AreOwned, AreInTable, IsAt, WouldStand, are_within}
+use Rattle.registry_core.specs.NameTables.{NamesRise, AreOwned, AreInTable, IsAt, WouldStand, SearchGives, are_within}
 use Rattle.registry_core.proofs.CountLemmas.{one_if_in, left_length}
 use Rattle.registry_core.proofs.IndexLemmas.{each_at as each_passed}
 
@@ -442,6 +443,26 @@ queued_absent names name place queue at = sum_absent length refl names name plac
 
 pub within_by : (names : List OwnedName) (c a b d : ℕ) → a ≡ length names → b ≡ queued_in names → d ≡ names_of c names → (nat_le a max_names && nat_le b max_queued && nat_le d max_names_of_one) ≡ are_within names c
 within_by names c a b d e f g = rw (e, f, g) refl
+
+-- a queue takes no more than where the name had none
+pub at_most_absent : (names : List OwnedName) (name : Text) (found : Result ℕ ℕ) (queue : Queue) (c : ℕ) → SearchGives names name found →
+    (length (with_queue name queue names) ≤ length names + (if not (is_free queue) then 1 else 0)) × (queued_in (with_queue name queue names) ≤ queued_in names + length queue)
+    × (names_of c (with_queue name queue names) ≤ names_of c names + one_if_in c queue)
+at_most_absent names name (Ok place) queue c at =
+    let all_names = length_found names name place queue at in
+    let all_places = queued_found names name place queue at in
+    let all_its = count_found names name place queue c at in
+    (omega (arith, all_names), omega (arith, all_places), omega (arith, all_its))
+at_most_absent names name (Err place) queue c at =
+    let all_names = length_absent names name place queue at in
+    let all_places = queued_absent names name place queue at in
+    let all_its = count_absent names name place queue c at in
+    (omega (arith, all_names), omega (arith, all_places), omega (arith, all_its))
+
+-- the limits hold where they hold of more
+pub within_more : (names : List OwnedName) (c a b d : ℕ) → length names ≤ a → queued_in names ≤ b → names_of c names ≤ d →
+    (nat_le a max_names && nat_le b max_queued && nat_le d max_names_of_one) ≡ true → are_within names c ≡ true
+within_more names c a b d e f g h = grind (arith, nat_tests)
 
 -- ## The names of a connection
 

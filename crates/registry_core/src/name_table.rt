@@ -2,11 +2,11 @@
 
 ghost use Rattle.std.specs.Prelude.{◌≡◌, ◌<◌, ◌≤◌, ◌+◌, ◌++◌, ◌∷◌, [], ℕ, List, length, map, filter, remove, insert, get_or, false, true, take, drop, vec_capacity, nat_le, ◌&&◌, if◌then◌else◌, IfOk, MatchOption};
 ghost use Rattle.std.specs.List.{AllByRecursion};
-ghost use Rattle.names.specs.Texts.{text_lt};
+ghost use Rattle.names.specs.Texts.{Text, text_lt};
 ghost use Rattle.owner_queues.specs.Queues.{queue_head, without, is_free, is_in};
 ghost use Rattle.seq_bus_core.specs.BusState.{OwnedName, queue_of, with_queue, kept_name, queued_in, names_of, max_names, max_queued, max_names_of_one};
 ghost use Rattle.seq_bus_core.specs.Steps.{names_without};
-ghost use Rattle.registry_core.specs.NameTables.{owned_name, numbers_of, values_of, NamesRise, SearchGives, are_within};
+ghost use Rattle.registry_core.specs.NameTables.{owned_name, numbers_of, values_of, IsAt, NamesRise, SearchGives, are_within};
 
 use crate::name_index::NameIndex;
 use names::BusName;
@@ -97,13 +97,28 @@ impl NameTable {
         self.entries.as_slice()
     }
 
+    /// The place of a name, or the place where it would stand.
+    pub fn find(&self, name: &str) -> Result<usize, usize>
+        ensures { SearchGives self.now name.now result }
+    {
+        search(self.entries.as_slice(), name)
+    }
+
+    /// The queue of the name at a place.
+    pub fn queue_at(&self, place: usize) -> &Queue
+        requires { place < length self.now }
+        ensures { (name : Text) → IsAt self.now name place → result.now ≡ queue_of self.now name }
+    {
+        &self.entries[place].queue
+    }
+
     /// The queue of a name, if the name has an owner.
     pub fn queue(&self, name: &str) -> Option<&Queue>
         ensures { MatchOption result (queue_of self.now name.now ≡ []) (λ queue. queue.now
             ≡ queue_of self.now name.now) }
     {
-        match search(self.entries.as_slice(), name) {
-            Ok(place) => Some(&self.entries[place].queue),
+        match self.find(name) {
+            Ok(place) => Some(self.queue_at(place)),
             Err(_) => None,
         }
     }
@@ -118,34 +133,42 @@ impl NameTable {
         }
     }
 
-    /// Whether the limits would hold if a name had this queue: of the names, of the places in all queues, and of the names
-    /// that this connection owns or waits for.
-    pub fn would_fit(&self, name: &str, queue: &Queue, connection: u64) -> bool
-        ensures { result ≡ are_within (with_queue name.now queue.now self.now) connection }
+    /// Whether the limits would hold if the name that was looked for had this queue: of the names, of the places in all
+    /// queues, and of the names that this connection owns or waits for. Where they would hold beside the queue that the
+    /// name has, that one is not looked at.
+    pub fn would_fit_at(&self, found: Result<usize, usize>, queue: &Queue, connection: u64) -> bool
+        requires { (name : Text) × SearchGives self.now name found }
+        ensures { (name : Text) → SearchGives self.now name found
+            → result ≡ are_within (with_queue name queue.now self.now) connection }
     {
         let names = self.len() + count(!queue.is_empty());
         let queued = self.queued + queue.as_slice().len();
         let of_one = self.count_of(connection) + count(queue.contains(connection));
-        match search(self.entries.as_slice(), name) {
+        if are_within(names, queued, of_one) {
+            return true;
+        }
+        match found {
             Ok(place) => {
-                let old = &self.entries[place].queue;
+                let old = self.queue_at(place);
                 are_within(
                     names - 1,
                     queued - old.as_slice().len(),
                     of_one - count(old.contains(connection)),
                 )
             }
-            Err(_) => are_within(names, queued, of_one),
+            Err(_) => false,
         }
     }
 
-    /// From now on a name has this queue. A name whose queue is empty is not there any longer.
-    pub fn set_queue(&mut self, name: &BusName, queue: &Queue)
+    /// From now on a name that was looked for has this queue. A name whose queue is empty is not there any longer.
+    pub fn set_queue_at(&mut self, found: Result<usize, usize>, name: &BusName, queue: &Queue)
+        requires found { SearchGives self.old name.now found }
         requires few_names { length (with_queue name.now queue.now self.old) ≤ MAX_NAMES }
         requires few_places { queued_in (with_queue name.now queue.now self.old) ≤ MAX_QUEUED }
         ensures { self.new ≡ with_queue name.now queue.now self.old }
     {
-        match search(self.entries.as_slice(), name.as_str()) {
+        let _ = &self.entries;
+        match found {
             Ok(place) => {
                 if queue.is_empty() {
                     self.remove_at(place);
