@@ -1,6 +1,6 @@
 //! AddMatch and RemoveMatch.
 
-ghost use Rattle.std.specs.Prelude.{◌≡◌};
+ghost use Rattle.std.specs.Prelude.{◌≡◌, IfOk};
 ghost use Rattle.seq_bus_core.specs.Steps.{step};
 ghost use Rattle.seq_bus_core.specs.declared.change.Change.TheVariants.{AddMatch, RemoveMatch};
 ghost use Rattle.registry.specs.Matches.{reply_to_add, reply_to_remove};
@@ -11,7 +11,7 @@ use crate::registry::Registry;
 use match_rules::Rule;
 use seq_bus_core::Reply;
 use seq_bus_core::limits::{MAX_RULES, MAX_RULES_OF_ONE};
-use std::alloc::Global;
+use std::alloc::{AllocError, Global};
 
 impl Registry {
     pub(crate) fn prepare_add_match(
@@ -20,17 +20,18 @@ impl Registry {
         seat: u8,
         connection: u64,
         rule: &Rule,
-    ) -> Prepared
-        ensures { result ≡ prepared_on self.now seat (AddMatch connection rule.now) }
+    ) -> Result<Prepared, AllocError>
+        ensures { IfOk result (λ prepared. prepared
+            ≡ prepared_on self.now seat (AddMatch connection rule.now)) }
     {
-        Prepared {
+        Ok(Prepared {
             seat,
             act: Act::AddMatch {
                 connection,
-                rule: *rule,
+                rule: Box::new(alloc, *rule)?,
             },
             outcome: replied(alloc, self.reply_to_add(connection)),
-        }
+        })
     }
 
     pub(crate) fn prepare_remove_match(
@@ -39,17 +40,18 @@ impl Registry {
         seat: u8,
         connection: u64,
         rule: &Rule,
-    ) -> Prepared
-        ensures { result ≡ prepared_on self.now seat (RemoveMatch connection rule.now) }
+    ) -> Result<Prepared, AllocError>
+        ensures { IfOk result (λ prepared. prepared
+            ≡ prepared_on self.now seat (RemoveMatch connection rule.now)) }
     {
-        Prepared {
+        Ok(Prepared {
             seat,
             act: Act::RemoveMatch {
                 connection,
-                rule: *rule,
+                rule: Box::new(alloc, *rule)?,
             },
             outcome: replied(alloc, self.reply_to_remove(connection, rule)),
-        }
+        })
     }
 
     /// A connection adds a rule.

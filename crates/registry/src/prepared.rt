@@ -10,7 +10,8 @@ use std::alloc::Global;
 use std::marker::Model;
 use std::mem::replace;
 
-/// A change by what its step looks at.
+/// A change by what its step looks at. A rule lies on the heap, since it is larger than all else that a change has: a
+/// prepared change is moved often.
 #[derive(Drop)]
 pub enum Act {
     Hello {
@@ -30,11 +31,11 @@ pub enum Act {
     },
     AddMatch {
         connection: u64,
-        rule: Rule,
+        rule: Box<Rule>,
     },
     RemoveMatch {
         connection: u64,
-        rule: Rule,
+        rule: Box<Rule>,
     },
     BecomeMonitor {
         connection: u64,

@@ -99,10 +99,10 @@ impl Registry {
                 self.prepare_release(alloc, seat, *connection, name)
             }
             Change::AddMatch { connection, rule } => {
-                Ok(self.prepare_add_match(alloc, seat, *connection, rule))
+                self.prepare_add_match(alloc, seat, *connection, rule)
             }
             Change::RemoveMatch { connection, rule } => {
-                Ok(self.prepare_remove_match(alloc, seat, *connection, rule))
+                self.prepare_remove_match(alloc, seat, *connection, rule)
             }
             Change::BecomeMonitor { connection, rules } => {
                 self.prepare_become_monitor(alloc, seat, *connection, rules)

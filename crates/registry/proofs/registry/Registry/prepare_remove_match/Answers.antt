@@ -9,4 +9,5 @@ use Rattle.registry.proofs.registry.Registry.prepare_remove_match.Goals as goal
 pub returns : goal.returns
 returns c =
     let told : NumberedOutcome → PreparedChange = λ o. record { seat = c.args.seat; change = RemoveMatch c.args.connection c.args.rule.now; outcome = o } in
-    ap told (c.replied.ensures ∙ ap replied c.reply_to_remove.ensures ∙ sym (remove_told c.args.self.now c.args.seat c.args.connection c.args.rule.now))
+    ap (λ rule. record { seat = c.args.seat; change = RemoveMatch c.args.connection rule; outcome = c.replied.result }) c.in_ok-new.ensures.ok
+    ∙ ap told (c.replied.ensures ∙ ap replied c.reply_to_remove.ensures ∙ sym (remove_told c.args.self.now c.args.seat c.args.connection c.args.rule.now))
