@@ -2,7 +2,8 @@
 
 use busd_sockets::{Chores, ClientSocket, PollWaker};
 use registry_snapshots::Naming;
-use routers::{Fault, MainSeat, Programs, TraceSink};
+use routers::{Fault, TraceSink};
+use starter::{MainSeat, Programs};
 use std::rt::Clock;
 use std::sync::Wait;
 use std::time::Instant;

@@ -27,7 +27,7 @@ pub trait TraceSink {
 }
 
 /// The view of a thread, which records what it does where that is wanted.
-pub(crate) fn traced<V: BusView>(alloc: Global, view: V, records: bool) -> Traced<V>
+pub fn traced<V: BusView>(alloc: Global, view: V, records: bool) -> Traced<V>
     ensures { result.view ≡ view }
 {
     match records {

@@ -1,14 +1,13 @@
 //! The programs of services: which are run, and what routers are told of them.
 
 ghost use Rattle.std.specs.Prelude.{◌≡◌, ◌<◌, ◌++◌, ◌∷◌, [], IfErr, OnOk, OnErr, reverse, vec_capacity, vec_len};
-ghost use Rattle.routers.specs.Ends.{AreDone, HasEnded, IsDone, MayCatchUp, end_of};
+ghost use Rattle.starter.specs.Ends.{AreDone, HasEnded, IsDone, MayCatchUp, end_of};
 
-use crate::fault::Fault;
-use crate::trace_sink::Recorder;
 use bus_view::BusView;
 use names::BusName;
 use router_core::{Gate, HowEnded, StartEnd};
 use router_host::{Host, Post, Socket};
+use routers::{Fault, Recorder};
 use seq_bus_core::Change;
 use std::alloc::{AllocError, Global};
 use std::sync::Wait;

@@ -1,7 +1,7 @@
 use Rattle.std.proofs.Common.{◌≡◌, ◌∷◌, ◌++◌, [], reverse, refl, sym, ap, ◌∙◌, inl, append-nil}
-use Rattle.routers.specs.Ends.{IsDone}
-use Rattle.routers.proofs.Doing.{one_more}
-use Rattle.routers.proofs.starter.Starter.do_all.Goals as goal
+use Rattle.starter.specs.Ends.{IsDone}
+use Rattle.starter.proofs.Doing.{one_more}
+use Rattle.starter.proofs.starter.Starter.do_all.Goals as goal
 
 pub returns-in-Err-clause-done : goal.returns-in-Err-clause-done
 returns-in-Err-clause-done g c =

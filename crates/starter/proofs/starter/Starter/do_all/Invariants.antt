@@ -1,8 +1,8 @@
 -- What was done so far; what is left stands with the first at the end.
 use Rattle.std.proofs.Common.{◌≡◌, reverse, length}
-use Rattle.routers.specs.Ends.{IsDone}
-use Rattle.routers.proofs.Doing.{SoFar}
-use Rattle.routers.proofs.starter.Starter.do_all.Given as goal
+use Rattle.starter.specs.Ends.{IsDone}
+use Rattle.starter.proofs.Doing.{SoFar}
+use Rattle.starter.proofs.starter.Starter.do_all.Given as goal
 
 abbrev pub invariant-loop-deed : goal.invariant-loop-deed
 invariant-loop-deed g l =

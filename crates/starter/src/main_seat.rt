@@ -1,15 +1,12 @@
 //! The seat of the thread that started the routers.
 
-use crate::coordinator::{Coordinator, Wake};
-use crate::fault::Fault;
-use crate::post::LanePost;
 use crate::starter::{Programs, Starter};
-use crate::trace_sink::{Recorder, TraceSink, traced};
 use outbox::{EnvelopeOf, Lane};
 use registry_snapshots::{Desk, Naming, Seat, Shared};
 use router::{Engine, Traced};
 use router_core::OpenGate;
 use router_host::{Host, Socket};
+use routers::{Coordinator, Fault, LanePost, Recorder, TraceSink, Wake, traced};
 use std::alloc::{AllocError, Global};
 use std::marker::Model;
 use std::sync::Wait;
