@@ -6,7 +6,7 @@ use Rattle.seq_bus_core.specs.Histories.{History}
 use Rattle.message_core.specs.declared.fault.FrameFault.{FrameFault}
 use Rattle.router_core.specs.declared.event.Event.{Event}
 use Rattle.router_core.specs.declared.event.Event.TheVariants as event
-use Rattle.router_core.specs.Acts.{Exchange, Changed, Asked, Routed, Looked, Noted, Fronted, Called, Gated, Wanted, Goes, IsGranted, State}
+use Rattle.router_core.specs.Acts.{Exchange, Changed, ChangedAll, Asked, Routed, Looked, Noted, Fronted, Called, Gated, Wanted, Goes, IsGranted, State}
 use Rattle.router_core.specs.Deeds.{Deed, GatedCall}
 use Rattle.router_core.specs.Events.{Next, next, next_at, occasion_of, script}
 use Rattle.router_core.specs.Fronts.{Front, Waits, Whole, Faulty, IsFront}
@@ -50,6 +50,7 @@ behind_right later bytes (Faulty fault) is = (fronts_stay bytes later (Faulty fa
 extended_right : (later : List ℕ) (asked : List Exchange) → AreRight asked → AreRight (extended later asked)
 extended_right later [] right = tt
 extended_right later (Changed change heard ∷ asked) right = extended_right later asked right
+extended_right later (ChangedAll changes heard ∷ asked) right = extended_right later asked right
 extended_right later (Asked query heard ∷ asked) right = extended_right later asked right
 extended_right later (Routed from facts heard ∷ asked) right = extended_right later asked right
 extended_right later (Looked number heard ∷ asked) right = extended_right later asked right

@@ -4,12 +4,13 @@ use Rattle.seq_bus_core.specs.Histories.{History}
 use Rattle.seq_bus_core.specs.declared.connection.Conn.{Conn}
 use Rattle.outbox_core.specs.Contents.{Said}
 use Rattle.router_core.specs.Deeds.{GatedCall}
-use Rattle.router_core.specs.Scripts.{Script, Gives, Changing, Asking, Routing, Looking, Noting, Fronting, Calling, Gating, Wanting, Requiring, Doing, Announcing, and_then, putting, World, Comes}
+use Rattle.router_core.specs.Scripts.{Script, Gives, Changing, ChangingAll, Asking, Routing, Looking, Noting, Fronting, Calling, Gating, Wanting, Requiring, Doing, Announcing, and_then, putting, World, Comes}
 
 -- whatever it gives is such
 abbrev pub AllGive : {X : Type 0} → (X → Type 0) → Script X → Type 0
 AllGive P (Gives x) = P x
 AllGive P (Changing change goes_on) = (heard : _) → AllGive P (goes_on heard)
+AllGive P (ChangingAll changes goes_on) = (heard : _) → AllGive P (goes_on heard)
 AllGive P (Asking query goes_on) = (heard : _) → AllGive P (goes_on heard)
 AllGive P (Routing from facts goes_on) = (heard : _) → AllGive P (goes_on heard)
 AllGive P (Looking number goes_on) = (heard : _) → AllGive P (goes_on heard)
@@ -27,6 +28,7 @@ module _ {N G : Type 0} (told : N → History) (registry_of : N → ℕ) (passes
   pub given : (s : Script X) (w : World N G) → AllGive P s → Comes told registry_of passes alone s w x v → P x
   given (Gives y) w all p = subst P (sym p.0) all
   given (Changing change goes_on) w all p = given (goes_on p.0) p.1 (all p.0) p.3
+  given (ChangingAll changes goes_on) w all p = given (goes_on p.0) p.1 (all p.0) p.3
   given (Asking query goes_on) w all p = given (goes_on p.0) p.1 (all p.0) p.3
   given (Routing from facts goes_on) w all p = given (goes_on p.0) p.1 (all p.0) p.3
   given (Looking number goes_on) w all p = given (goes_on p.0) p.1 (all p.0) p.3
@@ -44,6 +46,7 @@ module _ {X Y : Type 0} (Q : X → Type 0) (P : Y → Type 0) (next : X → Scri
   pub then_give : (s : Script X) → AllGive Q s → AllGive P (and_then s next)
   then_give (Gives x) all = later x all
   then_give (Changing change goes_on) all = λ heard. then_give (goes_on heard) (all heard)
+  then_give (ChangingAll changes goes_on) all = λ heard. then_give (goes_on heard) (all heard)
   then_give (Asking query goes_on) all = λ heard. then_give (goes_on heard) (all heard)
   then_give (Routing from facts goes_on) all = λ heard. then_give (goes_on heard) (all heard)
   then_give (Looking number goes_on) all = λ heard. then_give (goes_on heard) (all heard)
@@ -61,6 +64,7 @@ module _ {X : Type 0} (P : X → Type 0) (each : (x : X) → P x) where
   pub all_give : (s : Script X) → AllGive P s
   all_give (Gives x) = each x
   all_give (Changing change goes_on) = λ heard. all_give (goes_on heard)
+  all_give (ChangingAll changes goes_on) = λ heard. all_give (goes_on heard)
   all_give (Asking query goes_on) = λ heard. all_give (goes_on heard)
   all_give (Routing from facts goes_on) = λ heard. all_give (goes_on heard)
   all_give (Looking number goes_on) = λ heard. all_give (goes_on heard)
@@ -77,6 +81,7 @@ module _ {X : Type 0} (P Q : X → Type 0) (weaker : (x : X) → P x → Q x) wh
   pub weaker_give : (s : Script X) → AllGive P s → AllGive Q s
   weaker_give (Gives x) all = weaker x all
   weaker_give (Changing change goes_on) all = λ heard. weaker_give (goes_on heard) (all heard)
+  weaker_give (ChangingAll changes goes_on) all = λ heard. weaker_give (goes_on heard) (all heard)
   weaker_give (Asking query goes_on) all = λ heard. weaker_give (goes_on heard) (all heard)
   weaker_give (Routing from facts goes_on) all = λ heard. weaker_give (goes_on heard) (all heard)
   weaker_give (Looking number goes_on) all = λ heard. weaker_give (goes_on heard) (all heard)

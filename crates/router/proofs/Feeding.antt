@@ -31,7 +31,7 @@ use Rattle.router_core.specs.Deeds.{Deed, Closes, Sends}
 use Rattle.router_core.specs.Events.{Bytes, Mail, Next, OfPeer, Stands, hear, closing, fated, send, write, for_slot, for_peer, fed, refuse, refuse_with, close_found, close_former, welcome, turn_away, greeted_by, greeted, greet, serve_named, serve_at, read, next_at, next, mail_found}
 use Rattle.router_core.specs.Fronts.{Front, Waits, Whole, Faulty}
 use Rattle.router_core.specs.OneThread.{Readers, Rest, Course, alone, given, rest_of}
-use Rattle.router_core.specs.Scripts.{Script, Gives, Changing, Asking, Routing, Looking, Noting, Fronting, Calling, Gating, Wanting, Requiring, Doing, Announcing, and_then, putting}
+use Rattle.router_core.specs.Scripts.{Script, Gives, Changing, ChangingAll, Asking, Routing, Looking, Noting, Fronting, Calling, Gating, Wanting, Requiring, Doing, Announcing, and_then, putting}
 use Rattle.router_core.specs.Serving.{monitors_in, reply_with, serve}
 use Rattle.router_core.specs.Standing.{Stage, Authenticating, Unnamed, Named, Shut, Peer, Standing, SpeaksDBus, peer_at, with_peer, shut, next_serial, has_slot, is_conn}
 
@@ -43,6 +43,7 @@ after_same {X = X} {Y = Y} s f g same = ap (λ (h : X → Script Y). and_then s 
 and_then_assoc : {X Y Z : Type 0} (s : Script X) (f : X → Script Y) (g : Y → Script Z) → and_then (and_then s f) g ≡ and_then s (λ x. and_then (f x) g)
 and_then_assoc (Gives x) f g = refl
 and_then_assoc (Changing change goes_on) f g = λ i. Changing change (λ heard. and_then_assoc (goes_on heard) f g i)
+and_then_assoc (ChangingAll changes goes_on) f g = λ i. ChangingAll changes (λ heard. and_then_assoc (goes_on heard) f g i)
 and_then_assoc (Asking query goes_on) f g = λ i. Asking query (λ heard. and_then_assoc (goes_on heard) f g i)
 and_then_assoc (Routing from facts goes_on) f g = λ i. Routing from facts (λ heard. and_then_assoc (goes_on heard) f g i)
 and_then_assoc (Looking number goes_on) f g = λ i. Looking number (λ heard. and_then_assoc (goes_on heard) f g i)
@@ -63,6 +64,7 @@ module _ (readers : Readers) {X Y : Type 0} (f : X → Y) where
   pub alone_seen : (s : Script X) (c : Course) → alone readers (seen_as f s) c ≡ (f (alone readers s c).0, (alone readers s c).1)
   alone_seen (Gives x) c = refl
   alone_seen (Changing change goes_on) c = alone_seen (goes_on _) _
+  alone_seen (ChangingAll changes goes_on) c = alone_seen (goes_on _) _
   alone_seen (Asking query goes_on) c = alone_seen (goes_on _) c
   alone_seen (Routing from facts goes_on) c = alone_seen (goes_on _) c
   alone_seen (Looking number goes_on) c = alone_seen (goes_on _) c

@@ -1,13 +1,15 @@
 -- What was asked in two parts was granted and read in each.
 use Rattle.std.proofs.Common.{true, false, List, [], ◌∷◌, ◌++◌}
-use Rattle.router_core.specs.Acts.{Exchange, Changed, Asked, Routed, Looked, Noted, Fronted, Called, Gated, Wanted, IsGranted}
+use Rattle.router_core.specs.Acts.{Exchange, Changed, ChangedAll, Asked, Routed, Looked, Noted, Fronted, Called, Gated, Wanted, IsGranted}
 use Rattle.router_core.specs.Answers.{Says, Refuses}
 use Rattle.router_core.specs.OneThread.{AreReadBy, Readers}
 
 pub granted_parts : (first later : List Exchange) → IsGranted (first ++ later) → IsGranted first × IsGranted later
 granted_parts [] later h = (tt, h)
 granted_parts (Changed change (Says o) ∷ first) later h = granted_parts first later h
+granted_parts (ChangedAll changes (Says os) ∷ first) later h = granted_parts first later h
 granted_parts (Changed change (Refuses r) ∷ first) later h = absurd h
+granted_parts (ChangedAll changes (Refuses r) ∷ first) later h = absurd h
 granted_parts (Asked query (Says told) ∷ first) later h = granted_parts first later h
 granted_parts (Asked query (Refuses r) ∷ first) later h = absurd h
 granted_parts (Routed from facts (Says v) ∷ first) later h = granted_parts first later h
@@ -24,6 +26,7 @@ granted_parts (Wanted false ∷ first) later h = absurd h
 pub read_parts : (readers : Readers) (first later : List Exchange) → AreReadBy readers (first ++ later) → AreReadBy readers first × AreReadBy readers later
 read_parts readers [] later h = (tt, h)
 read_parts readers (Changed change heard ∷ first) later h = read_parts readers first later h
+read_parts readers (ChangedAll changes heard ∷ first) later h = read_parts readers first later h
 read_parts readers (Asked query heard ∷ first) later h = read_parts readers first later h
 read_parts readers (Routed from facts heard ∷ first) later h = read_parts readers first later h
 read_parts readers (Looked number heard ∷ first) later h = read_parts readers first later h

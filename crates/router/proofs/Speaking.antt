@@ -21,7 +21,7 @@ use Rattle.router_core.specs.Answers.{Heard, Says, Refuses, error_for}
 use Rattle.router_core.specs.Events.{Mail, Next, OfPeer, fed, closing, fated, close_found, close_former, write, for_slot, for_peer, refuse_with, turn_away, welcome, greeted, greeted_by, greet, serve_named, serve_at, read, next_at, next, mail_found}
 use Rattle.router_core.specs.Fronts.{Front, Waits, Whole, Faulty}
 use Rattle.router_core.specs.OneThread.{Readers, Rest, Course, alone, given}
-use Rattle.router_core.specs.Scripts.{Script, Gives, Changing, Asking, Routing, Looking, Noting, Fronting, Calling, Gating, Wanting, Requiring, Doing, Announcing, and_then}
+use Rattle.router_core.specs.Scripts.{Script, Gives, Changing, ChangingAll, Asking, Routing, Looking, Noting, Fronting, Calling, Gating, Wanting, Requiring, Doing, Announcing, and_then}
 use Rattle.router_core.specs.Serving.{reply_with, serve}
 use Rattle.router_core.specs.Standing.{Stage, Authenticating, Unnamed, Named, Shut, Peer, Standing, SpeaksDBus, first_stage, newcomer, opened, peer_at, with_peer, is_conn}
 use Rattle.router.proofs.Endings.{AllGive, then_give, all_give, weaker_give, if_give}
@@ -33,6 +33,7 @@ module _ (readers : Readers) {X : Type 0} (P : X → Type 0) where
   pub alone_gives : (s : Script X) (c : Course) → AllGive P s → P (alone readers s c).0
   alone_gives (Gives x) c all = all
   alone_gives (Changing change goes_on) c all = alone_gives (goes_on _) _ (all _)
+  alone_gives (ChangingAll changes goes_on) c all = alone_gives (goes_on _) _ (all _)
   alone_gives (Asking query goes_on) c all = alone_gives (goes_on _) c (all _)
   alone_gives (Routing from facts goes_on) c all = alone_gives (goes_on _) c (all _)
   alone_gives (Looking number goes_on) c all = alone_gives (goes_on _) c (all _)

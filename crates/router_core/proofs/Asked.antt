@@ -5,12 +5,12 @@ use Rattle.seq_bus_core.specs.Histories.{History}
 use Rattle.seq_bus_core.specs.declared.signal.AddressedSignal.{AddressedSignal}
 use Rattle.router_core.specs.declared.action.Action.{Action}
 use Rattle.router_core.specs.declared.action.Action.TheVariants.{Write, Put, Announce, Close, Run}
-use Rattle.router_core.specs.Acts.{Exchange, Changed, Asked, Routed, Looked, Noted, Fronted, Called, Gated, Wanted, Goes, IsLawful, gated_in, world_of}
+use Rattle.router_core.specs.Acts.{Exchange, Changed, ChangedAll, Asked, Routed, Looked, Noted, Fronted, Called, Gated, Wanted, Goes, IsLawful, gated_in, world_of}
 use Rattle.router_core.specs.Deeds.{Deed, GatedCall, PassesAll, announced, announcement, IsDoneBy, AreDeedsOf, AreDoneBy}
 use Rattle.router_core.specs.Events.{script, occasion_of}
 use Rattle.router_core.specs.Laws.{AnswersAreLawful}
-use Rattle.router_core.specs.Scripts.{Script, Gives, Changing, Asking, Routing, Looking, Noting, Fronting, Calling, Gating, Wanting, Requiring, Doing, Announcing, World, Comes, knowing}
-use Rattle.router_core.proofs.Knowing.{seat_kept, change_home, answer_home, verdict_home, present_home, note_home}
+use Rattle.router_core.specs.Scripts.{Script, Gives, Changing, ChangingAll, Asking, Routing, Looking, Noting, Fronting, Calling, Gating, Wanting, Requiring, Doing, Announcing, World, Comes, knowing}
+use Rattle.router_core.proofs.Knowing.{seat_kept, change_home, changes_home, answer_home, verdict_home, present_home, note_home}
 
 -- ## Deeds of actions
 
@@ -75,6 +75,18 @@ listed told registry_of passes alone (Changing change goes_on) w x v p =
       done = l.done;
       added = kept_actions passes w p.1 v p.2.rest l.actions l.added;
       shown = kept_gate passes w p.1 v p.2.rest l.asked (seat_kept w.view (p.1).view (change_home alone change p.0 w.view (p.1).view p.2.hears)) l.shown;
+    }
+listed told registry_of passes alone (ChangingAll changes goes_on) w x v p =
+    let l = listed told registry_of passes alone (goes_on p.0) p.1 x v p.3 in
+    record {
+      asked = ChangedAll changes p.0 ∷ l.asked;
+      deeds = l.deeds;
+      actions = l.actions;
+      goes = (p.0, l.asked, refl, l.goes);
+      lawful = ((p.1).view, p.2.hears, l.lawful);
+      done = l.done;
+      added = kept_actions passes w p.1 v p.2.rest l.actions l.added;
+      shown = kept_gate passes w p.1 v p.2.rest l.asked (seat_kept w.view (p.1).view (changes_home alone changes p.0 w.view (p.1).view p.2.hears)) l.shown;
     }
 listed told registry_of passes alone (Asking query goes_on) w x v p =
     let l = listed told registry_of passes alone (goes_on p.0) p.1 x v p.3 in

@@ -1,8 +1,9 @@
 -- Over a bus of one thread a script comes to one end.
-use Rattle.std.proofs.Common.{◌≡◌, ℕ, Bool, true, false, Option, is_some, List, [], ◌∷◌, ◌++◌, refl, sym, ap, ◌∙◌, subst, append_assoc}
+use Rattle.std.proofs.Common.{◌≡◌, ℕ, ◌+◌, Bool, true, false, Option, is_some, List, [], ◌∷◌, ◌++◌, length, refl, sym, ap, ◌∙◌, subst, append_assoc}
 use mathlib.Core.List.{append-nil}
 use Rattle.match_rules.specs.Facts.{Facts}
 use Rattle.seq_bus_core.specs.Answers.{Answer, answer}
+use Rattle.seq_bus_core.specs.Batches.{entries_of, outcomes_of}
 use Rattle.seq_bus_core.specs.BusState.{connection_of}
 use Rattle.seq_bus_core.specs.Recipients.{recipients}
 use Rattle.seq_bus_core.specs.Tickets.{bus_step, bus_after}
@@ -10,15 +11,15 @@ use Rattle.seq_bus_core.specs.declared.change.Change.{Change}
 use Rattle.seq_bus_core.specs.declared.outcome.Outcome.{Outcome}
 use Rattle.seq_bus_core.specs.declared.query.Query.{Query}
 use Rattle.seq_bus_core.specs.declared.verdict.Verdict.{Verdict}
-use Rattle.bus_view.specs.Views.{Knowledge, bus_seen, next_entry, having_changed}
-use Rattle.router_core.specs.Acts.{Exchange, Changed, Asked, Routed, Looked, Wanted, Goes, IsLawful, IsGranted}
+use Rattle.bus_view.specs.Views.{Knowledge, bus_seen, next_entry, having_made, having_changed}
+use Rattle.router_core.specs.Acts.{Exchange, Changed, ChangedAll, Asked, Routed, Looked, Wanted, Goes, IsLawful, IsGranted}
 use Rattle.router_core.specs.Answers.{Heard, Says, Refuses}
 use Rattle.router_core.specs.Deeds.{Deed, announced}
 use Rattle.router_core.specs.Events.{script}
 use Rattle.router_core.specs.Laws.{OneThreadIsAFunction, BytesAreAFunction}
 use Rattle.router_core.specs.OneThread.{Readers, AreReadBy, Course, learning, doing, alone, given, rest_after, keys_after, written_to, bus_bytes}
-use Rattle.router_core.specs.Scripts.{Script, Gives, Changing, Asking, Routing, Looking, Noting, Fronting, Calling, Gating, Wanting, Requiring, Doing, Announcing}
-use Rattle.router_core.proofs.Knowing.{read_alone, added_alone}
+use Rattle.router_core.specs.Scripts.{Script, Gives, Changing, ChangingAll, Asking, Routing, Looking, Noting, Fronting, Calling, Gating, Wanting, Requiring, Doing, Announcing}
+use Rattle.router_core.proofs.Knowing.{read_alone, added_alone, all_added_alone}
 
 -- how a script ends that asked this and did these deeds
 pub record Ends (readers : Readers) {X : Type 0} (s : Script X) (w : Course) (deeds : List Deed) (x : X) (k : Knowledge) : Type 0 where
@@ -40,6 +41,17 @@ module _ (readers : Readers) {X : Type 0} where
       let first = ih (learning w lawful.0) lawful.2 granted read in
       let now = subst (λ z. Ends readers (goes_on (Says o)) (learning w z) deeds x k) (added_alone change o w.view lawful.0 lawful.1) first in
       let here = subst (λ z. Ends readers (goes_on (Says z)) (learning w (having_changed w.view (w.view.seen ++ next_entry w.view change ∷ []))) deeds x k) told now in
+      record { result = here.result; view = here.view; done = here.done }
+
+  all_changed : (changes : List Change) (goes_on : Heard (List Outcome) → Script X) (heard : Heard (List Outcome)) (later : List Exchange) (deeds : List Deed) (x : X) (k : Knowledge) →
+      Goes_on (goes_on heard) later deeds x k → Goes_on (ChangingAll changes goes_on) (ChangedAll changes heard ∷ later) deeds x k
+  all_changed changes goes_on (Refuses r) later deeds x k ih w lawful granted read = absurd granted
+  all_changed changes goes_on (Says os) later deeds x k ih w lawful granted read =
+      let told : os ≡ outcomes_of (bus_seen w.view) w.view.seat changes =
+      lawful.1.told ∙ ap (λ point. outcomes_of (bus_after w.view.opening point) w.view.seat changes) (lawful.1.reached.same refl) in
+      let first = ih (learning w lawful.0) lawful.2 granted read in
+      let now = subst (λ z. Ends readers (goes_on (Says os)) (learning w z) deeds x k) (all_added_alone changes os w.view lawful.0 lawful.1) first in
+      let here = subst (λ z. Ends readers (goes_on (Says z)) (learning w (having_made w.view (length changes) (w.view.seen ++ entries_of w.view.seat (w.view.made + 1) changes))) deeds x k) told now in
       record { result = here.result; view = here.view; done = here.done }
 
   asked_of : (query : Query) (goes_on : Heard (Option Answer) → Script X) (heard : Heard (Option Answer)) (later : List Exchange) (deeds : List Deed) (x : X) (k : Knowledge) →
@@ -87,6 +99,8 @@ module _ (readers : Readers) {X : Type 0} where
       subst (λ a. Goes_on (Gives y) a deeds x k) (sym p.0) (subst (λ ds. Goes_on (Gives y) [] ds x k) (sym p.1) (λ w lawful granted read. given_up y x w k p.2 lawful))
   ends (Changing change goes_on) asked deeds x k p =
       subst (λ a. Goes_on (Changing change goes_on) a deeds x k) (sym p.2) (changed change goes_on p.0 p.1 deeds x k (ends (goes_on p.0) p.1 deeds x k p.3))
+  ends (ChangingAll changes goes_on) asked deeds x k p =
+      subst (λ a. Goes_on (ChangingAll changes goes_on) a deeds x k) (sym p.2) (all_changed changes goes_on p.0 p.1 deeds x k (ends (goes_on p.0) p.1 deeds x k p.3))
   ends (Asking query goes_on) asked deeds x k p =
       subst (λ a. Goes_on (Asking query goes_on) a deeds x k) (sym p.2) (asked_of query goes_on p.0 p.1 deeds x k (ends (goes_on p.0) p.1 deeds x k p.3))
   ends (Routing from facts goes_on) asked deeds x k p =

@@ -1,14 +1,15 @@
 -- What calls of the bus leave of what is known.
-use Rattle.std.proofs.Common.{◌≡◌, ℕ, Bool, true, ◌∷◌, [], ◌++◌, refl, ap, ◌∙◌, Option}
+use Rattle.std.proofs.Common.{◌≡◌, ℕ, ◌+◌, Bool, true, List, ◌∷◌, [], ◌++◌, length, refl, ap, ◌∙◌, Option}
 use Rattle.match_rules.specs.Facts.{Facts}
 use Rattle.seq_bus_core.specs.Answers.{Answer}
+use Rattle.seq_bus_core.specs.Batches.{entries_of}
 use Rattle.seq_bus_core.specs.Histories.{History}
 use Rattle.seq_bus_core.specs.declared.change.Change.{Change}
 use Rattle.seq_bus_core.specs.declared.outcome.Outcome.{Outcome}
 use Rattle.seq_bus_core.specs.declared.query.Query.{Query}
 use Rattle.seq_bus_core.specs.declared.verdict.Verdict.{Verdict}
-use Rattle.bus_view.specs.Views.{Knowledge, IsChanged, IsRead, IsNoted, next_entry, having_changed}
-use Rattle.router_core.specs.Answers.{Heard, Says, Refuses, NoMemory, Lost, HearsChange, HearsAnswer, HearsVerdict, HearsPresent}
+use Rattle.bus_view.specs.Views.{Knowledge, AreChanged, IsChanged, IsRead, IsNoted, next_entry, having_made, having_changed}
+use Rattle.router_core.specs.Answers.{Heard, Says, Refuses, NoMemory, Lost, HearsChange, HearsChanges, HearsAnswer, HearsVerdict, HearsPresent}
 
 -- ## The registry and the seat stay
 
@@ -30,6 +31,10 @@ read_home alone k m read = ap (λ (n : Knowledge). home n) read.kept
 pub change_home : (alone : Bool) (change : Change) (heard : Heard Outcome) (k m : Knowledge) → HearsChange alone change k heard m → home m ≡ home k
 change_home alone change (Says o) k m h = ap (λ (n : Knowledge). home n) h.added
 change_home alone change (Refuses r) k m h = home_of k m h.0
+
+pub changes_home : (alone : Bool) (changes : List Change) (heard : Heard (List Outcome)) (k m : Knowledge) → HearsChanges alone changes k heard m → home m ≡ home k
+changes_home alone changes (Says os) k m h = ap (λ (n : Knowledge). home n) h.added
+changes_home alone changes (Refuses r) k m h = home_of k m h.0
 
 pub answer_home : (alone : Bool) (query : Query) (heard : Heard (Option Answer)) (k m : Knowledge) → HearsAnswer alone query k heard m → home m ≡ home k
 answer_home alone query (Says told) k m h = read_home alone k m h.0
@@ -54,3 +59,8 @@ read_alone k m read = read.kept ∙ ap (λ seen. record k { seen = seen }) (read
 
 pub added_alone : (change : Change) (outcome : Outcome) (k m : Knowledge) → IsChanged true k change outcome m → m ≡ having_changed k (k.seen ++ next_entry k change ∷ [])
 added_alone change outcome k m h = h.added ∙ ap (λ point. having_changed k (point ++ next_entry k change ∷ [])) (h.reached.same refl)
+
+pub all_added_alone : (changes : List Change) (outcomes : List Outcome) (k m : Knowledge) → AreChanged true k changes outcomes m →
+    m ≡ having_made k (length changes) (k.seen ++ entries_of k.seat (k.made + 1) changes)
+all_added_alone changes outcomes k m h =
+    h.added ∙ ap (λ point. having_made k (length changes) (point ++ entries_of k.seat (k.made + 1) changes)) (h.reached.same refl)

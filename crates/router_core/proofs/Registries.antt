@@ -11,8 +11,8 @@ use Rattle.router_core.specs.Acts.{world_of}
 use Rattle.router_core.specs.Deeds.{GatedCall, announcement, IsFurthest, CarriesFurthest, CarriesOwn}
 use Rattle.router_core.specs.Events.{script, occasion_of}
 use Rattle.router_core.specs.Laws.{NotesAreOwn}
-use Rattle.router_core.specs.Scripts.{Script, Gives, Changing, Asking, Routing, Looking, Noting, Fronting, Calling, Gating, Wanting, Requiring, Doing, Announcing, World, Comes}
-use Rattle.router_core.proofs.Knowing.{home, registry_kept, change_home, answer_home, verdict_home, present_home, note_home}
+use Rattle.router_core.specs.Scripts.{Script, Gives, Changing, ChangingAll, Asking, Routing, Looking, Noting, Fronting, Calling, Gating, Wanting, Requiring, Doing, Announcing, World, Comes}
+use Rattle.router_core.proofs.Knowing.{home, registry_kept, change_home, changes_home, answer_home, verdict_home, present_home, note_home}
 
 module _ {N : Type 0} (told : N → History) (registry_of : N → ℕ) (alone : Bool) (view : Knowledge) where
   own_of : (action : Action N) → CarriesFurthest told registry_of alone view action → CarriesOwn registry_of view.registry action
@@ -58,6 +58,8 @@ module _ {N G : Type 0} (told : N → History) (registry_of : N → ℕ) (passes
   }
   keeps_own (Changing change goes_on) w p =
       own_after registry_of w p.1 v (ap actions_of p.2.rest) (change_home alone change p.0 w.view (p.1).view p.2.hears) (keeps_own (goes_on p.0) p.1 p.3)
+  keeps_own (ChangingAll changes goes_on) w p =
+      own_after registry_of w p.1 v (ap actions_of p.2.rest) (changes_home alone changes p.0 w.view (p.1).view p.2.hears) (keeps_own (goes_on p.0) p.1 p.3)
   keeps_own (Asking query goes_on) w p =
       own_after registry_of w p.1 v (ap actions_of p.2.rest) (answer_home alone query p.0 w.view (p.1).view p.2.hears) (keeps_own (goes_on p.0) p.1 p.3)
   keeps_own (Routing from facts goes_on) w p =

@@ -13,17 +13,18 @@ use Rattle.driver.specs.Calls.{Reading, IsCall}
 use Rattle.bus_view.specs.Views.{Knowledge, IsNoted}
 use Rattle.router_core.specs.declared.action.Action.{Action}
 use Rattle.router_core.specs.declared.event.Event.{Event}
-use Rattle.router_core.specs.Answers.{Heard, Refuses, HearsChange, HearsAnswer, HearsVerdict, HearsPresent}
+use Rattle.router_core.specs.Answers.{Heard, Refuses, HearsChange, HearsChanges, HearsAnswer, HearsVerdict, HearsPresent}
 use Rattle.router_core.specs.Deeds.{Deed, GatedCall, PassesAll, announced, AreDoneBy}
 use Rattle.router_core.specs.Events.{Occasion, occasion_of, script}
 use Rattle.router_core.specs.Fronts.{Front, IsFront}
-use Rattle.router_core.specs.Scripts.{Script, Gives, Changing, Asking, Routing, Looking, Noting, Fronting, Calling, Gating, Wanting, Requiring, Doing, Announcing, World, Comes}
+use Rattle.router_core.specs.Scripts.{Script, Gives, Changing, ChangingAll, Asking, Routing, Looking, Noting, Fronting, Calling, Gating, Wanting, Requiring, Doing, Announcing, World, Comes}
 use Rattle.router_core.specs.Standing.{Standing}
 
 -- ## What was asked and answered
 
 pub data Exchange : Type 0 where
   Changed : Change → Heard Outcome → Exchange
+  ChangedAll : List Change → Heard (List Outcome) → Exchange
   Asked : Query → Heard (Option Answer) → Exchange
   Routed : (from : ℕ) → Facts → Heard Verdict → Exchange
   Looked : (number : ℕ) → Heard Bool → Exchange
@@ -37,6 +38,7 @@ pub data Exchange : Type 0 where
 abbrev pub Goes : {X : Type 0} → Script X → List Exchange → List Deed → X → Type 0
 Goes (Gives y) asked deeds x = (asked ≡ []) × (deeds ≡ []) × (x ≡ y)
 Goes (Changing change goes_on) asked deeds x = (heard : Heard Outcome) × (later : List Exchange) × (asked ≡ Changed change heard ∷ later) × Goes (goes_on heard) later deeds x
+Goes (ChangingAll changes goes_on) asked deeds x = (heard : Heard (List Outcome)) × (later : List Exchange) × (asked ≡ ChangedAll changes heard ∷ later) × Goes (goes_on heard) later deeds x
 Goes (Asking query goes_on) asked deeds x = (heard : Heard (Option Answer)) × (later : List Exchange) × (asked ≡ Asked query heard ∷ later) × Goes (goes_on heard) later deeds x
 Goes (Routing from facts goes_on) asked deeds x = (heard : Heard Verdict) × (later : List Exchange) × (asked ≡ Routed from facts heard ∷ later) × Goes (goes_on heard) later deeds x
 Goes (Looking number goes_on) asked deeds x = (heard : Heard Bool) × (later : List Exchange) × (asked ≡ Looked number heard ∷ later) × Goes (goes_on heard) later deeds x
@@ -53,6 +55,7 @@ Goes (Announcing signals s) asked deeds x = (later : List Deed) × (deeds ≡ an
 abbrev pub IsLawful : Bool → Knowledge → List Exchange → Knowledge → Type 0
 IsLawful alone before [] after = after ≡ before
 IsLawful alone before (Changed change heard ∷ later) after = (k : Knowledge) × HearsChange alone change before heard k × IsLawful alone k later after
+IsLawful alone before (ChangedAll changes heard ∷ later) after = (k : Knowledge) × HearsChanges alone changes before heard k × IsLawful alone k later after
 IsLawful alone before (Asked query heard ∷ later) after = (k : Knowledge) × HearsAnswer alone query before heard k × IsLawful alone k later after
 IsLawful alone before (Routed from facts heard ∷ later) after = (k : Knowledge) × HearsVerdict alone from facts before heard k × IsLawful alone k later after
 IsLawful alone before (Looked number heard ∷ later) after = (k : Knowledge) × HearsPresent alone number before heard k × IsLawful alone k later after
@@ -72,6 +75,7 @@ gated_in seat (other ∷ later) = gated_in seat later
 abbrev pub IsGranted : List Exchange → Type 0
 IsGranted [] = Unit {0}
 IsGranted (Changed change (Refuses refusal) ∷ later) = ⊥
+IsGranted (ChangedAll changes (Refuses refusal) ∷ later) = ⊥
 IsGranted (Asked query (Refuses refusal) ∷ later) = ⊥
 IsGranted (Routed from facts (Refuses refusal) ∷ later) = ⊥
 IsGranted (Looked number (Refuses refusal) ∷ later) = ⊥

@@ -1,5 +1,5 @@
 -- What a router hears from its view of a bus.
-use Rattle.std.specs.Prelude.{◌≡◌, ℕ, Bool, true, false, Option, is_some}
+use Rattle.std.specs.Prelude.{◌≡◌, ℕ, Bool, true, false, Option, is_some, List}
 use Rattle.match_rules.specs.Facts.{Facts}
 use Rattle.seq_bus_core.specs.Answers.{Answer, answer}
 use Rattle.seq_bus_core.specs.BusState.{connection_of}
@@ -10,9 +10,11 @@ use Rattle.seq_bus_core.specs.declared.error_kind.ErrorKind.TheVariants.{Failed,
 use Rattle.seq_bus_core.specs.declared.outcome.Outcome.{Outcome}
 use Rattle.seq_bus_core.specs.declared.query.Query.{Query}
 use Rattle.seq_bus_core.specs.declared.verdict.Verdict.{Verdict}
-use Rattle.bus_view.specs.Views.{Knowledge, bus_seen, IsChanged, IsRead}
+use Rattle.bus_view.specs.Views.{Knowledge, bus_seen, AreChanged, IsChanged, IsRead}
 use Rattle.bus_view.specs.declared.refusal.Cause.{Cause}
 use Rattle.bus_view.specs.declared.refusal.Cause.TheVariants as cause
+use Rattle.bus_view.specs.declared.refusal.BatchCause.{BatchCause}
+use Rattle.bus_view.specs.declared.refusal.BatchCause.TheVariants as batch
 use Rattle.bus_view.specs.declared.answer.AskFault.{AskFault}
 use Rattle.bus_view.specs.declared.answer.AskFault.TheVariants as fault
 
@@ -31,6 +33,11 @@ refusal_of cause.NoMemory = NoMemory
 refusal_of cause.ForeignSeat = Lost
 refusal_of cause.HistoryFull = Lost
 refusal_of cause.Gone = Lost
+
+-- A batch is one by its size: nobody asks for another.
+abbrev pub refusal_of_batch : BatchCause → Refusal
+refusal_of_batch (batch.Refused why) = refusal_of why
+refusal_of_batch batch.Batch = Lost
 
 abbrev pub unanswered_for : AskFault → Refusal
 unanswered_for fault.NoMemory = NoMemory
@@ -57,6 +64,11 @@ IsLost alone Lost = alone ≡ true → ⊥
 abbrev pub HearsChange : Bool → Change → Knowledge → Heard Outcome → Knowledge → Type 0
 HearsChange alone change before (Says outcome) after = IsChanged alone before change outcome after
 HearsChange alone change before (Refuses refusal) after = (after ≡ before) × IsLost alone refusal
+
+-- A batch that is refused is refused whole: none of its changes is made.
+abbrev pub HearsChanges : Bool → List Change → Knowledge → Heard (List Outcome) → Knowledge → Type 0
+HearsChanges alone changes before (Says outcomes) after = AreChanged alone before changes outcomes after
+HearsChanges alone changes before (Refuses refusal) after = (after ≡ before) × IsLost alone refusal
 
 -- For want of memory the bus may have been read all the same, and no more was done. Where it is gone, nothing was read.
 abbrev pub HearsAnswer : Bool → Query → Knowledge → Heard (Option Answer) → Knowledge → Type 0

@@ -1,6 +1,7 @@
 -- What events bring over a bus of one thread, where nothing is refused: a function of the events.
 use Rattle.std.specs.Prelude.{◌≡◌, ℕ, ◌+◌, ◌==◌, true, is_some, List, [], ◌∷◌, ◌++◌, length, if◌then◌else◌}
 use Rattle.seq_bus_core.specs.Answers.{answer}
+use Rattle.seq_bus_core.specs.Batches.{entries_of, outcomes_of}
 use Rattle.seq_bus_core.specs.BusState.{connection_of}
 use Rattle.seq_bus_core.specs.Recipients.{recipients}
 use Rattle.seq_bus_core.specs.Tickets.{bus_step}
@@ -8,13 +9,13 @@ use Rattle.message_core.specs.Messages.{Message}
 use Rattle.message.specs.MessageBytes.{message_bytes}
 use Rattle.driver.specs.declared.call.Call.{Call}
 use Rattle.driver.specs.Calls.{Reading}
-use Rattle.bus_view.specs.Views.{Knowledge, bus_seen, next_entry, having_changed}
+use Rattle.bus_view.specs.Views.{Knowledge, bus_seen, next_entry, having_made, having_changed}
 use Rattle.router_core.specs.Acts.{Exchange, Fronted, Called, IsGranted, IsServedBy}
 use Rattle.router_core.specs.Answers.{Says}
 use Rattle.router_core.specs.Deeds.{Deed, Writes, Sends, announced}
 use Rattle.router_core.specs.Events.{Occasion, Opened, script}
 use Rattle.router_core.specs.Fronts.{Front}
-use Rattle.router_core.specs.Scripts.{Script, Gives, Changing, Asking, Routing, Looking, Noting, Fronting, Calling, Gating, Wanting, Requiring, Doing, Announcing}
+use Rattle.router_core.specs.Scripts.{Script, Gives, Changing, ChangingAll, Asking, Routing, Looking, Noting, Fronting, Calling, Gating, Wanting, Requiring, Doing, Announcing}
 use Rattle.router_core.specs.Standing.{Standing}
 
 -- what bytes and calls are read as
@@ -47,6 +48,9 @@ abbrev pub alone : Readers → {X : Type 0} → Script X → Course → X × Cou
 alone readers (Gives x) c = (x, c)
 alone readers (Changing change goes_on) c =
     alone readers (goes_on (Says (bus_step (bus_seen c.view) c.view.seat change).1)) (learning c (having_changed c.view (c.view.seen ++ next_entry c.view change ∷ [])))
+alone readers (ChangingAll changes goes_on) c =
+    alone readers (goes_on (Says (outcomes_of (bus_seen c.view) c.view.seat changes)))
+    (learning c (having_made c.view (length changes) (c.view.seen ++ entries_of c.view.seat (c.view.made + 1) changes)))
 alone readers (Asking query goes_on) c = alone readers (goes_on (Says (answer (bus_seen c.view).state query))) c
 alone readers (Routing from facts goes_on) c = alone readers (goes_on (Says (recipients (bus_seen c.view).state from facts))) c
 alone readers (Looking number goes_on) c = alone readers (goes_on (Says (is_some (connection_of (bus_seen c.view).state number)))) c

@@ -13,7 +13,7 @@ use Rattle.message_core.specs.Messages.{Message}
 use Rattle.driver.specs.declared.call.Call.{Call}
 use Rattle.driver.specs.Calls.{Reading, IsCall}
 use Rattle.bus_view.specs.Views.{Knowledge, IsNoted}
-use Rattle.router_core.specs.Answers.{Heard, HearsChange, HearsAnswer, HearsVerdict, HearsPresent}
+use Rattle.router_core.specs.Answers.{Heard, HearsChange, HearsChanges, HearsAnswer, HearsVerdict, HearsPresent}
 use Rattle.outbox_core.specs.Contents.{Said}
 use Rattle.router_core.specs.declared.action.Action.{Action}
 use Rattle.router_core.specs.Deeds.{Deed, Puts, GatedCall, IsDoneBy, announcement, IsFurthest, CarriesFurthest}
@@ -22,8 +22,9 @@ use Rattle.router_core.specs.Fronts.{Front, IsFront}
 -- A script comes to a result in the end.
 pub data Script (X : Type 0) : Type 0 where
   Gives : X → Script X
-  -- the bus is asked to make a change, to answer a query, where a message goes, whether a connection is there
+  -- the bus is asked to make a change, to make several together, to answer a query, where a message goes, whether a connection is there
   Changing : Change → (Heard Outcome → Script X) → Script X
+  ChangingAll : List Change → (Heard (List Outcome) → Script X) → Script X
   Asking : Query → (Heard (Option Answer) → Script X) → Script X
   Routing : (from : ℕ) → Facts → (Heard Verdict → Script X) → Script X
   Looking : (number : ℕ) → (Heard Bool → Script X) → Script X
@@ -46,6 +47,7 @@ pub data Script (X : Type 0) : Type 0 where
 abbrev pub and_then : {X Y : Type 0} → Script X → (X → Script Y) → Script Y
 and_then (Gives x) next = next x
 and_then (Changing change goes_on) next = Changing change (λ heard. and_then (goes_on heard) next)
+and_then (ChangingAll changes goes_on) next = ChangingAll changes (λ heard. and_then (goes_on heard) next)
 and_then (Asking query goes_on) next = Asking query (λ heard. and_then (goes_on heard) next)
 and_then (Routing from facts goes_on) next = Routing from facts (λ heard. and_then (goes_on heard) next)
 and_then (Looking number goes_on) next = Looking number (λ heard. and_then (goes_on heard) next)
@@ -81,6 +83,10 @@ having_done w actions = record w { actions = w.actions ++ actions }
 
 pub record Changes {N G : Type 0} (alone : Bool) (change : Change) (w : World N G) (heard : Heard Outcome) (m : World N G) : Type 0 where
   pub hears : HearsChange alone change w.view heard m.view
+  pub rest : m ≡ knowing w m.view
+
+pub record ChangesAll {N G : Type 0} (alone : Bool) (changes : List Change) (w : World N G) (heard : Heard (List Outcome)) (m : World N G) : Type 0 where
+  pub hears : HearsChanges alone changes w.view heard m.view
   pub rest : m ≡ knowing w m.view
 
 pub record Asks {N G : Type 0} (alone : Bool) (query : Query) (w : World N G) (heard : Heard (Option Answer)) (m : World N G) : Type 0 where
@@ -123,6 +129,8 @@ abbrev pub Comes : {N G : Type 0} → (N → History) → (N → ℕ) → (G →
 Comes told registry_of passes alone (Gives y) w x v = (x ≡ y) × (v ≡ w)
 Comes {N = N} {G = G} told registry_of passes alone (Changing change goes_on) w x v =
     (heard : Heard Outcome) × (m : World N G) × Changes alone change w heard m × Comes told registry_of passes alone (goes_on heard) m x v
+Comes {N = N} {G = G} told registry_of passes alone (ChangingAll changes goes_on) w x v =
+    (heard : Heard (List Outcome)) × (m : World N G) × ChangesAll alone changes w heard m × Comes told registry_of passes alone (goes_on heard) m x v
 Comes {N = N} {G = G} told registry_of passes alone (Asking query goes_on) w x v =
     (heard : Heard (Option Answer)) × (m : World N G) × Asks alone query w heard m × Comes told registry_of passes alone (goes_on heard) m x v
 Comes {N = N} {G = G} told registry_of passes alone (Routing from facts goes_on) w x v =

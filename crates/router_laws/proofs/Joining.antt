@@ -1,7 +1,7 @@
 -- Runs in which nothing is refused, one after the other.
 use Rattle.std.proofs.Common.{◌≡◌, ℕ, true, false, List, [], ◌∷◌, ◌++◌, length, map, refl, sym, ap, ◌∙◌, subst, append_assoc}
 use Rattle.std.specs.List.{range_with_len}
-use Rattle.router_core.specs.Acts.{Exchange, Changed, Asked, Routed, Looked, Noted, Fronted, Called, Gated, Wanted, IsGranted}
+use Rattle.router_core.specs.Acts.{Exchange, Changed, ChangedAll, Asked, Routed, Looked, Noted, Fronted, Called, Gated, Wanted, IsGranted}
 use Rattle.router_core.specs.Answers.{Says, Refuses}
 use Rattle.router_core.specs.Events.{Occasion}
 use Rattle.router_core.specs.OneThread.{Rest, keys_after, written_to}
@@ -12,7 +12,9 @@ use Rattle.router_laws.specs.GrantedRuns.{ComeToTheSame, IsGrantedRun}
 pub granted_append : (first later : List Exchange) → IsGranted first → IsGranted later → IsGranted (first ++ later)
 granted_append [] later h k = k
 granted_append (Changed change (Says o) ∷ first) later h k = granted_append first later h k
+granted_append (ChangedAll changes (Says os) ∷ first) later h k = granted_append first later h k
 granted_append (Changed change (Refuses r) ∷ first) later h k = absurd h
+granted_append (ChangedAll changes (Refuses r) ∷ first) later h k = absurd h
 granted_append (Asked query (Says told) ∷ first) later h k = granted_append first later h k
 granted_append (Asked query (Refuses r) ∷ first) later h k = absurd h
 granted_append (Routed from facts (Says v) ∷ first) later h k = granted_append first later h k

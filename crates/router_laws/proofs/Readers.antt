@@ -5,7 +5,7 @@ use Rattle.std.specs.Prelude.{◌==◌, ◌&&◌, if◌then◌else◌}
 use Rattle.marshal_core.proofs.Results.{both_true, eqb-yes}
 use Rattle.bus_view.specs.Views.{Knowledge}
 use Rattle.driver.specs.Calls.{IsCall}
-use Rattle.router_core.specs.Acts.{Exchange, Changed, Asked, Routed, Looked, Noted, Fronted, Called, Gated, Wanted, IsLawful}
+use Rattle.router_core.specs.Acts.{Exchange, Changed, ChangedAll, Asked, Routed, Looked, Noted, Fronted, Called, Gated, Wanted, IsLawful}
 use Rattle.router_core.specs.Fronts.{Front, Waits, IsFront}
 use Rattle.router_core.specs.OneThread.{Readers, AreReadBy}
 use Rattle.router_laws.proofs.Calls.{calls_are_one, calls_are_read}
@@ -22,6 +22,7 @@ AreRight (other ∷ later) = AreRight later
 pub right_lawful : (alone : Bool) (asked : List Exchange) (before after : Knowledge) → IsLawful alone before asked after → AreRight asked
 right_lawful alone [] before after h = tt
 right_lawful alone (Changed change heard ∷ later) before after h = right_lawful alone later h.0 after h.2
+right_lawful alone (ChangedAll changes heard ∷ later) before after h = right_lawful alone later h.0 after h.2
 right_lawful alone (Asked query heard ∷ later) before after h = right_lawful alone later h.0 after h.2
 right_lawful alone (Routed from facts heard ∷ later) before after h = right_lawful alone later h.0 after h.2
 right_lawful alone (Looked number heard ∷ later) before after h = right_lawful alone later h.0 after h.2
@@ -34,6 +35,7 @@ right_lawful alone (Wanted granted ∷ later) before after h = right_lawful alon
 pub right_append : (first later : List Exchange) → AreRight first → AreRight later → AreRight (first ++ later)
 right_append [] later h k = k
 right_append (Changed change heard ∷ first) later h k = right_append first later h k
+right_append (ChangedAll changes heard ∷ first) later h k = right_append first later h k
 right_append (Asked query heard ∷ first) later h k = right_append first later h k
 right_append (Routed from facts heard ∷ first) later h k = right_append first later h k
 right_append (Looked number heard ∷ first) later h k = right_append first later h k
@@ -93,6 +95,7 @@ module _ (bytes : List ℕ) (front : Front) (is : IsFront bytes front) (others :
   still : (asked : List Exchange) → AreRight asked → AreReadBy (reading_by others) asked → AreReadBy (reading_by (front_or bytes front others)) asked
   still [] right read = tt
   still (Changed change heard ∷ later) right read = still later right read
+  still (ChangedAll changes heard ∷ later) right read = still later right read
   still (Asked query heard ∷ later) right read = still later right read
   still (Routed from facts heard ∷ later) right read = still later right read
   still (Looked number heard ∷ later) right read = still later right read
@@ -106,6 +109,7 @@ module _ (bytes : List ℕ) (front : Front) (is : IsFront bytes front) (others :
 pub read_so : (asked : List Exchange) → AreRight asked → AreReadBy (readers_of asked) asked
 read_so [] right = tt
 read_so (Changed change heard ∷ later) right = read_so later right
+read_so (ChangedAll changes heard ∷ later) right = read_so later right
 read_so (Asked query heard ∷ later) right = read_so later right
 read_so (Routed from facts heard ∷ later) right = read_so later right
 read_so (Looked number heard ∷ later) right = read_so later right

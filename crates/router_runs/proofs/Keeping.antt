@@ -7,8 +7,8 @@ use Rattle.seq_bus_core.specs.declared.outcome.Outcome.{Outcome}
 use Rattle.seq_bus_core.specs.declared.query.Query.{Query}
 use Rattle.seq_bus_core.specs.declared.verdict.Verdict.{Verdict}
 use Rattle.bus_view.specs.Views.{Knowledge, IsRead}
-use Rattle.router_core.specs.Acts.{Exchange, Changed, Asked, Routed, Looked, Noted, Fronted, Called, Gated, Wanted, IsLawful}
-use Rattle.router_core.specs.Answers.{Heard, Says, Refuses, NoMemory, Lost, HearsChange, HearsAnswer, HearsVerdict, HearsPresent}
+use Rattle.router_core.specs.Acts.{Exchange, Changed, ChangedAll, Asked, Routed, Looked, Noted, Fronted, Called, Gated, Wanted, IsLawful}
+use Rattle.router_core.specs.Answers.{Heard, Says, Refuses, NoMemory, Lost, HearsChange, HearsChanges, HearsAnswer, HearsVerdict, HearsPresent}
 use Rattle.router_core.specs.Events.{Occasion}
 use Rattle.router_core.specs.OneThread.{Rest}
 use Rattle.router_runs.specs.Turns.{AreServedBy, Turn}
@@ -30,6 +30,10 @@ change : (alone : Bool) (c : Change) (heard : Heard Outcome) (k m : Knowledge) �
 change alone c (Says o) k m h = record { registry = ap (λ (n : Knowledge). n.registry) h.added; seat = ap (λ (n : Knowledge). n.seat) h.added }
 change alone c (Refuses r) k m h = same k m h.0
 
+change_all : (alone : Bool) (changes : List Change) (heard : Heard (List Outcome)) (k m : Knowledge) → HearsChanges alone changes k heard m → Stays k m
+change_all alone changes (Says os) k m h = record { registry = ap (λ (n : Knowledge). n.registry) h.added; seat = ap (λ (n : Knowledge). n.seat) h.added }
+change_all alone changes (Refuses r) k m h = same k m h.0
+
 answer : (alone : Bool) (query : Query) (heard : Heard (Option Answer)) (k m : Knowledge) → HearsAnswer alone query k heard m → Stays k m
 answer alone query (Says told) k m h = read alone k m h.0
 answer alone query (Refuses NoMemory) k m h = read alone k m h
@@ -46,6 +50,7 @@ present alone number (Refuses r) k m h = same k m h.0
 pub lawful_keeps : (alone : Bool) (asked : List Exchange) (k m : Knowledge) → IsLawful alone k asked m → Stays k m
 lawful_keeps alone [] k m h = same k m h
 lawful_keeps alone (Changed c heard ∷ later) k m h = both k h.0 m (change alone c heard k h.0 h.1) (lawful_keeps alone later h.0 m h.2)
+lawful_keeps alone (ChangedAll changes heard ∷ later) k m h = both k h.0 m (change_all alone changes heard k h.0 h.1) (lawful_keeps alone later h.0 m h.2)
 lawful_keeps alone (Asked query heard ∷ later) k m h = both k h.0 m (answer alone query heard k h.0 h.1) (lawful_keeps alone later h.0 m h.2)
 lawful_keeps alone (Routed from facts heard ∷ later) k m h = both k h.0 m (verdict alone from facts heard k h.0 h.1) (lawful_keeps alone later h.0 m h.2)
 lawful_keeps alone (Looked number heard ∷ later) k m h = both k h.0 m (present alone number heard k h.0 h.1) (lawful_keeps alone later h.0 m h.2)

@@ -1,5 +1,5 @@
 -- What is heard of a bus, as its view tells it.
-use Rattle.std.specs.Prelude.{◌≡◌, ℕ, Bool, Option, Some, None, Result, Ok, Err, List, []}
+use Rattle.std.specs.Prelude.{◌≡◌, ℕ, Bool, Option, Some, None, Result, Ok, Err, List, [], Vec}
 use Rattle.seq_bus_core.specs.Answers.{Answer}
 use Rattle.seq_bus_core.specs.declared.outcome.Outcome.{Outcome}
 use Rattle.seq_bus_core.specs.declared.verdict.Verdict.{Verdict}
@@ -9,11 +9,16 @@ use Rattle.bus_view.specs.declared.answer.Asked.{Asked}
 use Rattle.bus_view.specs.declared.answer.Asked.TheVariants.{Body, NameHasNoOwner}
 use Rattle.bus_view.specs.declared.refusal.Cause.{Cause}
 use Rattle.bus_view.specs.declared.refusal.Gone.{Gone}
-use Rattle.router_core.specs.Answers.{Heard, Says, Refuses, Lost, refusal_of, unanswered_for}
+use Rattle.bus_view.specs.declared.refusal.RefusedAll.{RefusedAll}
+use Rattle.router_core.specs.Answers.{Heard, Says, Refuses, Lost, refusal_of, refusal_of_batch, unanswered_for}
 
 abbrev pub heard_change : Result Outcome Cause → Heard Outcome
 heard_change (Ok outcome) = Says outcome
 heard_change (Err why) = Refuses (refusal_of why)
+
+abbrev pub heard_changes : {A : Type 0} → Result (Vec Outcome A) RefusedAll → Heard (List Outcome)
+heard_changes (Ok outcomes) = Says outcomes.items
+heard_changes (Err refused) = Refuses (refusal_of_batch refused.cause)
 
 -- a verdict that is told where there was none
 abbrev pub heard_verdict : {A : Type 0} → Result A Gone → Verdict → Heard Verdict

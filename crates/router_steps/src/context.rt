@@ -1,22 +1,23 @@
 //! What serves connections: the view of the bus, the gate, and the actions so far.
 
-ghost use Rattle.std.specs.Prelude.{◌≡◌, ◌↔◌, ◌<◌, ◌≤◌, ◌+◌, ◌++◌, ◌∷◌, [], length, Option, IfOk, IfSome, IsTrue, false, OnOk, OnErr};
+ghost use Rattle.std.specs.Prelude.{◌≡◌, ◌↔◌, ◌<◌, ◌≤◌, ◌+◌, ◌++◌, ◌∷◌, [], length, Option, IfOk, IfErr, IfSome, IsTrue, false, OnOk, OnErr};
 ghost use Rattle.message_core.specs.Messages.{Message, IsWritten};
 ghost use Rattle.seq_bus_core.specs.declared.limits.TheConstants.{MAX_TICKETS};
-ghost use Rattle.std.specs.List.{list_any};
+ghost use Rattle.std.specs.List.{AllByRecursion, list_any};
 ghost use Rattle.seq_bus_core.specs.Answers.{Answer};
+ghost use Rattle.seq_bus_core.specs.Batches.{IsBatch};
 ghost use Rattle.seq_bus_core.specs.BusState.{is_monitor};
 ghost use Rattle.bus_view.specs.Views.{bus_seen, IsRead};
 ghost use Rattle.outbox_core.specs.Contents.{said_of};
 ghost use Rattle.router_core.specs.Answers.{Heard};
 ghost use Rattle.router_core.specs.Deeds.{Writes, Sends, Puts, Closes, all_of};
-ghost use Rattle.router_core.specs.Scripts.{putting, having_done, Changes, Asks, Routes, Looks, Takes, Passes, Does, Announces, Comes};
+ghost use Rattle.router_core.specs.Scripts.{putting, having_done, Changes, ChangesAll, Asks, Routes, Looks, Takes, Passes, Does, Announces, Comes};
 ghost use Rattle.router_core.specs.Serving.{nothing, run as running};
-ghost use Rattle.router_steps.specs.Hearing.{heard_change, heard_verdict, heard_present, IsTold};
+ghost use Rattle.router_steps.specs.Hearing.{heard_change, heard_changes, heard_verdict, heard_present, IsTold};
 
 use crate::room::{blank_verdict, clear_actions, keep_verdict, push_reserved};
 use crate::verdicts::{is_for_nobody, only_one};
-use bus_view::{AskFault, Asked, BusView, Cause, Gone};
+use bus_view::{AskFault, Asked, BusView, Cause, Gone, RefusedAll};
 use driver::Call;
 use match_rules::Facts;
 use names::BusName;
@@ -271,6 +272,29 @@ impl<V: BusView, G: Gate> Context<V, G> {
         match self.view.change(right, change) {
             Ok((outcome, _)) => Ok(outcome),
             Err(refused) => Err(refused.cause),
+        }
+    }
+
+    /// Makes 1 to 64 changes of the bus together, or hands them back and makes none of them. Each that is made settles 512 tickets at
+    /// most.
+    #[tactic(auto, using(crate::proofs::Refusals::all_lost))]
+    pub fn change_all(
+        &mut self,
+        right: &V::Right,
+        changes: Vec<Change>,
+    ) -> Result<Vec<Outcome>, RefusedAll>
+        requires { IsBatch changes.items }
+        ensures changes { ChangesAll V.alone changes.items self.old.world (heard_changes result)
+            self.new.world }
+        ensures few { IfOk result (λ outcomes.
+            AllByRecursion (λ o. length o.tickets ≤ MAX_TICKETS) outcomes.items) }
+        ensures handed_back { IfErr result (λ refused. refused.changes ≡ changes) }
+        ensures room { self.new.room ≡ self.old.room }
+        ensures crowds { self.new.crowds ≡ self.old.crowds }
+    {
+        match self.view.change_all(right, changes) {
+            Ok((outcomes, _)) => Ok(outcomes),
+            Err(refused) => Err(refused),
         }
     }
 
