@@ -1,6 +1,7 @@
 -- What is done at an event. (D-Bus Specification: "Message Bus Messages", "org.freedesktop.DBus.Hello")
-use Rattle.std.specs.Prelude.{◌≡◌, ℕ, Bool, true, false, Option, Some, None, is_some, is_none, option_map, List, [], ◌∷◌, ◌++◌, length, position, if◌then◌else◌}
+use Rattle.std.specs.Prelude.{◌≡◌, ℕ, Bool, true, false, Option, Some, None, is_some, is_none, option_map, List, [], ◌∷◌, ◌++◌, length, map, ◌==◌, position, if◌then◌else◌}
 use Rattle.std.specs.List.{position_or_len}
+use Rattle.seq_bus_core.specs.Batches.{max_batch}
 use Rattle.seq_bus_core.specs.Histories.{History}
 use Rattle.names.specs.Texts.{Text}
 use Rattle.seq_bus_core.specs.declared.change.Change.{Change}
@@ -39,8 +40,8 @@ use Rattle.router_core.specs.declared.start_end.HowEnded.TheVariants as how
 use Rattle.router_core.specs.Answers.{Heard, Says, Refuses, error_for, is_final}
 use Rattle.router_core.specs.Deeds.{Writes, Sends, Closes, IsOwnNote}
 use Rattle.router_core.specs.Fronts.{Front, Waits, Whole, Faulty}
-use Rattle.router_core.specs.Scripts.{Script, Gives, Changing, Routing, Looking, Noting, Fronting, Gating, Wanting, Requiring, Doing, Announcing, and_then, putting}
-use Rattle.router_core.specs.Serving.{monitors_in, reply_with, fail_all, serve}
+use Rattle.router_core.specs.Scripts.{Script, Gives, Changing, ChangingAll, Routing, Looking, Noting, Fronting, Gating, Wanting, Requiring, Doing, Announcing, and_then, putting}
+use Rattle.router_core.specs.Serving.{Work, nothing, monitors_in, reply_with, fail_all, serve}
 use Rattle.router_core.specs.Standing.{Stage, Authenticating, Unnamed, Named, Shut, Peer, Standing, peer_at, with_peer, opened, conn_of, next_serial, shut, has_slot, is_conn}
 
 -- what happens, in the terms of the definitions; a note is there by the history that it tells
@@ -237,10 +238,40 @@ closed s key (Some p) = leave_of (with_peer s key None) (conn_of p.stage)
 
 -- ## Time
 
--- Leaves that were refused, in order
+-- Leaves that were refused, in order, each by itself
+abbrev pub leave_each : List ℕ → Standing → Stands
+leave_each [] s = Gives s
+leave_each (number ∷ numbers) s = and_then (leave s number) (λ t. leave_each numbers t)
+
+-- the signals of several changes, in order
+abbrev pub announce_all : List Outcome → Work
+announce_all [] = nothing
+announce_all (o ∷ outcomes) = Announcing o.signals (announce_all outcomes)
+
+-- What is refused together is asked for by itself.
+abbrev pub left_together : Standing → List ℕ → Heard (List Outcome) → Stands
+left_together s numbers (Says outcomes) = and_then (announce_all outcomes) (λ done. Gives s)
+left_together s numbers (Refuses refusal) = leave_each numbers s
+
+abbrev pub leave_if : Standing → List ℕ → Bool → Stands
+leave_if s numbers true = ChangingAll (map Leave numbers) (λ heard. left_together s numbers heard)
+leave_if s numbers false = leave_each numbers s
+
+-- in one publication, if there are any
+abbrev pub leave_together : Standing → List ℕ → Stands
+leave_together s [] = Gives s
+leave_together s (number ∷ numbers) = Wanting (λ granted. leave_if s (number ∷ numbers) granted)
+
+-- Those that were gathered are made together once they are as many as may be, or there are no more.
+abbrev pub leave_by : (gathered numbers : List ℕ) → Standing → Stands
+leave_by gathered [] s = leave_together s gathered
+leave_by gathered (number ∷ numbers) s =
+    if length gathered == max_batch then and_then (leave_together s gathered) (λ t. leave_by (number ∷ []) numbers t)
+    else leave_by (gathered ++ number ∷ []) numbers s
+
+-- in order, as many together as may be
 abbrev pub leave_all : List ℕ → Standing → Stands
-leave_all [] s = Gives s
-leave_all (number ∷ numbers) s = and_then (leave s number) (λ t. leave_all numbers t)
+leave_all numbers s = leave_by [] numbers s
 
 abbrev pub looked : ℕ → Peer → Heard Bool → OfPeer
 looked key p (Says false) = closing key cause.Left p

@@ -16,3 +16,4 @@ pub mod Unwatched
 pub mod Answering
 pub mod Turning
 pub mod Stages
+pub mod Gathering

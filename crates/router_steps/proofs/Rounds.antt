@@ -6,7 +6,7 @@ use Rattle.seq_bus_core.specs.declared.connection.Conn.{Conn}
 use Rattle.seq_bus_core.specs.declared.error_kind.ErrorKind.{ErrorKind}
 use Rattle.seq_bus_core.specs.declared.ticket.SettledTicket.{SettledTicket}
 use Rattle.router_core.specs.Deeds.{GatedCall}
-use Rattle.router_core.specs.Events.{leave, leave_all, for_slot, look, look_all}
+use Rattle.router_core.specs.Events.{leave, leave_each, for_slot, look, look_all}
 use Rattle.router_core.specs.Scripts.{World, Comes}
 use Rattle.router_core.specs.Serving.{fail, fail_all, release, release_all}
 use Rattle.router_core.specs.Standing.{Peer, Standing}
@@ -15,11 +15,11 @@ use Rattle.router_steps.proofs.Sequels.{comes_then}
 module _ {N G : Type 0} (told : N → History) (registry_of : N → ℕ) (passes : G → GatedCall → G → Type 0) (alone : Bool) (w m v : World N G) where
   -- the Leave of the next number, then those of the rest
   pub leaves_more : (numbers : List ℕ) (i : ℕ) → i < length numbers → (before after end : Standing) →
-      Comes told registry_of passes alone (leave before (get_or numbers i 0)) w after m → Comes told registry_of passes alone (leave_all (drop (i + 1) numbers) after) m end v →
-      Comes told registry_of passes alone (leave_all (drop i numbers) before) w end v
+      Comes told registry_of passes alone (leave before (get_or numbers i 0)) w after m → Comes told registry_of passes alone (leave_each (drop (i + 1) numbers) after) m end v →
+      Comes told registry_of passes alone (leave_each (drop i numbers) before) w end v
   leaves_more numbers i inside before after end this later =
-      subst (λ ns. Comes told registry_of passes alone (leave_all ns before) w end v) (sym (drop_more numbers i 0 inside))
-      (comes_then told registry_of passes alone (λ t. leave_all (drop (i + 1) numbers) t) after m end v later (leave before (get_or numbers i 0)) w this)
+      subst (λ ns. Comes told registry_of passes alone (leave_each ns before) w end v) (sym (drop_more numbers i 0 inside))
+      (comes_then told registry_of passes alone (λ t. leave_each (drop (i + 1) numbers) t) after m end v later (leave before (get_or numbers i 0)) w this)
 
   -- the next call that waited is released, then the rest
   pub releases_more : (owner : Conn) (t : SettledTicket) (rest tickets : List SettledTicket) → tickets ≡ t ∷ rest →

@@ -10,3 +10,4 @@ pub mod Refusing
 pub mod Pending
 pub mod Reading
 pub mod Quiet
+pub mod Parts

@@ -1,15 +1,33 @@
 //! The Leaves of the numbers of connections that are gone.
 
-ghost use Rattle.std.specs.Prelude.{◌≡◌, ◌<◌, ◌≤◌, ◌+◌, length, vec_len, vec_capacity};
-ghost use Rattle.router_core.specs.Events.{leave as leaving, leave_of as leaving_of, leave_all as leaving_all};
-ghost use Rattle.router_core.specs.Scripts.{Comes};
+ghost use Rattle.std.specs.Prelude.{◌≡◌, ◌<◌, ◌≤◌, ◌+◌, length, drop, map, vec_len, vec_capacity, true, IfOk};
+ghost use Rattle.seq_bus_core.specs.Batches.{IsBatch, max_batch};
+ghost use Rattle.seq_bus_core.specs.declared.change.Change.TheVariants.{Leave};
+ghost use Rattle.router_core.specs.Events.{leave as leaving, leave_of as leaving_of, leave_each as leaving_each, leave_if as leaving_if, leave_together as leaving_together, leave_by as leaving_by, leave_all as leaving_all, announce_all as announcing_all};
+ghost use Rattle.router_core.specs.Scripts.{World, Comes};
 ghost use Rattle.router_core.specs.Standing.{Standing};
+ghost use Rattle.router_steps.specs.Parts.{part};
 
 use crate::context::Context;
 use crate::room::push_reserved;
 use bus_view::BusView;
 use router_core::Gate;
-use seq_bus_core::{Change, Conn};
+use seq_bus_core::limits::MAX_BATCH;
+use seq_bus_core::{Change, Conn, Outcome};
+use std::alloc::{AllocError, Global};
+
+/// The Leaves of these numbers, in order.
+fn leaves_of(alloc: Global, numbers: &[u64]) -> Result<Vec<Change>, AllocError>
+    ensures { IfOk result (λ changes. changes.items ≡ map Leave numbers.now) }
+{
+    let mut changes = Vec::with_capacity(alloc, numbers.len())?;
+    for number in numbers {
+        changes.push(Change::Leave {
+            connection: *number,
+        })?;
+    }
+    Ok(changes)
+}
 
 impl<V: BusView, G: Gate> Context<V, G> {
     /// Makes the Leave of a number and announces it. A Leave that is refused is kept.
@@ -45,7 +63,120 @@ impl<V: BusView, G: Gate> Context<V, G> {
         }
     }
 
-    /// Makes the Leaves of these numbers, in order. Those that are refused are kept.
+    /// Makes the Leaves of these numbers, in order, each by itself. Those that are refused are kept.
+    fn leave_each(&mut self, right: &V::Right, numbers: &[u64], leaves: &mut Vec<u64>)
+        requires room { length numbers.now ≤ self.old.room }
+        requires spare { vec_len leaves.old + length numbers.now ≤ vec_capacity leaves.old }
+        ensures comes { (s : Standing) →
+            Comes V.told V.registry_of G.passes V.alone
+            (leaving_each numbers.now (record s { leaves = leaves.old.items })) self.old.world
+            (record s { leaves = leaves.new.items }) self.new.world }
+        ensures room { self.old.room ≤ self.new.room + length numbers.now }
+        ensures len { vec_len leaves.new ≤ vec_len leaves.old + length numbers.now }
+        ensures capacity { vec_capacity leaves.old ≤ vec_capacity leaves.new }
+    {
+        for number in numbers {
+            self.leave(right, *number, leaves);
+        }
+    }
+
+    /// Announces several changes, in order.
+    fn announce_all(&mut self, outcomes: Vec<Outcome>)
+        requires { length outcomes.items ≤ self.old.room }
+        ensures comes { Comes V.told V.registry_of G.passes V.alone
+            (announcing_all outcomes.items) self.old.world tt self.new.world }
+        ensures room { self.old.room ≤ self.new.room + length outcomes.items }
+    {
+        for outcome in outcomes {
+            self.announce(outcome.signals);
+        }
+    }
+
+    /// Makes the Leaves of these numbers together, and announces them in order. Where there is no memory for that each is made by itself.
+    /// Those that are refused are kept.
+    fn leave_batch(
+        &mut self,
+        right: &V::Right,
+        numbers: &[u64],
+        changes: Vec<Change>,
+        leaves: &mut Vec<u64>,
+    )
+        requires leaves { changes.items ≡ map Leave numbers.now }
+        requires batch { IsBatch changes.items }
+        requires room { length numbers.now ≤ self.old.room }
+        requires spare { vec_len leaves.old + length numbers.now ≤ vec_capacity leaves.old }
+        ensures comes { (s : Standing) →
+            Comes V.told V.registry_of G.passes V.alone
+            (leaving_if (record s { leaves = leaves.old.items }) numbers.now true) self.old.world
+            (record s { leaves = leaves.new.items }) self.new.world }
+        ensures room { self.old.room ≤ self.new.room + length numbers.now }
+        ensures len { vec_len leaves.new ≤ vec_len leaves.old + length numbers.now }
+        ensures capacity { vec_capacity leaves.old ≤ vec_capacity leaves.new }
+    {
+        match self.change_all(right, changes) {
+            Ok(outcomes) => self.announce_all(outcomes),
+            Err(_) => self.leave_each(right, numbers, leaves),
+        }
+    }
+
+    /// Makes the Leaves of 64 numbers at most together, if there are any. Those that are refused are kept.
+    fn leave_together(&mut self, right: &V::Right, numbers: &[u64], leaves: &mut Vec<u64>)
+        requires few { length numbers.now ≤ max_batch }
+        requires room { length numbers.now ≤ self.old.room }
+        requires spare { vec_len leaves.old + length numbers.now ≤ vec_capacity leaves.old }
+        ensures comes { (s : Standing) →
+            Comes V.told V.registry_of G.passes V.alone
+            (leaving_together (record s { leaves = leaves.old.items }) numbers.now) self.old.world
+            (record s { leaves = leaves.new.items }) self.new.world }
+        ensures room { self.old.room ≤ self.new.room + length numbers.now }
+        ensures len { vec_len leaves.new ≤ vec_len leaves.old + length numbers.now }
+        ensures capacity { vec_capacity leaves.old ≤ vec_capacity leaves.new }
+    {
+        if numbers.is_empty() {
+            return;
+        }
+        match leaves_of(self.alloc, numbers) {
+            Ok(changes) => self.leave_batch(right, numbers, changes, leaves),
+            Err(_) => self.leave_each(right, numbers, leaves),
+        }
+    }
+
+    /// Makes the Leaves of the numbers from `start` up to `place` together, once they are 64. Where those begin that are not made yet.
+    fn leave_full(
+        &mut self,
+        right: &V::Right,
+        numbers: &[u64],
+        start: usize,
+        place: usize,
+        leaves: &mut Vec<u64>,
+    ) -> usize
+        requires there { place < length numbers.now }
+        requires within { start ≤ place }
+        requires few { place ≤ start + max_batch }
+        requires room { length numbers.now ≤ self.old.room + start }
+        requires spare { vec_len leaves.old + length numbers.now ≤ vec_capacity leaves.old + start }
+        ensures comes { (s end : Standing) (v : World V.Note G) →
+            Comes V.told V.registry_of G.passes V.alone
+            (leaving_by (part numbers.now result (place + 1)) (drop (place + 1) numbers.now)
+            (record s { leaves = leaves.new.items })) self.new.world end v →
+            Comes V.told V.registry_of G.passes V.alone
+            (leaving_by (part numbers.now start place) (drop place numbers.now)
+            (record s { leaves = leaves.old.items })) self.old.world end v }
+        ensures start { start ≤ result }
+        ensures within { result ≤ place }
+        ensures few { place + 1 ≤ result + max_batch }
+        ensures room { self.old.room + start ≤ self.new.room + result }
+        ensures len { vec_len leaves.new + start ≤ vec_len leaves.old + result }
+        ensures capacity { vec_capacity leaves.old ≤ vec_capacity leaves.new }
+    {
+        if place - start < MAX_BATCH {
+            return start;
+        }
+        self.leave_together(right, &numbers[start..place], leaves);
+        place
+    }
+
+    /// Makes the Leaves of these numbers, in order, 64 at most together. Those that are refused are kept.
     pub fn leave_all(&mut self, right: &V::Right, numbers: &[u64], leaves: &mut Vec<u64>)
         requires room { length numbers.now ≤ self.old.room }
         requires spare { vec_len leaves.old + length numbers.now ≤ vec_capacity leaves.old }
@@ -55,8 +186,10 @@ impl<V: BusView, G: Gate> Context<V, G> {
             (record s { leaves = leaves.new.items }) self.new.world }
         ensures room { self.old.room ≤ self.new.room + length numbers.now }
     {
-        for number in numbers {
-            self.leave(right, *number, leaves);
+        let mut start = 0;
+        for place in 0..numbers.len() {
+            start = self.leave_full(right, numbers, start, place, leaves);
         }
+        self.leave_together(right, &numbers[start..], leaves);
     }
 }

@@ -1,14 +1,19 @@
-use Rattle.std.proofs.Common.{◌+◌, ◌≤◌, length, drop, vec_len, vec_capacity}
-use Rattle.router_core.specs.Events.{leave_all}
+use Rattle.std.proofs.Common.{◌+◌, ◌≤◌, [], drop, vec_len, vec_capacity}
+use Rattle.seq_bus_core.specs.Batches.{max_batch}
+use Rattle.router_core.specs.Events.{leave_by}
 use Rattle.router_core.specs.Scripts.{World, Comes}
 use Rattle.router_core.specs.Standing.{Standing}
+use Rattle.router_steps.specs.Parts.{part}
 use Rattle.router_steps.proofs.context.Context.leave_all.Given as goal
 
-abbrev pub invariant-loop-number : goal.invariant-loop-number
-invariant-loop-number g l = record {
-  room : l.initial.self.room ≤ l.self.room + l.number-index;
-  spare : vec_len l.leaves + length l.numbers ≤ vec_capacity l.leaves + l.number-index;
+abbrev pub invariant-loop-place : goal.invariant-loop-place
+invariant-loop-place g l = record {
+  within : l.start ≤ l.place;
+  few : l.place ≤ l.start + max_batch;
+  room : l.initial.self.room ≤ l.self.room + l.start;
+  len : vec_len l.leaves ≤ vec_len l.initial.leaves + l.start;
+  capacity : vec_capacity l.initial.leaves ≤ vec_capacity l.leaves;
   comes : (s : Standing) (end : Standing) (v : World g.row.V-Note.Denot g.row.G.Denot) →
-      Comes g.V.BusView.told g.V.BusView.registry_of g.G.Gate.passes g.V.BusView.alone (leave_all (drop l.number-index l.numbers) (record s { leaves = l.leaves.items })) l.self.world end v →
-      Comes g.V.BusView.told g.V.BusView.registry_of g.G.Gate.passes g.V.BusView.alone (leave_all l.numbers (record s { leaves = l.initial.leaves.items })) l.initial.self.world end v;
+      Comes g.V.BusView.told g.V.BusView.registry_of g.G.Gate.passes g.V.BusView.alone (leave_by (part l.numbers l.start l.place) (drop l.place l.numbers) (record s { leaves = l.leaves.items })) l.self.world end v →
+      Comes g.V.BusView.told g.V.BusView.registry_of g.G.Gate.passes g.V.BusView.alone (leave_by [] l.numbers (record s { leaves = l.initial.leaves.items })) l.initial.self.world end v;
 }

@@ -1,7 +1,7 @@
 use Rattle.std.proofs.Common.{◌<◌, length, arith}
 use Rattle.router_core.specs.Standing.{Standing}
 use Rattle.router_steps.proofs.Rounds.{leaves_more}
-use Rattle.router_steps.proofs.context.Context.leave_all.Goals as goal
+use Rattle.router_steps.proofs.context.Context.leave_each.Goals as goal
 
 pub loop-number-preserved : goal.loop-number-preserved
 loop-number-preserved g c =
@@ -10,6 +10,8 @@ loop-number-preserved g c =
     record {
       room = omega arith;
       spare = omega arith;
+      len = omega arith;
+      capacity = omega arith;
       comes = λ s end v later.
           let before : Standing = record s { leaves = c.loop-number.leaves.items } in
           let after : Standing = record s { leaves = c.leave.new.leaves.items } in

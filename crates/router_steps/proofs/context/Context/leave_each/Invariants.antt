@@ -1,0 +1,16 @@
+use Rattle.std.proofs.Common.{◌+◌, ◌≤◌, length, drop, vec_len, vec_capacity}
+use Rattle.router_core.specs.Events.{leave_each}
+use Rattle.router_core.specs.Scripts.{World, Comes}
+use Rattle.router_core.specs.Standing.{Standing}
+use Rattle.router_steps.proofs.context.Context.leave_each.Given as goal
+
+abbrev pub invariant-loop-number : goal.invariant-loop-number
+invariant-loop-number g l = record {
+  room : l.initial.self.room ≤ l.self.room + l.number-index;
+  spare : vec_len l.leaves + length l.numbers ≤ vec_capacity l.leaves + l.number-index;
+  len : vec_len l.leaves ≤ vec_len l.initial.leaves + l.number-index;
+  capacity : vec_capacity l.initial.leaves ≤ vec_capacity l.leaves;
+  comes : (s : Standing) (end : Standing) (v : World g.row.V-Note.Denot g.row.G.Denot) →
+      Comes g.V.BusView.told g.V.BusView.registry_of g.G.Gate.passes g.V.BusView.alone (leave_each (drop l.number-index l.numbers) (record s { leaves = l.leaves.items })) l.self.world end v →
+      Comes g.V.BusView.told g.V.BusView.registry_of g.G.Gate.passes g.V.BusView.alone (leave_each l.numbers (record s { leaves = l.initial.leaves.items })) l.initial.self.world end v;
+}
