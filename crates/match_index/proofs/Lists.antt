@@ -28,6 +28,19 @@ behind_place P [] (suc i) h = tt
 behind_place P (x ∷ xs) zero h = (h 0 x (omega arith) (omega arith), behind_place P xs zero (λ k d low high. h (suc k) d (omega arith) (omega (arith, high))))
 behind_place P (x ∷ xs) (suc i) h = behind_place P xs i (λ k d low high. h (suc k) d (omega (arith, low)) (omega (arith, high)))
 
+pub each_taken : {X : Type 0} (P : X → Type 0) (xs : List X) (i j : ℕ) → i ≤ j → Each P (take j xs) → Each P (take i xs)
+each_taken P xs zero j le h = tt
+each_taken P [] (suc i) j le h = tt
+each_taken P (x ∷ xs) (suc i) zero le h = absurd (omega (arith, le))
+each_taken P (x ∷ xs) (suc i) (suc j) le h = (h.0, each_taken P xs i j (omega (arith, le)) h.1)
+
+pub each_dropped : {X : Type 0} (P : X → Type 0) (xs : List X) (i j : ℕ) → i ≤ j → Each P (drop i xs) → Each P (drop j xs)
+each_dropped P xs zero zero le h = h
+each_dropped P [] i (suc j) le h = tt
+each_dropped P (x ∷ xs) zero (suc j) le h = each_dropped P xs zero j (omega arith) h.1
+each_dropped P xs (suc i) zero le h = absurd (omega (arith, le))
+each_dropped P (x ∷ xs) (suc i) (suc j) le h = each_dropped P xs i j (omega (arith, le)) h
+
 pub each_inserted : {X : Type 0} (P : X → Type 0) (xs : List X) (i : ℕ) (y : X) → Each P xs → P y → Each P (insert xs i y)
 each_inserted P xs zero y h p = (p, h)
 each_inserted P [] (suc i) y h p = (p, tt)

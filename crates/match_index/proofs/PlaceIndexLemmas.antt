@@ -1,9 +1,9 @@
--- Places of rules by rising key.
+-- Places by rising key.
 use Rattle.std.proofs.Common.{◌≡◌, ℕ, zero, suc, ◌+◌, ◌<◌, ◌≤◌, ◌==◌, nat_lt, nat_le, Bool, true, false, cond, List, [], ◌∷◌, ◌++◌, map, filter, length, take, drop, insert, remove, get_or, set, refl, sym, ap, ◌∙◌, subst, arith}
 use Rattle.std.specs.List.{AllByRecursion as Each}
 use Rattle.std.proofs.lemmas.Bool.{eq-eqb, ne_eqb, eqb-true}
 use Rattle.std.proofs.lemmas.Bool.Decides.{nat_tests}
-use Rattle.match_index.proofs.Lists.{each_weaker, pairs_inserted, pairs_removed}
+use Rattle.match_index.proofs.Lists.{each_weaker, each_taken, each_dropped, pairs_inserted, pairs_removed}
 use Rattle.match_index.specs.PlaceIndexes.{places_of, places_in, ByKey}
 use Rattle.match_index.specs.declared.place_index.Place.{Place}
 
@@ -164,6 +164,25 @@ added_other c (suc i) (x ∷ xs) y differs = by_test (x.key == c) (added_other c
     by_test true h = ap (λ rest. x ∷ rest) h
     by_test false h = h
 
+-- a place at a number among those of its key
+pub inserted_own : (c n i : ℕ) (xs : List Place) (y : Place) (low high : ℕ) → IsOwnPart c xs low high → y.key ≡ c → n ≤ length (own c xs) → i ≡ low + n → own c (insert xs i y) ≡ insert (own c xs) n y
+inserted_own c zero zero xs y low high h same le is = own_first c y xs same
+inserted_own c zero (suc i) [] y low high h same le is = own_first c y [] same
+inserted_own c (suc n) i [] y low high h same le is = absurd (omega (arith, le))
+inserted_own c (suc n) zero (x ∷ xs) y low high h same le is = absurd (omega (arith, is))
+inserted_own c n (suc i) (x ∷ xs) y zero zero h same le is = let none : length (own c (x ∷ xs)) ≡ 0 = ap length (none_above c (x ∷ xs) h.above) in absurd (omega (arith, none, le, is))
+inserted_own c zero (suc i) (x ∷ xs) y zero (suc high) h same le is = absurd (omega (arith, is))
+inserted_own c (suc n) (suc i) (x ∷ xs) y zero (suc high) h same le is =
+    let its = front_own c x xs high h in
+    let less : suc n ≤ suc (length (own c xs)) = subst (λ k. suc n ≤ k) (ap length (own_first c x xs its)) le in
+    let rest : own c (insert xs i y) ≡ insert (own c xs) n y = inserted_own c n i xs y 0 high (front_part c x xs high h) same (omega (arith, less)) (omega (arith, is)) in
+    own_first c x (insert xs i y) its ∙ ap (λ more. x ∷ more) rest ∙ sym (ap (λ ys. insert ys (suc n) y) (own_first c x xs its))
+inserted_own c n (suc i) (x ∷ xs) y (suc low) zero h same le is = absurd (crossed c x xs low h)
+inserted_own c n (suc i) (x ∷ xs) y (suc low) (suc high) h same le is =
+    let differs = front_other c x xs low (suc high) h in
+    let its : own c (x ∷ xs) ≡ own c xs = other_first c x xs differs in
+    other_first c x (insert xs i y) differs ∙ inserted_own c n i xs y low high (tail_part c x xs low high h) same (subst (λ k. n ≤ k) (ap length its) le) (omega (arith, is)) ∙ sym (ap (λ ys. insert ys n y) its)
+
 pub taken_own : (c n i : ℕ) (xs : List Place) (low high : ℕ) → IsOwnPart c xs low high → n < length (own c xs) → i ≡ low + n → own c (remove xs i) ≡ remove (own c xs) n
 taken_own c n i [] low high h lt is = absurd (omega (arith, lt))
 taken_own c n i (x ∷ xs) zero zero h lt is = let none : length (own c (x ∷ xs)) ≡ 0 = ap length (none_above c (x ∷ xs) h.above) in absurd (omega (arith, none, lt))
@@ -204,6 +223,11 @@ taken_other k c n (suc i) (x ∷ xs) (suc low) (suc high) h lt is other =
     by_test true h = ap (λ rest. x ∷ rest) h
     by_test false h = h
 
+pub places_inserted : (n : ℕ) (xs : List Place) (y : Place) → places_in (insert xs n y) ≡ insert (places_in xs) n y.place
+places_inserted zero xs y = refl
+places_inserted (suc n) [] y = refl
+places_inserted (suc n) (x ∷ xs) y = ap (λ rest. x.place ∷ rest) (places_inserted n xs y)
+
 pub places_removed : (n : ℕ) (xs : List Place) → places_in (remove xs n) ≡ remove (places_in xs) n
 places_removed zero [] = refl
 places_removed (suc n) [] = refl
@@ -215,6 +239,12 @@ places_removed (suc n) (x ∷ xs) = ap (λ rest. x.place ∷ rest) (places_remov
 pub sorted_added : (xs : List Place) (i : ℕ) (y : Place) → ByKey xs → Each (λ p. p.key ≤ y.key) (take i xs) → Each (λ p. y.key < p.key) (drop i xs) → ByKey (insert xs i y)
 sorted_added xs i y h before behind =
     pairs_inserted (λ a b. a.key ≤ b.key) xs i y h before (each_weaker (λ p. y.key < p.key) (λ p. y.key ≤ p.key) (λ p up. omega (arith, up)) (drop i xs) behind)
+
+pub sorted_inserted : (c n : ℕ) (xs : List Place) (y : Place) (low high : ℕ) → IsOwnPart c xs low high → y.key ≡ c → n ≤ length (own c xs) → ByKey xs → ByKey (insert xs (low + n) y)
+sorted_inserted c n xs y low high part same le h =
+    let within : low + n ≤ high = omega (arith, le, own_length c xs low high part) in
+    pairs_inserted (λ a b. a.key ≤ b.key) xs (low + n) y h (subst (λ k. Each (λ p. p.key ≤ k) (take (low + n) xs)) (sym same) (each_taken (λ p. p.key ≤ c) xs (low + n) high within part.not_above))
+    (subst (λ k. Each (λ p. k ≤ p.key) (drop (low + n) xs)) (sym same) (each_dropped (λ p. c ≤ p.key) xs low (low + n) (omega arith) part.not_below))
 
 pub sorted_taken : (xs : List Place) (i : ℕ) → ByKey xs → ByKey (remove xs i)
 sorted_taken xs i h = pairs_removed (λ a b. a.key ≤ b.key) xs i h

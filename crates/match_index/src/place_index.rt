@@ -14,8 +14,9 @@ pub struct Place {
     pub place: usize,
 }
 
-/// Places by rising key, so that those of a key are found by a binary search, and of one key in the
-/// order in which they were added. There is room for so many.
+/// Places by rising key, so that those of a key are found by a binary search. In which order those
+/// of one key stand is up to the caller: each comes behind the others of its key, or at a number
+/// among them. There is room for so many.
 #[derive(Drop)]
 pub struct PlaceIndex {
     room: usize,
@@ -81,6 +82,21 @@ impl PlaceIndex {
     {
         let end = end_of(self.places.as_slice(), key);
         insert_reserved(&mut self.places, end, Place { key, place });
+    }
+
+    /// One more place of a key, at this number among its others, counted from 0.
+    pub fn insert(&mut self, key: u64, n: usize, place: usize)
+        requires there { n ≤ length (places_of key self.old.places) }
+        requires few { length self.old.places < self.old.room }
+        ensures own { places_of key self.new.places
+            ≡ insert (places_of key self.old.places) n place }
+        ensures others { (k : ℕ) → (key == k) ≡ false → places_of k self.new.places
+            ≡ places_of k self.old.places }
+        ensures all { length self.new.places ≡ length self.old.places + 1 }
+        ensures room { self.new.room ≡ self.old.room }
+    {
+        let start = start_of(self.places.as_slice(), key);
+        insert_reserved(&mut self.places, start + n, Place { key, place });
     }
 
     /// Takes out one of the places of a key, counted from 0.
