@@ -17,7 +17,7 @@ use Rattle.seq_bus_core.proofs.Lists.{each_weaker, each_always, each_passing}
 use Rattle.seq_bus_core.proofs.TextLemmas.{text_lt-trans, text_eq-true, text_eq-swapped, text_lt-itself, text_lt-back, text_lt-other}
 use Rattle.registry_core.specs.NameTables.{NamesRise, AreOwned, AreInTable, IsAt, WouldStand, SearchGives, are_within}
 use Rattle.registry_core.proofs.CountLemmas.{one_if_in, left_length}
-use Rattle.registry_core.proofs.IndexLemmas.{each_at as each_passed}
+use Rattle.match_index.proofs.Lists.{each_at as each_passed}
 
 abbrev pub Below : OwnedName → OwnedName → Type 0
 Below a b = text_lt a.name b.name ≡ true

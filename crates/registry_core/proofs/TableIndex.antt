@@ -1,21 +1,21 @@
 -- A table of names and its index.
-use Rattle.std.proofs.Common.{◌≡◌, ℕ, zero, suc, ◌+◌, ◌<◌, ◌≤◌, ◌==◌, nat_lt, Bool, true, false, ◌&&◌, if◌then◌else◌, List, [], ◌∷◌, ◌++◌, map, filter, length, take, drop, insert, remove, get_or, refl, sym, ap, ◌∙◌, subst, arith}
+use Rattle.std.proofs.Common.{◌≡◌, ℕ, zero, suc, ◌+◌, ◌<◌, ◌≤◌, ◌==◌, nat_lt, Bool, true, false, if◌then◌else◌, List, [], ◌∷◌, ◌++◌, map, filter, length, take, drop, insert, remove, get_or, refl, sym, ap, ◌∙◌, subst, arith}
 use Rattle.std.specs.List.{AllByRecursion as Each, sum_by}
 use Rattle.std.proofs.Math.ListN.{set}
-use Rattle.std.proofs.lemmas.Bool.{true≢false, or_parts, eq-eqb, eqb-true, ne_eqb}
+use Rattle.std.proofs.lemmas.Bool.{true≢false, eq-eqb, eqb-true, ne_eqb}
 use Rattle.std.proofs.lemmas.Bool.Decides.{nat_tests}
 use Rattle.std.proofs.lemmas.List.Sums.{sum_by-cons, sum_by-append, sum_by-set, sum_by-insert, sum_by-remove, sum_by-le-sum_by, get_or-le-sum_by}
 use Rattle.names.specs.Texts.{Text, text_lt}
 use Rattle.owner_queues.specs.Queues.{is_in}
 use Rattle.seq_bus_core.specs.BusState.{OwnedName, names_of, max_names}
-use Rattle.seq_bus_core.specs.Consistency.{Pairwise}
 use Rattle.seq_bus_core.proofs.Lists.{each_weaker}
 use Rattle.seq_bus_core.proofs.TextLemmas.{text_lt-itself}
-use Rattle.registry_core.specs.NameIndexes.{IndexedNames, held, held_here, ids_of, name_at, comes_before, AreSorted}
+use Rattle.match_index.specs.PlaceIndexes.{Pairwise, places_of}
+use Rattle.match_index.proofs.Lists.{each_at, each_inserted, each_removed}
+use Rattle.registry_core.specs.NameIndexes.{IndexedNames, held, name_at, AreSorted}
 use Rattle.registry_core.specs.NameTables.{owned_name, NamesRise, Entry, numbered, waits_here, AreIndexed}
-use Rattle.registry_core.specs.declared.name_index.Holding.{Holding}
 use Rattle.registry_core.proofs.CountLemmas.{one_if_in}
-use Rattle.registry_core.proofs.IndexLemmas.{each_at, each_set, each_inserted, each_removed}
+use Rattle.registry_core.proofs.IndexLemmas.{one_at, times}
 
 abbrev name_in : Entry → OwnedName
 name_in e = owned_name e.value
@@ -24,6 +24,11 @@ abbrev has_number : ℕ → Entry → ℕ
 has_number i e = if e.value.id == i then 1 else 0
 
 -- ## Edits
+
+each_set : {X : Type 0} (P : X → Type 0) (xs : List X) (i : ℕ) (y : X) → Each P xs → P y → Each P (set xs i y)
+each_set P [] i y h p = tt
+each_set P (x ∷ xs) zero y h p = (p, h.1)
+each_set P (x ∷ xs) (suc i) y h p = (h.0, each_set P xs i y h.1 p)
 
 waits_own : (c i : ℕ) (e : Entry) → e.value.id ≡ i → waits_here c i e ≡ one_if_in c e.value.queue
 waits_own c i e same = rw (eq-eqb e.value.id i same) refl
@@ -35,16 +40,16 @@ same_number : (i : ℕ) (b e : Entry) → e.value.id ≡ b.value.id → has_numb
 same_number i b e same = ap (λ k. if k == i then 1 else 0) same
 
 -- each place of a queue is in the index
-pub waits_at : (entries spare : List Entry) (place c : ℕ) (b : Entry) (x : IndexedNames) (queued : ℕ) → AreIndexed entries spare x queued → place < length entries → b ≡ get_or entries place b → one_if_in c b.value.queue ≤ held c b.value.id x.holdings
+pub waits_at : (entries spare : List Entry) (place c : ℕ) (b : Entry) (x : IndexedNames) (queued : ℕ) → AreIndexed entries spare x queued → place < length entries → b ≡ get_or entries place b → one_if_in c b.value.queue ≤ held c b.value.id x.places
 waits_at entries spare place c b x queued h lt is =
     let part : waits_here c b.value.id (get_or entries place b) ≤ sum_by (waits_here c b.value.id) entries = get_or-le-sum_by (waits_here c b.value.id) entries place b lt in
     let at : waits_here c b.value.id (get_or entries place b) ≡ one_if_in c b.value.queue = ap (waits_here c b.value.id) (sym is) ∙ waits_own c b.value.id b refl in
-    let all : held c b.value.id x.holdings ≡ sum_by (waits_here c b.value.id) entries = h.places c b.value.id in
+    let all : held c b.value.id x.places ≡ sum_by (waits_here c b.value.id) entries = h.places c b.value.id in
     omega (arith, part, at, all)
 
 pub indexed_set : (entries spare : List Entry) (place : ℕ) (b e : Entry) (x y : IndexedNames) (queued after : ℕ) → AreIndexed entries spare x queued → place < length entries → b ≡ get_or entries place b → e.value.id ≡ b.value.id →
-    e.value.name ≡ b.value.name → y.names ≡ x.names → ((c : ℕ) → held c b.value.id y.holdings + one_if_in c b.value.queue ≡ held c b.value.id x.holdings + one_if_in c e.value.queue) →
-    ((c i : ℕ) → (b.value.id == i) ≡ false → held c i y.holdings ≡ held c i x.holdings) → length y.holdings ≡ after → AreIndexed (set entries place e) spare y after
+    e.value.name ≡ b.value.name → y.names ≡ x.names → ((c : ℕ) → held c b.value.id y.places + one_if_in c b.value.queue ≡ held c b.value.id x.places + one_if_in c e.value.queue) →
+    ((c i : ℕ) → (b.value.id == i) ≡ false → held c i y.places ≡ held c i x.places) → length y.places ≡ after → AreIndexed (set entries place e) spare y after
 indexed_set entries spare place b e x y queued after h lt is id name names its others all = record { once = once; named = named; places = places; all = all }
   where
     once : (i : ℕ) → numbered i (set entries place e) + numbered i spare ≤ (if nat_lt i max_names then 1 else 0)
@@ -61,28 +66,28 @@ indexed_set entries spare place b e x y queued after h lt is id name names its o
         let its_name : name_at y.names b.value.id ≡ b.value.name = subst (λ (d : Entry). name_at y.names d.value.id ≡ d.value.name) (sym is) (each_at (λ (d : Entry). name_at y.names d.value.id ≡ d.value.name) entries place b before lt) in
         each_set (λ d. name_at y.names d.value.id ≡ d.value.name) entries place e before (ap (name_at y.names) id ∙ its_name ∙ sym name)
 
-    places : (c i : ℕ) → held c i y.holdings ≡ sum_by (waits_here c i) (set entries place e)
+    places : (c i : ℕ) → held c i y.places ≡ sum_by (waits_here c i) (set entries place e)
     places c i = by_test (b.value.id == i) refl
       where
-        by_test : (t : Bool) → (b.value.id == i) ≡ t → held c i y.holdings ≡ sum_by (waits_here c i) (set entries place e)
+        by_test : (t : Bool) → (b.value.id == i) ≡ t → held c i y.places ≡ sum_by (waits_here c i) (set entries place e)
         by_test true same =
             let number : b.value.id ≡ i = eqb-true b.value.id i same in
             let whole : sum_by (waits_here c i) (set entries place e) + waits_here c i (get_or entries place b) ≡ sum_by (waits_here c i) entries + waits_here c i e = sum_by-set (waits_here c i) entries place e b lt in
             let at : waits_here c i (get_or entries place b) ≡ one_if_in c b.value.queue = ap (waits_here c i) (sym is) ∙ waits_own c i b number in
             let new : waits_here c i e ≡ one_if_in c e.value.queue = waits_own c i e (id ∙ number) in
-            let before : held c i x.holdings ≡ sum_by (waits_here c i) entries = h.places c i in
-            let change : held c i y.holdings + one_if_in c b.value.queue ≡ held c i x.holdings + one_if_in c e.value.queue = subst (λ k. held c k y.holdings + one_if_in c b.value.queue ≡ held c k x.holdings + one_if_in c e.value.queue) number (its c) in
+            let before : held c i x.places ≡ sum_by (waits_here c i) entries = h.places c i in
+            let change : held c i y.places + one_if_in c b.value.queue ≡ held c i x.places + one_if_in c e.value.queue = subst (λ k. held c k y.places + one_if_in c b.value.queue ≡ held c k x.places + one_if_in c e.value.queue) number (its c) in
             omega (arith, whole, at, new, before, change)
         by_test false other =
             let whole : sum_by (waits_here c i) (set entries place e) + waits_here c i (get_or entries place b) ≡ sum_by (waits_here c i) entries + waits_here c i e = sum_by-set (waits_here c i) entries place e b lt in
             let at : waits_here c i (get_or entries place b) ≡ 0 = ap (waits_here c i) (sym is) ∙ waits_other c i b other in
             let new : waits_here c i e ≡ 0 = waits_other c i e (ap (λ k. k == i) id ∙ other) in
-            let before : held c i x.holdings ≡ sum_by (waits_here c i) entries = h.places c i in
-            let change : held c i y.holdings ≡ held c i x.holdings = others c i other in
+            let before : held c i x.places ≡ sum_by (waits_here c i) entries = h.places c i in
+            let change : held c i y.places ≡ held c i x.places = others c i other in
             omega (arith, whole, at, new, before, change)
 
 pub indexed_removed : (entries spare : List Entry) (place : ℕ) (b : Entry) (x y : IndexedNames) (queued after : ℕ) → AreIndexed entries spare x queued → place < length entries → b ≡ get_or entries place b → y.names ≡ x.names →
-    ((c : ℕ) → held c b.value.id y.holdings + one_if_in c b.value.queue ≡ held c b.value.id x.holdings) → ((c i : ℕ) → (b.value.id == i) ≡ false → held c i y.holdings ≡ held c i x.holdings) → length y.holdings ≡ after →
+    ((c : ℕ) → held c b.value.id y.places + one_if_in c b.value.queue ≡ held c b.value.id x.places) → ((c i : ℕ) → (b.value.id == i) ≡ false → held c i y.places ≡ held c i x.places) → length y.places ≡ after →
     AreIndexed (remove entries place) (spare ++ b ∷ []) y after
 indexed_removed entries spare place b x y queued after h lt is names its others all = record { once = once; named = named; places = places; all = all }
   where
@@ -98,22 +103,22 @@ indexed_removed entries spare place b x y queued after h lt is names its others 
     named : Each (λ d. name_at y.names d.value.id ≡ d.value.name) (remove entries place)
     named = each_removed (λ d. name_at y.names d.value.id ≡ d.value.name) entries place (subst (λ ns. Each (λ d. name_at ns d.value.id ≡ d.value.name) entries) (sym names) h.named)
 
-    places : (c i : ℕ) → held c i y.holdings ≡ sum_by (waits_here c i) (remove entries place)
+    places : (c i : ℕ) → held c i y.places ≡ sum_by (waits_here c i) (remove entries place)
     places c i = by_test (b.value.id == i) refl
       where
-        by_test : (t : Bool) → (b.value.id == i) ≡ t → held c i y.holdings ≡ sum_by (waits_here c i) (remove entries place)
+        by_test : (t : Bool) → (b.value.id == i) ≡ t → held c i y.places ≡ sum_by (waits_here c i) (remove entries place)
         by_test true same =
             let number : b.value.id ≡ i = eqb-true b.value.id i same in
             let whole : sum_by (waits_here c i) (remove entries place) + waits_here c i (get_or entries place b) ≡ sum_by (waits_here c i) entries = sum_by-remove (waits_here c i) entries place b lt in
             let at : waits_here c i (get_or entries place b) ≡ one_if_in c b.value.queue = ap (waits_here c i) (sym is) ∙ waits_own c i b number in
-            let before : held c i x.holdings ≡ sum_by (waits_here c i) entries = h.places c i in
-            let change : held c i y.holdings + one_if_in c b.value.queue ≡ held c i x.holdings = subst (λ k. held c k y.holdings + one_if_in c b.value.queue ≡ held c k x.holdings) number (its c) in
+            let before : held c i x.places ≡ sum_by (waits_here c i) entries = h.places c i in
+            let change : held c i y.places + one_if_in c b.value.queue ≡ held c i x.places = subst (λ k. held c k y.places + one_if_in c b.value.queue ≡ held c k x.places) number (its c) in
             omega (arith, whole, at, before, change)
         by_test false other =
             let whole : sum_by (waits_here c i) (remove entries place) + waits_here c i (get_or entries place b) ≡ sum_by (waits_here c i) entries = sum_by-remove (waits_here c i) entries place b lt in
             let at : waits_here c i (get_or entries place b) ≡ 0 = ap (waits_here c i) (sym is) ∙ waits_other c i b other in
-            let before : held c i x.holdings ≡ sum_by (waits_here c i) entries = h.places c i in
-            let change : held c i y.holdings ≡ held c i x.holdings = others c i other in
+            let before : held c i x.places ≡ sum_by (waits_here c i) entries = h.places c i in
+            let change : held c i y.places ≡ held c i x.places = others c i other in
             omega (arith, whole, at, before, change)
 
 -- the number of a spare entry is free
@@ -142,10 +147,10 @@ waits_less c i e = by_tests (e.value.id == i) (is_in c e.value.queue)
     by_tests true false = omega arith
     by_tests false b = omega arith
 
-pub not_held : (entries spare less : List Entry) (s : Entry) (x : IndexedNames) (queued : ℕ) → AreIndexed entries spare x queued → spare ≡ less ++ s ∷ [] → (c : ℕ) → held c s.value.id x.holdings ≡ 0
+pub not_held : (entries spare less : List Entry) (s : Entry) (x : IndexedNames) (queued : ℕ) → AreIndexed entries spare x queued → spare ≡ less ++ s ∷ [] → (c : ℕ) → held c s.value.id x.places ≡ 0
 not_held entries spare less s x queued h is c =
     let none : numbered s.value.id entries ≡ 0 = (none_numbered entries spare less s x queued h is).0 in
-    let places : held c s.value.id x.holdings ≡ sum_by (waits_here c s.value.id) entries = h.places c s.value.id in
+    let places : held c s.value.id x.places ≡ sum_by (waits_here c s.value.id) entries = h.places c s.value.id in
     let fewer : sum_by (waits_here c s.value.id) entries ≤ numbered s.value.id entries = sum_by-le-sum_by (waits_here c s.value.id) (has_number s.value.id) entries (waits_less c s.value.id) in
     omega (arith, none, places, fewer)
 
@@ -159,8 +164,8 @@ other_numbers i (e ∷ entries) none =
     here zero_is = ne_eqb i e.value.id (λ same. let own : has_number i e ≡ 1 = rw (eq-eqb e.value.id i (sym same)) refl in omega (arith, own, zero_is))
 
 pub indexed_added : (entries spare less : List Entry) (place : ℕ) (s e : Entry) (x y : IndexedNames) (queued after : ℕ) → AreIndexed entries spare x queued → spare ≡ less ++ s ∷ [] → e.value.id ≡ s.value.id → name_at y.names s.value.id ≡ e.value.name →
-    ((i : ℕ) → (s.value.id == i) ≡ false → name_at y.names i ≡ name_at x.names i) → ((c : ℕ) → held c s.value.id y.holdings ≡ held c s.value.id x.holdings + one_if_in c e.value.queue) →
-    ((c i : ℕ) → (s.value.id == i) ≡ false → held c i y.holdings ≡ held c i x.holdings) → length y.holdings ≡ after → AreIndexed (insert entries place e) less y after
+    ((i : ℕ) → (s.value.id == i) ≡ false → name_at y.names i ≡ name_at x.names i) → ((c : ℕ) → held c s.value.id y.places ≡ held c s.value.id x.places + one_if_in c e.value.queue) →
+    ((c i : ℕ) → (s.value.id == i) ≡ false → held c i y.places ≡ held c i x.places) → length y.places ≡ after → AreIndexed (insert entries place e) less y after
 indexed_added entries spare less place s e x y queued after h is id name names its others all = record { once = once; named = named; places = places; all = all }
   where
     once : (i : ℕ) → numbered i (insert entries place e) + numbered i less ≤ (if nat_lt i max_names then 1 else 0)
@@ -181,26 +186,26 @@ indexed_added entries spare less place s e x y queued after h is id name names i
         each_inserted (λ d. name_at y.names d.value.id ≡ d.value.name) entries place e
         (renamed entries (other_numbers s.value.id entries (none_numbered entries spare less s x queued h is).0) h.named) (ap (name_at y.names) id ∙ name)
 
-    places : (c i : ℕ) → held c i y.holdings ≡ sum_by (waits_here c i) (insert entries place e)
+    places : (c i : ℕ) → held c i y.places ≡ sum_by (waits_here c i) (insert entries place e)
     places c i = by_test (s.value.id == i) refl
       where
-        by_test : (t : Bool) → (s.value.id == i) ≡ t → held c i y.holdings ≡ sum_by (waits_here c i) (insert entries place e)
+        by_test : (t : Bool) → (s.value.id == i) ≡ t → held c i y.places ≡ sum_by (waits_here c i) (insert entries place e)
         by_test true same =
             let number : s.value.id ≡ i = eqb-true s.value.id i same in
             let whole : sum_by (waits_here c i) (insert entries place e) ≡ sum_by (waits_here c i) entries + waits_here c i e = sum_by-insert (waits_here c i) entries place e in
             let new : waits_here c i e ≡ one_if_in c e.value.queue = waits_own c i e (id ∙ number) in
-            let before : held c i x.holdings ≡ sum_by (waits_here c i) entries = h.places c i in
-            let change : held c i y.holdings ≡ held c i x.holdings + one_if_in c e.value.queue = subst (λ k. held c k y.holdings ≡ held c k x.holdings + one_if_in c e.value.queue) number (its c) in
+            let before : held c i x.places ≡ sum_by (waits_here c i) entries = h.places c i in
+            let change : held c i y.places ≡ held c i x.places + one_if_in c e.value.queue = subst (λ k. held c k y.places ≡ held c k x.places + one_if_in c e.value.queue) number (its c) in
             omega (arith, whole, new, before, change)
         by_test false other =
             let whole : sum_by (waits_here c i) (insert entries place e) ≡ sum_by (waits_here c i) entries + waits_here c i e = sum_by-insert (waits_here c i) entries place e in
             let new : waits_here c i e ≡ 0 = waits_other c i e (ap (λ k. k == i) id ∙ other) in
-            let before : held c i x.holdings ≡ sum_by (waits_here c i) entries = h.places c i in
-            let change : held c i y.holdings ≡ held c i x.holdings = others c i other in
+            let before : held c i x.places ≡ sum_by (waits_here c i) entries = h.places c i in
+            let change : held c i y.places ≡ held c i x.places = others c i other in
             omega (arith, whole, new, before, change)
 
 -- a table without names
-pub indexed_new : (spare : List Entry) (x : IndexedNames) → ((i : ℕ) → numbered i spare ≡ (if nat_lt i max_names then 1 else 0)) → x.holdings ≡ [] → AreIndexed [] spare x 0
+pub indexed_new : (spare : List Entry) (x : IndexedNames) → ((i : ℕ) → numbered i spare ≡ (if nat_lt i max_names then 1 else 0)) → x.places ≡ [] → AreIndexed [] spare x 0
 indexed_new spare x numbers none = record {
   once = λ i. let all : numbered i spare ≡ (if nat_lt i max_names then 1 else 0) = numbers i in let no_entry : numbered i [] ≡ 0 = refl in omega (arith, all, no_entry);
   named = tt;
@@ -233,34 +238,9 @@ ids_in c entries = map (λ e. e.value.id) (filter (λ e. is_in c e.value.queue) 
 abbrev pub its_names : ℕ → List OwnedName → List OwnedName
 its_names c names = filter (λ n. is_in c n.queue) names
 
-abbrev one_at : ℕ → ℕ → ℕ
-one_at i j = if j == i then 1 else 0
-
-abbrev times : ℕ → List ℕ → ℕ
-times i ids = sum_by (one_at i) ids
-
 if_zero : (t : Bool) → ◌≡◌ {A = ℕ} (if t then 0 else 0) 0
 if_zero true = refl
 if_zero false = refl
-
-times_held : (c i : ℕ) (xs : List Holding) → held c i xs ≡ times i (ids_of c xs)
-times_held c i [] = refl
-times_held c i (x ∷ xs) = by_test (x.connection == c) refl (times_held c i xs)
-  where
-    by_test : (t : Bool) → (x.connection == c) ≡ t → held c i xs ≡ times i (ids_of c xs) → held c i (x ∷ xs) ≡ times i (ids_of c (x ∷ xs))
-    by_test true e rest =
-        let whole : held c i (x ∷ xs) ≡ held_here c i x + held c i xs = sum_by-cons (held_here c i) x xs in
-        let more : times i (x.id ∷ ids_of c xs) ≡ one_at i x.id + times i (ids_of c xs) = sum_by-cons (one_at i) x.id (ids_of c xs) in
-        let here : held_here c i x ≡ one_at i x.id = rw e refl in
-        let ids : ids_of c (x ∷ xs) ≡ x.id ∷ ids_of c xs = rw e refl in
-        let same : times i (ids_of c (x ∷ xs)) ≡ times i (x.id ∷ ids_of c xs) = ap (times i) ids in
-        omega (arith, whole, more, here, same, rest)
-    by_test false e rest =
-        let whole : held c i (x ∷ xs) ≡ held_here c i x + held c i xs = sum_by-cons (held_here c i) x xs in
-        let here : held_here c i x ≡ 0 = rw e (if_zero (x.id == i)) in
-        let ids : ids_of c (x ∷ xs) ≡ ids_of c xs = rw e refl in
-        let same : times i (ids_of c (x ∷ xs)) ≡ times i (ids_of c xs) = ap (times i) ids in
-        omega (arith, whole, here, same, rest)
 
 times_in : (c i : ℕ) (es : List Entry) → sum_by (waits_here c i) es ≡ times i (ids_in c es)
 times_in c i [] = refl
@@ -281,28 +261,7 @@ times_in c i (x ∷ xs) = by_test (is_in c x.value.queue) refl (times_in c i xs)
         let same : times i (ids_in c (x ∷ xs)) ≡ times i (ids_in c xs) = ap (times i) ids in
         omega (arith, whole, here, same, rest)
 
--- names do not fall along the holdings of a connection
-ids_rise : (names : List Text) (c : ℕ) (xs : List Holding) → AreSorted names xs → Pairwise (λ i j. text_lt (name_at names j) (name_at names i) ≡ false) (ids_of c xs)
-ids_rise names c [] h = tt
-ids_rise names c (x ∷ xs) h = by_test (x.connection == c) refl (ids_rise names c xs h.1)
-  where
-    above : (x.connection == c) ≡ true → (ys : List Holding) → Each (λ b. comes_before names x.connection (name_at names x.id) b ≡ false) ys → Each (λ j. text_lt (name_at names j) (name_at names x.id) ≡ false) (ids_of c ys)
-    above e [] k = tt
-    above e (y ∷ ys) k = by_other (y.connection == c) refl (above e ys k.1)
-      where
-        by_other : (t : Bool) → (y.connection == c) ≡ t → Each (λ j. text_lt (name_at names j) (name_at names x.id) ≡ false) (ids_of c ys) → Each (λ j. text_lt (name_at names j) (name_at names x.id) ≡ false) (ids_of c (y ∷ ys))
-        by_other true f rest =
-            let same : (y.connection == x.connection) ≡ true = eq-eqb y.connection x.connection (eqb-true y.connection c f ∙ sym (eqb-true x.connection c e)) in
-            let not_below : text_lt (name_at names y.id) (name_at names x.id) ≡ false =
-            ap (λ b. b && text_lt (name_at names y.id) (name_at names x.id)) (sym same) ∙ (or_parts (nat_lt y.connection x.connection) ((y.connection == x.connection) && text_lt (name_at names y.id) (name_at names x.id)) k.0).1 in
-            rw f (not_below, rest)
-        by_other false f rest = rw f rest
-
-    by_test : (t : Bool) → (x.connection == c) ≡ t → Pairwise (λ i j. text_lt (name_at names j) (name_at names i) ≡ false) (ids_of c xs) → Pairwise (λ i j. text_lt (name_at names j) (name_at names i) ≡ false) (ids_of c (x ∷ xs))
-    by_test true e rest = rw e (above e xs h.0, rest)
-    by_test false e rest = rw e rest
-
--- and rise along the table
+-- the names of a connection rise along the table
 numbers_rise : (names : List Text) (c : ℕ) (es : List Entry) → NamesRise (map name_in es) → Each (λ e. name_at names e.value.id ≡ e.value.name) es → Pairwise (λ i j. text_lt (name_at names i) (name_at names j) ≡ true) (ids_in c es)
 numbers_rise names c [] h named = tt
 numbers_rise names c (x ∷ xs) h named = by_test (is_in c x.value.queue) refl (numbers_rise names c xs h.1 named.1)
@@ -362,10 +321,10 @@ same_ids key (x ∷ xs) (y ∷ ys) a b same = by_test (x == y) refl (λ rest. sa
         let not_below : text_lt (key y) (key x) ≡ false = each_counted (λ j. text_lt (key j) (key x) ≡ false) y xs a.0 (omega (arith, y_more, y_none, y_some, y_all)) in
         absurd (true≢false (sym below ∙ not_below))
 
-pub ids_are : (c : ℕ) (entries spare : List Entry) (x : IndexedNames) (queued : ℕ) → AreIndexed entries spare x queued → NamesRise (map name_in entries) → AreSorted x.names x.holdings → ids_of c x.holdings ≡ ids_in c entries
+pub ids_are : (c : ℕ) (entries spare : List Entry) (x : IndexedNames) (queued : ℕ) → AreIndexed entries spare x queued → NamesRise (map name_in entries) → AreSorted x.names x.places → places_of c x.places ≡ ids_in c entries
 ids_are c entries spare x queued h rise sorted =
-    same_ids (name_at x.names) (ids_of c x.holdings) (ids_in c entries) (ids_rise x.names c x.holdings sorted) (numbers_rise x.names c entries rise h.named)
-    (λ i. sym (times_held c i x.holdings) ∙ h.places c i ∙ times_in c i entries)
+    same_ids (name_at x.names) (places_of c x.places) (ids_in c entries) (sorted c) (numbers_rise x.names c entries rise h.named)
+    (λ i. h.places c i ∙ times_in c i entries)
 
 pub ids_length : (c : ℕ) (entries : List Entry) → length (ids_in c entries) ≡ names_of c (map name_in entries)
 ids_length c [] = refl

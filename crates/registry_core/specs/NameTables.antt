@@ -53,8 +53,8 @@ waits_here c id e = if e.value.id == id then (if is_in c e.value.queue then 1 el
 pub record AreIndexed (entries spare : List Entry) (index : IndexedNames) (queued : ℕ) : Type 0 where
   pub once : (id : ℕ) → numbered id entries + numbered id spare ≤ (if nat_lt id max_names then 1 else 0)
   pub named : AllByRecursion (λ e. name_at index.names e.value.id ≡ e.value.name) entries
-  pub places : (c id : ℕ) → held c id index.holdings ≡ sum_by (waits_here c id) entries
-  pub all : length index.holdings ≡ queued
+  pub places : (c id : ℕ) → held c id index.places ≡ sum_by (waits_here c id) entries
+  pub all : length index.places ≡ queued
 
 -- those before a name and those behind it
 pub record IsBetween (names : List OwnedName) (name : Text) (front back : List OwnedName) (queue : Queue) (place : ℕ) : Type 0 where

@@ -1,9 +1,16 @@
-use Rattle.std.proofs.Common.{rules, ◌≡◌, ◌<◌, ◌≤◌, nat_lt, ℕ, true, false, arith}
+use Rattle.std.proofs.Common.{rules, ◌≡◌, ◌<◌, ◌≤◌, nat_lt, ℕ, true, false, List, [], ◌∷◌, arith}
 use Rattle.std.proofs.lemmas.Bool.Decides.{nat_tests}
 use Rattle.std.proofs.lemmas.List.Sorted.{IsPartitionPoint-from_clause}
+use Rattle.seq_bus_core.specs.Consistency.{Pairwise}
+use Rattle.match_index.specs.PlaceIndexes.{Pairwise as EachPair}
+use Rattle.match_index.proofs.Lists.{partitioned, before_place, behind_place, within_weaker, is_lt, not_lt}
 use Rattle.registry_core.specs.declared.member.Member.{Member}
-use Rattle.registry_core.proofs.IndexLemmas.{partitioned, before_place, behind_place, within_weaker, is_lt, not_lt}
 use Rattle.registry_core.proofs.member.place_among.Goals as goal
+
+-- both say the same of each pair
+each_pair : (R : Member → Member → Type 0) (ms : List Member) → Pairwise R ms → EachPair R ms
+each_pair R [] h = tt
+each_pair R (m ∷ ms) h = (h.0, each_pair R ms h.1)
 
 lower_too : (n : ℕ) (a b : Member) → a.conn.number < b.conn.number → nat_lt b.conn.number n ≡ true → nat_lt a.conn.number n ≡ true
 lower_too n a b lt passes = grind (arith, nat_tests)
@@ -15,7 +22,7 @@ returns-clause-before c =
     let place = c.partition_point.result in
     before_place (λ m. m.conn.number < number) members place c.partition_point.ensures.bound
     (within_weaker (λ (m : Member). nat_lt m.conn.number number ≡ true) (λ m. m.conn.number < number) (λ m k. is_lt m.conn.number number k) members 0 place
-    (IsPartitionPoint-from_clause (λ m. nat_lt m.conn.number number) members place c.partition_point.ensures.partitioned (partitioned (λ a b. a.conn.number < b.conn.number) (λ m. nat_lt m.conn.number number) (lower_too number) members c.requires) (λ a r f k. search rules)).0)
+    (IsPartitionPoint-from_clause (λ m. nat_lt m.conn.number number) members place c.partition_point.ensures.partitioned (partitioned (λ a b. a.conn.number < b.conn.number) (λ m. nat_lt m.conn.number number) (lower_too number) members (each_pair (λ a b. a.conn.number < b.conn.number) members c.requires)) (λ a r f k. search rules)).0)
 
 pub returns-clause-behind : goal.returns-clause-behind
 returns-clause-behind c =
@@ -24,4 +31,4 @@ returns-clause-behind c =
     let place = c.partition_point.result in
     behind_place (λ m. number ≤ m.conn.number) members place
     (within_weaker (λ (m : Member). nat_lt m.conn.number number ≡ false) (λ m. number ≤ m.conn.number) (λ m k. not_lt m.conn.number number k) members place _
-    (IsPartitionPoint-from_clause (λ m. nat_lt m.conn.number number) members place c.partition_point.ensures.partitioned (partitioned (λ a b. a.conn.number < b.conn.number) (λ m. nat_lt m.conn.number number) (lower_too number) members c.requires) (λ a r f k. search rules)).1)
+    (IsPartitionPoint-from_clause (λ m. nat_lt m.conn.number number) members place c.partition_point.ensures.partitioned (partitioned (λ a b. a.conn.number < b.conn.number) (λ m. nat_lt m.conn.number number) (lower_too number) members (each_pair (λ a b. a.conn.number < b.conn.number) members c.requires)) (λ a r f k. search rules)).1)

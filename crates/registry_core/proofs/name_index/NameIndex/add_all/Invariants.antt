@@ -5,8 +5,8 @@ use Rattle.registry_core.proofs.name_index.NameIndex.add_all.Given as goal
 -- so many connections of the queue have the name
 abbrev pub invariant-loop-owner : goal.invariant-loop-owner
 invariant-loop-owner l = record {
-  its : (c : ℕ) → held c l.id l.self.holdings ≡ held c l.id l.fn.self.holdings + count_by (λ o. o.connection == c) (take l.owner-index l.queue);
-  others : (c i : ℕ) → (l.id == i) ≡ false → held c i l.self.holdings ≡ held c i l.fn.self.holdings;
-  all : length l.self.holdings ≡ length l.fn.self.holdings + l.owner-index;
+  its : (c : ℕ) → held c l.id l.self.places ≡ held c l.id l.fn.self.places + count_by (λ o. o.connection == c) (take l.owner-index l.queue);
+  others : (c i : ℕ) → (l.id == i) ≡ false → held c i l.self.places ≡ held c i l.fn.self.places;
+  all : length l.self.places ≡ length l.fn.self.places + l.owner-index;
   names : l.self.names ≡ l.fn.self.names;
 }

@@ -2,15 +2,15 @@ use Rattle.std.proofs.Common.{◌≡◌, ℕ, sym, ap, ◌∙◌, arith}
 use Rattle.std.proofs.lemmas.Bool.{true≢false, eq-eqb}
 use Rattle.std.proofs.lemmas.List.{length-set}
 use Rattle.registry_core.specs.NameIndexes.{IndexedNames, held, name_at}
-use Rattle.registry_core.proofs.IndexLemmas.{sorted_renamed, unused_each, name_own, name_other}
+use Rattle.registry_core.proofs.IndexLemmas.{sorted_renamed, name_own, name_other}
 use Rattle.registry_core.proofs.name_index.NameIndex.rename.Goals as goal
 
 pub invariant_of-self : goal.invariant_of-self
 invariant_of-self c =
     let r = c.self.inside in
-    let none : (k : ℕ) → held k c.args.id r.holdings.items ≡ 0 = λ k. ap (λ (x : IndexedNames). held k c.args.id x.holdings) c.self.view_is ∙ c.requires.unused k in
+    let none : (k : ℕ) → held k c.args.id r.places.places ≡ 0 = λ k. ap (λ (x : IndexedNames). held k c.args.id x.places) c.self.view_is ∙ c.requires.unused k in
     record {
-      sorted = sorted_renamed r.names.items c.args.id c.args.name.now r.holdings.items (unused_each c.args.id r.holdings.items none) c.self.invariant.sorted;
+      sorted = sorted_renamed r.names.items c.args.id c.args.name.now r.places.places none c.self.invariant.sorted;
       numbered = length-set r.names.items c.args.id c.args.name.now ∙ c.self.invariant.numbered;
       has_room = c.self.invariant.has_room;
     }

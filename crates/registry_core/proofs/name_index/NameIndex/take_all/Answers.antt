@@ -15,7 +15,7 @@ take-requires c =
     let id = c.args.id in
     let there : i < length queue = omega arith in
     let number : ℕ = (get_or queue i nobody).connection in
-    let done : held number id c.loop-owner.self.holdings + count_by (λ o. o.connection == number) (take i queue) ≡ held number id c.args.self.now.holdings = c.loop-owner.invariant.its number in
+    let done : held number id c.loop-owner.self.places + count_by (λ o. o.connection == number) (take i queue) ≡ held number id c.args.self.now.places = c.loop-owner.invariant.its number in
     let own : count_by (λ o. o.connection == number) (take i queue) + 1 ≤ count_by (λ o. o.connection == number) queue = own_place queue i nobody there in
-    let all : count_by (λ o. o.connection == number) queue ≤ held number id c.args.self.now.holdings = c.requires number in
+    let all : count_by (λ o. o.connection == number) queue ≤ held number id c.args.self.now.places = c.requires number in
     omega (arith, done, own, all)

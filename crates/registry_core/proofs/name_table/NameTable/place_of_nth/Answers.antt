@@ -2,9 +2,10 @@ use Rattle.std.proofs.Common.{◌≡◌, ◌<◌, List, [], map, length, get_or,
 use Rattle.owner_queues.specs.Queues.{is_in}
 use Rattle.seq_bus_core.specs.BusState.{OwnedName, names_of}
 use Rattle.seq_bus_core.proofs.Lists.{each_filter}
-use Rattle.registry_core.specs.NameIndexes.{ids_of, name_at}
+use Rattle.match_index.specs.PlaceIndexes.{places_of}
+use Rattle.match_index.proofs.Lists.{each_at}
+use Rattle.registry_core.specs.NameIndexes.{name_at}
 use Rattle.registry_core.specs.NameTables.{owned_name, NamesRise, Entry}
-use Rattle.registry_core.proofs.IndexLemmas.{each_at}
 use Rattle.registry_core.proofs.TableIndex.{ids_in, its_names, ids_are, ids_length, nth_named, stands_at}
 use Rattle.registry_core.proofs.name_table.NameTable.place_of_nth.Goals as goal
 
@@ -23,7 +24,7 @@ at c d =
     let number = c.args.connection in
     let n = c.args.n in
     let rise : NamesRise names = c.self.invariant.0.rise in
-    let ids : ids_of number r.index.holdings ≡ ids_in number items = ids_are number items r.spare.items r.index r.queued c.self.invariant.1 rise c.nth_name.ensures.sorted in
+    let ids : places_of number r.index.places ≡ ids_in number items = ids_are number items r.spare.items r.index r.queued c.self.invariant.1 rise c.nth_name.ensures.sorted in
     let few : n < names_of number names = subst (λ ns. n < names_of number ns) (sym c.self.view_is) c.requires in
     let lt : n < length (ids_in number items) = omega (arith, few, ids_length number items) in
     let named = nth_named r.index.names number n d items c.self.invariant.1.named lt in

@@ -36,8 +36,8 @@ take_all-requires c k =
     let queue_is : c.as_slice-2.result.now ≡ b.value.queue = c.as_slice-2.ensures.value ∙ ap (λ (e : NameEntry). e.queue) c.deref-3.ensures in
     let is_queue : IsQueue b.value.queue = subst IsQueue (sym c.as_slice-2.ensures.value ∙ queue_is) c.as_slice-2.ensures.once in
     let its : count_by (λ o. o.connection == k) c.as_slice-2.result.now ≡ one_if_in k b.value.queue = ap (λ (q : Queue). count_by (λ o. o.connection == k) q) queue_is ∙ once k b.value.queue is_queue in
-    let some : one_if_in k b.value.queue ≤ held k b.value.id r.index.holdings = waits_at items r.spare.items c.args.place k b r.index r.queued c.self.invariant.1 there c.remove-entry.ensures.value in
-    subst (λ (e : NameEntry). count_by (λ o. o.connection == k) c.as_slice-2.result.now ≤ held k e.id r.index.holdings) (sym c.deref-2.ensures) (omega (arith, its, some))
+    let some : one_if_in k b.value.queue ≤ held k b.value.id r.index.places = waits_at items r.spare.items c.args.place k b r.index r.queued c.self.invariant.1 there c.remove-entry.ensures.value in
+    subst (λ (e : NameEntry). count_by (λ o. o.connection == k) c.as_slice-2.result.now ≤ held k e.id r.index.places) (sym c.deref-2.ensures) (omega (arith, its, some))
 
 pub invariant_of-self : goal.invariant_of-self
 invariant_of-self c =
@@ -58,12 +58,12 @@ invariant_of-self c =
     let names_are : map name_in c.remove-entry.new.self.items ≡ front ++ back = ap (map name_in) c.remove-entry.ensures.items ∙ map_removed name_in items c.args.place front back n split.0 split.1 in
     let spare_is : length c.push_reserved.new.self.items ≡ length r.spare.items + 1 = ap length c.push_reserved.ensures.items ∙ length_push r.spare.items c.remove-entry.result in
     let y = c.take_all.new.self in
-    let its : (k : ℕ) → held k b.value.id y.holdings + one_if_in k b.value.queue ≡ held k b.value.id r.index.holdings =
-    λ k. ap (λ m. held k b.value.id y.holdings + m) (sym (ap (λ (q : Queue). count_by (λ o. o.connection == k) q) queue_is ∙ once k b.value.queue is_queue))
-    ∙ subst (λ id. held k id y.holdings + count_by (λ o. o.connection == k) c.as_slice-2.result.now ≡ held k id r.index.holdings) id_is (c.take_all.ensures.its k) in
+    let its : (k : ℕ) → held k b.value.id y.places + one_if_in k b.value.queue ≡ held k b.value.id r.index.places =
+    λ k. ap (λ m. held k b.value.id y.places + m) (sym (ap (λ (q : Queue). count_by (λ o. o.connection == k) q) queue_is ∙ once k b.value.queue is_queue))
+    ∙ subst (λ id. held k id y.places + count_by (λ o. o.connection == k) c.as_slice-2.result.now ≡ held k id r.index.places) id_is (c.take_all.ensures.its k) in
     let few : length n.queue ≤ r.queued = place_counts (map name_in items) front back n _ _ _ _ c.self.invariant.0 split.0 in
     let same_length : length c.as_slice-2.result.now ≡ length n.queue = ap length (queue_is ∙ ap (λ (m : OwnedName). m.queue) at) in
-    let all : length y.holdings ≡ r.queued - length c.as_slice.result.now = omega (arith, c.take_all.ensures.all, c.self.invariant.1.all, ap length first_is, same_length, few) in (
+    let all : length y.places ≡ r.queued - length c.as_slice.result.now = omega (arith, c.take_all.ensures.all, c.self.invariant.1.all, ap length first_is, same_length, few) in (
       resized (front ++ back) (map name_in c.remove-entry.new.self.items) (length r.spare.items + 1) (length c.push_reserved.new.self.items) (r.queued - length n.queue) _ (vec_capacity r.entries) (vec_capacity c.remove-entry.new.self)
           (vec_capacity r.spare) (vec_capacity c.push_reserved.new.self) table names_are spare_is (ap (λ (q : Queue). r.queued - length q) first_is) (omega (arith, c.remove-entry.ensures.capacity)) (omega (arith, c.push_reserved.ensures.capacity)),
       subst (λ (es : List (Box NameEntry Global)). AreIndexed es c.push_reserved.new.self.items y (r.queued - length c.as_slice.result.now)) (sym c.remove-entry.ensures.items)

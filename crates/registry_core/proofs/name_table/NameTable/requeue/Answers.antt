@@ -33,8 +33,8 @@ replace-requires-clause-held c k =
     let items = r.entries.items in
     let b : Box NameEntry Global = c.index_mut-entry.result.now in
     let there : c.args.place < length items = omega (arith, ap length c.self.view_is, length-map items name_in, c.requires.there) in
-    subst (λ (e : NameEntry). one_if_in k e.queue ≤ held k c.deref-2.result.now.id r.index.holdings) (sym c.deref-3.ensures)
-    (subst (λ (e : NameEntry). one_if_in k b.value.queue ≤ held k e.id r.index.holdings) (sym c.deref-2.ensures) (waits_at items r.spare.items c.args.place k b r.index r.queued c.self.invariant.1 there c.index_mut-entry.ensures.value))
+    subst (λ (e : NameEntry). one_if_in k e.queue ≤ held k c.deref-2.result.now.id r.index.places) (sym c.deref-3.ensures)
+    (subst (λ (e : NameEntry). one_if_in k b.value.queue ≤ held k e.id r.index.places) (sym c.deref-2.ensures) (waits_at items r.spare.items c.args.place k b r.index r.queued c.self.invariant.1 there c.index_mut-entry.ensures.value))
 
 pub replace-requires-clause-few : goal.replace-requires-clause-few
 replace-requires-clause-few c =
@@ -48,8 +48,8 @@ replace-requires-clause-few c =
     let n : OwnedName = name_in (get_or items c.args.place b) in
     let at : name_in b ≡ n = ap name_in c.index_mut-entry.ensures.value in
     let old_is : c.deref-3.result.now.queue ≡ n.queue = ap (λ (e : NameEntry). e.queue) c.deref-3.ensures ∙ ap (λ (m : OwnedName). m.queue) at in
-    subst (λ (q : Queue). length r.index.holdings + length c.args.queue.now ≤ max_queued + length q) (sym old_is)
-    (few_at (map name_in items) front back n c.args.queue.now (length r.index.holdings) (c.self.invariant.1.all ∙ c.self.invariant.0.counted) split.0 (c.requires.few_places front back n (sym c.self.view_is ∙ split.0) split.1))
+    subst (λ (q : Queue). length r.index.places + length c.args.queue.now ≤ max_queued + length q) (sym old_is)
+    (few_at (map name_in items) front back n c.args.queue.now (length r.index.places) (c.self.invariant.1.all ∙ c.self.invariant.0.counted) split.0 (c.requires.few_places front back n (sym c.self.view_is ∙ split.0) split.1))
 
 pub invariant_of-self : goal.invariant_of-self
 invariant_of-self c =
@@ -70,13 +70,13 @@ invariant_of-self c =
     let id_is : c.deref-2.result.now.id ≡ b.value.id = ap (λ (k : NameEntry). k.id) c.deref-2.ensures in
     let old_is : c.deref-3.result.now.queue ≡ b.value.queue = ap (λ (k : NameEntry). k.queue) c.deref-3.ensures in
     let y = c.replace.new.self in
-    let its : (k : ℕ) → held k b.value.id y.holdings + one_if_in k b.value.queue ≡ held k b.value.id r.index.holdings + one_if_in k c.copy_from.new.self =
-    λ k. subst (λ (q : Queue). held k b.value.id y.holdings + one_if_in k b.value.queue ≡ held k b.value.id r.index.holdings + one_if_in k q) (sym c.copy_from.ensures)
-    (subst (λ (q : Queue). held k b.value.id y.holdings + one_if_in k q ≡ held k b.value.id r.index.holdings + one_if_in k c.args.queue.now) old_is
-    (subst (λ id. held k id y.holdings + one_if_in k c.deref-3.result.now.queue ≡ held k id r.index.holdings + one_if_in k c.args.queue.now) id_is (c.replace.ensures.its k))) in
+    let its : (k : ℕ) → held k b.value.id y.places + one_if_in k b.value.queue ≡ held k b.value.id r.index.places + one_if_in k c.copy_from.new.self =
+    λ k. subst (λ (q : Queue). held k b.value.id y.places + one_if_in k b.value.queue ≡ held k b.value.id r.index.places + one_if_in k q) (sym c.copy_from.ensures)
+    (subst (λ (q : Queue). held k b.value.id y.places + one_if_in k q ≡ held k b.value.id r.index.places + one_if_in k c.args.queue.now) old_is
+    (subst (λ id. held k id y.places + one_if_in k c.deref-3.result.now.queue ≡ held k id r.index.places + one_if_in k c.args.queue.now) id_is (c.replace.ensures.its k))) in
     let few : length n.queue ≤ r.queued = place_counts (map name_in items) front back n _ _ _ _ c.self.invariant.0 split.0 in
     let old_length : length c.deref-3.result.now.queue ≡ length n.queue = ap length (old_is ∙ ap (λ (m : OwnedName). m.queue) at) in
-    let all : length y.holdings ≡ r.queued - length c.as_slice.result.now + length c.as_slice-2.result.now = omega (arith, c.replace.ensures.all, c.self.invariant.1.all, ap length queue_is, ap length c.as_slice-2.ensures.value, old_length, few) in (
+    let all : length y.places ≡ r.queued - length c.as_slice.result.now + length c.as_slice-2.result.now = omega (arith, c.replace.ensures.all, c.self.invariant.1.all, ap length queue_is, ap length c.as_slice-2.ensures.value, old_length, few) in (
       rw (map_set name_in items c.args.place _ front back n split.0 split.1, left_is, queue_is, c.as_slice-2.ensures.value)
           (requeued (map name_in items) front back n c.args.queue.now _ _ _ _ c.self.invariant.0 split.0 c.requires.owned (c.requires.few_places front back n (sym c.self.view_is ∙ split.0) split.1)),
       indexed_set items r.spare.items c.args.place b e r.index y r.queued (r.queued - length c.as_slice.result.now + length c.as_slice-2.result.now) c.self.invariant.1 there c.index_mut-entry.ensures.value

@@ -41,8 +41,8 @@ take-requires c =
     let waits : is_in c.args.connection b.value.queue ≡ true = subst (λ (m : OwnedName). is_in c.args.connection m.queue ≡ true) (sym at) (c.requires.waits front back n (sym c.self.view_is ∙ split.0) split.1) in
     let id_is : c.deref-2.result.now.id ≡ b.value.id = ap (λ (e : NameEntry). e.id) c.deref-2.ensures in
     let one : one_if_in c.args.connection b.value.queue ≡ 1 = rw waits refl in
-    let some : one_if_in c.args.connection b.value.queue ≤ held c.args.connection b.value.id r.index.holdings = waits_at items r.spare.items c.args.place c.args.connection b r.index r.queued c.self.invariant.1 there c.index_mut-entry.ensures.value in
-    subst (λ k. 0 < held c.args.connection k r.index.holdings) (sym id_is) (omega (arith, one, some))
+    let some : one_if_in c.args.connection b.value.queue ≤ held c.args.connection b.value.id r.index.places = waits_at items r.spare.items c.args.place c.args.connection b r.index r.queued c.self.invariant.1 there c.index_mut-entry.ensures.value in
+    subst (λ k. 0 < held c.args.connection k r.index.places) (sym id_is) (omega (arith, one, some))
 
 pub invariant_of-self : goal.invariant_of-self
 invariant_of-self c =
@@ -65,8 +65,8 @@ invariant_of-self c =
     ∙ ap (λ (k : NameEntry). record (owned_name k) { queue = without c.args.connection k.queue }) c.deref_mut.ensures.value ∙ ap (λ (m : OwnedName). record m { queue = without c.args.connection m.queue }) at in
     let fewer_is : c.as_slice-2.result.now ≡ without c.args.connection n.queue = c.as_slice-2.ensures.value ∙ ap (λ (k : NameEntry). k.queue) c.deref-3.ensures ∙ ap (λ (m : OwnedName). m.queue) left_is in
     let y = c.take.new.self in
-    let its : (k : ℕ) → held k b.value.id y.holdings + one_if_in k b.value.queue ≡ held k b.value.id r.index.holdings + one_if_in k c.leave.new.self =
-    λ k. let taken : held k b.value.id y.holdings + (if c.args.connection == k then 1 else 0) ≡ held k b.value.id r.index.holdings = subst (λ id. held k id y.holdings + (if c.args.connection == k then 1 else 0) ≡ held k id r.index.holdings) id_is (c.take.ensures.its k) in
+    let its : (k : ℕ) → held k b.value.id y.places + one_if_in k b.value.queue ≡ held k b.value.id r.index.places + one_if_in k c.leave.new.self =
+    λ k. let taken : held k b.value.id y.places + (if c.args.connection == k then 1 else 0) ≡ held k b.value.id r.index.places = subst (λ id. held k id y.places + (if c.args.connection == k then 1 else 0) ≡ held k id r.index.places) id_is (c.take.ensures.its k) in
     let parts : one_if_in k b.value.queue ≡ (if c.args.connection == k then 1 else 0) + one_if_in k (without c.args.connection b.value.queue) = left_counts k c.args.connection b.value.queue waits in
     let after : one_if_in k c.leave.new.self ≡ one_if_in k (without c.args.connection b.value.queue) = ap (one_if_in k) shorter in
     omega (arith, taken, parts, after) in
@@ -74,7 +74,7 @@ invariant_of-self c =
     let waits_n : is_in c.args.connection n.queue ≡ true = subst (λ (m : OwnedName). is_in c.args.connection m.queue ≡ true) at waits in
     let less : length n.queue ≡ length (without c.args.connection n.queue) + 1 = left_length c.args.connection n.queue once waits_n in
     let few : length n.queue ≤ r.queued = place_counts (map name_in items) front back n _ _ _ _ c.self.invariant.0 split.0 in
-    let all : length y.holdings ≡ r.queued - length c.as_slice.result.now + length c.as_slice-2.result.now = omega (arith, c.take.ensures.all, c.self.invariant.1.all, ap length queue_is, ap length fewer_is, less, few) in (
+    let all : length y.places ≡ r.queued - length c.as_slice.result.now + length c.as_slice-2.result.now = omega (arith, c.take.ensures.all, c.self.invariant.1.all, ap length queue_is, ap length fewer_is, less, few) in (
       rw (map_set name_in items c.args.place _ front back n split.0 split.1, left_is, queue_is, fewer_is)
           (requeued (map name_in items) front back n (without c.args.connection n.queue) _ _ _ _ c.self.invariant.0 split.0 (c.requires.owned front back n (sym c.self.view_is ∙ split.0) split.1) (fewer_places (map name_in items) front back n c.args.connection _ _ _ _ c.self.invariant.0 split.0)),
       indexed_set items r.spare.items c.args.place b e r.index y r.queued (r.queued - length c.as_slice.result.now + length c.as_slice-2.result.now) c.self.invariant.1 there c.index_mut-entry.ensures.value
