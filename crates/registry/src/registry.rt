@@ -17,7 +17,7 @@ use crate::services::ServiceTable;
 use match_rules::Owners;
 use monitor::Monitor;
 use names::{BusName, WellKnown};
-use owner_queues::{Profile, QueuedOwner};
+use owner_queues::{Profile, Queue, QueuedOwner};
 use registry_core::{Member, MemberTable, NameEntry, NameTable, RuleTable, RulesOf, StartTable};
 use seq_bus_core::{Change, Conn};
 use std::alloc::{AllocError, Global};
@@ -40,6 +40,8 @@ pub struct Registry {
     pub(crate) next_number: u64,
     pub(crate) next_ticket: u64,
     pub(crate) next_start: u64,
+    /// Room for the queue that a name is about to have. It is large, and is not made for each change.
+    pub(crate) room: Box<Queue>,
 }
 
 impl Model for Registry {
@@ -78,6 +80,7 @@ impl Registry {
             next_number: 1,
             next_ticket: 1,
             next_start: 1,
+            room: Box::new(alloc, Queue::new())?,
         })
     }
 

@@ -1,8 +1,8 @@
 //! RequestName and ReleaseName.
 
-ghost use Rattle.std.specs.Prelude.{◌≡◌, [], IfOk, OnOk};
+ghost use Rattle.std.specs.Prelude.{◌≡◌, ◌&&◌, not, [], IfOk, OnOk};
 ghost use Rattle.owner_queues.specs.Queues.{queue_head};
-ghost use Rattle.seq_bus_core.specs.BusState.{queue_of};
+ghost use Rattle.seq_bus_core.specs.BusState.{is_client, queue_of};
 ghost use Rattle.seq_bus_core.specs.Steps.{is_reserved, step};
 ghost use Rattle.seq_bus_core.specs.declared.change.Change.TheVariants.{Request, Release};
 ghost use Rattle.registry_core.specs.NameTables.{SearchGives};
@@ -16,6 +16,7 @@ use crate::registry::Registry;
 use audience::push_owner_signals;
 use names::BusName;
 use owner_queues::{Queue, Reply as QueueReply, RequestFlags};
+use registry_core::NameTable;
 use seq_bus_core::{Fate, NumberedOutcome, Reply, Signals};
 use std::alloc::{AllocError, Global};
 
@@ -33,7 +34,7 @@ impl Registry {
     {
         let _ = &self.members;
         let mut queue = Queue::new();
-        let found = self.copy_queue(name, &mut queue);
+        let found = copy_queue(&self.names, name, &mut queue);
         let owner = queue.head();
         let change = self.when_requested(connection, name, found, flags, &mut queue);
         Ok(Prepared {
@@ -59,7 +60,7 @@ impl Registry {
     {
         let _ = &self.members;
         let mut queue = Queue::new();
-        let _ = self.copy_queue(name, &mut queue);
+        let _ = copy_queue(&self.names, name, &mut queue);
         let owner = queue.head();
         let change = self.when_released(connection, name, &mut queue);
         Ok(Prepared {
@@ -73,17 +74,20 @@ impl Registry {
     }
 
     /// A connection requests a name. Where it gets into the queue, the start of the name ends.
+    ///
+    /// Where it owns the name alone, the room is left empty for the next request of a name that nobody has.
     pub(crate) fn request(&mut self, seat: u8, connection: u64, name: &BusName, flags: RequestFlags)
         ensures { self.new ≡ (step self.old seat (Request connection name.now flags)).0 }
     {
-        let mut queue = Queue::new();
-        let found = self.copy_queue(name, &mut queue);
-        match self.when_requested(connection, name, found, flags, &mut queue) {
-            Ok(_) => {
-                self.names.set_queue_at(found, name, &queue);
-                self.starts.end(name);
-            }
-            Err(_) => {}
+        if !self.may_wait(connection, name) {
+            return;
+        }
+        let found = copy_queue(&self.names, name, &mut self.room);
+        let _ = self.room.request(connection, flags, self.profile);
+        if self.names.would_fit_at(found, &self.room, connection) {
+            self.names.set_queue_at(found, name, &self.room);
+            self.starts.end(name);
+            self.room.leave(connection);
         }
     }
 
@@ -91,12 +95,20 @@ impl Registry {
     pub(crate) fn release(&mut self, seat: u8, connection: u64, name: &BusName)
         ensures { self.new ≡ (step self.old seat (Release connection name.now)).0 }
     {
-        let mut queue = Queue::new();
-        let found = self.copy_queue(name, &mut queue);
-        match self.when_released(connection, name, &mut queue) {
-            Ok(_) => self.names.set_queue_at(found, name, &queue),
-            Err(_) => {}
+        if !self.may_wait(connection, name) {
+            return;
         }
+        let found = copy_queue(&self.names, name, &mut self.room);
+        let _ = self.room.release(connection);
+        self.names.set_queue_at(found, name, &self.room);
+    }
+
+    /// Whether a connection may stand in the queue of a name, as far as that is told by the two.
+    fn may_wait(&self, connection: u64, name: &BusName) -> bool
+        ensures { result
+            ≡ (is_client self.now.connections connection && not (is_reserved name.now)) }
+    {
+        self.is_client(connection) && !is_reserved(name)
     }
 
     /// What a request is told of a name that was looked for. The copy of the queue of its name becomes the
@@ -144,20 +156,6 @@ impl Registry {
             return Err(Reply::InvalidName);
         }
         Ok(queue.release(connection))
-    }
-
-    /// Looks for a name, and copies its queue.
-    fn copy_queue(&self, name: &BusName, copy: &mut Queue) -> Result<usize, usize>
-        requires { copy.old ≡ [] }
-        ensures found { SearchGives self.now.names name.now result }
-        ensures queue { copy.new ≡ queue_of self.now.names name.now }
-    {
-        let found = self.names.find(name.as_str());
-        match found {
-            Ok(place) => copy.copy_from(self.names.queue_at(place)),
-            Err(_) => {}
-        }
-        found
     }
 
     /// What a request is told: where it gets into the queue, the calls that wait for the name are
@@ -226,6 +224,28 @@ impl Registry {
             pending: Pending::Requeued { name, queue },
         };
         push_owner_signals(&after, alloc, signals, name, owner, next, &mut ())
+    }
+}
+
+/// Looks for a name, and makes a copy of its queue out of another queue.
+fn copy_queue(names: &NameTable, name: &BusName, copy: &mut Queue) -> Result<usize, usize>
+    ensures found { SearchGives names.now name.now result }
+    ensures queue { copy.new ≡ queue_of names.now name.now }
+{
+    let found = names.find(name.as_str());
+    match found {
+        Ok(place) => copy.copy_from(names.queue_at(place)),
+        Err(_) => make_empty(copy),
+    }
+    found
+}
+
+/// Makes a queue empty. Most are empty already, and to clear a queue takes long.
+fn make_empty(queue: &mut Queue)
+    ensures { queue.new ≡ [] }
+{
+    if !queue.is_empty() {
+        *queue = Queue::new();
     }
 }
 
