@@ -37,6 +37,10 @@ pub trait Audience: Owners {
     fn has_monitors(&self) -> bool
         ensures { result ≡ false → (facts : Parts) → monitors_shown (state self.now) facts ≡ [] };
 
+    /// Whether a connection may want a message. Where it says no, none wants any.
+    fn has_rules(&self) -> bool
+        ensures { result ≡ false → (facts : Parts) → all_that_want (state self.now) facts ≡ [] };
+
     /// The connection of a number, if it is there.
     fn conn(&self, number: u64) -> Option<Conn>
         ensures { option_to_list result ≡ conn_at (state self.now) (Some number) };

@@ -24,13 +24,25 @@ pub fn address<A: Audience>(
 ) -> Result<AddressedSignal, AllocError>
     ensures { IfOk result (λ told. told ≡ addressed (A.state audience.now) signal) }
 {
+    address_lent(audience, alloc, &signal, count)
+}
+
+/// The same of a signal that is lent: it is large, and is moved only to where it stays.
+fn address_lent<A: Audience>(
+    audience: &A,
+    alloc: Global,
+    signal: &BusSignal,
+    count: &mut A::Count,
+) -> Result<AddressedSignal, AllocError>
+    ensures { IfOk result (λ told. told ≡ addressed (A.state audience.now) signal.now) }
+{
     if audience.has_monitors() {
         return address_watched(audience, alloc, signal, count);
     }
     match signal {
-        BusSignal::NameOwnerChanged { .. } => address_all(audience, alloc, signal, count),
-        BusSignal::NameLost { owner, .. } => address_one(audience, alloc, signal, owner),
-        BusSignal::NameAcquired { owner, .. } => address_one(audience, alloc, signal, owner),
+        BusSignal::NameOwnerChanged { .. } => address_any(audience, alloc, signal, count),
+        BusSignal::NameLost { owner, .. } => address_one(audience, alloc, signal, *owner),
+        BusSignal::NameAcquired { owner, .. } => address_one(audience, alloc, signal, *owner),
     }
 }
 
@@ -38,34 +50,54 @@ pub fn address<A: Audience>(
 fn address_one<A: Audience>(
     audience: &A,
     alloc: Global,
-    signal: BusSignal,
+    signal: &BusSignal,
     number: u64,
 ) -> Result<AddressedSignal, AllocError>
     ensures { IfOk result (λ told. told
-        ≡ addressed_to signal (conn_at (A.state audience.now) (Some number)) []) }
+        ≡ addressed_to signal.now (conn_at (A.state audience.now) (Some number)) []) }
 {
     match audience.conn(number) {
-        Some(conn) => AddressedSignal::new(alloc, signal, &[conn], &[]),
-        None => AddressedSignal::new(alloc, signal, &[], &[]),
+        Some(conn) => AddressedSignal::new(alloc, *signal, &[conn], &[]),
+        None => AddressedSignal::new(alloc, *signal, &[], &[]),
     }
 }
 
-/// A signal that goes to all that want it, and is shown to no monitor.
-fn address_all<A: Audience>(
+/// A signal that goes to all that want it, and is shown to no monitor. Where there are no rules, nobody is
+/// looked for.
+fn address_any<A: Audience>(
     audience: &A,
     alloc: Global,
-    signal: BusSignal,
+    signal: &BusSignal,
     count: &mut A::Count,
 ) -> Result<AddressedSignal, AllocError>
     ensures { IfOk result (λ told. told
-        ≡ addressed_to signal (all_that_want (A.state audience.now) (facts_of signal)) []) }
+        ≡ addressed_to signal.now (all_that_want (A.state audience.now) (facts_of signal.now)) []) }
+{
+    if audience.has_rules() {
+        address_all(audience, alloc, signal, count)
+    } else {
+        AddressedSignal::new(alloc, *signal, &[], &[])
+    }
+}
+
+/// A signal that goes to all that want it, and is shown to no monitor. Its room for them is large, and is
+/// kept out of the way of the others.
+#[inline(never)]
+fn address_all<A: Audience>(
+    audience: &A,
+    alloc: Global,
+    signal: &BusSignal,
+    count: &mut A::Count,
+) -> Result<AddressedSignal, AllocError>
+    ensures { IfOk result (λ told. told
+        ≡ addressed_to signal.now (all_that_want (A.state audience.now) (facts_of signal.now)) []) }
 {
     let mut to = Recipients::new();
-    let names = SignalNames::of(&signal);
+    let names = SignalNames::of(signal);
     let mut facts = blank_facts();
-    names.put_facts(&signal, &mut facts);
+    names.put_facts(signal, &mut facts);
     audience.add_wanting(&facts, &mut to, count);
-    AddressedSignal::new(alloc, signal, to.as_slice(), &[])
+    AddressedSignal::new(alloc, *signal, to.as_slice(), &[])
 }
 
 /// The same as `address`, where monitors may be shown the signal. Its room for them is large, and is kept
@@ -74,24 +106,24 @@ fn address_all<A: Audience>(
 fn address_watched<A: Audience>(
     audience: &A,
     alloc: Global,
-    signal: BusSignal,
+    signal: &BusSignal,
     count: &mut A::Count,
 ) -> Result<AddressedSignal, AllocError>
-    ensures { IfOk result (λ told. told ≡ addressed (A.state audience.now) signal) }
+    ensures { IfOk result (λ told. told ≡ addressed (A.state audience.now) signal.now) }
 {
     let mut to = Recipients::new();
-    let names = SignalNames::of(&signal);
+    let names = SignalNames::of(signal);
     let mut facts = blank_facts();
-    names.put_facts(&signal, &mut facts);
-    add_recipients(audience, &signal, &facts, &mut to, count);
+    names.put_facts(signal, &mut facts);
+    add_recipients(audience, signal, &facts, &mut to, count);
     let mut shown = Recipients::new();
     audience.add_shown(&facts, &mut shown);
     if shown.as_slice().is_empty() {
-        return AddressedSignal::new(alloc, signal, to.as_slice(), &[]);
+        return AddressedSignal::new(alloc, *signal, to.as_slice(), &[]);
     }
     let mut monitors = Recipients::new();
     push_others(shown.as_slice(), to.as_slice(), &mut monitors);
-    AddressedSignal::new(alloc, signal, to.as_slice(), monitors.as_slice())
+    AddressedSignal::new(alloc, *signal, to.as_slice(), monitors.as_slice())
 }
 
 /// Adds those who get a signal of the bus: whom it concerns, or all that want it.
@@ -143,7 +175,21 @@ pub fn push<A: Audience>(
     ensures { OnOk result
         (signals.new ≡ signals.old ++ addressed (A.state audience.now) signal ∷ []) }
 {
-    signals.push(address(audience, alloc, signal, count)?)
+    push_lent(audience, alloc, signals, &signal, count)
+}
+
+/// The same of a signal that is lent.
+fn push_lent<A: Audience>(
+    audience: &A,
+    alloc: Global,
+    signals: &mut Signals,
+    signal: &BusSignal,
+    count: &mut A::Count,
+) -> Result<(), AllocError>
+    ensures { OnOk result
+        (signals.new ≡ signals.old ++ addressed (A.state audience.now) signal.now ∷ []) }
+{
+    signals.push(address_lent(audience, alloc, signal, count)?)
 }
 
 /// Tells the owner of a name, if it had one, that it has lost it.
@@ -151,21 +197,18 @@ fn push_lost<A: Audience>(
     audience: &A,
     alloc: Global,
     signals: &mut Signals,
-    name: BusName,
+    name: &BusName,
     owner: Option<u64>,
     count: &mut A::Count,
 ) -> Result<(), AllocError>
     ensures { OnOk result (signals.new
-        ≡ signals.old ++ map (addressed (A.state audience.now)) (lost name owner)) }
+        ≡ signals.old ++ map (addressed (A.state audience.now)) (lost name.now owner)) }
 {
     match owner {
-        Some(owner) => push(
-            audience,
-            alloc,
-            signals,
-            BusSignal::NameLost { name, owner },
-            count,
-        ),
+        Some(owner) => {
+            let signal = BusSignal::NameLost { name: *name, owner };
+            push_lent(audience, alloc, signals, &signal, count)
+        }
         None => Ok(()),
     }
 }
@@ -175,21 +218,18 @@ fn push_acquired<A: Audience>(
     audience: &A,
     alloc: Global,
     signals: &mut Signals,
-    name: BusName,
+    name: &BusName,
     owner: Option<u64>,
     count: &mut A::Count,
 ) -> Result<(), AllocError>
     ensures { OnOk result (signals.new
-        ≡ signals.old ++ map (addressed (A.state audience.now)) (acquired name owner)) }
+        ≡ signals.old ++ map (addressed (A.state audience.now)) (acquired name.now owner)) }
 {
     match owner {
-        Some(owner) => push(
-            audience,
-            alloc,
-            signals,
-            BusSignal::NameAcquired { name, owner },
-            count,
-        ),
+        Some(owner) => {
+            let signal = BusSignal::NameAcquired { name: *name, owner };
+            push_lent(audience, alloc, signals, &signal, count)
+        }
         None => Ok(()),
     }
 }
@@ -210,19 +250,14 @@ pub fn push_owner_signals<A: Audience>(
     if is_owner(old_owner, new_owner) {
         return Ok(());
     }
-    push_lost(audience, alloc, signals, name, old_owner, count)?;
-    push(
-        audience,
-        alloc,
-        signals,
-        BusSignal::NameOwnerChanged {
-            name,
-            old_owner,
-            new_owner,
-        },
-        count,
-    )?;
-    push_acquired(audience, alloc, signals, name, new_owner, count)
+    push_lost(audience, alloc, signals, &name, old_owner, count)?;
+    let signal = BusSignal::NameOwnerChanged {
+        name,
+        old_owner,
+        new_owner,
+    };
+    push_lent(audience, alloc, signals, &signal, count)?;
+    push_acquired(audience, alloc, signals, &name, new_owner, count)
 }
 
 /// Adds the signals of a name whose owner has left: who left is told nothing.
@@ -239,18 +274,13 @@ pub fn push_left_name<A: Audience>(
         ++ map (addressed (A.state audience.now))
         (NameOwnerChanged name (Some leaver) new_owner ∷ acquired name new_owner)) }
 {
-    push(
-        audience,
-        alloc,
-        signals,
-        BusSignal::NameOwnerChanged {
-            name,
-            old_owner: Some(leaver),
-            new_owner,
-        },
-        count,
-    )?;
-    push_acquired(audience, alloc, signals, name, new_owner, count)
+    let signal = BusSignal::NameOwnerChanged {
+        name,
+        old_owner: Some(leaver),
+        new_owner,
+    };
+    push_lent(audience, alloc, signals, &signal, count)?;
+    push_acquired(audience, alloc, signals, &name, new_owner, count)
 }
 
 /// Whether two owners of a name are one.

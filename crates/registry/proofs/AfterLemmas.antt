@@ -1,9 +1,10 @@
 -- What is asked of a registry as it will be.
-use Rattle.std.proofs.Common.{◌≡◌, ◌&&◌, refl, sym}
+use Rattle.std.proofs.Common.{◌≡◌, ◌&&◌, [], refl, sym, ap}
 use Rattle.match_rules.specs.Facts.{Facts}
 use Rattle.seq_bus_core.specs.BusState.{BusState, head_of}
 use Rattle.seq_bus_core.specs.Consistency.{IsConsistent}
 use Rattle.seq_bus_core.specs.Recipients.{all_that_want}
+use Rattle.seq_bus_core.specs.Steps.{rules_without}
 use Rattle.registry_core.specs.Listening.{conns_that, stays, wants_by}
 use Rattle.registry.specs.Hellos.{client_at}
 use Rattle.registry.specs.Pendings.{IsDue, leaver_of, state_after}
@@ -20,3 +21,10 @@ wanting_after s (Joined conn privileged) facts h next = sym (joined_want s (clie
 wanting_after s (Requeued name queue) facts h next = refl
 wanting_after s (Left connection) facts h next = sym (left_want s connection facts)
 wanting_after s (Becoming connection rules) facts h next = sym (becoming_want s connection rules.now facts)
+
+-- none of these changes adds a rule
+pub no_rules_after : (p : Pending) (s : BusState) → s.rules ≡ [] → (state_after p s).rules ≡ []
+no_rules_after (Joined conn privileged) s none = none
+no_rules_after (Requeued name queue) s none = none
+no_rules_after (Left connection) s none = ap (rules_without connection) none
+no_rules_after (Becoming connection rules) s none = ap (rules_without connection) none

@@ -9,7 +9,7 @@ use Rattle.match_rules.specs.Fitting.{Heads, fits}
 use Rattle.match_rules.specs.Rules.{Rule}
 use Rattle.seq_bus_core.specs.BusState.{BusState, Connection, AddedRule, conn_of, connection_of, head_of, is_client, is_monitor}
 use Rattle.seq_bus_core.specs.Consistency.{IsGiven, IsConsistent, Pairwise}
-use Rattle.seq_bus_core.specs.Recipients.{conn_at, monitors_shown, watches}
+use Rattle.seq_bus_core.specs.Recipients.{all_that_want, conn_at, monitors_shown, watches}
 use Rattle.seq_bus_core.specs.declared.connection.Conn.{Conn}
 use Rattle.seq_bus_core.proofs.Lists.{any_having, any_map, each_weaker}
 use Rattle.registry_core.specs.declared.member.Member.{Member}
@@ -53,6 +53,22 @@ nobody_watches heads facts (c ∷ cs) none = by_test (is_monitor c) refl none (�
 
 pub nobody_shown : (s : BusState) (facts : Facts) → list_any is_monitor s.connections ≡ false → monitors_shown s facts ≡ []
 nobody_shown s facts none = shown_same s facts ∙ nobody_watches (head_of s) facts s.connections none
+
+-- ## Where there are no rules
+
+pub nobody_wants : (s : BusState) (facts : Facts) → s.rules ≡ [] → all_that_want s facts ≡ []
+nobody_wants s facts none = ap (λ rules. conns_that (wants_by (head_of s) rules facts) s.connections) none ∙ by_each s.connections
+  where
+    nothing : (c : Connection) → wants_by (head_of s) [] facts c ≡ false
+    nothing c = by_test (is_monitor c)
+      where
+        by_test : (m : Bool) → (not m && false) ≡ false
+        by_test true = refl
+        by_test false = refl
+
+    by_each : (cs : List Connection) → conns_that (wants_by (head_of s) [] facts) cs ≡ []
+    by_each [] = refl
+    by_each (c ∷ cs) = rw (nothing c) (by_each cs)
 
 -- ## A connection that has just come
 

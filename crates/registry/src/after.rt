@@ -112,6 +112,10 @@ impl<'a> Audience for After<'a> {
         }
     }
 
+    fn has_rules(&self) -> bool {
+        self.registry.has_rules()
+    }
+
     fn conn(&self, number: u64) -> Option<Conn> {
         let there = self.registry.only_conn(number);
         match &self.pending {

@@ -62,6 +62,10 @@ impl<'a, L: Ledger> Audience for Current<'a, L> {
         self.registry.has_monitors()
     }
 
+    fn has_rules(&self) -> bool {
+        self.registry.has_rules()
+    }
+
     fn conn(&self, number: u64) -> Option<Conn> {
         self.registry.only_conn(number)
     }

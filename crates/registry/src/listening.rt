@@ -1,6 +1,6 @@
 //! Who listens to a message, where names are owned as others say.
 
-ghost use Rattle.std.specs.Prelude.{◌≡◌, ◌≤◌, ◌+◌, ◌&&◌, true, [], length};
+ghost use Rattle.std.specs.Prelude.{◌≡◌, ◌≤◌, ◌+◌, ◌&&◌, true, false, [], length};
 ghost use Rattle.std.specs.List.{list_any};
 ghost use Rattle.match_rules.specs.Fitting.{fits};
 ghost use Rattle.seq_bus_core.specs.BusState.{is_client};
@@ -16,6 +16,14 @@ use seq_bus_core::Recipients;
 use std::sync::ledger::Ledger;
 
 impl Registry {
+    /// Whether any connection has a rule.
+    pub(crate) fn has_rules(&self) -> bool
+        ensures { result ≡ false → self.now.rules ≡ [] }
+    {
+        let _ = &self.members;
+        self.rules.len() != 0
+    }
+
     /// Adds the connections that want a message. A connection that leaves is not among them.
     pub(crate) fn add_those_that_want<O: Owners>(
         &self,
