@@ -159,6 +159,13 @@ impl Framer {
         }
     }
 
+    /// Forgets a fault that was answered. The bytes are there still, so [`next`](Framer::next) answers it again.
+    pub fn forget_fault(&mut self)
+        ensures { self.new ≡ record self.old { fault = None } }
+    {
+        self.fault = None;
+    }
+
     /// Takes a message of `size` bytes off the front. Where it is all that is there, it gets the buffer, and nothing is copied.
     fn take_front(&mut self, size: usize) -> Result<Message, FrameFault>
         requires fine { self.old.fault ≡ None }
