@@ -34,14 +34,17 @@ use Rattle.router_core.specs.declared.fate.PeerFate.{PeerFate}
 use Rattle.router_core.specs.declared.fate.PeerFate.TheVariants as fate
 use Rattle.router_core.specs.declared.event.Event.{Event}
 use Rattle.router_core.specs.declared.event.Event.TheVariants as event
+use Rattle.router_core.specs.declared.joint.Joint.{Joint}
+use Rattle.router_core.specs.declared.joint.RuleCall.{RuleCall}
 use Rattle.router_core.specs.declared.start_end.StartEnd.{StartEnd}
 use Rattle.router_core.specs.declared.start_end.HowEnded.{HowEnded}
 use Rattle.router_core.specs.declared.start_end.HowEnded.TheVariants as how
 use Rattle.router_core.specs.Answers.{Heard, Says, Refuses, error_for, is_final}
 use Rattle.router_core.specs.Deeds.{Writes, Sends, Closes, IsOwnNote}
 use Rattle.router_core.specs.Fronts.{Front, Waits, Whole, Faulty}
-use Rattle.router_core.specs.Scripts.{Script, Gives, Changing, ChangingAll, Routing, Looking, Noting, Fronting, Gating, Wanting, Requiring, Doing, Announcing, and_then, putting}
-use Rattle.router_core.specs.Serving.{Work, nothing, monitors_in, reply_with, fail_all, serve}
+use Rattle.router_core.specs.Scripts.{Script, Gives, Changing, ChangingAll, Routing, Looking, Noting, Fronting, Calling, Gating, Wanting, Requiring, Doing, Announcing, and_then, putting}
+use Rattle.router_core.specs.Serving.{Work, Fated, nothing, monitors_in, reply_with, made, fail_all, serve}
+use Rattle.router_core.specs.Together.{Joining, Joins, Parts, change_of_joint, join, may_join, rule_call}
 use Rattle.router_core.specs.Standing.{Stage, Authenticating, Unnamed, Named, Shut, Peer, Standing, peer_at, with_peer, opened, conn_of, next_serial, shut, has_slot, is_conn}
 
 -- what happens, in the terms of the definitions; a note is there by the history that it tells
@@ -50,6 +53,8 @@ pub data Occasion : Type 0 where
   Opened : (key : ℕ) → (challenge : Option (List ℕ)) → Occasion
   Bytes : (key : ℕ) → (piece : List ℕ) → Occasion
   Next : (key : ℕ) → Occasion
+  -- the next messages of several keys, of each as many as it stands there
+  Turn : (keys : List ℕ) → Occasion
   Mail : (slot number : ℕ) → (note : Option History) → Said → Occasion
   Closed : (key : ℕ) → Occasion
   -- a recipient could not be reached
@@ -207,6 +212,124 @@ abbrev pub next : Standing → ℕ → Option Peer → Stands
 next s key None = Gives s
 next s key (Some p) = next_at s key p p.stage
 
+-- ## Several messages, one after the other
+
+-- what is done for a message of the connection of a key, unless it was closed in the meantime
+abbrev pub done_in : Standing → ℕ → Peer → Stage → Fated → Stands
+done_in s key p (Named conn) work = for_peer s key (Some p) (λ q. and_then work (λ fate. fated key fate q))
+done_in s key p (Authenticating setting state) work = Gives s
+done_in s key p (Unnamed privileged) work = Gives s
+done_in s key p (Shut conn) work = Gives s
+
+abbrev pub done_at : Standing → ℕ → Option Peer → Fated → Stands
+done_at s key None work = Gives s
+done_at s key (Some p) work = done_in s key p p.stage work
+
+abbrev pub done_for : Standing → ℕ → Fated → Stands
+done_for s key work = done_at s key (peer_at s key) work
+
+-- the changes of calls that joined, each by itself
+abbrev pub make_each : List Joint → Standing → Stands
+make_each [] s = Gives s
+make_each (j ∷ joints) s = and_then (done_for s j.key (Changing (change_of_joint j) (λ heard. made (message_said j.message) j.caller heard))) (λ t. make_each joints t)
+
+-- They were made together. Each call is answered, in order.
+abbrev pub answer_each : List Joint → List Outcome → Standing → Stands
+answer_each [] outcomes s = Gives s
+answer_each (j ∷ joints) [] s = Gives s
+answer_each (j ∷ joints) (o ∷ outcomes) s = and_then (done_for s j.key (made (message_said j.message) j.caller (Says o))) (λ t. answer_each joints outcomes t)
+
+-- What is refused together is asked for by itself.
+abbrev pub made_together : List Joint → Standing → Heard (List Outcome) → Stands
+made_together joints s (Says outcomes) = answer_each joints outcomes s
+made_together joints s (Refuses refusal) = make_each joints s
+
+abbrev pub make_if : List Joint → Standing → Bool → Stands
+make_if joints s true = ChangingAll (map change_of_joint joints) (λ heard. made_together joints s heard)
+make_if joints s false = make_each joints s
+
+-- the changes of calls that joined, in one publication where they are several
+abbrev pub make_all : List Joint → Standing → Stands
+make_all [] s = Gives s
+make_all (j ∷ []) s = make_each (j ∷ []) s
+make_all (j ∷ k ∷ joints) s = Wanting (λ granted. make_if (j ∷ k ∷ joints) s granted)
+
+-- the calls that joined, whose changes are not made yet
+pub record Gathered : Type 0 where
+  pub joints : List Joint
+  pub standing : Standing
+
+abbrev pub gathered : List Joint → Standing → Script Gathered
+gathered joints s = Gives (record { joints = joints; standing = s })
+
+-- what is done for a message that does not join: the changes before it are made first
+abbrev pub parted : List Joint → Standing → (Standing → Stands) → Script Gathered
+parted joints s work = and_then (make_all joints s) (λ t. and_then (work t) (λ u. gathered [] u))
+
+-- Without memory it stays unserved.
+abbrev pub next_if : Standing → ℕ → Bool → Stands
+next_if s key true = next s key (peer_at s key)
+next_if s key false = Gives s
+
+-- it is served as any message is
+abbrev pub apart : List Joint → Standing → ℕ → Script Gathered
+apart joints s key = parted joints s (λ t. Wanting (λ granted. next_if t key granted))
+
+-- The call has come to this before its change.
+abbrev pub joined : List Joint → Standing → Joint → Joining → Script Gathered
+joined joints s j Joins = gathered (joints ++ j ∷ []) s
+joined joints s j (Parts work) = parted joints s (λ t. done_for t j.key work)
+
+abbrev pub join_call : List Joint → Standing → ℕ → (message : List ℕ) → Peer → Conn → RuleCall → Script Gathered
+join_call joints s key message p conn c =
+    and_then (join (message_said message) conn c)
+    (λ joining. joined joints (with_peer s key (Some p)) (record { key = key; message = message; caller = conn; call = c }) joining)
+
+-- One that does not read well is served as any message is.
+abbrev pub join_read : List Joint → Standing → ℕ → (message : List ℕ) → Peer → Conn → Option RuleCall → Script Gathered
+join_read joints s key message p conn None = apart joints s key
+join_read joints s key message p conn (Some c) = join_call joints s key message p conn c
+
+abbrev pub join_if : List Joint → Standing → ℕ → (message : List ℕ) → Peer → Conn → Bool → Script Gathered
+join_if joints s key message p conn true = Calling (message_said message) (λ reading. join_read joints s key message p conn (rule_call reading))
+join_if joints s key message p conn false = apart joints s key
+
+-- A monitor sends nothing.
+abbrev pub gather_message : List Joint → Standing → ℕ → (message : List ℕ) → Peer → Conn → (watches : Bool) → Script Gathered
+gather_message joints s key message p conn true = apart joints s key
+gather_message joints s key message p conn false =
+    if may_join (message_said message) then Wanting (λ granted. join_if joints s key message p conn granted) else apart joints s key
+
+abbrev pub gather_front : List Joint → Standing → ℕ → Peer → Conn → Front → Script Gathered
+gather_front joints s key p conn Waits = gathered joints s
+gather_front joints s key p conn (Faulty fault) = apart joints s key
+gather_front joints s key p conn (Whole bytes rest) = gather_message joints s key bytes (record p { unread = rest }) conn p.watches
+
+abbrev pub gather_if : List Joint → Standing → ℕ → Peer → Conn → Bool → Script Gathered
+gather_if joints s key p conn true = Fronting p.unread (λ front. gather_front joints s key p conn front)
+gather_if joints s key p conn false = gathered joints s
+
+abbrev pub apart_if : List Joint → Standing → ℕ → Bool → Script Gathered
+apart_if joints s key true = apart joints s key
+apart_if joints s key false = gathered joints s
+
+-- Only connections that have a name make changes. Without memory a message stays unserved.
+abbrev pub gather_at : List Joint → Standing → ℕ → Peer → Stage → Script Gathered
+gather_at joints s key p (Named conn) = Wanting (λ granted. gather_if joints s key p conn granted)
+gather_at joints s key p (Unnamed privileged) = Wanting (λ granted. apart_if joints s key granted)
+gather_at joints s key p (Authenticating setting state) = gathered joints s
+gather_at joints s key p (Shut conn) = gathered joints s
+
+abbrev pub gather : List Joint → Standing → ℕ → Option Peer → Script Gathered
+gather joints s key None = gathered joints s
+gather joints s key (Some p) = gather_at joints s key p p.stage
+
+-- The next messages of these keys, each in its turn. Neighbouring calls that add and remove rules are routed first, then their changes are
+-- made together, then they are answered.
+abbrev pub turn : List Joint → List ℕ → Standing → Stands
+turn joints [] s = make_all joints s
+turn joints (key ∷ keys) s = and_then (gather joints s key (peer_at s key)) (λ g. turn g.joints keys g.standing)
+
 -- ## Mail
 
 abbrev pub mail_found : Standing → Said → Option ℕ → Stands
@@ -330,6 +453,7 @@ abbrev pub script : Standing → Occasion → Stands
 script s (Opened key challenge) = Gives (opened s key challenge)
 script s (Bytes key piece) = for_peer s key (peer_at s key) (λ p. hear key piece p p.stage)
 script s (Next key) = next s key (peer_at s key)
+script s (Turn keys) = turn [] keys s
 script s (Mail slot number told said) = noted told (mail_found s said (position (is_conn slot number) s.peers))
 script s (Closed key) = closed s key (peer_at s key)
 script s (Full number) = leave s number

@@ -5,6 +5,7 @@ pub mod Answers
 pub mod Fronts
 pub mod Scripts
 pub mod Serving
+pub mod Together
 pub mod Standing
 pub mod Events
 pub mod Acts

@@ -6,7 +6,7 @@ use Rattle.router_core.specs.declared.action.Action.{Action}
 use Rattle.router_core.specs.declared.event.Event.{Event}
 use Rattle.router_core.specs.Acts.{State, Brings}
 use Rattle.router_core.specs.Deeds.{GatedCall}
-use Rattle.router_core.specs.Events.{Occasion, Opened, Bytes, Next, Mail, Closed, Full, Child, Tick}
+use Rattle.router_core.specs.Events.{Occasion, Opened, Bytes, Next, Turn, Mail, Closed, Full, Child, Tick}
 use Rattle.router_core.specs.OneThread.{keys_after, written_to}
 use Rattle.router_core.specs.Standing.{Standing}
 use Rattle.router_core.proofs.Asked.{answers_are_lawful}
@@ -50,6 +50,7 @@ met_keys : (occasion : Occasion) (out : Output) → (met occasion out).keys ≡ 
 met_keys (Opened key challenge) out = refl
 met_keys (Bytes key piece) out = refl
 met_keys (Next key) out = refl
+met_keys (Turn keys) out = refl
 met_keys (Mail slot number told said) out = refl
 met_keys (Closed key) out = refl
 met_keys (Full number) out = refl
@@ -60,6 +61,7 @@ met_each : (occasion : Occasion) (out : Output) (k : ℕ) → get_or (met occasi
 met_each (Opened key challenge) out k = nothing_yet out.written k
 met_each (Bytes key piece) out k = refl
 met_each (Next key) out k = refl
+met_each (Turn keys) out k = refl
 met_each (Mail slot number told said) out k = refl
 met_each (Closed key) out k = refl
 met_each (Full number) out k = refl
@@ -70,6 +72,7 @@ met_count : (occasion : Occasion) (out : Output) → length out.written ≡ leng
 met_count (Opened key challenge) out h = length-append out.written ([] ∷ []) ∙ omega (arith, h)
 met_count (Bytes key piece) out h = h
 met_count (Next key) out h = h
+met_count (Turn keys) out h = h
 met_count (Mail slot number told said) out h = h
 met_count (Closed key) out h = h
 met_count (Full number) out h = h

@@ -1,0 +1,98 @@
+-- Calls whose changes are made together: those that add and remove rules. (D-Bus Specification: "Message Bus Messages")
+use Rattle.std.specs.Prelude.{ℕ, Bool, true, false, ◌&&◌, ◌||◌, Option, Some, None, Ok, List, [], ◌∷◌, if◌then◌else◌}
+use Rattle.names.specs.Texts.{Text, text_eq}
+use Rattle.seq_bus_core.specs.declared.change.Change.{Change}
+use Rattle.seq_bus_core.specs.declared.change.Change.TheVariants as change
+use Rattle.seq_bus_core.specs.declared.connection.Conn.{Conn}
+use Rattle.seq_bus_core.specs.declared.error_kind.ErrorKind.TheVariants as error
+use Rattle.seq_bus_core.specs.declared.verdict.Verdict.{Verdict}
+use Rattle.seq_bus_core.specs.declared.verdict.VerdictKind.{VerdictKind}
+use Rattle.seq_bus_core.specs.declared.verdict.VerdictKind.TheVariants as verdict
+use Rattle.message_core.specs.declared.header_field.HeaderField.TheVariants as field
+use Rattle.message_core.specs.HeaderFields.{text_field}
+use Rattle.message_core.specs.Messages.{Message}
+use Rattle.message.specs.FactsOf.{facts_of}
+use Rattle.message.specs.MessageBytes.{message_bytes, is_too_long}
+use Rattle.driver.specs.declared.call.Call.{Call}
+use Rattle.driver.specs.declared.call.Call.TheVariants as call
+use Rattle.driver.specs.declared.method.Method.TheVariants.{AddMatch, RemoveMatch}
+use Rattle.driver.specs.Calls.{Reading, is_call_to_bus}
+use Rattle.driver.specs.Methods.{member_of}
+use Rattle.outbox_core.specs.Contents.{Relays}
+use Rattle.router_core.specs.declared.cause.CloseCause.TheVariants.{TooLong}
+use Rattle.router_core.specs.declared.joint.Joint.{Joint}
+use Rattle.router_core.specs.declared.joint.RuleCall.{RuleCall}
+use Rattle.router_core.specs.declared.joint.RuleCall.TheVariants.{Adds, Removes}
+use Rattle.router_core.specs.Answers.{Heard, Says, Refuses}
+use Rattle.router_core.specs.Deeds.{Puts}
+use Rattle.router_core.specs.Scripts.{Script, Gives, Routing, Gating, Wanting, Doing}
+use Rattle.router_core.specs.Serving.{Fated, and_stays, closes_for, err_if_call, routed, signed}
+
+-- ## Which they are
+
+abbrev pub is_rule_member : Option Text → Bool
+is_rule_member None = false
+is_rule_member (Some member) = text_eq member (member_of AddMatch) || text_eq member (member_of RemoveMatch)
+
+-- what its header says: it may be a call that adds or removes a rule
+abbrev pub may_join : Message → Bool
+may_join m = is_call_to_bus m && is_rule_member (text_field field.Member m.fields)
+
+-- the call, where it reads well
+abbrev pub rule_call : Reading Call → Option RuleCall
+rule_call (Ok (call.AddMatch rule)) = Some (Adds rule)
+rule_call (Ok (call.RemoveMatch rule)) = Some (Removes rule)
+rule_call other = None
+
+abbrev pub call_of_rule : RuleCall → Call
+call_of_rule (Adds rule) = call.AddMatch rule
+call_of_rule (Removes rule) = call.RemoveMatch rule
+
+-- what it asks of the bus for the connection of this number
+abbrev pub change_of_rule : ℕ → RuleCall → Change
+change_of_rule number (Adds rule) = change.AddMatch number rule
+change_of_rule number (Removes rule) = change.RemoveMatch number rule
+
+-- the change of a call that joined others
+abbrev pub change_of_joint : Joint → Change
+change_of_joint j = change_of_rule j.caller.number j.call
+
+-- ## What comes before their changes
+
+-- The call joins the others, or this is done for it once their changes are made.
+pub data Joining : Type 0 where
+  Joins : Joining
+  Parts : Fated → Joining
+
+-- The gate is shown it.
+abbrev pub joins : RuleCall → Script Joining
+joins c = Gating (call_of_rule c) (Gives Joins)
+
+abbrev pub parts : Fated → Script Joining
+parts work = Gives (Parts work)
+
+-- Without memory the message is dropped whole, and the call is answered so.
+abbrev pub join_copied_if : Message → Conn → List Conn → RuleCall → Bool → Script Joining
+join_copied_if m caller monitors c true = Doing (Puts monitors (Relays (message_bytes (signed m caller)))) (joins c)
+join_copied_if m caller monitors c false = parts (and_stays (err_if_call m caller error.NoMemory))
+
+-- Whoever sends a message that is too long once it has its sender's name is closed.
+abbrev pub join_relayed : Message → Conn → List Conn → RuleCall → Script Joining
+join_relayed m caller monitors c = if is_too_long (signed m caller) then parts (closes_for TooLong) else Wanting (λ granted. join_copied_if m caller monitors c granted)
+
+-- The monitors are shown it.
+abbrev pub join_shown : Message → Conn → List Conn → RuleCall → Script Joining
+join_shown m caller [] c = joins c
+join_shown m caller (conn ∷ conns) c = join_relayed m caller (conn ∷ conns) c
+
+abbrev pub join_to : Message → Conn → Verdict → RuleCall → VerdictKind → Script Joining
+join_to m caller v c verdict.Bus = join_shown m caller v.monitors c
+join_to m caller v c other = parts (routed m caller (Says v))
+
+abbrev pub join_routed : Message → Conn → RuleCall → Heard Verdict → Script Joining
+join_routed m caller c (Refuses refusal) = parts (routed m caller (Refuses refusal))
+join_routed m caller c (Says v) = join_to m caller v c v.kind
+
+-- It is routed first, as any message is.
+abbrev pub join : Message → Conn → RuleCall → Script Joining
+join m caller c = Routing caller.number (facts_of m) (λ heard. join_routed m caller c heard)
