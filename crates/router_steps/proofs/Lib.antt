@@ -11,6 +11,7 @@ pub mod Signing
 pub mod Hellos
 pub mod Nexts
 pub mod Judging
+pub mod Pendings
 pub mod Waiting
 pub mod Unwatched
 pub mod Answering

@@ -1,5 +1,5 @@
 -- Bytes that begin with a whole message wait for nothing.
-use Rattle.std.proofs.Common.{◌≡◌, ℕ, ◌≤◌, List, ◌++◌, length, true, Option, Some, None, is_some, Result, Ok, inl, inr, sym, ◌∙◌, arith}
+use Rattle.std.proofs.Common.{◌≡◌, ℕ, ◌<◌, ◌≤◌, List, [], ◌∷◌, ◌++◌, length, Result, Ok, inl, inr, sym, ◌∙◌, subst, append_assoc, arith}
 use Rattle.std.proofs.lemmas.List.{length-append}
 use Rattle.message_core.specs.declared.fault.FrameFault.{FrameFault}
 use Rattle.message_core.specs.Announcements.{announced}
@@ -7,9 +7,8 @@ use Rattle.message_core.specs.Messages.{IsMessage}
 use Rattle.message_core.specs.Said.{said}
 use Rattle.message_core.proofs.NoMessages.{announced_message}
 use Rattle.message.specs.Framing.{IsWaiting}
-use Rattle.std.specs.Prelude.{IfSome}
 use Rattle.message_core.specs.declared.announcement.TheConstants.{MAXIMUM_LENGTH}
-use Rattle.router_steps.specs.Pending.{IsWithin, pending_bytes}
+use Rattle.router_steps.specs.Pending.{AreWithin, pending_bytes}
 use Rattle.message.proofs.Front.{announced_append}
 
 same_length : (limit m n : ℕ) → (r : Result ℕ FrameFault) → r ≡ Ok m → r ≡ Ok n → m ≡ n
@@ -26,7 +25,9 @@ is_whole limit message rest is within (inr waits) =
     let n : length message ≡ waits.0 = same_length limit (length message) waits.0 (announced limit (message ++ rest)) so waits.1 in
     absurd (omega (arith, n, waits.2, length-append message rest))
 
--- a message that was taken off, and what is behind it
-pub pending_is_whole : (pending : Option (List ℕ)) (rest : List ℕ) → IfSome pending IsWithin → is_some pending ≡ true → IsWaiting MAXIMUM_LENGTH (pending_bytes pending ++ rest) → ⊥
-pending_is_whole (Some message) rest within there waits = is_whole MAXIMUM_LENGTH message rest within.is_message within.within waits
-pending_is_whole None rest within there waits = cc
+-- messages that were taken off, and what is behind them
+pub pending_is_whole : (pending : List (List ℕ)) (rest : List ℕ) → AreWithin pending → 0 < length pending → IsWaiting MAXIMUM_LENGTH (pending_bytes pending ++ rest) → ⊥
+pending_is_whole [] rest within some waits = absurd (omega (arith, some))
+pending_is_whole (message ∷ messages) rest within some waits =
+    is_whole MAXIMUM_LENGTH message (pending_bytes messages ++ rest) within.0.is_message within.0.within
+    (subst (λ bytes. IsWaiting MAXIMUM_LENGTH bytes) (append_assoc message (pending_bytes messages) rest) waits)

@@ -11,3 +11,4 @@ pub mod Pending
 pub mod Reading
 pub mod Quiet
 pub mod Parts
+pub mod Upcoming

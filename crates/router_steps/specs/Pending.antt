@@ -1,5 +1,6 @@
--- A message that was taken off the bytes of a connection, and was not served.
-use Rattle.std.specs.Prelude.{ℕ, ◌≤◌, Option, Some, None, List, [], length}
+-- Messages that were taken off the bytes of a connection, and were not served.
+use Rattle.std.specs.Prelude.{ℕ, ◌≤◌, List, [], ◌∷◌, ◌++◌, length}
+use Rattle.std.specs.List.{AllByRecursion}
 use Rattle.message_core.specs.declared.announcement.TheConstants.{MAXIMUM_LENGTH}
 use Rattle.message_core.specs.Messages.{IsMessage}
 use Rattle.message_core.specs.Said.{said}
@@ -9,6 +10,10 @@ pub record IsWithin (message : List ℕ) : Type 0 where
   pub is_message : IsMessage message (said message)
   pub within : length message ≤ MAXIMUM_LENGTH
 
-abbrev pub pending_bytes : Option (List ℕ) → List ℕ
-pending_bytes None = []
-pending_bytes (Some message) = message
+abbrev pub AreWithin : List (List ℕ) → Type 0
+AreWithin messages = AllByRecursion IsWithin messages
+
+-- their bytes, in order
+abbrev pub pending_bytes : List (List ℕ) → List ℕ
+pending_bytes [] = []
+pending_bytes (message ∷ messages) = message ++ pending_bytes messages

@@ -1,5 +1,5 @@
 -- What is read off the front of a connection's bytes.
-use Rattle.std.specs.Prelude.{◌≡◌, ℕ, Bool, true, false, Option, Some, None, List, []}
+use Rattle.std.specs.Prelude.{◌≡◌, ◌<◌, ℕ, Bool, true, false, Option, Some, None, List, [], length}
 use Rattle.seq_bus_core.specs.Histories.{History}
 use Rattle.message_core.specs.Said.{said}
 use Rattle.driver.specs.Calls.{is_hello}
@@ -12,6 +12,8 @@ use Rattle.router_steps.specs.declared.first.First.{First}
 use Rattle.router_steps.specs.declared.first.First.TheVariants as first
 use Rattle.router_steps.specs.declared.front.Front.{Front}
 use Rattle.router_steps.specs.declared.front.Front.TheVariants as front
+use Rattle.router_steps.specs.declared.front.More.{More}
+use Rattle.router_steps.specs.declared.front.More.TheVariants as more
 use Rattle.router_steps.specs.declared.first.Greeting.{Greeting}
 use Rattle.router_steps.specs.Refusing.{AreRefusals}
 
@@ -20,6 +22,17 @@ abbrev pub HasFront : Front → List ℕ → List ℕ → Type 0
 HasFront front.Waits old new = IsFront old Waits × (new ≡ old)
 HasFront (front.Whole message) old new = IsFront old (Whole message new)
 HasFront (front.Faulty fault) old new = IsFront old (Faulty fault) × (new ≡ [])
+
+-- what stands behind the messages that are pending
+abbrev pub HasMore : More → (pending : List (List ℕ)) → (unread : List ℕ) → Type 0
+HasMore more.Waits pending unread = IsFront unread Waits
+HasMore more.Pending pending unread = 0 < length pending
+HasMore (more.Faulty fault) pending unread = IsFront unread (Faulty fault)
+
+-- where nothing more is pending, what is pending is as it was
+abbrev pub OnlyPends : More → (old new : List (List ℕ)) → Type 0
+OnlyPends more.Pending old new = Unit {0}
+OnlyPends other old new = new ≡ old
 
 -- but for its bytes the connection is as it was
 abbrev pub IsRest : Peer → Peer → Type 0

@@ -25,6 +25,7 @@ impl<V: BusView, G: Gate> Context<V, G> {
         ensures comes { Comes V.told V.registry_of G.passes V.alone (fated key fate peer.old)
             self.old.world peer.new self.new.world }
         ensures room { self.old.room ≤ self.new.room + 1 }
+        ensures crowds { self.new.crowds ≡ self.old.crowds }
     {
         match fate {
             PeerFate::Stays => {}

@@ -79,12 +79,13 @@ impl<V: BusView + Drop, G: Gate + Drop> Context<V, G> {
 }
 
 impl<V: BusView, G: Gate> Context<V, G> {
-    /// Makes room for so many actions.
+    /// Makes room for so many actions. Without memory there is room as before.
     pub fn reserve(&mut self, count: usize) -> Result<(), AllocError>
         ensures world { self.new.world ≡ self.old.world }
         ensures room { OnOk result (self.new.room ≡ count) }
+        ensures kept { OnErr result (self.new.room ≡ self.old.room) }
+        ensures crowds { self.new.crowds ≡ self.old.crowds }
     {
-        self.room = 0;
         self.actions.reserve(count)?;
         self.room = count;
         Ok(())

@@ -5,7 +5,7 @@ ghost use Rattle.router_core.specs.Standing.{Unnamed, SpeaksDBus};
 ghost use Rattle.router_steps.specs.Reading.{HasFront, HasFirst, IsRest, ComesOfNext};
 
 use crate::context::Context;
-use crate::front::{Front, take_front};
+use crate::front::{Front, More, fill, take_front};
 use crate::hello_errors::HelloErrors;
 use crate::mail::serial_after;
 use crate::peer::Peer;
@@ -59,17 +59,23 @@ impl Peer {
         ensures ok { IfOk result (λ first. HasFirst first self.old self.new) }
         ensures err { OnErr result (self.new ≡ self.old) }
     {
-        match take_front(self.alloc, &mut self.pending, &mut self.unread)? {
-            Front::Waits => Ok(First::Waits),
-            Front::Faulty(fault) => Ok(First::Faulty(fault)),
-            Front::Whole(message) => {
+        match fill(&mut self.pending, &mut self.unread)? {
+            More::Waits => Ok(First::Waits),
+            More::Faulty(fault) => {
+                self.let_go();
+                Ok(First::Faulty(fault))
+            }
+            More::Pending => {
+                let Some(message) = self.pending.pop_front() else {
+                    unreachable!()
+                };
                 if !is_hello(&message) {
                     return Ok(First::Other(message));
                 }
                 match HelloErrors::new(self.alloc, &message, serial_after(self.serial)) {
                     Ok(errors) => Ok(First::Hello(message, errors)),
                     Err(error) => {
-                        self.pending = Some(message);
+                        self.pending.push_front_reserved(message);
                         Err(error)
                     }
                 }

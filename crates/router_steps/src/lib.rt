@@ -42,6 +42,7 @@ mod room;
 mod slot;
 mod telling;
 mod trace;
+mod upcoming;
 mod verdicts;
 
 pub use context::Context;
@@ -51,3 +52,4 @@ pub use hello_errors::HelloErrors;
 pub use mail::{bytes_of, serial_after};
 pub use peer::{Peer, Stage};
 pub use telling::is_method_call;
+pub use upcoming::Upcoming;

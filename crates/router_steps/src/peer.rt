@@ -1,6 +1,6 @@
 //! One connection.
 
-ghost use Rattle.std.specs.Prelude.{◌≡◌, ◌<◌, ◌≤◌, ◌+◌, true, false, OnOk, OnErr};
+ghost use Rattle.std.specs.Prelude.{◌≡◌, ◌<◌, ◌≤◌, ◌+◌, [], true, false, OnOk, OnErr};
 ghost use Rattle.router_core.specs.Events.{closing, fed, look};
 ghost use Rattle.router_core.specs.Fronts.{Waits, IsFront};
 ghost use Rattle.router_core.specs.Scripts.{Comes};
@@ -10,6 +10,7 @@ ghost use Rattle.router_steps.specs.Quiet.{IsQuiet};
 ghost use Rattle.router_steps.specs.Stages.{stage_of, IsFirst};
 
 use crate::context::Context;
+use crate::front::read_more;
 use crate::mail::serial_after;
 use bus_view::BusView;
 use message::Framer;
@@ -18,6 +19,7 @@ use router_core::{CloseCause, Gate};
 use sasl::Server;
 use seq_bus_core::Conn;
 use std::alloc::{AllocError, Global};
+use std::collections::VecDeque;
 use std::marker::Model;
 
 /// How far a connection has come.
@@ -53,31 +55,31 @@ impl Stage {
 pub struct Peer {
     pub(crate) alloc: Global,
     pub(crate) stage: Stage,
-    /// A message that was taken off its bytes, and for whose serving there was no memory.
-    pub(crate) pending: Option<Message>,
+    /// Messages that were taken off its bytes, and were not served.
+    pub(crate) pending: VecDeque<Message>,
     pub(crate) unread: Framer,
     pub(crate) serial: u32,
     pub(crate) watches: bool,
 }
 
 impl Model for Peer {
-    ghost use Rattle.std.specs.Prelude.{◌≡◌, ◌++◌, None, IfSome};
+    ghost use Rattle.std.specs.Prelude.{◌≡◌, ◌++◌, None};
     ghost use Rattle.router_core.specs.Standing.{Peer as Standing_peer};
     ghost use Rattle.router_steps.specs.Stages.{stage_of, unread_at, IsSilentAt};
-    ghost use Rattle.router_steps.specs.Pending.{IsWithin, pending_bytes};
+    ghost use Rattle.router_steps.specs.Pending.{AreWithin, pending_bytes};
 
     ghost Value = { Standing_peer };
 
     ghost view = { λ p. record {
       stage = stage_of p.stage;
       unread = unread_at p.stage
-          (pending_bytes p.pending ++ p.unread.bytes);
+          (pending_bytes p.pending.items ++ p.unread.bytes);
       serial = p.serial;
       watches = p.watches;
     } };
 
-    ghost invariant = { λ p. (p.unread.fault ≡ None) × IfSome p.pending IsWithin ×
-        IsSilentAt p.stage (pending_bytes p.pending ++ p.unread.bytes) };
+    ghost invariant = { λ p. (p.unread.fault ≡ None) × AreWithin p.pending.items ×
+        IsSilentAt p.stage (pending_bytes p.pending.items ++ p.unread.bytes) };
 }
 
 impl Peer {
@@ -90,7 +92,7 @@ impl Peer {
         Peer {
             alloc,
             stage,
-            pending: None,
+            pending: VecDeque::new(alloc),
             unread: Framer::new(alloc),
             serial: 0,
             watches: false,
@@ -126,6 +128,21 @@ impl Peer {
         }
     }
 
+    /// Takes one more message off its bytes, if it is there as a whole, and leaves it pending: it stays as it was, also without memory.
+    pub fn read_ahead(&mut self) -> Result<(), AllocError>
+        ensures { self.new ≡ self.old }
+    {
+        match self.stage {
+            Stage::Authenticating(_) | Stage::Shut(_) => Ok(()),
+            Stage::Unnamed { privileged: _ } | Stage::Named(_) => {
+                match read_more(&mut self.pending, &mut self.unread) {
+                    Ok(_) => Ok(()),
+                    Err(error) => Err(error),
+                }
+            }
+        }
+    }
+
     /// Whether there is something of it to be served: a whole message at the front of its bytes, or what is none.
     pub fn has_next(&self) -> bool
         ensures quiet { result ≡ false → IsQuiet self.now }
@@ -145,7 +162,7 @@ impl Peer {
         ensures waits { result ≡ false → IsFront self.now.unread Waits }
         ensures there { result ≡ true → IsFront self.now.unread Waits → ⊥ }
     {
-        self.pending.is_some() || !self.unread.is_waiting()
+        !self.pending.is_empty() || !self.unread.is_waiting()
     }
 
     /// The serial of the last message of the bus that was written to it.
@@ -171,13 +188,21 @@ impl Peer {
         self.stage = Stage::Named(conn);
     }
 
+    /// Lets its bytes go.
+    pub(crate) fn let_go(&mut self)
+        requires { SpeaksDBus self.old.stage }
+        ensures { self.new ≡ record self.old { unread = [] } }
+    {
+        self.pending = VecDeque::new(self.alloc);
+        self.unread = Framer::new(self.alloc);
+    }
+
     /// Closes it: its bytes are let go.
     pub fn shut(&mut self)
         ensures { self.new ≡ shut self.old }
     {
         self.stage = Stage::Shut(self.stage.conn());
-        self.pending = None;
-        self.unread = Framer::new(self.alloc);
+        self.let_go();
     }
 }
 

@@ -1,11 +1,12 @@
 //! Messages that connections send one another. (D-Bus Specification: "Message Bus Message Routing")
 
-ghost use Rattle.std.specs.Prelude.{◌≡◌, ◌<◌, ◌≤◌, ◌+◌, IfOk};
+ghost use Rattle.std.specs.Prelude.{◌≡◌, ◌≢◌, ◌<◌, ◌≤◌, ◌+◌, [], IfOk, IsOk, OnOk, OnErr};
 ghost use Rattle.message_core.specs.Said.{said};
 ghost use Rattle.message.specs.MessageBytes.{message_bytes, is_too_long};
+ghost use Rattle.outbox_core.specs.Contents.{Relays};
 ghost use Rattle.router_core.specs.Deeds.{all_of};
-ghost use Rattle.router_core.specs.Scripts.{World, Comes};
-ghost use Rattle.router_core.specs.Serving.{Fated, signed, relayed, shown};
+ghost use Rattle.router_core.specs.Scripts.{World, Comes, putting};
+ghost use Rattle.router_core.specs.Serving.{Fated, nothing, signed, relayed, shown};
 ghost use Rattle.router_core.specs.declared.fate.PeerFate.{PeerFate as Fate};
 ghost use Rattle.router_steps.specs.OncePut.{is_long, once_put};
 
@@ -57,6 +58,12 @@ impl<V: BusView, G: Gate> Context<V, G> {
             Comes V.told V.registry_of G.passes V.alone
             (relayed (said message.now) sender (all_of verdict.value.to verdict.value.monitors)
             goes_on) self.old.world fate end }
+        ensures put { OnOk result (Comes V.told V.registry_of G.passes V.alone
+            (putting (all_of verdict.value.to verdict.value.monitors)
+            (Relays (message_bytes (signed (said message.now) sender))) nothing) self.old.world tt
+            self.new.world) }
+        ensures unput { OnErr result (self.new.world ≡ self.old.world) }
+        ensures too_long { is_too_long (signed (said message.now) sender) ≡ is_long result }
         ensures room { self.old.room ≤ self.new.room + 1 }
         ensures crowds { self.old.crowds ≤ self.new.crowds }
     {
@@ -94,6 +101,12 @@ impl<V: BusView, G: Gate> Context<V, G> {
             Comes V.told V.registry_of G.passes V.alone
             (relayed (said message.now) sender verdict.value.monitors goes_on) self.old.world fate
             end }
+        ensures put { OnOk result (Comes V.told V.registry_of G.passes V.alone
+            (putting verdict.value.monitors
+            (Relays (message_bytes (signed (said message.now) sender))) nothing) self.old.world tt
+            self.new.world) }
+        ensures unput { OnErr result (self.new.world ≡ self.old.world) }
+        ensures too_long { is_too_long (signed (said message.now) sender) ≡ is_long result }
         ensures room { self.old.room ≤ self.new.room + 1 }
         ensures crowds { self.old.crowds ≤ self.new.crowds }
     {
@@ -120,6 +133,14 @@ impl<V: BusView, G: Gate> Context<V, G> {
             Comes V.told V.registry_of G.passes V.alone
             (shown (said message.now) sender verdict.value.monitors goes_on) self.old.world fate
             end }
+        ensures put { OnOk result (Comes V.told V.registry_of G.passes V.alone
+            (putting verdict.value.monitors
+            (Relays (message_bytes (signed (said message.now) sender))) nothing) self.old.world tt
+            self.new.world) }
+        ensures unput { OnErr result (self.new.world ≡ self.old.world) }
+        ensures too_long { verdict.value.monitors ≢ [] →
+            is_too_long (signed (said message.now) sender) ≡ is_long result }
+        ensures unshown { verdict.value.monitors ≡ [] → IsOk result }
         ensures room { self.old.room ≤ self.new.room + 1 }
         ensures crowds { self.old.crowds ≤ self.new.crowds }
     {

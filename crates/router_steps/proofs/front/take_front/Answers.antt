@@ -1,14 +1,17 @@
-use Rattle.std.proofs.Common.{◌≡◌, ◌++◌, None, Option, List, ℕ, sym, ap, subst, ◌∙◌}
+use Rattle.std.proofs.Common.{◌++◌, List, ℕ, sym, ap, subst, ◌∙◌}
 use Rattle.message.specs.Framing.{Unread, IsJudged}
 use Rattle.message_core.specs.declared.announcement.TheConstants.{MAXIMUM_LENGTH}
 use Rattle.router_steps.specs.Pending.{pending_bytes}
-use Rattle.router_steps.proofs.Judging.{judged, none_of}
+use Rattle.router_steps.proofs.Judging.{judged}
+use Rattle.router_steps.proofs.Pendings.{none_taken}
 use Rattle.router_steps.proofs.front.take_front.Goals as goal
 
 pub returns-in_default-fault-clause-front : goal.returns-in_default-fault-clause-front
 returns-in_default-fault-clause-front c =
     let bytes = c.args.unread.now.bytes in
-    let none : c.args.pending.now ≡ None = sym c.take.ensures.value ∙ none_of c.take.result c.in_default.not-Some in
+    let none = none_taken c.args.pending.now.items c.pop_front.new.self.items c.pop_front.result c.in_default.not-Some c.pop_front.ensures.items c.pop_front.ensures.rest in
     let other = c.in_default-fault.not-NoMemory in
-    let here = judged MAXIMUM_LENGTH c.in-Err.fault c.args.unread.now c.next.new.self other c.requires.fine c.in-Err.ensures.fault in
-    ((subst (λ (o : Option (List ℕ)). IsJudged MAXIMUM_LENGTH c.in-Err.fault (pending_bytes o ++ bytes)) (sym none) here, other), ap (λ (u : Unread). u.bytes) c.new.ensures)
+    let here = judged MAXIMUM_LENGTH c.in-Err.fault c.args.unread.now c.next.new.self other c.requires.fine c.in-Err.ensures.fault in (
+      (subst (λ (p : List (List ℕ)). IsJudged MAXIMUM_LENGTH c.in-Err.fault (pending_bytes p ++ bytes)) (sym none.0) here, other),
+      ap (λ (p : List (List ℕ)). pending_bytes p ++ c.new.result.bytes) none.1 ∙ ap (λ (u : Unread). u.bytes) c.new.ensures,
+    )

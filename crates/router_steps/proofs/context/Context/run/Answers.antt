@@ -1,5 +1,4 @@
 use Rattle.std.proofs.Common.{Option, ℕ, Some, refl, sym, subst}
-use Rattle.router_core.specs.Deeds.{Runs}
 use Rattle.router_core.specs.Scripts.{Comes}
 use Rattle.router_core.specs.Serving.{run}
 use Rattle.router_steps.proofs.context.Context.run.Goals as goal
