@@ -1,7 +1,6 @@
 -- What a call is answered that asks the bus, or has it changed.
 use Rattle.std.proofs.Common.{◌≡◌, ℕ, Bool, List, Option, Some, None, Result, Ok, Err, inl, inr, true, false, refl, sym, subst}
-use Rattle.seq_bus_core.specs.Answers.{Answer, answer}
-use Rattle.seq_bus_core.specs.BusState.{BusState}
+use Rattle.seq_bus_core.specs.Answers.{Answer}
 use Rattle.seq_bus_core.specs.Histories.{History}
 use Rattle.seq_bus_core.specs.declared.connection.Conn.{Conn}
 use Rattle.seq_bus_core.specs.declared.error_kind.ErrorKind.{ErrorKind}

@@ -1,3 +1,5 @@
 pub mod Answering
 pub mod Waits
 pub mod Verdicts
+pub mod Rules
+pub mod Joins

@@ -1,5 +1,5 @@
 -- Where a message goes is asked first.
-use Rattle.std.proofs.Common.{◌≡◌, ℕ, Bool, false, Option, Some, None, List, option_map, refl, sym, subst, if◌then◌else◌}
+use Rattle.std.proofs.Common.{◌≡◌, ℕ, Bool, false, Option, Some, None, List, option_map, sym, subst, if◌then◌else◌}
 use Rattle.std.specs.Borrow.{Bor}
 use Rattle.names.specs.Texts.{Text}
 use Rattle.match_rules.specs.Facts.{Facts}
@@ -27,20 +27,12 @@ pub lent : (o : Option (Bor (List ℕ))) (text : Option Text) → Lends o text �
 lent None text is = sym is
 lent (Some x) text is = sym is
 
-module _ {N G : Type 0} (told : N → History) (registry_of : N → ℕ) (passes : G → GatedCall → G → Type 0) (alone : Bool) (m : Message) (sender : Conn) (fate : PeerFate) (w v : World N G) where
-  pub serves : {facts : Facts} (heard : Heard Verdict) (r : World N G) → is_unknown (kind_of m.kind) ≡ false → facts ≡ facts_of m → Routes alone sender.number (record facts { sender = sender.number }) w heard r →
-      Comes told registry_of passes alone (routed m sender heard) r fate v → Comes told registry_of passes alone (serve m sender) w fate v
-  serves {facts} heard r known are routes done =
-      let own : Routes alone sender.number facts w heard r = record { hears = hears_own alone sender.number sender.number facts w.view r.view heard routes.hears; rest = routes.rest } in
-      subst (λ (b : Bool). Comes told registry_of passes alone (if b then stays_open else Routing sender.number (facts_of m) (λ h. routed m sender h)) w fate v) (sym known)
-      (heard, r, subst (λ (f : Facts). Routes alone sender.number f w heard r) are own, done)
-
+module _ {N G : Type 0} (alone : Bool) (m : Message) (sender : Conn) (w r : World N G) (heard : Heard Verdict) where
   -- what was looked at, field by field
-  pub serves_seen : {seen : Facts} (heard : Heard Verdict) (r : World N G) → is_unknown (kind_of m.kind) ≡ false →
-      seen.kind ≡ (facts_of m).kind → seen.auto_start ≡ (facts_of m).auto_start → seen.sender ≡ sender.number → seen.path ≡ (facts_of m).path → seen.interface ≡ (facts_of m).interface →
-      seen.member ≡ (facts_of m).member → seen.destination ≡ (facts_of m).destination → seen.arguments ≡ (facts_of m).arguments → Routes alone sender.number seen w heard r →
-      Comes told registry_of passes alone (routed m sender heard) r fate v → Comes told registry_of passes alone (serve m sender) w fate v
-  serves_seen {seen} heard r known kind auto_start from path interface member destination arguments routes done =
+  pub routes_seen : {seen : Facts} → seen.kind ≡ (facts_of m).kind → seen.auto_start ≡ (facts_of m).auto_start → seen.sender ≡ sender.number → seen.path ≡ (facts_of m).path →
+      seen.interface ≡ (facts_of m).interface → seen.member ≡ (facts_of m).member → seen.destination ≡ (facts_of m).destination → seen.arguments ≡ (facts_of m).arguments →
+      Routes alone sender.number seen w heard r → Routes alone sender.number (facts_of m) w heard r
+  routes_seen {seen} kind auto_start from path interface member destination arguments routes =
       let are : seen ≡ record (facts_of m) { sender = sender.number } = λ i. record {
         kind = kind i;
         auto_start = auto_start i;
@@ -51,4 +43,12 @@ module _ {N G : Type 0} (told : N → History) (registry_of : N → ℕ) (passes
         destination = destination i;
         arguments = arguments i;
       } in
-      serves {facts = facts_of m} heard r known refl (subst (λ (f : Facts). Routes alone sender.number f w heard r) are routes) done
+      let own : Routes alone sender.number (record (facts_of m) { sender = sender.number }) w heard r = subst (λ (f : Facts). Routes alone sender.number f w heard r) are routes in
+      record { hears = hears_own alone sender.number sender.number (facts_of m) w.view r.view heard own.hears; rest = own.rest }
+
+module _ {N G : Type 0} (told : N → History) (registry_of : N → ℕ) (passes : G → GatedCall → G → Type 0) (alone : Bool) (m : Message) (sender : Conn) (fate : PeerFate) (w r v : World N G) where
+  pub serves : (heard : Heard Verdict) → is_unknown (kind_of m.kind) ≡ false → Routes alone sender.number (facts_of m) w heard r →
+      Comes told registry_of passes alone (routed m sender heard) r fate v → Comes told registry_of passes alone (serve m sender) w fate v
+  serves heard known routes done =
+      subst (λ (b : Bool). Comes told registry_of passes alone (if b then stays_open else Routing sender.number (facts_of m) (λ h. routed m sender h)) w fate v) (sym known)
+      (heard, r, routes, done)

@@ -30,11 +30,13 @@
 
 mod calls;
 mod holding;
+mod joining;
 mod next;
 mod routing;
 mod starting;
 mod watching;
 
 pub use calls::serve_bus;
+pub use joining::{Joining, Parting, answer, change_of, join, make, part, rule_call_of};
 pub use next::next_in;
 pub use routing::serve;

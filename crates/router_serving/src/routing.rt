@@ -4,7 +4,8 @@ ghost use Rattle.std.specs.Prelude.{◌≡◌, ◌<◌, ◌≤◌, ◌+◌, fals
 ghost use Rattle.match_rules.specs.Kinds.{kind_of};
 ghost use Rattle.message_core.specs.Said.{said};
 ghost use Rattle.seq_bus_core.specs.declared.limits.TheConstants.{MAX_TICKETS};
-ghost use Rattle.router_core.specs.Scripts.{Comes};
+ghost use Rattle.message.specs.FactsOf.{facts_of};
+ghost use Rattle.router_core.specs.Scripts.{Routes, Comes};
 ghost use Rattle.router_core.specs.Serving.{and_stays, err_if_call, is_unknown, relay as relaying, routed as routing, serve as serving};
 ghost use Rattle.router_steps.specs.Hearing.{heard_verdict};
 ghost use Rattle.router_steps.specs.OncePut.{not_put as unput};
@@ -40,7 +41,7 @@ fn err_and_stay<V: BusView, G: Gate>(
 }
 
 /// What becomes of a connection whose message was not put.
-fn not_put<V: BusView, G: Gate>(
+pub(crate) fn not_put<V: BusView, G: Gate>(
     context: &mut Context<V, G>,
     message: &Message,
     sender: Conn,
@@ -172,7 +173,7 @@ fn relay<V: BusView, G: Gate>(
 }
 
 /// Relays a message once the bus has said where it goes. Where it says nothing, a call is answered so.
-fn routed<V: BusView, G: Gate>(
+pub(crate) fn routed<V: BusView, G: Gate>(
     alloc: Global,
     context: &mut Context<V, G>,
     right: &V::Right,
@@ -194,6 +195,33 @@ fn routed<V: BusView, G: Gate>(
     }
 }
 
+/// Asks the bus where a message goes.
+pub(crate) fn ask_route<V: BusView, G: Gate>(
+    context: &mut Context<V, G>,
+    message: &Message,
+    sender: Conn,
+    verdict: &mut Verdict,
+) -> Result<(), Gone>
+    ensures routes { Routes V.alone sender.number (facts_of (said message.now)) context.old.world
+        (heard_verdict result verdict.new) context.new.world }
+    ensures room { context.new.room ≡ context.old.room }
+    ensures crowds { context.new.crowds ≡ context.old.crowds }
+{
+    // Made where they stay, and with the sender's number, as the bus takes them: they are too large to be copied.
+    let mut facts = Facts {
+        kind: message.kind(),
+        auto_start: message.flags() & NO_AUTO_START == 0,
+        sender: sender.number,
+        path: message.path(),
+        interface: message.interface(),
+        member: message.member(),
+        destination: message.destination(),
+        arguments: ArrayVec::new(),
+    };
+    put_arguments(message, &mut facts.arguments);
+    context.route(sender.number, &facts, verdict)
+}
+
 /// Asks the bus where a message goes, and relays it.
 fn route_message<V: BusView, G: Gate>(
     alloc: Global,
@@ -209,20 +237,8 @@ fn route_message<V: BusView, G: Gate>(
         context.old.world result context.new.world }
     ensures room { context.old.room ≤ context.new.room + MAX_TICKETS + 3 }
 {
-    // Made where they stay, and with the sender's number, as the bus takes them: they are too large to be copied.
-    let mut facts = Facts {
-        kind: message.kind(),
-        auto_start: message.flags() & NO_AUTO_START == 0,
-        sender: sender.number,
-        path: message.path(),
-        interface: message.interface(),
-        member: message.member(),
-        destination: message.destination(),
-        arguments: ArrayVec::new(),
-    };
-    put_arguments(message, &mut facts.arguments);
     let mut verdict = context.take_verdict();
-    let heard = context.route(sender.number, &facts, &mut verdict);
+    let heard = ask_route(context, message, sender, &mut verdict);
     routed(alloc, context, right, message, sender, verdict, heard)
 }
 

@@ -1,4 +1,4 @@
-use Rattle.std.proofs.Common.{ℕ, Result, sym, subst}
+use Rattle.std.proofs.Common.{Result, sym, subst}
 use Rattle.message_core.specs.Said.{said}
 use Rattle.seq_bus_core.specs.declared.error_kind.ErrorKind.{ErrorKind}
 use Rattle.seq_bus_core.specs.declared.outcome.Reply.{Reply}

@@ -1,0 +1,20 @@
+-- How a call comes to join others.
+use Rattle.message_core.specs.Messages.{Message}
+use Rattle.seq_bus_core.specs.declared.connection.Conn.{Conn}
+use Rattle.router_core.specs.Serving.{Fated, routed}
+use Rattle.router_core.specs.Together.{Joining as Joins_in, Joins, Parts}
+use Rattle.router_steps.specs.Hearing.{heard_verdict}
+use Rattle.router_steps.specs.OncePut.{not_put}
+use Rattle.router_serving.specs.declared.joining.Joining.{Joining}
+use Rattle.router_serving.specs.declared.joining.Joining.TheVariants as joining
+use Rattle.router_serving.specs.declared.joining.Parting.{Parting}
+use Rattle.router_serving.specs.declared.joining.Parting.TheVariants as parting
+
+-- what is done for it instead
+abbrev pub parting_of : Message → Conn → Parting → Fated
+parting_of m caller (parting.Routed heard verdict) = routed m caller (heard_verdict heard verdict.value)
+parting_of m caller (parting.NotPut fault) = not_put fault m caller
+
+abbrev pub joining_of : Message → Conn → Joining → Joins_in
+joining_of m caller joining.Joins = Joins
+joining_of m caller (joining.Parts parting) = Parts (parting_of m caller parting)
