@@ -14,3 +14,5 @@ pub mod Feeding
 pub mod Speaking
 pub mod Conversations
 pub mod Openings
+pub mod Turnings
+pub mod Gatherings

@@ -4,3 +4,5 @@ pub mod Upcoming
 pub mod Indexed
 pub mod Numbers
 pub mod OneEvent
+pub mod Dues
+pub mod Named

@@ -6,7 +6,7 @@ ghost use Rattle.router_core.specs.Acts.{Brings};
 ghost use Rattle.router_core.specs.Deeds.{CarriesOwn};
 ghost use Rattle.router_core.specs.Events.{CanHappen, IsFree};
 ghost use Rattle.router_core.specs.Standing.{fresh, has_slot, is_unnamed};
-ghost use Rattle.router_core.specs.declared.event.Event.TheVariants.{Opened, Bytes, Next, Mail, Closed, Full, Tick};
+ghost use Rattle.router_core.specs.declared.event.Event.TheVariants.{Opened, Bytes, Next, Turn, Mail, Closed, Full, Tick};
 ghost use Rattle.router.specs.Numbers.{number_at};
 ghost use Rattle.router.specs.OneEvent.{IsServedWell};
 ghost use Rattle.router.specs.Upcoming.{HasNoNext};
@@ -171,6 +171,23 @@ impl<V: BusView, G: Gate> Engine<V, G> {
         Ok(self.served.take_actions())
     }
 
+    /// The next whole messages of connections are served, one after the other, as many of each as its key stands there.
+    fn turn(
+        &mut self,
+        right: &V::Right,
+        keys: &Vec<usize>,
+    ) -> Result<Vec<Action<V::Note>>, AllocError>
+        requires { CanHappen V.registry_of self.old.view.registry self.old.standing
+            (Turn keys.now) }
+        ensures brings { IfOk result
+            (λ actions. Brings V.told V.registry_of G.passes V.alone self.old (Turn keys.now)
+            actions.items self.new) }
+        ensures err { OnErr result (self.new ≡ self.old) }
+    {
+        self.served.turn(right, keys)?;
+        Ok(self.served.take_actions())
+    }
+
     /// An envelope came for the connection in a slot.
     fn mail(
         &mut self,
@@ -238,6 +255,7 @@ impl<V: BusView, G: Gate> Engine<V, G> {
             Event::Opened { key, challenge } => self.opened(*key, *challenge),
             Event::Bytes { key, piece } => self.bytes(*key, piece),
             Event::Next { key } => self.next(right, *key),
+            Event::Turn { keys } => self.turn(right, keys),
             Event::Mail { slot, envelope } => self.mail(*slot, envelope),
             Event::Closed { key } => self.closed(right, *key),
             Event::Full { number } => self.full(right, *number),

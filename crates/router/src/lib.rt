@@ -39,6 +39,7 @@ mod served;
 mod starts;
 mod tick;
 mod trace;
+mod turn;
 
 pub use bus_trace::Traced;
 pub use engine::Engine;

@@ -1,5 +1,5 @@
 -- What is done at an event. (D-Bus Specification: "Message Bus Messages", "org.freedesktop.DBus.Hello")
-use Rattle.std.specs.Prelude.{◌≡◌, ℕ, Bool, true, false, Option, Some, None, is_some, is_none, option_map, List, [], ◌∷◌, ◌++◌, length, map, ◌==◌, position, if◌then◌else◌}
+use Rattle.std.specs.Prelude.{◌≡◌, ◌≤◌, ℕ, Bool, true, false, Option, Some, None, is_some, is_none, option_map, List, [], ◌∷◌, ◌++◌, length, map, ◌==◌, position, if◌then◌else◌}
 use Rattle.std.specs.List.{position_or_len}
 use Rattle.seq_bus_core.specs.Batches.{max_batch}
 use Rattle.seq_bus_core.specs.Histories.{History}
@@ -465,6 +465,7 @@ abbrev pub occasion_of : {N : Type 0} → (N → History) → Event N → Occasi
 occasion_of told (event.Opened key challenge) = Opened key challenge
 occasion_of told (event.Bytes key piece) = Bytes key piece.items
 occasion_of told (event.Next key) = Next key
+occasion_of told (event.Turn keys) = Turn keys.items
 occasion_of told (event.Mail slot envelope) = Mail slot envelope.number (option_map told envelope.note) (said_of envelope.content)
 occasion_of told (event.Closed key) = Closed key
 occasion_of told (event.Full number) = Full number
@@ -485,7 +486,12 @@ abbrev pub CanBeAsked : Option Login → (challenge : Option (List ℕ)) → Typ
 CanBeAsked login None = Unit {0}
 CanBeAsked login (Some challenge) = is_some login ≡ true
 
+-- some keys, and not more than calls whose changes can be made together
+abbrev pub IsTurnOf : List ℕ → Type 0
+IsTurnOf keys = (1 ≤ length keys) × (length keys ≤ max_batch)
+
 abbrev pub CanHappen : {N : Type 0} → (N → ℕ) → ℕ → Standing → Event N → Type 0
 CanHappen registry_of registry s (event.Opened key challenge) = IsFree s key × CanBeAsked s.login challenge
+CanHappen registry_of registry s (event.Turn keys) = IsTurnOf keys.items
 CanHappen registry_of registry s (event.Mail slot envelope) = IsOwnNote registry_of registry envelope.note
 CanHappen registry_of registry s other = Unit {0}

@@ -21,6 +21,11 @@ pub enum Event<N: Drop> {
     Next {
         key: usize,
     },
+    /// The next whole messages of connections are to be served, one after the other: 1 to 64, of each connection as many as its key
+    /// stands among the keys.
+    Turn {
+        keys: Vec<usize>,
+    },
     /// An envelope came for the connection in a slot.
     Mail {
         slot: u16,

@@ -3,12 +3,14 @@ use Rattle.std.specs.Prelude.{ℕ, Option, Some, None}
 use Rattle.router_core.specs.declared.event.Event.{Event}
 use Rattle.router_core.specs.declared.event.Event.TheVariants as event
 use Rattle.router_core.specs.Deeds.{IsOwnNote}
+use Rattle.router_core.specs.Events.{IsTurnOf}
 use Rattle.router_host.specs.declared.kept.Kept.{Kept}
 use Rattle.router_host.specs.declared.kept.Kept.TheVariants.{Happening, Piece}
 
 -- It can happen at any later time too: no connection comes with it, and its note is of this registry.
 abbrev pub CanWait : {N : Type 0} → (N → ℕ) → ℕ → Event N → Type 0
 CanWait registry_of registry (event.Opened key challenge) = ⊥
+CanWait registry_of registry (event.Turn keys) = IsTurnOf keys.items
 CanWait registry_of registry (event.Mail slot envelope) =
     IsOwnNote registry_of registry envelope.note
 CanWait registry_of registry other = Unit {0}

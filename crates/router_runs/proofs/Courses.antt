@@ -11,10 +11,10 @@ use Rattle.router_core.specs.OneThread.{keys_after, written_to}
 use Rattle.router_core.specs.Standing.{Standing}
 use Rattle.router_core.proofs.Asked.{answers_are_lawful}
 use Rattle.router_runs.specs.declared.fault.RunFault.{RunFault}
-use Rattle.router_runs.specs.declared.fault.RunFault.TheVariants.{WrongKey, NoLogin, NoMemory}
+use Rattle.router_runs.specs.declared.fault.RunFault.TheVariants.{WrongKey, NoLogin, NoTurn, NoMemory}
 use Rattle.router.specs.OneEvent.{rest_in}
 use Rattle.router_runs.specs.Turns.{AreServedBy, keys_of, written_by}
-use Rattle.router_runs.specs.Runs.{IsFaultOf, IsRunOf, IsStopped, LacksKey, LacksLogin, happening, occasions_of}
+use Rattle.router_runs.specs.Runs.{IsFaultOf, IsRunOf, IsStopped, LacksKey, LacksLogin, LacksTurn, happening, occasions_of}
 use Rattle.router_runs.specs.Outputs.{Adds, IsCourse, IsRefused, IsTurn, Output, bytes_by, bytes_by_all, met, no_output}
 use Rattle.router_runs.proofs.Appending.{served_more, keys_more, written_more, shown_more}
 use Rattle.router_runs.proofs.Keeping.{turns_keep}
@@ -150,6 +150,8 @@ module _ {G : Type 0} (passes : G → GatedCall → G → Type 0) where
       subst (λ (n : ℕ). IsStopped LacksKey (rest_in before) events n) (sym refused.0) (course_stops LacksKey before now events index event sent c reached refused.1)
   course_faults before now events index event sent (NoLogin at) c reached refused =
       subst (λ (n : ℕ). IsStopped LacksLogin (rest_in before) events n) (sym refused.0) (course_stops LacksLogin before now events index event sent c reached refused.1)
+  course_faults before now events index event sent (NoTurn at) c reached refused =
+      subst (λ (n : ℕ). IsStopped LacksTurn (rest_in before) events n) (sym refused.0) (course_stops LacksTurn before now events index event sent c reached refused.1)
   course_faults before now events index event sent NoMemory c reached refused = tt
 
   pub course_registry : (before now : State G) (events : List (Event (Unit {0}))) (sent : Output) → IsCourse passes before events now sent → now.view.registry ≡ before.view.registry

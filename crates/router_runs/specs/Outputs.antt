@@ -8,8 +8,8 @@ use Rattle.router_core.specs.Deeds.{GatedCall, PassesAll}
 use Rattle.router_core.specs.Events.{Occasion, Opened}
 use Rattle.router_core.specs.OneThread.{bytes_if, opening_of, written_to}
 use Rattle.router_runs.specs.declared.fault.RunFault.{RunFault}
-use Rattle.router_runs.specs.declared.fault.RunFault.TheVariants.{WrongKey, NoLogin, NoMemory}
-use Rattle.router_runs.specs.Runs.{LacksKey, LacksLogin, happening, occasions_of}
+use Rattle.router_runs.specs.declared.fault.RunFault.TheVariants.{WrongKey, NoLogin, NoTurn, NoMemory}
+use Rattle.router_runs.specs.Runs.{LacksKey, LacksLogin, LacksTurn, happening, occasions_of}
 use Rattle.router.specs.OneEvent.{rest_in}
 use Rattle.router_runs.specs.Turns.{AreServedBy, Turn, asked_in, keys_of, written_by}
 
@@ -61,4 +61,5 @@ pub record IsCourse {G : Type 0} (passes : G → GatedCall → G → Type 0) (be
 abbrev pub IsRefused : {G : Type 0} → State G → ℕ → Event (Unit {0}) → RunFault → Type 0
 IsRefused now index event (WrongKey at) = (at ≡ index) × LacksKey now.standing event
 IsRefused now index event (NoLogin at) = (at ≡ index) × LacksLogin now.standing event
+IsRefused now index event (NoTurn at) = (at ≡ index) × LacksTurn now.standing event
 IsRefused now index event NoMemory = Unit {0}

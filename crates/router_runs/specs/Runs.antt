@@ -8,11 +8,11 @@ use Rattle.router_core.specs.declared.event.Event.{Event}
 use Rattle.router_core.specs.declared.event.Event.TheVariants as event
 use Rattle.router_core.specs.Acts.{gated_in}
 use Rattle.router_core.specs.Deeds.{GatedCall, PassesAll}
-use Rattle.router_core.specs.Events.{Occasion, CanBeAsked, IsFree, occasion_of}
+use Rattle.router_core.specs.Events.{Occasion, CanBeAsked, IsFree, occasion_of, IsTurnOf}
 use Rattle.router_core.specs.OneThread.{Rest}
 use Rattle.router_core.specs.Standing.{Standing, fresh}
 use Rattle.router_runs.specs.declared.fault.RunFault.{RunFault}
-use Rattle.router_runs.specs.declared.fault.RunFault.TheVariants.{WrongKey, NoLogin, NoMemory}
+use Rattle.router_runs.specs.declared.fault.RunFault.TheVariants.{WrongKey, NoLogin, NoTurn, NoMemory}
 use Rattle.router_runs.specs.Turns.{AreServedBy, Turn, asked_in, keys_of, written_by}
 
 -- no connection, over a plain bus
@@ -49,6 +49,11 @@ abbrev pub LacksLogin : Standing → Event (Unit {0}) → Type 0
 LacksLogin s (event.Opened key challenge) = CanBeAsked s.login challenge → ⊥
 LacksLogin s other = ⊥
 
+-- It is a turn of no keys, or of too many.
+abbrev pub LacksTurn : Standing → Event (Unit {0}) → Type 0
+LacksTurn s (event.Turn keys) = IsTurnOf keys.items → ⊥
+LacksTurn s other = ⊥
+
 -- The events before that of this index come, and this one cannot happen then, since it lacks this.
 pub record IsStopped (lacks : Standing → Event (Unit {0}) → Type 0) (before : Rest) (events : List (Event (Unit {0}))) (index : ℕ) : Type 0 where
   pub turns : List Turn
@@ -62,4 +67,5 @@ pub record IsStopped (lacks : Standing → Event (Unit {0}) → Type 0) (before 
 abbrev pub IsFaultOf : Rest → List (Event (Unit {0})) → RunFault → Type 0
 IsFaultOf before events (WrongKey index) = IsStopped LacksKey before events index
 IsFaultOf before events (NoLogin index) = IsStopped LacksLogin before events index
+IsFaultOf before events (NoTurn index) = IsStopped LacksTurn before events index
 IsFaultOf before events NoMemory = Unit {0}

@@ -12,6 +12,9 @@ pub enum RunFault {
     /// A connection that is to say who it is comes at the event of this index, and no one may log in.
     #[error("event {0}: no one may log in")]
     NoLogin(usize),
+    /// The event of this index is a turn of no keys, or of more than 64.
+    #[error("event {0}: a turn has 1 to 64 keys")]
+    NoTurn(usize),
     #[error("out of memory")]
     NoMemory,
 }

@@ -2,8 +2,10 @@
 
 ghost use Rattle.std.specs.Prelude.{◌≡◌, map, OnOk, IfOk, IfErr};
 ghost use Rattle.seq_bus.specs.PlainViews.{knowledge_of};
-ghost use Rattle.router_core.specs.Events.{CanHappen};
+ghost use Rattle.router_core.specs.Events.{CanBeAsked, CanHappen, IsFree, IsTurnOf};
 ghost use Rattle.router_core.specs.Standing.{fresh};
+ghost use Rattle.router_core.specs.declared.event.Event.TheVariants.{Opened};
+ghost use Rattle.router_runs.specs.declared.fault.RunFault.TheVariants.{NoTurn};
 ghost use Rattle.router_runs.specs.Outputs.{IsRefused, IsTurn, no_output};
 ghost use Rattle.router_runs.specs.Runs.{IsFaultOf, IsRunOf, fresh_over, occasions_of};
 
@@ -12,6 +14,7 @@ use crate::outlets::Outlets;
 use router::{Engine, Login};
 use router_core::{Event, Gate};
 use seq_bus::SeqBus;
+use seq_bus_core::limits::MAX_BATCH;
 use std::alloc::{AllocError, Global};
 
 /// An engine over a plain bus, and what went to its connections.
@@ -44,17 +47,34 @@ impl<G: Gate + Drop> Session<G> {
     }
 
     /// Whether the event of this index can happen: a connection comes only where its key is free, and is asked who it is only
-    /// where someone may log in.
+    /// where someone may log in; a turn has 1 to 64 keys.
     fn admit(&self, index: usize, event: &Event<()>) -> Result<(), RunFault>
         requires { self.now.engine.view.registry ≡ 0 }
         ensures happens { OnOk result
             (CanHappen (λ _. 0) self.now.engine.view.registry self.now.engine.standing event.now) }
         ensures fault { IfErr result (λ fault. IsRefused self.now.engine index event.now fault) }
     {
-        let Event::Opened { key, challenge } = event else {
-            return Ok(());
-        };
-        if !self.engine.is_free(*key) {
+        match event {
+            Event::Opened { key, challenge } => self.admit_comer(index, *key, *challenge),
+            Event::Turn { keys } => admit_turn(index, keys),
+            _ => Ok(()),
+        }
+    }
+
+    /// Whether a connection can come at the event of this index.
+    fn admit_comer(
+        &self,
+        index: usize,
+        key: usize,
+        challenge: Option<[u8; 16]>,
+    ) -> Result<(), RunFault>
+        requires { self.now.engine.view.registry ≡ 0 }
+        ensures happens { OnOk result (IsFree self.now.engine.standing key
+            × CanBeAsked self.now.engine.standing.login challenge) }
+        ensures fault { IfErr result (λ fault.
+            IsRefused self.now.engine index (Opened key challenge) fault) }
+    {
+        if !self.engine.is_free(key) {
             return Err(RunFault::WrongKey(index));
         }
         if challenge.is_some() && !self.engine.has_login() {
@@ -80,11 +100,23 @@ impl<G: Gate + Drop> Session<G> {
     }
 }
 
+/// Whether the event of this index can be a turn of these keys.
+fn admit_turn(index: usize, keys: &[usize]) -> Result<(), RunFault>
+    ensures happens { OnOk result (IsTurnOf keys.now) }
+    ensures fault { IfErr result (λ fault.
+        (fault ≡ NoTurn index) × (IsTurnOf keys.now → ⊥)) }
+{
+    if keys.is_empty() || keys.len() > MAX_BATCH {
+        return Err(RunFault::NoTurn(index));
+    }
+    Ok(())
+}
+
 /// Serves events in order over a plain bus, from no connection on, and gives the bytes that go to each connection, the
 /// first that came first. Connections that come with a challenge say who they are, by the login.
 ///
 /// What goes to them is what the actions of the events write. It ends early where a connection comes whose key is not the
-/// least that none has, or that is to say who it is where no one may log in; and without memory.
+/// least that none has, or that is to say who it is where no one may log in; at a turn of no keys or of more than 64; and without memory.
 pub fn run<G: Gate + Drop>(
     alloc: Global,
     bus: SeqBus,

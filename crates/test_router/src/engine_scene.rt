@@ -5,7 +5,8 @@
 //! - `engine [SERVICE..]`: the bus has these services.
 //! - `opens K [asked]`: a connection comes, and may be asked who it is. `hello K`, `sends K BYTES`: it sends the call of Hello with
 //!   serial 1, or bytes. `calls K SERIAL MEMBER ..`, `says K TYPE SERIAL ..`: it sends a call to the bus, or any message, as
-//!   [`scene`](crate::scene) has them. `serves K`: its next message is served. `leaves K`: it is gone.
+//!   [`scene`](crate::scene) has them. `serves K`: its next message is served. `turn K..`: the next
+//!   messages of these are served, of each as many as it stands there. `leaves K`: it is gone.
 //! - `ends START SERVICE exit STATUS`, or `killed`, `exec` or `timeout` for the last two words: a start of a service ended so.
 //! - `mail`: the oldest mail comes. `fills N`: connection number N takes no more mail. `tick`: time passes.
 //! - `next`: the key of the next connection. `free K`: whether that is K. `ready K`: whether K has something to be served. `number K`: its
@@ -33,6 +34,7 @@ use router::Engine;
 use router_core::{Action, Addressees, Event, OpenGate};
 use router_runs::{RunFault, run};
 use seq_bus::SeqBus;
+use seq_bus_core::limits::MAX_BATCH;
 use seq_bus_core::{Conn, Recipients, Verdict};
 use std::alloc::{AllocError, Global};
 use std::collections::VecDeque;
@@ -78,6 +80,7 @@ fn can_happen(engine: &Plain, event: &Event<()>) -> bool
             challenge: Some(_),
         } => false,
         Event::Mail { slot: _, envelope } => envelope.note.is_none(),
+        Event::Turn { keys } => !keys.is_empty() && keys.len() <= MAX_BATCH,
         _ => true,
     }
 }

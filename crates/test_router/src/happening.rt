@@ -30,6 +30,19 @@ fn start_end(start: u32, mut words: Words<'_>) -> Result<StartEnd> {
     })
 }
 
+/// `K..`: the keys of a turn.
+fn turn(alloc: Global, first: usize, mut words: Words<'_>) -> Result<Vec<usize>> {
+    let mut keys = Vec::new(alloc);
+    keys.push(first)?;
+    for _word in 0..words.rest.len() {
+        match words.next() {
+            "" => break,
+            key => keys.push(key.parse()?)?,
+        }
+    }
+    Ok(keys)
+}
+
 /// What a row brings, if that is no mail.
 pub fn event_of(alloc: Global, row: &str) -> Result<Event<()>> {
     let mut words = Words::of(row);
@@ -58,6 +71,9 @@ pub fn event_of(alloc: Global, row: &str) -> Result<Event<()>> {
             piece: sent::message(alloc, words)?,
         },
         "serves" => Event::Next { key },
+        "turn" => Event::Turn {
+            keys: turn(alloc, key, words)?,
+        },
         "leaves" => Event::Closed { key },
         "fills" => Event::Full {
             number: u64::from(number),

@@ -1,0 +1,211 @@
+-- Several messages, one after the other.
+use Rattle.std.proofs.Common.{◌≡◌, ◌≢◌, ℕ, ◌+◌, ◌<◌, ◌≤◌, Bool, true, false, Option, Some, None, Result, Ok, Err, OnOk, OnErr, List, [], ◌∷◌, length, map, get_or, drop, refl, sym, ap, ◌∙◌, subst, if◌then◌else◌, arith, length-drop, inl, inr}
+use Rattle.std.specs.List.{AllByRecursion}
+use Rattle.std.proofs.lemmas.Bool.{false≢true, cases_lt}
+use Rattle.std.proofs.lemmas.List.{drop_more, get_or_past}
+use Rattle.seq_bus_core.specs.Batches.{outcomes_of}
+use Rattle.seq_bus_core.specs.Histories.{History}
+use Rattle.seq_bus_core.specs.Tickets.{WholeBus}
+use Rattle.seq_bus_core.specs.declared.change.Change.{Change}
+use Rattle.seq_bus_core.specs.declared.connection.Conn.{Conn}
+use Rattle.seq_bus_core.specs.declared.outcome.Outcome.{Outcome}
+use Rattle.message_core.specs.Said.{said}
+use Rattle.driver.specs.declared.call.Call.{Call}
+use Rattle.driver.specs.Calls.{IsCall}
+use Rattle.router_core.specs.declared.fate.PeerFate.{PeerFate}
+use Rattle.router_core.specs.declared.fate.PeerFate.TheVariants as fate
+use Rattle.router_core.specs.declared.joint.Joint.{Joint}
+use Rattle.router_core.specs.declared.joint.RuleCall.{RuleCall}
+use Rattle.router_core.specs.Answers.{Says}
+use Rattle.router_core.specs.Deeds.{GatedCall}
+use Rattle.router_core.specs.Events.{Gathered, Stands, answer_each, apart, done_at, done_for, done_in, fated, gather, gather_at, gather_front, gather_message, gathered, join_call, join_if, join_read, make_all, make_each, make_if, next, next_if, parted, turn}
+use Rattle.router_core.specs.Fronts.{Front, Waits, Whole, Faulty, IsFront}
+use Rattle.router_core.specs.Scripts.{Changing, Wanting, World, Comes, and_then}
+use Rattle.router_core.specs.Serving.{Fated, made}
+use Rattle.router_core.specs.Standing.{Stage, Authenticating, Unnamed, Named, Shut, Peer, Standing, peer_at, with_peer}
+use Rattle.router_core.specs.Together.{change_of_joint, may_join, rule_call}
+use Rattle.router_steps.specs.Reading.{IsRest}
+use Rattle.router_steps.proofs.Nexts.{for_some}
+use Rattle.router_steps.proofs.Sequels.{comes_then}
+use Rattle.router_serving.proofs.Rules.{rules_settle_none}
+use Rattle.router.specs.Dues.{IsApart}
+use Rattle.router.specs.Named.{is_named, IsSettled}
+use Rattle.router.proofs.Endings.{AllGive, given}
+use Rattle.router.proofs.Indexing.{Keeps}
+
+module _ {N G : Type 0} (told : N → History) (registry_of : N → ℕ) (passes : G → GatedCall → G → Type 0) (alone : Bool) where
+  -- ---- one connection
+
+  -- nothing is done for one that has no name
+  pub does_nothing : (s : Standing) (key : ℕ) (work : Fated) (w : World N G) → is_named (peer_at s key) ≡ false → Comes told registry_of passes alone (done_for s key work) w s w
+  does_nothing s key work w isnt = in_slot (peer_at s key) isnt
+    where
+      in_stage : (p : Peer) (stage : Stage) → is_named (Some (record p { stage = stage })) ≡ false → Comes told registry_of passes alone (done_in s key p stage work) w s w
+      in_stage p (Named conn) isnt = absurd (false≢true (sym isnt))
+      in_stage p (Authenticating setting state) isnt = (refl, refl)
+      in_stage p (Unnamed privileged) isnt = (refl, refl)
+      in_stage p (Shut conn) isnt = (refl, refl)
+
+      in_slot : (o : Option Peer) → is_named o ≡ false → Comes told registry_of passes alone (done_at s key o work) w s w
+      in_slot None isnt = (refl, refl)
+      in_slot (Some p) isnt = in_stage p p.stage isnt
+
+  -- what is done for one that has a name
+  pub settles : (s : Standing) (key : ℕ) (work : Fated) (becomes : PeerFate) (old new : Option Peer) (w m v : World N G) → is_named old ≡ true → peer_at s key ≡ old → Comes told registry_of passes alone work w becomes m →
+      IsSettled told registry_of passes alone key becomes old m new v → Comes told registry_of passes alone (done_for s key work) w (with_peer s key new) v
+  settles s key work becomes None new w m v named there served settled = absurd settled
+  settles s key work becomes (Some p) new w m v named there served settled =
+      subst (λ (o : Option Peer). Comes told registry_of passes alone (done_at s key o work) w (with_peer s key new) v) (sym there)
+      (subst (λ (o : Option Peer). Comes told registry_of passes alone (done_in s key p p.stage work) w (with_peer s key o) v) (sym settled.1) (in_stage p.stage named))
+    where
+      done : Comes told registry_of passes alone (and_then work (λ (f : PeerFate). fated key f p)) w settled.0 v
+      done = comes_then told registry_of passes alone (λ (f : PeerFate). fated key f p) becomes m settled.0 v settled.2 work w served
+
+      in_stage : (stage : Stage) → is_named (Some (record p { stage = stage })) ≡ true → Comes told registry_of passes alone (done_in s key p stage work) w (with_peer s key (Some settled.0)) v
+      in_stage (Named conn) is = for_some told registry_of passes alone s key p settled.0 (λ (x : Peer). and_then work (λ (f : PeerFate). fated key f x)) w v done
+      in_stage (Authenticating setting state) is = absurd (false≢true is)
+      in_stage (Unnamed privileged) is = absurd (false≢true is)
+      in_stage (Shut conn) is = absurd (false≢true is)
+
+  -- it gets no slot by that
+  pub settled_keeps : (key : ℕ) (becomes : PeerFate) (old new : Option Peer) (w v : World N G) → IsSettled told registry_of passes alone key becomes old w new v → Keeps old new
+  settled_keeps key becomes None new w v settled = absurd settled
+  settled_keeps key becomes (Some p) new w v settled =
+      subst (λ (o : Option Peer). Keeps (Some p) o) (sym settled.1) (given told registry_of passes alone (λ (q : Peer). Keeps (Some p) (Some q)) settled.0 v (fated key becomes p) w (by_fate becomes) settled.2)
+    where
+      by_fate : (f : PeerFate) → AllGive (λ (q : Peer). Keeps (Some p) (Some q)) (fated key f p)
+      by_fate fate.Stays = λ slot has. has
+      by_fate fate.Watches = λ slot has. has
+      by_fate (fate.Closes why) = λ slot has. absurd (false≢true has)
+
+  -- ---- the calls that joined
+
+  -- the change of the next, then those of the rest
+  pub makes_more : (joints : List Joint) (i : ℕ) (j : Joint) → i < length joints → j ≡ get_or joints i j → (before after end : Standing) (w m v : World N G) →
+      Comes told registry_of passes alone (done_for before j.key (Changing (change_of_joint j) (λ heard. made (said j.message) j.caller heard))) w after m →
+      Comes told registry_of passes alone (make_each (drop (i + 1) joints) after) m end v → Comes told registry_of passes alone (make_each (drop i joints) before) w end v
+  makes_more joints i j inside is before after end w m v this later =
+      subst (λ (js : List Joint). Comes told registry_of passes alone (make_each js before) w end v) (sym (drop_more joints i j inside ∙ ap (λ (x : Joint). x ∷ drop (i + 1) joints) (sym is)))
+      (comes_then told registry_of passes alone (λ (t : Standing). make_each (drop (i + 1) joints) t) after m end v later (done_for before j.key (Changing (change_of_joint j) (λ heard. made (said j.message) j.caller heard))) w this)
+
+  -- the next is answered, then the rest
+  pub answers_more : (joints : List Joint) (i : ℕ) (j : Joint) (outcomes rest : List Outcome) (o : Outcome) → i < length joints → j ≡ get_or joints i j → outcomes ≡ o ∷ rest → (before after end : Standing) (w m v : World N G) →
+      Comes told registry_of passes alone (done_for before j.key (made (said j.message) j.caller (Says o))) w after m →
+      Comes told registry_of passes alone (answer_each (drop (i + 1) joints) rest after) m end v → Comes told registry_of passes alone (answer_each (drop i joints) outcomes before) w end v
+  answers_more joints i j outcomes rest o inside is steps before after end w m v this later =
+      subst (λ (os : List Outcome). Comes told registry_of passes alone (answer_each (drop i joints) os before) w end v) (sym steps)
+      (subst (λ (js : List Joint). Comes told registry_of passes alone (answer_each js (o ∷ rest) before) w end v) (sym (drop_more joints i j inside ∙ ap (λ (x : Joint). x ∷ drop (i + 1) joints) (sym is)))
+      (comes_then told registry_of passes alone (λ (t : Standing). answer_each (drop (i + 1) joints) rest t) after m end v later (done_for before j.key (made (said j.message) j.caller (Says o))) w this))
+
+  -- nobody is left to be answered, or nothing to be told
+  pub answers_past : (joints : List Joint) (i : ℕ) (outcomes rest : List Outcome) → length joints ≤ i → (s end : Standing) (w v : World N G) →
+      Comes told registry_of passes alone (answer_each (drop i joints) rest s) w end v → Comes told registry_of passes alone (answer_each (drop i joints) outcomes s) w end v
+  answers_past joints i outcomes rest past s end w v later = by_rest (drop i joints) (omega (arith, past, length-drop i joints)) later
+    where
+      by_rest : (js : List Joint) → length js ≡ 0 → Comes told registry_of passes alone (answer_each js rest s) w end v → Comes told registry_of passes alone (answer_each js outcomes s) w end v
+      by_rest [] none later = later
+      by_rest (j ∷ js) none later = absurd (omega (arith, none))
+
+  pub answers_none : (joints : List Joint) (s : Standing) (w : World N G) → Comes told registry_of passes alone (answer_each joints [] s) w s w
+  answers_none [] s w = (refl, refl)
+  answers_none (j ∷ joints) s w = (refl, refl)
+
+  module _ (s t : Standing) (w v : World N G) where
+    -- one alone, or none
+    pub makes_few : (joints : List Joint) → length joints < 2 → Comes told registry_of passes alone (make_each joints s) w t v → Comes told registry_of passes alone (make_all joints s) w t v
+    makes_few [] few done = done
+    makes_few (j ∷ []) few done = done
+    makes_few (j ∷ k ∷ joints) few done = absurd (omega (arith, few))
+
+    -- several
+    pub makes_many : (joints : List Joint) (granted : Bool) → 2 ≤ length joints → Comes told registry_of passes alone (make_if joints s granted) w t v → Comes told registry_of passes alone (make_all joints s) w t v
+    makes_many [] granted many done = absurd (omega (arith, many))
+    makes_many (j ∷ []) granted many done = absurd (omega (arith, many))
+    makes_many (j ∷ k ∷ joints) granted many done = (granted, done)
+
+  -- ---- the next message
+
+  -- the changes before it are made first
+  pub parts_from : (joints : List Joint) (s t u : Standing) (work : Standing → Stands) (w m v : World N G) → Comes told registry_of passes alone (make_all joints s) w t m → Comes told registry_of passes alone (work t) m u v →
+      Comes told registry_of passes alone (parted joints s work) w (record { joints = []; standing = u }) v
+  parts_from joints s t u work w m v made later =
+      let end : Gathered = record { joints = []; standing = u } in
+      comes_then told registry_of passes alone (λ (x : Standing). and_then (work x) (λ (y : Standing). gathered [] y)) t m end v
+      (comes_then told registry_of passes alone (λ (y : Standing). gathered [] y) u v end v (refl, refl) (work t) m later)
+      (make_all joints s) w made
+
+  -- without memory it stays unserved
+  pub serves_next : {T E : Type 0} (r : Result T E) (key : ℕ) (t u : Standing) (m v : World N G) → OnOk r (Comes told registry_of passes alone (next t key (peer_at t key)) m u v) → OnErr r (u ≡ t) → OnErr r (v ≡ m) →
+      Comes told registry_of passes alone (Wanting (λ granted. next_if t key granted)) m u v
+  serves_next (Ok x) key t u m v served same unchanged = (true, served)
+  serves_next (Err e) key t u m v served same unchanged = (false, (same, unchanged))
+
+  pub gathers_none : (joints : List Joint) (s : Standing) (key : ℕ) (o : Option Peer) (w : World N G) → Comes told registry_of passes alone (gather joints s key o) w (record { joints = joints; standing = s }) w
+  gathers_none joints s key None w = (refl, refl)
+  gathers_none joints s key (Some p) w = in_stage p.stage
+    where
+      in_stage : (stage : Stage) → Comes told registry_of passes alone (gather_at joints s key p stage) w (record { joints = joints; standing = s }) w
+      in_stage (Authenticating setting state) = (refl, refl)
+      in_stage (Unnamed privileged) = (false, (refl, refl))
+      in_stage (Named conn) = (false, (refl, refl))
+      in_stage (Shut conn) = (refl, refl)
+
+  -- it does not join
+  pub gathers_apart : (joints : List Joint) (s : Standing) (key : ℕ) (p : Peer) (w v : World N G) (end : Gathered) → IsApart p p.stage → Comes told registry_of passes alone (apart joints s key) w end v →
+      Comes told registry_of passes alone (gather joints s key (Some p)) w end v
+  gathers_apart joints s key p w v end due served = in_stage p.stage due
+    where
+      if_joins : (message : List ℕ) (q : Peer) (conn : Conn) (b : Bool) → Comes told registry_of passes alone (if b then Wanting (λ granted. join_if joints s key message q conn granted) else apart joints s key) w end v
+      if_joins message q conn true = (false, served)
+      if_joins message q conn false = served
+
+      if_watches : (message : List ℕ) (q : Peer) (conn : Conn) (watches : Bool) → Comes told registry_of passes alone (gather_message joints s key message q conn watches) w end v
+      if_watches message q conn true = served
+      if_watches message q conn false = if_joins message q conn (may_join (said message))
+
+      at_front : (conn : Conn) (front : Front) → front ≢ Waits → Comes told registry_of passes alone (gather_front joints s key p conn front) w end v
+      at_front conn Waits other = absurd (other refl)
+      at_front conn (Faulty fault) other = served
+      at_front conn (Whole message rest) other = if_watches message (record p { unread = rest }) conn p.watches
+
+      in_stage : (stage : Stage) → IsApart p stage → Comes told registry_of passes alone (gather_at joints s key p stage) w end v
+      in_stage (Authenticating setting state) due = absurd due
+      in_stage (Unnamed privileged) due = (true, served)
+      in_stage (Named conn) due = (true, (due.0, due.1, at_front conn due.0 due.2))
+      in_stage (Shut conn) due = absurd due
+
+  -- it is a call that adds or removes a rule, and reads well
+  pub gathers_rule : (joints : List Joint) (s : Standing) (key : ℕ) (old new : Peer) (conn : Conn) (message : List ℕ) (call : Call) (c : RuleCall) (w v : World N G) (end : Gathered) →
+      old.stage ≡ Named conn → IsFront old.unread (Whole message new.unread) → IsRest old new → old.watches ≡ false → may_join (said message) ≡ true → IsCall (said message) (Ok call) → rule_call (Ok call) ≡ Some c →
+      Comes told registry_of passes alone (join_call joints s key message new conn c) w end v → Comes told registry_of passes alone (gather joints s key (Some old)) w end v
+  gathers_rule joints s key old new conn message call c w v end named front rest speaks joins reads is served =
+      let left : Peer = record old { unread = new.unread } in
+      let of_left = subst (λ (q : Peer). Comes told registry_of passes alone (join_call joints s key message q conn c) w end v) rest served in
+      let of_call = subst (λ (o : Option RuleCall). Comes told registry_of passes alone (join_read joints s key message left conn o) w end v) (sym is) of_left in
+      let wanted : Comes told registry_of passes alone (Wanting (λ granted. join_if joints s key message left conn granted)) w end v = (true, (Ok call, reads, of_call)) in
+      let of_header = subst (λ (b : Bool). Comes told registry_of passes alone (if b then Wanting (λ granted. join_if joints s key message left conn granted) else apart joints s key) w end v) (sym joins) wanted in
+      let of_client = subst (λ (b : Bool). Comes told registry_of passes alone (gather_message joints s key message left conn b) w end v) (sym speaks) of_header in
+      subst (λ (stage : Stage). Comes told registry_of passes alone (gather_at joints s key old stage) w end v) (sym named) (true, (Whole message new.unread, front, of_client))
+
+  -- the next message, then the rest
+  pub turns_more : (keys : List ℕ) (i : ℕ) → i < length keys → (before after : Gathered) (end : Standing) (w m v : World N G) →
+      Comes told registry_of passes alone (gather before.joints before.standing (get_or keys i 0) (peer_at before.standing (get_or keys i 0))) w after m →
+      Comes told registry_of passes alone (turn after.joints (drop (i + 1) keys) after.standing) m end v → Comes told registry_of passes alone (turn before.joints (drop i keys) before.standing) w end v
+  turns_more keys i inside before after end w m v this later =
+      subst (λ ks. Comes told registry_of passes alone (turn before.joints ks before.standing) w end v) (sym (drop_more keys i 0 inside))
+      (comes_then told registry_of passes alone (λ (g : Gathered). turn g.joints (drop (i + 1) keys) g.standing) after m end v later (gather before.joints before.standing (get_or keys i 0) (peer_at before.standing (get_or keys i 0))) w this)
+
+-- calls that add and remove rules let no call go that waited
+pub settle_none : (b : WholeBus) (seat : ℕ) (joints : List Joint) (changes : List Change) (outcomes : List Outcome) → changes ≡ map change_of_joint joints → outcomes ≡ outcomes_of b seat changes → AllByRecursion (λ (o : Outcome). o.tickets ≡ []) outcomes
+settle_none b seat joints changes outcomes are told =
+    subst (λ (os : List Outcome). AllByRecursion (λ (o : Outcome). o.tickets ≡ []) os) (sym (told ∙ ap (outcomes_of b seat) are)) (rules_settle_none b seat joints)
+
+-- whoever has a name is within the table
+pub named_within : (peers : List (Option Peer)) (key : ℕ) → is_named (get_or peers key None) ≡ true → key < length peers
+named_within peers key is =
+    elim (cases_lt key (length peers)) [
+      | inl inside ↦ inside
+      | inr past ↦
+          let never : false ≡ true = ap is_named (sym (get_or_past peers key None past)) ∙ is in
+          absurd (false≢true never)
+    ]

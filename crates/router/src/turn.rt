@@ -1,0 +1,467 @@
+//! Several messages, one after the other.
+
+ghost use Rattle.std.specs.Prelude.{◌≡◌, ◌⊎◌, ◌<◌, ◌≤◌, ◌+◌, ◌*◌, ◌++◌, ◌∷◌, [], Ok, Some, length, map, is_some, true, vec_len, vec_capacity, IfOk, OnOk, OnErr};
+ghost use Rattle.std.specs.List.{AllByRecursion};
+ghost use Rattle.seq_bus_core.specs.Batches.{IsBatch, max_batch};
+ghost use Rattle.message_core.specs.Said.{said};
+ghost use Rattle.router_core.specs.Answers.{Says};
+ghost use Rattle.router_core.specs.Events.{answer_each as answering_each, apart, done_for, gather as gathering, joined, make_all as making_all, make_each as making_each, make_if as making_if, turn as turning};
+ghost use Rattle.router_core.specs.Scripts.{Changing, Comes, World, and_then};
+ghost use Rattle.router_core.specs.Serving.{Fated, made};
+ghost use Rattle.router_core.specs.Standing.{peer_at};
+ghost use Rattle.router_core.specs.Together.{change_of_joint, join as joining, rule_call};
+ghost use Rattle.router_core.specs.declared.joint.RuleCall.{RuleCall as Rule_call};
+ghost use Rattle.router_serving.specs.Joinings.{parting_of};
+ghost use Rattle.router.specs.Dues.{IsDue};
+ghost use Rattle.router.specs.Named.{IsSettled, is_named};
+
+use crate::served::Served;
+use bus_view::BusView;
+use driver::Call;
+use message_core::Message;
+use router_core::{Gate, Joint, PeerFate};
+use router_serving::{Joining, Parting, answer, change_of, join, make, part, rule_call_of};
+use router_steps::{Context, Peer, Stage, Upcoming};
+use seq_bus_core::limits::MAX_TICKETS;
+use seq_bus_core::{Change, Conn, Outcome};
+use std::alloc::{AllocError, Global};
+
+/// The most actions that a call brings whose change was made: its answer, and that it is closed.
+const ANSWER: usize = 3;
+
+/// The changes of calls, in order.
+fn changes_of(alloc: Global, joints: &[Joint]) -> Result<Vec<Change>, AllocError>
+    ensures { IfOk result (λ changes. changes.items ≡ map change_of_joint joints.now) }
+{
+    let mut changes = Vec::with_capacity(alloc, joints.len())?;
+    for joint in joints {
+        changes.push(change_of(joint))?;
+    }
+    Ok(changes)
+}
+
+/// One call more, for which there is room.
+fn push_reserved(joints: &mut Vec<Joint>, joint: Joint)
+    requires { vec_len joints.old < vec_capacity joints.old }
+    ensures items { joints.new.items ≡ joints.old.items ++ joint ∷ [] }
+    ensures capacity { vec_capacity joints.old ≤ vec_capacity joints.new }
+{
+    let _ = joints.push(joint);
+}
+
+/// Whether the connection in a place of the table has a name, if there is one.
+fn is_named(slot: &Option<Peer>) -> bool
+    ensures { result ≡ is_named slot.now }
+{
+    let Some(peer) = slot else {
+        return false;
+    };
+    match peer.stage() {
+        Stage::Named(_) => true,
+        Stage::Authenticating(_) => false,
+        Stage::Unnamed { privileged: _ } => false,
+        Stage::Shut(_) => false,
+    }
+}
+
+/// Does to a connection that has a name what is to become of it.
+fn settle<V: BusView, G: Gate>(
+    context: &mut Context<V, G>,
+    key: usize,
+    slot: &mut Option<Peer>,
+    fate: PeerFate,
+)
+    requires named { is_named slot.old ≡ true }
+    requires room { 0 < context.old.room }
+    ensures settled { IsSettled V.told V.registry_of G.passes V.alone key fate slot.old
+        context.old.world slot.new context.new.world }
+    ensures room { context.old.room ≤ context.new.room + 1 }
+    ensures crowds { context.new.crowds ≡ context.old.crowds }
+{
+    match slot {
+        Some(peer) => context.settle(key, peer, fate),
+        None => unreachable!(),
+    }
+}
+
+/// Takes one more message of the connection in a place of the table off its bytes. It stays as it was.
+fn read_in(slot: &mut Option<Peer>) -> Result<(), AllocError>
+    ensures { slot.new ≡ slot.old }
+{
+    match slot {
+        None => Ok(()),
+        Some(peer) => peer.read_ahead(),
+    }
+}
+
+/// What is next of a connection.
+#[derive(Drop)]
+enum Due {
+    /// Nothing that can be served.
+    Nothing,
+    /// What is served by itself.
+    Apart,
+    /// A call of a connection that has a name, which adds or removes a rule and reads well. It was taken off the bytes.
+    Rule(Conn, Message, Call),
+}
+
+/// What is next of the connection in a place of the table. Without memory to read it nothing is.
+fn due_in(slot: &mut Option<Peer>) -> Due
+    ensures { IsDue result slot.old slot.new }
+{
+    let Some(peer) = slot else {
+        return Due::Nothing;
+    };
+    match peer.stage() {
+        Stage::Authenticating(_) | Stage::Shut(_) => Due::Nothing,
+        Stage::Unnamed { privileged: _ } => Due::Apart,
+        Stage::Named(conn) => {
+            let conn = *conn;
+            match peer.take_rule() {
+                Ok(Upcoming::Waits) => Due::Nothing,
+                Ok(Upcoming::Other) => Due::Apart,
+                Ok(Upcoming::Rule(message, call)) => Due::Rule(conn, message, call),
+                Err(_) => Due::Nothing,
+            }
+        }
+    }
+}
+
+impl<V: BusView, G: Gate> Served<V, G> {
+    /// Takes the next messages of connections off their bytes, as many of each as its key stands there. Without memory those that were
+    /// taken off stay its next ones.
+    fn read_ahead(&mut self, keys: &[usize]) -> Result<(), AllocError>
+        ensures standing { self.new.standing ≡ self.old.standing }
+        ensures work { self.new.work ≡ self.old.work }
+    {
+        for key in keys {
+            self.read_of(*key)?;
+        }
+        Ok(())
+    }
+
+    /// Takes one more message of a connection off its bytes, which stays unserved.
+    fn read_of(&mut self, key: usize) -> Result<(), AllocError>
+        ensures standing { self.new.standing ≡ self.old.standing }
+        ensures work { self.new.work ≡ self.old.work }
+    {
+        if key >= self.peers.len() {
+            return Ok(());
+        }
+        read_in(&mut self.peers[key])
+    }
+
+    /// Whether the connection of a key has a name, if there is one.
+    #[tactic(auto, using(crate::proofs::Slots::none_beyond))]
+    fn has_name(&self, key: usize) -> bool
+        ensures { result ≡ is_named (peer_at self.now.standing key) }
+    {
+        if key >= self.peers.len() {
+            return false;
+        }
+        is_named(&self.peers[key])
+    }
+
+    /// Does to the connection of a key, which has a name, what is to become of it.
+    fn settle(&mut self, key: usize, fate: PeerFate)
+        requires named { is_named (peer_at self.old.standing key) ≡ true }
+        requires room { 0 < self.old.work.room }
+        ensures comes { (work : Fated) (w : World V.Note G) →
+            Comes V.told V.registry_of G.passes V.alone work w fate self.old.work.world →
+            Comes V.told V.registry_of G.passes V.alone (done_for self.old.standing key work) w
+            self.new.standing self.new.work.world }
+        ensures room { self.old.work.room ≤ self.new.work.room + 1 }
+        ensures crowds { self.new.work.crowds ≡ self.old.work.crowds }
+    {
+        settle(&mut self.context, key, &mut self.peers[key], fate);
+    }
+
+    /// Makes the change of a call by itself, unless its connection was closed in the meantime.
+    fn make_one(&mut self, right: &V::Right, joint: &Joint)
+        requires room { 2 < self.old.work.room }
+        requires crowds { 0 < self.old.work.crowds }
+        ensures comes { Comes V.told V.registry_of G.passes V.alone
+            (done_for self.old.standing joint.now.key
+            (Changing (change_of_joint joint.now)
+            (λ heard. made (said joint.now.message) joint.now.caller heard)))
+            self.old.work.world self.new.standing self.new.work.world }
+        ensures room { self.old.work.room ≤ self.new.work.room + 3 }
+        ensures crowds { self.old.work.crowds ≤ self.new.work.crowds + 1 }
+    {
+        if !self.has_name(joint.key) {
+            return;
+        }
+        let fate = make(&mut self.context, right, joint);
+        self.settle(joint.key, fate);
+    }
+
+    /// Answers a call whose change was made, unless its connection was closed in the meantime.
+    fn answer_one(&mut self, joint: &Joint, outcome: Outcome)
+        requires room { 2 < self.old.work.room }
+        requires crowds { 0 < self.old.work.crowds }
+        requires alone { outcome.tickets ≡ [] }
+        ensures comes { Comes V.told V.registry_of G.passes V.alone
+            (done_for self.old.standing joint.now.key
+            (made (said joint.now.message) joint.now.caller (Says outcome)))
+            self.old.work.world self.new.standing self.new.work.world }
+        ensures room { self.old.work.room ≤ self.new.work.room + 3 }
+        ensures crowds { self.old.work.crowds ≤ self.new.work.crowds + 1 }
+    {
+        if !self.has_name(joint.key) {
+            return;
+        }
+        let fate = answer(&mut self.context, joint, outcome);
+        self.settle(joint.key, fate);
+    }
+
+    /// Makes the changes of calls, each by itself.
+    fn make_each(&mut self, right: &V::Right, joints: &[Joint])
+        requires room { 3 * length joints.now ≤ self.old.work.room }
+        requires crowds { length joints.now ≤ self.old.work.crowds }
+        ensures comes { Comes V.told V.registry_of G.passes V.alone
+            (making_each joints.now self.old.standing)
+            self.old.work.world self.new.standing self.new.work.world }
+        ensures room { self.old.work.room ≤ self.new.work.room + 3 * length joints.now }
+        ensures crowds { self.old.work.crowds ≤ self.new.work.crowds + length joints.now }
+    {
+        for joint in joints {
+            self.make_one(right, joint);
+        }
+    }
+
+    /// Answers calls whose changes were made, in order.
+    fn answer_each(&mut self, joints: &[Joint], outcomes: Vec<Outcome>)
+        requires room { 3 * length joints.now ≤ self.old.work.room }
+        requires crowds { length joints.now ≤ self.old.work.crowds }
+        requires alone { AllByRecursion (λ o. o.tickets ≡ []) outcomes.items }
+        ensures comes { Comes V.told V.registry_of G.passes V.alone
+            (answering_each joints.now outcomes.items self.old.standing)
+            self.old.work.world self.new.standing self.new.work.world }
+        ensures room { self.old.work.room ≤ self.new.work.room + 3 * length joints.now }
+        ensures crowds { self.old.work.crowds ≤ self.new.work.crowds + length joints.now }
+    {
+        let mut place = 0;
+        for outcome in outcomes {
+            if place < joints.len() {
+                self.answer_one(&joints[place], outcome);
+                place += 1;
+            }
+        }
+    }
+
+    /// Makes the changes of calls together.
+    fn make_batch(&mut self, right: &V::Right, joints: &[Joint], changes: Vec<Change>)
+        requires room { 3 * length joints.now ≤ self.old.work.room }
+        requires crowds { length joints.now ≤ self.old.work.crowds }
+        requires changes { changes.items ≡ map change_of_joint joints.now }
+        requires batch { IsBatch changes.items }
+        ensures comes { Comes V.told V.registry_of G.passes V.alone
+            (making_if joints.now self.old.standing true)
+            self.old.work.world self.new.standing self.new.work.world }
+        ensures room { self.old.work.room ≤ self.new.work.room + 3 * length joints.now }
+        ensures crowds { self.old.work.crowds ≤ self.new.work.crowds + length joints.now }
+    {
+        match self.context.change_all(right, changes) {
+            Ok(outcomes) => self.answer_each(joints, outcomes),
+            Err(_) => self.make_each(right, joints),
+        }
+    }
+
+    /// Makes the changes of calls, in one publication where they are several.
+    fn make_joined(&mut self, right: &V::Right, joints: &[Joint])
+        requires few { length joints.now ≤ max_batch }
+        requires room { 3 * length joints.now ≤ self.old.work.room }
+        requires crowds { length joints.now ≤ self.old.work.crowds }
+        ensures comes { Comes V.told V.registry_of G.passes V.alone
+            (making_all joints.now self.old.standing)
+            self.old.work.world self.new.standing self.new.work.world }
+        ensures room { self.old.work.room ≤ self.new.work.room + 3 * length joints.now }
+        ensures crowds { self.old.work.crowds ≤ self.new.work.crowds + length joints.now }
+    {
+        if joints.len() < 2 {
+            self.make_each(right, joints);
+            return;
+        }
+        let Ok(changes) = changes_of(self.alloc, joints) else {
+            self.make_each(right, joints);
+            return;
+        };
+        self.make_batch(right, joints, changes);
+    }
+
+    /// Makes the changes of the calls that were gathered, which are done then.
+    fn make_all(&mut self, right: &V::Right, joints: &mut Vec<Joint>)
+        requires few { length joints.old.items ≤ max_batch }
+        requires room { 3 * length joints.old.items ≤ self.old.work.room }
+        requires crowds { length joints.old.items ≤ self.old.work.crowds }
+        ensures comes { Comes V.told V.registry_of G.passes V.alone
+            (making_all joints.old.items self.old.standing)
+            self.old.work.world self.new.standing self.new.work.world }
+        ensures none { joints.new.items ≡ [] }
+        ensures capacity { vec_capacity joints.old ≤ vec_capacity joints.new }
+        ensures room { self.old.work.room ≤ self.new.work.room + 3 * length joints.old.items }
+        ensures crowds { self.old.work.crowds ≤ self.new.work.crowds + length joints.old.items }
+    {
+        self.make_joined(right, joints);
+        joints.clear();
+    }
+
+    /// Does what is to be done for a call that did not join others, unless its connection was closed in the meantime.
+    fn part_one(
+        &mut self,
+        right: &V::Right,
+        key: usize,
+        message: &Message,
+        caller: Conn,
+        parting: Parting,
+    )
+        requires room { MAX_TICKETS + 3 < self.old.work.room }
+        requires crowds { 0 < self.old.work.crowds }
+        ensures comes { Comes V.told V.registry_of G.passes V.alone
+            (done_for self.old.standing key (parting_of (said message.now) caller parting))
+            self.old.work.world self.new.standing self.new.work.world }
+    {
+        if !self.has_name(key) {
+            return;
+        }
+        let fate = part(
+            self.alloc,
+            &mut self.context,
+            right,
+            message,
+            caller,
+            parting,
+        );
+        self.settle(key, fate);
+    }
+
+    /// Serves the next message of a connection, once the changes of the calls before it are made. Without memory it stays unserved.
+    fn serve_apart(&mut self, right: &V::Right, key: usize, joints: &mut Vec<Joint>)
+        requires few { length joints.old.items ≤ max_batch }
+        requires room { 3 * length joints.old.items ≤ self.old.work.room }
+        requires crowds { length joints.old.items ≤ self.old.work.crowds }
+        ensures comes { Comes V.told V.registry_of G.passes V.alone
+            (apart joints.old.items self.old.standing key)
+            self.old.work.world
+            (record { joints = joints.new.items; standing = self.new.standing })
+            self.new.work.world }
+        ensures none { joints.new.items ≡ [] }
+        ensures capacity { vec_capacity joints.old ≤ vec_capacity joints.new }
+    {
+        self.make_all(right, joints);
+        let _ = self.next(right, key);
+    }
+
+    /// Routes a call that adds or removes a rule, and gathers it.
+    fn join_one(
+        &mut self,
+        right: &V::Right,
+        key: usize,
+        conn: Conn,
+        message: Message,
+        call: Call,
+        joints: &mut Vec<Joint>,
+    )
+        requires spare { vec_len joints.old < vec_capacity joints.old }
+        requires few { length joints.old.items ≤ max_batch }
+        requires room { 3 * length joints.old.items + MAX_TICKETS + 5 ≤ self.old.work.room }
+        requires crowds { length joints.old.items + 1 < self.old.work.crowds }
+        requires rule { is_some (rule_call (Ok call)) ≡ true }
+        ensures comes { (c : Rule_call) → rule_call (Ok call) ≡ Some c →
+            Comes V.told V.registry_of G.passes V.alone
+            (and_then (joining (said message) conn c)
+            (λ it. joined joints.old.items self.old.standing
+            (record { key = key; message = message; caller = conn; call = c }) it))
+            self.old.work.world
+            (record { joints = joints.new.items; standing = self.new.standing })
+            self.new.work.world }
+        ensures more { length joints.new.items ≤ length joints.old.items + 1 }
+        ensures capacity { vec_capacity joints.old ≤ vec_capacity joints.new }
+        ensures room { 3 * length joints.new.items ≤ self.new.work.room }
+        ensures crowds { length joints.new.items ≤ self.new.work.crowds }
+    {
+        match join(&mut self.context, &message, conn, &call) {
+            Joining::Joins => {
+                let joint = Joint {
+                    key,
+                    message,
+                    caller: conn,
+                    call: rule_call_of(call),
+                };
+                push_reserved(joints, joint);
+            }
+            Joining::Parts(parting) => {
+                self.make_all(right, joints);
+                self.part_one(right, key, &message, conn, parting);
+            }
+        }
+    }
+
+    /// Makes room for so many actions, and for so many of them to have several recipients. Without memory there is room as before.
+    fn make_room(&mut self, actions: usize, crowds: usize) -> Result<(), AllocError>
+        ensures standing { self.new.standing ≡ self.old.standing }
+        ensures world { self.new.work.world ≡ self.old.work.world }
+        ensures room { OnOk result (actions ≤ self.new.work.room) }
+        ensures kept { OnErr result (self.new.work.room ≡ self.old.work.room ⊎ actions ≤ self.new.work.room) }
+        ensures crowds { OnOk result (crowds ≤ self.new.work.crowds) }
+        ensures crowds_kept { self.old.work.crowds ≤ self.new.work.crowds }
+    {
+        self.context.reserve(actions)?;
+        self.context.reserve_crowds(crowds)
+    }
+
+    /// The next message of a connection: gathers it where it is a call that adds or removes a rule, and else serves it. Without memory it
+    /// stays unserved.
+    fn gather(&mut self, right: &V::Right, key: usize, joints: &mut Vec<Joint>)
+        requires spare { vec_len joints.old < vec_capacity joints.old }
+        requires few { length joints.old.items ≤ max_batch }
+        requires room { 3 * length joints.old.items ≤ self.old.work.room }
+        requires crowds { length joints.old.items ≤ self.old.work.crowds }
+        ensures comes { Comes V.told V.registry_of G.passes V.alone
+            (gathering joints.old.items self.old.standing key (peer_at self.old.standing key))
+            self.old.work.world
+            (record { joints = joints.new.items; standing = self.new.standing })
+            self.new.work.world }
+        ensures more { length joints.new.items ≤ length joints.old.items + 1 }
+        ensures capacity { vec_capacity joints.old ≤ vec_capacity joints.new }
+        ensures room { 3 * length joints.new.items ≤ self.new.work.room }
+        ensures crowds { length joints.new.items ≤ self.new.work.crowds }
+    {
+        if key >= self.peers.len() {
+            return;
+        }
+        // The answers to the calls that were gathered and to this one, what is shown to monitors, and what it may come to where it does not
+        // join them.
+        let Ok(()) = self.make_room(ANSWER * joints.len() + MAX_TICKETS + 5, joints.len() + 2)
+        else {
+            return;
+        };
+        match due_in(&mut self.peers[key]) {
+            Due::Nothing => {}
+            Due::Apart => self.serve_apart(right, key, joints),
+            Due::Rule(conn, message, call) => {
+                self.join_one(right, key, conn, message, call, joints)
+            }
+        }
+    }
+
+    /// Serves the next messages of connections, one after the other, as many of each as its key stands there. Neighbouring calls that add
+    /// and remove rules are routed first, then their changes are made together, then they are answered. Without memory to read them all
+    /// nothing changes.
+    pub fn turn(&mut self, right: &V::Right, keys: &[usize]) -> Result<(), AllocError>
+        requires { length keys.now ≤ max_batch }
+        ensures comes { OnOk result
+            (Comes V.told V.registry_of G.passes V.alone (turning [] keys.now self.old.standing)
+            self.old.work.world self.new.standing self.new.work.world) }
+        ensures err { OnErr result (self.new.standing ≡ self.old.standing) }
+        ensures world { OnErr result (self.new.work.world ≡ self.old.work.world) }
+    {
+        self.read_ahead(keys)?;
+        let mut joints = Vec::with_capacity(self.alloc, keys.len())?;
+        for key in keys {
+            self.gather(right, *key, &mut joints);
+        }
+        self.make_all(right, &mut joints);
+        Ok(())
+    }
+}
