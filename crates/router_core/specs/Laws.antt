@@ -16,7 +16,7 @@ use Rattle.router_core.specs.declared.action.Action.{Action}
 use Rattle.router_core.specs.declared.event.Event.{Event}
 use Rattle.router_core.specs.Acts.{State, Brings, IsServed, IsServedBy, Exchange, IsGranted}
 use Rattle.router_core.specs.Deeds.{Deed, Closes, GatedCall, IsDoneBy, CarriesOwn}
-use Rattle.router_core.specs.Events.{Occasion, Bytes, Next, IsFree, hear, is_user, script, serve_at}
+use Rattle.router_core.specs.Events.{Occasion, Bytes, Next, Turn, IsFree, hear, is_user, script, serve_at}
 use Rattle.router_core.specs.OneThread.{Readers, Rest, given, rest_after, bus_bytes, AreReadBy, IsRun}
 use Rattle.router_core.specs.Scripts.{Gives, World, having_done, Comes}
 use Rattle.router_core.specs.Serving.{serve, is_unknown, stays_open}
@@ -29,6 +29,10 @@ IsShut s key p = (peer_at s key ≡ Some p) × ((conn : Option Conn) × (p.stage
 -- A connection that was closed is not served again.
 abbrev pub ClosedAreNotServed : Type 0
 ClosedAreNotServed = (s : Standing) (key : ℕ) (p : Peer) → IsShut s key p → script s (Next key) ≡ Gives s
+
+-- Nor is it in a turn.
+abbrev pub ClosedHaveNoTurn : Type 0
+ClosedHaveNoTurn = (s : Standing) (keys : List ℕ) → AllByRecursion (λ key. (p : Peer) × IsShut s key p) keys → script s (Turn keys) ≡ Gives s
 
 -- Its bytes are let go.
 abbrev pub ClosedTakeNothing : Type 0

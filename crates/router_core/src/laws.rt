@@ -1,7 +1,7 @@
 //! Laws of the definitions.
 
 ghost use Rattle.std.specs.Prelude.{◌≡◌};
-ghost use Rattle.router_core.specs.Laws.{ClosedAreNotServed, ClosedTakeNothing, ClosedGetNoMail, NobodySpeaksBeforeBegin, OnlyBeginBegins, UnknownTypesBringNothing, OnlyHelloGreets, MonitorsSendNothing, OnlyFullTablesGrow, AnswersAreLawful, NotesAreOwn, OneThreadIsAFunction, BytesAreAFunction};
+ghost use Rattle.router_core.specs.Laws.{ClosedAreNotServed, ClosedHaveNoTurn, ClosedTakeNothing, ClosedGetNoMail, NobodySpeaksBeforeBegin, OnlyBeginBegins, UnknownTypesBringNothing, OnlyHelloGreets, MonitorsSendNothing, OnlyFullTablesGrow, AnswersAreLawful, NotesAreOwn, OneThreadIsAFunction, BytesAreAFunction};
 ghost use Rattle.router_core.specs.Standing.{next_serial};
 
 use crate::gate::Gate;
@@ -12,11 +12,12 @@ pub fn serials_begin_again()
     ensures { next_serial 4294967295 ≡ 1 }
 {}
 
-/// A connection that was closed brings no more actions: it is not served, its bytes are let go, and no mail is written to
+/// A connection that was closed brings no more actions: it is not served, in no turn either, its bytes are let go, and no mail is written to
 /// it.
-#[tactic(auto, using(crate::proofs::FirstMessages::closed_are_not_served, crate::proofs::FirstMessages::closed_take_nothing, crate::proofs::FirstMessages::closed_get_no_mail))]
+#[tactic(auto, using(crate::proofs::FirstMessages::closed_are_not_served, crate::proofs::FirstMessages::closed_have_no_turn, crate::proofs::FirstMessages::closed_take_nothing, crate::proofs::FirstMessages::closed_get_no_mail))]
 pub fn closed_connections_are_quiet()
     ensures served { ClosedAreNotServed }
+    ensures turn { ClosedHaveNoTurn }
     ensures fed { ClosedTakeNothing }
     ensures mail { ClosedGetNoMail }
 {}
