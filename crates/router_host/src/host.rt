@@ -33,6 +33,9 @@ pub struct Host<V: BusView, G: Gate, P: Post<V>, S: Socket> {
     pub(crate) ended: Vec<Ended>,
     /// A connection of these took no more mail, and is to be looked at.
     pub(crate) looks: bool,
+    /// The last event seems to have added or removed rules. Such calls come in numbers, and share a publication where they are served at
+    /// once.
+    pub(crate) changes_rules: bool,
 }
 
 impl<V: BusView, G: Gate, P: Post<V>, S: Socket> Model for Host<V, G, P, S> {
@@ -80,6 +83,7 @@ impl<V: BusView + Drop, G: Gate + Drop, P: Post<V>, S: Socket> Host<V, G, P, S> 
             room,
             ended: Vec::new(alloc),
             looks: false,
+            changes_rules: false,
         })
     }
 }

@@ -11,12 +11,14 @@ ghost use Rattle.router_host.specs.Keeping.{CanWait};
 use crate::host::Host;
 use crate::kept::Kept;
 use bus_view::BusView;
+use outbox_core::{Content, OwnMessage, ReplyContent};
 use router_core::{Action, Event, Gate};
 use router_host_core::{Ended, Post, Pulled, SLOTS, Socket, Todo};
+use seq_bus_core::limits::MAX_BATCH;
 use std::alloc::AllocError;
 
 /// How many messages of a connection are served in a turn.
-const SHARE: u32 = 64;
+const SHARE: usize = 64;
 
 /// How many envelopes are taken of a slot in a turn.
 const HANDFUL: u32 = 256;
@@ -93,6 +95,7 @@ impl<V: BusView, G: Gate, P: Post<V>, S: Socket> Host<V, G, P, S> {
             self.new.carried }
         ensures engine { self.new.engine ≡ self.old.engine }
     {
+        self.changes_rules = seem_of_rules(&actions);
         let mut actions = actions;
         actions.reverse();
         if self.carrier.carry_out(right, &mut actions) {
@@ -175,15 +178,44 @@ impl<V: BusView, G: Gate, P: Post<V>, S: Socket> Host<V, G, P, S> {
         if !self.engine.has_next(key) {
             self.read(right, key)?;
         }
-        for _ in 0..SHARE {
-            if !self.engine.has_next(key) {
-                break;
-            }
-            self.serve(right, Event::Next { key })?;
-        }
+        self.serve_share(right, key)?;
         let has_more = self.engine.has_next(key);
         self.carrier.lines.serve_again(key, has_more);
         Ok(())
+    }
+
+    /// Serves whole messages of a connection, up to its share of a turn: one by one, but twice as many at once each time that those
+    /// before seem to have changed rules.
+    fn serve_share(&mut self, right: &V::Right, key: usize) -> Result<(), AllocError> {
+        let mut left = SHARE;
+        let mut count = 1;
+        for _ in 0..SHARE {
+            if left == 0 || !self.engine.has_next(key) {
+                break;
+            }
+            self.serve_up_to(right, key, count)?;
+            left = left.saturating_sub(count);
+            count = if self.changes_rules {
+                count.saturating_mul(2).min(left)
+            } else {
+                1
+            };
+        }
+        Ok(())
+    }
+
+    /// Serves the next messages of a connection, so many at most.
+    fn serve_up_to(
+        &mut self,
+        right: &V::Right,
+        key: usize,
+        count: usize,
+    ) -> Result<(), AllocError> {
+        if count < 2 {
+            return self.serve(right, Event::Next { key });
+        }
+        let keys = Vec::from_elem(self.alloc, key, count.min(MAX_BATCH))?;
+        self.serve(right, Event::Turn { keys })
     }
 
     /// Reads from a connection, once.
@@ -336,5 +368,28 @@ impl<V: BusView, G: Gate, P: Post<V>, S: Socket> Host<V, G, P, S> {
             self.carrier.post.look(right, conn);
         }
         Ok(true)
+    }
+}
+
+/// Whether an event that brought these actions seems to have added or removed rules: it was answered with nothing, or
+/// nothing came of it. What is relayed never seems so.
+fn seem_of_rules<N: Drop>(actions: &[Action<N>]) -> bool {
+    match actions.last() {
+        None => true,
+        Some(action) => match action {
+            Action::Put { content, .. } => is_empty_reply(content),
+            _ => false,
+        },
+    }
+}
+
+/// Whether it is a reply of the bus that carries nothing.
+fn is_empty_reply(content: &Content) -> bool {
+    match content {
+        Content::Relayed(_) => false,
+        Content::Own(message) => match message {
+            OwnMessage::Reply { content, .. } => matches!(content, ReplyContent::Empty),
+            _ => false,
+        },
     }
 }
