@@ -1,11 +1,16 @@
 -- Names by rising bytes, and the place of one of them.
-use Rattle.std.proofs.Common.{inl, inr, Result, Ok, Err, ◌≡◌, ℕ, zero, suc, ◌+◌, ◌-◌, ◌<◌, ◌≤◌, nat_le, ◌&&◌, not, true, false, cond, if◌then◌else◌, List, [], ◌∷◌, ◌++◌, map, filter, length, take, drop, insert, remove, get_or, refl, sym, ap, ◌∙◌, subst, arith, append_assoc, append-nil}
+use Rattle.std.proofs.Common.{inl, inr, Ordering, Result, Ok, Err, ◌≡◌, ℕ, zero, suc, ◌+◌, ◌-◌, ◌<◌, ◌≤◌, nat_le, ◌&&◌, not, true, false, cond, if◌then◌else◌, List, [], ◌∷◌, ◌++◌, map, filter, length, take, drop, insert, remove, get_or, refl, sym, ap, ◌∙◌, subst, arith, append_assoc, append-nil}
 use Rattle.std.specs.List.{AllByRecursion as Each, AllWithin, sum_by}
-use Rattle.std.specs.List.Sorted.{IsPartitionedBy}
+use Rattle.std.specs.List.Sorted.{IsBinarySearchResult, IsNonDecreasingBy, IsPartitionedBy, IsSearchInRange}
+use Rattle.std.specs.Ordering.{nat_cmp, is_eq, is_lt, ordering_index, ordering_reverse}
+use Rattle.std.specs.declared.cmp.Ordering.TheVariants.{Less, Equal, Greater}
+use Rattle.std.specs.Cmp.Lexicographic.{slice_cmp}
 use Rattle.std.proofs.Math.ListN.{set}
 use Rattle.std.proofs.lemmas.Bool.{true≢false, cases_Bool}
 use Rattle.std.proofs.lemmas.Bool.Decides.{nat_tests}
-use Rattle.std.proofs.lemmas.List.{length-append, take-append-drop}
+use Rattle.std.proofs.lemmas.Cmp.{nat_list_cmp_total}
+use Rattle.std.proofs.lemmas.Map.Text.{is_eq-slice_cmp}
+use Rattle.std.proofs.lemmas.List.{length-append, length-map, length-take-le, take-append-drop}
 use Rattle.std.proofs.lemmas.List.Edits.{length-insert}
 use Rattle.std.proofs.lemmas.List.Sums.{sum_by-cons, sum_by-append, length-filter}
 use Rattle.names.specs.Texts.{Text, text_eq, text_lt}
@@ -13,8 +18,8 @@ use Rattle.owner_queues.specs.Queues.{Queue, IsQueue, without, is_free, is_in}
 use Rattle.owner_queues.proofs.QueueLemmas.{length-without, without-absent, is_in-without}
 use Rattle.seq_bus_core.specs.BusState.{OwnedName, queue_of, with_queue, kept_name, queued_in, names_of, max_names, max_queued, max_names_of_one}
 use Rattle.seq_bus_core.specs.Steps.{names_without}
-use Rattle.seq_bus_core.proofs.Lists.{each_weaker, each_always, each_passing}
-use Rattle.seq_bus_core.proofs.TextLemmas.{text_lt-trans, text_eq-true, text_eq-swapped, text_lt-itself, text_lt-back, text_lt-other}
+use Rattle.seq_bus_core.proofs.Lists.{each_always, each_passing}
+use Rattle.seq_bus_core.proofs.TextLemmas.{text_lt-trans, text_eq-true, text_eq-swapped, text_lt-itself, text_lt-back}
 use Rattle.registry_core.specs.NameTables.{NamesRise, AreOwned, AreInTable, IsAt, WouldStand, SearchGives, are_within}
 use Rattle.registry_core.proofs.CountLemmas.{one_if_in, left_length}
 use Rattle.match_index.proofs.Lists.{each_at as each_passed}
@@ -48,6 +53,12 @@ behind_place f P (x ∷ xs) zero h = (h 0 x (omega arith) (omega arith), behind_
 behind_place f P (x ∷ xs) (suc i) h = behind_place f P xs i (λ k d low high. h (suc k) d (omega (arith, low)) (omega (arith, high)))
 
 -- ## Names before and behind another
+
+text_eq-tied : (a b : Text) → slice_cmp nat_cmp a b ≡ Equal → text_eq a b ≡ true
+text_eq-tied a b e = sym (is_eq-slice_cmp a b) ∙ ap is_eq e
+
+text_lt-greater : (a b : Text) → slice_cmp nat_cmp a b ≡ Greater → text_lt b a ≡ true
+text_lt-greater a b e = ap is_lt (nat_list_cmp_total.antisymm b a ∙ ap ordering_reverse e)
 
 below_differs : (a b : Text) → text_lt a b ≡ true → text_eq a b ≡ false
 below_differs a b h = elim (cases_Bool (text_eq a b)) [ inl same ↦ absurd (true≢false (sym h ∙ ap (text_lt a) (sym (text_eq-true a b same)) ∙ text_lt-itself a)) | inr other ↦ other ]
@@ -119,17 +130,6 @@ stands names front back name place names_are place_is before above = record {
   };
 }
 
-take_all : {X : Type 0} (xs : List X) (i : ℕ) → i ≡ length xs → take i xs ≡ xs
-take_all [] zero is = refl
-take_all [] (suc i) is = refl
-take_all (x ∷ xs) zero is = absurd (omega (arith, is))
-take_all (x ∷ xs) (suc i) is = ap (λ rest. x ∷ rest) (take_all xs i (omega (arith, is)))
-
--- a name that comes behind all others
-pub stands_last : (names : List OwnedName) (name : Text) (place : ℕ) → place ≡ length names → Each (λ m. text_lt m.name name ≡ true) (take place names) → WouldStand names name place
-stands_last names name place is before =
-    stands names names [] name place (sym (append-nil names)) (sym is) (subst (Each (λ m. text_lt m.name name ≡ true)) (take_all names place is) before) tt
-
 -- the names before a place, the one there and those behind it
 pub split_at : {X : Type 0} (f : X → OwnedName) (xs : List X) (i : ℕ) (d : X) → i < length xs →
     (map f xs ≡ take i (map f xs) ++ f (get_or xs i d) ∷ drop (suc i) (map f xs)) × (length (take i (map f xs)) ≡ i) × (drop i (map f xs) ≡ f (get_or xs i d) ∷ drop (suc i) (map f xs))
@@ -139,13 +139,54 @@ split_at f (x ∷ xs) (suc i) d lt =
     let rest = split_at f xs i d (omega (arith, lt)) in
     (ap (λ more. f x ∷ more) rest.0, ap suc rest.1, rest.2)
 
--- a name that comes before another
-pub stands_before : (names front back : List OwnedName) (n : OwnedName) (name : Text) (place : ℕ) → names ≡ front ++ n ∷ back → length front ≡ place → NamesRise names →
-    Each (λ m. text_lt m.name name ≡ true) front → text_lt n.name name ≡ false → text_eq n.name name ≡ false → WouldStand names name place
-stands_before names front back n name place names_are place_is rise before not_below other =
-    let above : text_lt name n.name ≡ true = text_lt-other n.name name not_below (text_eq-swapped n.name name other) in
-    let higher : Each (Below n) back = (rise_behind front (n ∷ back) (subst NamesRise names_are rise)).0 in
-    stands names front (n ∷ back) name place names_are place_is before (above, each_weaker (Below n) (λ m. text_lt name m.name ≡ true) (λ m up. text_lt-trans name n.name m.name above up) back higher)
+-- ## What is found
+
+-- a name that comes before another does not compare higher
+compares_lower : (a b name : Text) → text_lt a b ≡ true → ordering_index (slice_cmp nat_cmp a name) ≤ ordering_index (slice_cmp nat_cmp b name)
+compares_lower a b name lower = by_order (slice_cmp nat_cmp a name) (slice_cmp nat_cmp b name) refl refl
+  where
+    by_order : (o p : Ordering) → slice_cmp nat_cmp a name ≡ o → slice_cmp nat_cmp b name ≡ p → ordering_index o ≤ ordering_index p
+    by_order Less p e f = omega arith
+    by_order Equal Less e f = absurd (true≢false (sym (text_lt-trans a b name lower (ap is_lt f)) ∙ ap is_lt e))
+    by_order Greater Less e f = absurd (true≢false (sym (text_lt-trans a b name lower (ap is_lt f)) ∙ ap is_lt e))
+    by_order Equal Equal e f = omega arith
+    by_order Equal Greater e f = omega arith
+    by_order Greater Equal e f = absurd (true≢false (sym (ap (text_lt a) (sym (text_eq-true b name (text_eq-tied b name f))) ∙ lower) ∙ ap is_lt e))
+    by_order Greater Greater e f = omega arith
+
+compared_rise : {X : Type 0} (f : X → OwnedName) (name : Text) (xs : List X) → NamesRise (map f xs) → IsNonDecreasingBy (λ x. ordering_index (slice_cmp nat_cmp (f x).name name)) xs
+compared_rise f name [] h i j d le lt = absurd (omega (arith, lt))
+compared_rise f name (x ∷ xs) h zero zero d le lt = omega arith
+compared_rise f name (x ∷ xs) h zero (suc j) d le lt = compares_lower (f x).name (f (get_or xs j d)).name name (each_at f (Below (f x)) xs j d h.0 (omega (arith, lt)))
+compared_rise f name (x ∷ xs) h (suc i) zero d le lt = absurd (omega (arith, le))
+compared_rise f name (x ∷ xs) h (suc i) (suc j) d le lt = compared_rise f name xs h.1 i j d (omega (arith, le)) (omega (arith, lt))
+
+-- the names before one that is found
+before_found : (front back : List OwnedName) (n : OwnedName) (name : Text) → NamesRise (front ++ n ∷ back) → n.name ≡ name → Each (λ m. text_lt m.name name ≡ true) front
+before_found [] back n name h is = tt
+before_found (m ∷ front) back n name h is = (subst (λ t. text_lt m.name t ≡ true) is (at_place front h.0), before_found front back n name h.1 is)
+  where
+    at_place : (front : List OwnedName) → Each (Below m) (front ++ n ∷ back) → text_lt m.name n.name ≡ true
+    at_place [] h = h.0
+    at_place (o ∷ front) h = at_place front h.1
+
+-- what a binary search by the order of names finds
+pub searched : {X : Type 0} (f : X → OwnedName) (name : Text) (xs : List X) (r : Result ℕ ℕ) → NamesRise (map f xs) → IsSearchInRange r (length xs) → IsBinarySearchResult (λ x. slice_cmp nat_cmp (f x).name name) xs r → SearchGives (map f xs) name r
+searched {X} f name xs (Ok i) rise there equal =
+    let d : X = one_of xs i there in
+    let split = split_at f xs i d there in
+    let same : text_eq (f (get_or xs i d)).name name ≡ true = text_eq-tied (f (get_or xs i d)).name name (equal d) in
+    found (map f xs) (take i (map f xs)) (drop (suc i) (map f xs)) (f (get_or xs i d)) name i split.0 split.1 rise
+    (before_found (take i (map f xs)) (drop (suc i) (map f xs)) (f (get_or xs i d)) name (subst NamesRise split.0 rise) (text_eq-true (f (get_or xs i d)).name name same)) same
+  where
+    one_of : (xs : List X) (i : ℕ) → i < length xs → X
+    one_of [] i lt = absurd (omega (arith, lt))
+    one_of (x ∷ xs) i lt = x
+searched f name xs (Err i) rise there parted =
+    let sides = parted (compared_rise f name xs rise) in
+    let below = before_place f (λ n. text_lt n.name name ≡ true) xs i there (λ k d low high. ap is_lt (sides.0 k d low high)) in
+    let above = behind_place f (λ n. text_lt name n.name ≡ true) xs i (λ k d low high. text_lt-greater (f (get_or xs k d)).name name (sides.1 k d low high)) in
+    stands (map f xs) (take i (map f xs)) (drop i (map f xs)) name i (sym (take-append-drop i (map f xs))) (length-take-le i (map f xs) (omega (arith, there, length-map xs f))) below above
 
 -- ## Edits
 

@@ -401,15 +401,7 @@ fn search(entries: &[Box<NameEntry>], name: &str) -> Result<usize, usize>
     requires { NamesRise (map (λ b. owned_name b.value) entries.now) }
     ensures { SearchGives (map (λ b. owned_name b.value) entries.now) name.now result }
 {
-    let place = place_among(entries, name);
-    if place == entries.len() {
-        return Err(place);
-    }
-    if entries[place].name.as_str() == name {
-        Ok(place)
-    } else {
-        Err(place)
-    }
+    entries.binary_search_by(|entry| entry.name.as_str().cmp(name))
 }
 
 /// How many names come before this one.
