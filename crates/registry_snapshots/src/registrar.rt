@@ -13,7 +13,7 @@ ghost use Rattle.bus_view.specs.declared.refusal.Cause.{Cause};
 ghost use Rattle.bus_view.specs.declared.refusal.Cause.TheVariants.{ForeignSeat, HistoryFull, Gone};
 
 use crate::copies::{Copies, SnapReader};
-use bus_view::{BatchCause, Cause, Refused, RefusedAll};
+use bus_view::{BatchCause, Cause, RefusedAll};
 use held_calls::HeldCalls;
 use names::WellKnown;
 use owner_queues::Profile;
@@ -118,62 +118,47 @@ impl<J: Naming> Registrar<J> {
         self.copies.reader()
     }
 
-    /// Makes a change of a seat that knows this much and made so many changes, or refuses it.
+    /// Makes the change of an entry, by a seat that knows this much and made so many changes, or refuses it. The entry is given
+    /// its number. A change is large, and is not moved.
     ///
     /// What it gives of the history is what is published, and nothing that is refused: no front lies beyond it.
     pub fn change<R: Wait>(
         &mut self,
         rt: &R,
         alloc: Global,
-        seat: u8,
         made: u64,
         known: &Front,
-        change: Change,
-    ) -> Result<(Outcome, Front), Refused>
+        entry: &mut Entry,
+    ) -> Result<(Outcome, Front), Cause>
         requires book { known.now.book ≡ J.book }
-        ensures made { IfOk result (λ r.
-            IsChanged J.opening known.now.log seat made change r.0 r.1.log) }
+        requires alone { entry.old.left ≡ 0 }
+        ensures made { IfOk result (λ r. IsChanged J.opening known.now.log entry.old.seat made
+            entry.old.change r.0 r.1.log) }
         ensures few { IfOk result (λ r. length r.0.tickets ≤ MAX_TICKETS) }
         ensures next { IfOk result (λ r. (r.1.book ≡ J.book) × (made < 2 ^ 63)) }
         ensures published { IfOk result (λ r. (r.1 ≡ self.new.0.front) × (self.new.1 ≡ false)) }
-        ensures refused { IfErr result (λ e. e.change ≡ change) }
+        ensures change { entry.new.change ≡ entry.old.change }
         ensures same { OnErr result (self.new.0 ≡ self.old.0) }
-        ensures judged { IfErr result (λ e. e.cause ≢ Gone → self.new ≡ self.old) }
-        ensures foreign { IfErr result (λ e. e.cause ≡ ForeignSeat →
-            (slice_get self.old.0.last seat ≢ Some made)
+        ensures judged { IfErr result (λ e. e ≢ Gone → self.new ≡ self.old) }
+        ensures foreign { IfErr result (λ e. e ≡ ForeignSeat →
+            (slice_get self.old.0.last entry.old.seat ≢ Some made)
             ⊎ (length self.old.0.front.log < length known.now.log)) }
-        ensures full { IfErr result (λ e. e.cause ≡ HistoryFull →
+        ensures full { IfErr result (λ e. e ≡ HistoryFull →
             2 ^ 63 ≤ length self.old.0.front.log) }
     {
         if self.copies.is_spent() {
-            return Err(Refused {
-                change,
-                cause: Cause::Gone,
-            });
+            return Err(Cause::Gone);
         }
         let shown = self.copies.published();
-        let front = match judge(shown, seat, made, known, 1) {
-            Ok(front) => front,
-            Err(cause) => return Err(Refused { change, cause }),
+        let front = judge(shown, entry.seat, made, known, 1)?;
+        let registry = shown.registry();
+        let Ok((prepared, settling)) = prepare(alloc, registry, entry.seat, &entry.change) else {
+            return Err(Cause::NoMemory);
         };
-        let Ok((prepared, settling)) = prepare(alloc, shown.registry(), seat, &change) else {
-            return Err(Refused {
-                change,
-                cause: Cause::NoMemory,
-            });
-        };
-        let entry = Entry {
-            seat,
-            number: made + 1,
-            change,
-            left: 0,
-        };
+        entry.number = made + 1;
         self.third.absorb(&prepared);
-        let Ok(next) = self.copies.publish(rt, &front, &entry, prepared) else {
-            return Err(Refused {
-                change: entry.change,
-                cause: Cause::Gone,
-            });
+        let Ok(next) = self.copies.publish(rt, &front, entry, prepared) else {
+            return Err(Cause::Gone);
         };
         let outcome = settling.settle(&mut self.calls, &entry.change);
         Ok((outcome, next))
