@@ -1,5 +1,5 @@
 -- What is next of a connection, gathered or served.
-use Rattle.std.proofs.Common.{◌≡◌, ℕ, Bool, true, Option, Some, None, Ok, List, refl, sym, ap, ◌∙◌, subst, is_some}
+use Rattle.std.proofs.Common.{◌≡◌, ℕ, Bool, true, false, Option, Some, None, Ok, List, refl, sym, ap, ◌∙◌, subst, is_some}
 use Rattle.std.proofs.lemmas.Bool.{false≢true}
 use Rattle.std.proofs.lemmas.List.{set-get_or}
 use Rattle.seq_bus_core.specs.Histories.{History}
@@ -39,6 +39,11 @@ is_there : {A : Type 0} (o : Option A) → is_some o ≡ true → (x : A) × (o 
 is_there None is = absurd (false≢true is)
 is_there (Some x) is = (x, refl)
 
+-- it stays as it was where nothing is next
+idle_same : (old new : Option Peer) → IsDue due.Nothing old new → new ≡ old
+idle_same None new is = is
+idle_same (Some p) new is = is.1
+
 -- a connection that stays as it was
 as_it_was : (s : Standing) (key : ℕ) (old new : Option Peer) → peer_at s key ≡ old → new ≡ old → with_peer s key new ≡ s
 as_it_was s key old new there same =
@@ -47,14 +52,17 @@ as_it_was s key old new there same =
 
 module _ {N G : Type 0} (told : N → History) (registry_of : N → ℕ) (passes : G → GatedCall → G → Type 0) (alone : Bool) (joints : List Joint) (s : Standing) (key : ℕ) (old new : Option Peer) (there : peer_at s key ≡ old) (w : World N G) where
   -- nothing is next
-  pub gathers_idle : IsDue due.Nothing old new → Comes told registry_of passes alone (gather joints s key (peer_at s key)) w (record { joints = joints; standing = with_peer s key new }) w
-  gathers_idle is =
-      subst (λ (t : Standing). let end : Gathered = record { joints = joints; standing = t } in Comes told registry_of passes alone (gather joints s key (peer_at s key)) w end w) (sym (as_it_was s key old new there (same old is)))
-      (gathers_none told registry_of passes alone joints s key (peer_at s key) w)
+  pub gathers_idle : IsDue due.Nothing old new → Comes told registry_of passes alone (gather joints s key (peer_at s key)) w (record { joints = joints; standing = with_peer s key new; served = false }) w
+  gathers_idle is = of_slot old there is
     where
-      same : (o : Option Peer) → IsDue due.Nothing o new → new ≡ o
-      same None is = is
-      same (Some p) is = is.1
+      of_slot : (o : Option Peer) → peer_at s key ≡ o → IsDue due.Nothing o new → Comes told registry_of passes alone (gather joints s key (peer_at s key)) w (record { joints = joints; standing = with_peer s key new; served = false }) w
+      of_slot o at is =
+          subst (λ (t : Standing). let end : Gathered = record { joints = joints; standing = t; served = false } in Comes told registry_of passes alone (gather joints s key (peer_at s key)) w end w) (sym (as_it_was s key o new at (idle_same o new is)))
+          (subst (λ (x : Option Peer). let end : Gathered = record { joints = joints; standing = s; served = false } in Comes told registry_of passes alone (gather joints s key x) w end w) (sym at) (in_slot o is))
+        where
+          in_slot : (o : Option Peer) → IsDue due.Nothing o new → Comes told registry_of passes alone (gather joints s key o) w (record { joints = joints; standing = s; served = false }) w
+          in_slot None is = (refl, refl)
+          in_slot (Some p) is = gathers_none told registry_of passes alone joints s key p w is.0
 
   module _ (v : World N G) (end : Gathered) where
     -- what is next is served by itself

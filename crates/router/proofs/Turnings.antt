@@ -1,5 +1,5 @@
 -- Several messages, one after the other.
-use Rattle.std.proofs.Common.{◌≡◌, ◌≢◌, ℕ, ◌+◌, ◌<◌, ◌≤◌, Bool, true, false, Option, Some, None, Result, Ok, Err, OnOk, OnErr, List, [], ◌∷◌, length, map, get_or, drop, refl, sym, ap, ◌∙◌, subst, if◌then◌else◌, arith, length-drop, inl, inr}
+use Rattle.std.proofs.Common.{◌≡◌, ◌≢◌, ℕ, ◌+◌, ◌<◌, ◌≤◌, Bool, true, false, ◌||◌, Option, Some, None, Result, Ok, Err, OnOk, OnErr, List, [], ◌∷◌, length, map, get_or, drop, refl, sym, ap, ◌∙◌, subst, if◌then◌else◌, arith, length-drop, inl, inr}
 use Rattle.std.specs.List.{AllByRecursion}
 use Rattle.std.proofs.lemmas.Bool.{false≢true, cases_lt}
 use Rattle.std.proofs.lemmas.List.{drop_more, get_or_past}
@@ -18,12 +18,13 @@ use Rattle.router_core.specs.declared.joint.Joint.{Joint}
 use Rattle.router_core.specs.declared.joint.RuleCall.{RuleCall}
 use Rattle.router_core.specs.Answers.{Says}
 use Rattle.router_core.specs.Deeds.{GatedCall}
-use Rattle.router_core.specs.Events.{Gathered, Stands, answer_each, apart, done_at, done_for, done_in, fated, gather, gather_at, gather_front, gather_message, gathered, join_call, join_if, join_read, make_all, make_each, make_if, next, next_if, parted, turn}
+use Rattle.router_core.specs.Events.{Gathered, Stands, answer_each, apart, done_at, done_for, done_in, fated, gather, gather_at, apart_front, gather_front, gather_message, gathered, join_call, join_if, join_read, make_all, make_each, make_if, next, parted, turn}
 use Rattle.router_core.specs.Fronts.{Front, Waits, Whole, Faulty, IsFront}
 use Rattle.router_core.specs.Scripts.{Changing, Wanting, World, Comes, and_then}
 use Rattle.router_core.specs.Serving.{Fated, made}
 use Rattle.router_core.specs.Standing.{Stage, Authenticating, Unnamed, Named, Shut, Peer, Standing, peer_at, with_peer}
 use Rattle.router_core.specs.Together.{change_of_joint, may_join, rule_call}
+use Rattle.router_steps.specs.Quiet.{IsQuiet, IsQuietAt}
 use Rattle.router_steps.specs.Reading.{IsRest}
 use Rattle.router_steps.proofs.Nexts.{for_some}
 use Rattle.router_steps.proofs.Sequels.{comes_then}
@@ -127,28 +128,29 @@ module _ {N G : Type 0} (told : N → History) (registry_of : N → ℕ) (passes
 
   -- the changes before it are made first
   pub parts_from : (joints : List Joint) (s t u : Standing) (work : Standing → Stands) (w m v : World N G) → Comes told registry_of passes alone (make_all joints s) w t m → Comes told registry_of passes alone (work t) m u v →
-      Comes told registry_of passes alone (parted joints s work) w (record { joints = []; standing = u }) v
+      Comes told registry_of passes alone (parted joints s work) w (record { joints = []; standing = u; served = true }) v
   parts_from joints s t u work w m v made later =
-      let end : Gathered = record { joints = []; standing = u } in
+      let end : Gathered = record { joints = []; standing = u; served = true } in
       comes_then told registry_of passes alone (λ (x : Standing). and_then (work x) (λ (y : Standing). gathered [] y)) t m end v
       (comes_then told registry_of passes alone (λ (y : Standing). gathered [] y) u v end v (refl, refl) (work t) m later)
       (make_all joints s) w made
 
-  -- without memory it stays unserved
-  pub serves_next : {T E : Type 0} (r : Result T E) (key : ℕ) (t u : Standing) (m v : World N G) → OnOk r (Comes told registry_of passes alone (next t key (peer_at t key)) m u v) → OnErr r (u ≡ t) → OnErr r (v ≡ m) →
-      Comes told registry_of passes alone (Wanting (λ granted. next_if t key granted)) m u v
-  serves_next (Ok x) key t u m v served same unchanged = (true, served)
-  serves_next (Err e) key t u m v served same unchanged = (false, (same, unchanged))
+  pub serves_apart : {T E : Type 0} (r : Result T E) (joints left : List Joint) (key : ℕ) (s t u : Standing) (w m v : World N G) → left ≡ [] → Comes told registry_of passes alone (make_all joints s) w t m →
+      OnOk r (Comes told registry_of passes alone (next t key (peer_at t key)) m u v) → OnOk r (Comes told registry_of passes alone (apart joints s key) w (record { joints = left; standing = u; served = true }) v)
+  serves_apart (Err e) joints left key s t u w m v none made served = tt
+  serves_apart (Ok x) joints left key s t u w m v none made served =
+      subst (λ (js : List Joint). let end : Gathered = record { joints = js; standing = u; served = true } in Comes told registry_of passes alone (apart joints s key) w end v) (sym none)
+      (parts_from joints s t u (λ (y : Standing). next y key (peer_at y key)) w m v made served)
 
-  pub gathers_none : (joints : List Joint) (s : Standing) (key : ℕ) (o : Option Peer) (w : World N G) → Comes told registry_of passes alone (gather joints s key o) w (record { joints = joints; standing = s }) w
-  gathers_none joints s key None w = (refl, refl)
-  gathers_none joints s key (Some p) w = in_stage p.stage
+  -- nothing is next
+  pub gathers_none : (joints : List Joint) (s : Standing) (key : ℕ) (p : Peer) (w : World N G) → IsQuiet p → Comes told registry_of passes alone (gather joints s key (Some p)) w (record { joints = joints; standing = s; served = false }) w
+  gathers_none joints s key p w quiet = in_stage p.stage quiet
     where
-      in_stage : (stage : Stage) → Comes told registry_of passes alone (gather_at joints s key p stage) w (record { joints = joints; standing = s }) w
-      in_stage (Authenticating setting state) = (refl, refl)
-      in_stage (Unnamed privileged) = (false, (refl, refl))
-      in_stage (Named conn) = (false, (refl, refl))
-      in_stage (Shut conn) = (refl, refl)
+      in_stage : (stage : Stage) → IsQuietAt p stage → Comes told registry_of passes alone (gather_at joints s key p stage) w (record { joints = joints; standing = s; served = false }) w
+      in_stage (Authenticating setting state) quiet = (refl, refl)
+      in_stage (Unnamed privileged) quiet = (Waits, quiet, (refl, refl))
+      in_stage (Named conn) quiet = (Waits, quiet, (refl, refl))
+      in_stage (Shut conn) quiet = (refl, refl)
 
   -- it does not join
   pub gathers_apart : (joints : List Joint) (s : Standing) (key : ℕ) (p : Peer) (w v : World N G) (end : Gathered) → IsApart p p.stage → Comes told registry_of passes alone (apart joints s key) w end v →
@@ -168,10 +170,15 @@ module _ {N G : Type 0} (told : N → History) (registry_of : N → ℕ) (passes
       at_front conn (Faulty fault) other = served
       at_front conn (Whole message rest) other = if_watches message (record p { unread = rest }) conn p.watches
 
+      apart_at : (front : Front) → front ≢ Waits → Comes told registry_of passes alone (apart_front joints s key front) w end v
+      apart_at Waits other = absurd (other refl)
+      apart_at (Faulty fault) other = served
+      apart_at (Whole message rest) other = served
+
       in_stage : (stage : Stage) → IsApart p stage → Comes told registry_of passes alone (gather_at joints s key p stage) w end v
       in_stage (Authenticating setting state) due = absurd due
-      in_stage (Unnamed privileged) due = (true, served)
-      in_stage (Named conn) due = (true, (due.0, due.1, at_front conn due.0 due.2))
+      in_stage (Unnamed privileged) due = (due.0, due.1, apart_at due.0 due.2)
+      in_stage (Named conn) due = (due.0, due.1, at_front conn due.0 due.2)
       in_stage (Shut conn) due = absurd due
 
   -- it is a call that adds or removes a rule, and reads well
@@ -185,15 +192,41 @@ module _ {N G : Type 0} (told : N → History) (registry_of : N → ℕ) (passes
       let wanted : Comes told registry_of passes alone (Wanting (λ granted. join_if joints s key message left conn granted)) w end v = (true, (Ok call, reads, of_call)) in
       let of_header = subst (λ (b : Bool). Comes told registry_of passes alone (if b then Wanting (λ granted. join_if joints s key message left conn granted) else apart joints s key) w end v) (sym joins) wanted in
       let of_client = subst (λ (b : Bool). Comes told registry_of passes alone (gather_message joints s key message left conn b) w end v) (sym speaks) of_header in
-      subst (λ (stage : Stage). Comes told registry_of passes alone (gather_at joints s key old stage) w end v) (sym named) (true, (Whole message new.unread, front, of_client))
+      subst (λ (stage : Stage). Comes told registry_of passes alone (gather_at joints s key old stage) w end v) (sym named) (Whole message new.unread, front, of_client)
 
-  -- the next message, then the rest
-  pub turns_more : (keys : List ℕ) (i : ℕ) → i < length keys → (before after : Gathered) (end : Standing) (w m v : World N G) →
-      Comes told registry_of passes alone (gather before.joints before.standing (get_or keys i 0) (peer_at before.standing (get_or keys i 0))) w after m →
-      Comes told registry_of passes alone (turn after.joints (drop (i + 1) keys) after.standing) m end v → Comes told registry_of passes alone (turn before.joints (drop i keys) before.standing) w end v
-  turns_more keys i inside before after end w m v this later =
-      subst (λ ks. Comes told registry_of passes alone (turn before.joints ks before.standing) w end v) (sym (drop_more keys i 0 inside))
-      (comes_then told registry_of passes alone (λ (g : Gathered). turn g.joints (drop (i + 1) keys) g.standing) after m end v later (gather before.joints before.standing (get_or keys i 0) (peer_at before.standing (get_or keys i 0))) w this)
+  -- the next message, then the rest; memory is there
+  pub turns_more : (keys : List ℕ) (i : ℕ) → i < length keys → (begun : Bool) (js : List Joint) (before end : Standing) (after : Gathered) (w m v : World N G) →
+      Comes told registry_of passes alone (gather js before (get_or keys i 0) (peer_at before (get_or keys i 0))) w after m →
+      Comes told registry_of passes alone (turn after.joints (drop (i + 1) keys) (begun || after.served) after.standing) m end v → Comes told registry_of passes alone (turn js (drop i keys) begun before) w end v
+  turns_more keys i inside begun js before end after w m v this later =
+      subst (λ ks. Comes told registry_of passes alone (turn js ks begun before) w end v) (sym (drop_more keys i 0 inside)) (by_begun begun later)
+    where
+      by_begun : (b : Bool) → Comes told registry_of passes alone (turn after.joints (drop (i + 1) keys) (b || after.served) after.standing) m end v →
+          Comes told registry_of passes alone (turn js (get_or keys i 0 ∷ drop (i + 1) keys) b before) w end v
+      by_begun false rest =
+          comes_then told registry_of passes alone (λ (g : Gathered). turn g.joints (drop (i + 1) keys) g.served g.standing) after m end v rest (gather js before (get_or keys i 0) (peer_at before (get_or keys i 0))) w this
+      by_begun true rest =
+          (true, comes_then told registry_of passes alone (λ (g : Gathered). turn g.joints (drop (i + 1) keys) true g.standing) after m end v rest (gather js before (get_or keys i 0) (peer_at before (get_or keys i 0))) w this)
+
+  -- memory is refused before a later message: the turn ends
+  pub turns_end : (keys : List ℕ) (i : ℕ) → i < length keys → (js : List Joint) (before end : Standing) (w v : World N G) → Comes told registry_of passes alone (make_all js before) w end v →
+      Comes told registry_of passes alone (turn js (drop i keys) true before) w end v
+  turns_end keys i inside js before end w v made =
+      subst (λ ks. Comes told registry_of passes alone (turn js ks true before) w end v) (sym (drop_more keys i 0 inside)) (false, made)
+
+-- neither of two is
+pub neither : (a b : Bool) → (a || b) ≡ false → (a ≡ false) × (b ≡ false)
+neither true b is = absurd (false≢true (sym is))
+neither false b is = (refl, is)
+
+-- what holds is said of a result, or is not
+pub on_ok : {T E X : Type 0} (r : Result T E) → X → OnOk r X
+on_ok (Ok x) holds = holds
+on_ok (Err e) holds = tt
+
+pub on_err : {T E X : Type 0} (r : Result T E) → X → OnErr r X
+on_err (Ok x) holds = tt
+on_err (Err e) holds = holds
 
 -- calls that add and remove rules let no call go that waited
 pub settle_none : (b : WholeBus) (seat : ℕ) (joints : List Joint) (changes : List Change) (outcomes : List Outcome) → changes ≡ map change_of_joint joints → outcomes ≡ outcomes_of b seat changes → AllByRecursion (λ (o : Outcome). o.tickets ≡ []) outcomes

@@ -1,31 +1,26 @@
 -- What is next of a connection.
-use Rattle.std.specs.Prelude.{◌≡◌, ◌≢◌, false, true, Option, Some, None, Ok, is_some}
+use Rattle.std.specs.Prelude.{◌≡◌, false, true, Option, Some, None, Ok, is_some}
 use Rattle.message_core.specs.Said.{said}
 use Rattle.driver.specs.Calls.{IsCall}
-use Rattle.router_core.specs.Fronts.{Front, Waits, Whole, IsFront}
+use Rattle.router_core.specs.Fronts.{Whole, IsFront}
 use Rattle.router_core.specs.Standing.{Stage, Authenticating, Unnamed, Named, Shut, Peer}
 use Rattle.router_core.specs.Together.{may_join, rule_call}
+use Rattle.router_steps.specs.Quiet.{IsQuiet}
 use Rattle.router_steps.specs.Reading.{IsRest}
+use Rattle.router_steps.specs.Upcoming.{IsComing}
 use Rattle.router.specs.declared.turn.Due.{Due}
 use Rattle.router.specs.declared.turn.Due.TheVariants as due
 
--- It stands for what is served by itself.
+-- Something is to be served of it: a message, or what is none.
 abbrev pub IsApart : Peer → Stage → Type 0
 IsApart p (Authenticating setting state) = ⊥
-IsApart p (Unnamed privileged) = Unit {0}
-IsApart p (Named conn) = (front : Front) × IsFront p.unread front × (front ≢ Waits)
+IsApart p (Unnamed privileged) = IsComing true p
+IsApart p (Named conn) = IsComing true p
 IsApart p (Shut conn) = ⊥
-
--- Nobody without a name is to be served, or nothing that its bytes begin with, or it could not be read.
-abbrev pub IsIdle : Stage → Type 0
-IsIdle (Authenticating setting state) = Unit {0}
-IsIdle (Unnamed privileged) = ⊥
-IsIdle (Named conn) = Unit {0}
-IsIdle (Shut conn) = Unit {0}
 
 abbrev pub IsDue : Due → Option Peer → Option Peer → Type 0
 IsDue due.Nothing None new = new ≡ None
-IsDue due.Nothing (Some old) new = IsIdle old.stage × (new ≡ Some old)
+IsDue due.Nothing (Some old) new = IsQuiet old × (new ≡ Some old)
 IsDue due.Apart None new = ⊥
 IsDue due.Apart (Some old) new = IsApart old old.stage × (new ≡ Some old)
 IsDue (due.Rule conn message call) None new = ⊥

@@ -1,6 +1,6 @@
 //! Several messages, one after the other.
 
-ghost use Rattle.std.specs.Prelude.{◌≡◌, ◌⊎◌, ◌<◌, ◌≤◌, ◌+◌, ◌*◌, ◌++◌, ◌∷◌, [], Ok, Some, length, map, is_some, true, vec_len, vec_capacity, IfOk, OnOk, OnErr};
+ghost use Rattle.std.specs.Prelude.{◌≡◌, ◌⊎◌, ◌<◌, ◌≤◌, ◌+◌, ◌*◌, ◌++◌, ◌∷◌, [], Ok, Some, length, map, is_some, true, false, vec_len, vec_capacity, IfOk, OnOk, OnErr};
 ghost use Rattle.std.specs.List.{AllByRecursion};
 ghost use Rattle.seq_bus_core.specs.Batches.{IsBatch, max_batch};
 ghost use Rattle.message_core.specs.Said.{said};
@@ -105,23 +105,29 @@ enum Due {
     Rule(Conn, Message, Call),
 }
 
-/// What is next of the connection in a place of the table. Without memory to read it nothing is.
-fn due_in(slot: &mut Option<Peer>) -> Due
-    ensures { IsDue result slot.old slot.new }
+/// What is next of the connection in a place of the table. Without memory to read it nothing changes.
+fn due_in(slot: &mut Option<Peer>) -> Result<Due, AllocError>
+    ensures due { IfOk result (λ due. IsDue due slot.old slot.new) }
+    ensures err { OnErr result (slot.new ≡ slot.old) }
 {
     let Some(peer) = slot else {
-        return Due::Nothing;
+        return Ok(Due::Nothing);
     };
     match peer.stage() {
-        Stage::Authenticating(_) | Stage::Shut(_) => Due::Nothing,
-        Stage::Unnamed { privileged: _ } => Due::Apart,
+        Stage::Authenticating(_) | Stage::Shut(_) => Ok(Due::Nothing),
+        Stage::Unnamed { privileged: _ } => {
+            if peer.is_coming()? {
+                Ok(Due::Apart)
+            } else {
+                Ok(Due::Nothing)
+            }
+        }
         Stage::Named(conn) => {
             let conn = *conn;
-            match peer.take_rule() {
-                Ok(Upcoming::Waits) => Due::Nothing,
-                Ok(Upcoming::Other) => Due::Apart,
-                Ok(Upcoming::Rule(message, call)) => Due::Rule(conn, message, call),
-                Err(_) => Due::Nothing,
+            match peer.take_rule()? {
+                Upcoming::Waits => Ok(Due::Nothing),
+                Upcoming::Other => Ok(Due::Apart),
+                Upcoming::Rule(message, call) => Ok(Due::Rule(conn, message, call)),
             }
         }
     }
@@ -335,21 +341,31 @@ impl<V: BusView, G: Gate> Served<V, G> {
         self.settle(key, fate);
     }
 
-    /// Serves the next message of a connection, once the changes of the calls before it are made. Without memory it stays unserved.
-    fn serve_apart(&mut self, right: &V::Right, key: usize, joints: &mut Vec<Joint>)
+    /// Serves the next message of a connection, once the changes of the calls before it are made. Without memory these alone are made.
+    fn serve_apart(
+        &mut self,
+        right: &V::Right,
+        key: usize,
+        joints: &mut Vec<Joint>,
+    ) -> Result<(), AllocError>
         requires few { length joints.old.items ≤ max_batch }
         requires room { 3 * length joints.old.items ≤ self.old.work.room }
         requires crowds { length joints.old.items ≤ self.old.work.crowds }
-        ensures comes { Comes V.told V.registry_of G.passes V.alone
+        ensures comes { OnOk result
+            (Comes V.told V.registry_of G.passes V.alone
             (apart joints.old.items self.old.standing key)
             self.old.work.world
-            (record { joints = joints.new.items; standing = self.new.standing })
-            self.new.work.world }
+            (record { joints = joints.new.items; standing = self.new.standing; served = true })
+            self.new.work.world) }
+        ensures refused { OnErr result
+            (Comes V.told V.registry_of G.passes V.alone
+            (making_all joints.old.items self.old.standing)
+            self.old.work.world self.new.standing self.new.work.world) }
         ensures none { joints.new.items ≡ [] }
         ensures capacity { vec_capacity joints.old ≤ vec_capacity joints.new }
     {
         self.make_all(right, joints);
-        let _ = self.next(right, key);
+        self.next(right, key)
     }
 
     /// Routes a call that adds or removes a rule, and gathers it.
@@ -373,7 +389,7 @@ impl<V: BusView, G: Gate> Served<V, G> {
             (λ it. joined joints.old.items self.old.standing
             (record { key = key; message = message; caller = conn; call = c }) it))
             self.old.work.world
-            (record { joints = joints.new.items; standing = self.new.standing })
+            (record { joints = joints.new.items; standing = self.new.standing; served = true })
             self.new.work.world }
         ensures more { length joints.new.items ≤ length joints.old.items + 1 }
         ensures capacity { vec_capacity joints.old ≤ vec_capacity joints.new }
@@ -410,56 +426,86 @@ impl<V: BusView, G: Gate> Served<V, G> {
         self.context.reserve_crowds(crowds)
     }
 
-    /// The next message of a connection: gathers it where it is a call that adds or removes a rule, and else serves it. Without memory it
-    /// stays unserved.
-    fn gather(&mut self, right: &V::Right, key: usize, joints: &mut Vec<Joint>)
+    /// The next message of a connection: gathers it where it is a call that adds or removes a rule, and else serves it. Tells whether there
+    /// was one. Without memory for it the changes of the calls before it are made, and it stays unserved.
+    fn gather(
+        &mut self,
+        right: &V::Right,
+        key: usize,
+        joints: &mut Vec<Joint>,
+    ) -> Result<bool, AllocError>
         requires spare { vec_len joints.old < vec_capacity joints.old }
         requires few { length joints.old.items ≤ max_batch }
         requires room { 3 * length joints.old.items ≤ self.old.work.room }
         requires crowds { length joints.old.items ≤ self.old.work.crowds }
-        ensures comes { Comes V.told V.registry_of G.passes V.alone
+        ensures comes { IfOk result (λ served.
+            Comes V.told V.registry_of G.passes V.alone
             (gathering joints.old.items self.old.standing key (peer_at self.old.standing key))
             self.old.work.world
-            (record { joints = joints.new.items; standing = self.new.standing })
-            self.new.work.world }
+            (record { joints = joints.new.items; standing = self.new.standing; served = served })
+            self.new.work.world) }
+        ensures joints { IfOk result (λ served. served ≡ false →
+            joints.new.items ≡ joints.old.items) }
+        ensures standing { IfOk result (λ served. served ≡ false →
+            self.new.standing ≡ self.old.standing) }
+        ensures world { IfOk result (λ served. served ≡ false →
+            self.new.work.world ≡ self.old.work.world) }
+        ensures refused { OnErr result
+            (Comes V.told V.registry_of G.passes V.alone
+            (making_all joints.old.items self.old.standing)
+            self.old.work.world self.new.standing self.new.work.world) }
         ensures more { length joints.new.items ≤ length joints.old.items + 1 }
         ensures capacity { vec_capacity joints.old ≤ vec_capacity joints.new }
         ensures room { 3 * length joints.new.items ≤ self.new.work.room }
         ensures crowds { length joints.new.items ≤ self.new.work.crowds }
     {
         if key >= self.peers.len() {
-            return;
+            return Ok(false);
         }
         // The answers to the calls that were gathered and to this one, what is shown to monitors, and what it may come to where it does not
         // join them.
         let Ok(()) = self.make_room(ANSWER * joints.len() + MAX_TICKETS + 5, joints.len() + 2)
         else {
-            return;
+            self.make_all(right, joints);
+            return Err(AllocError);
         };
         match due_in(&mut self.peers[key]) {
-            Due::Nothing => {}
-            Due::Apart => self.serve_apart(right, key, joints),
-            Due::Rule(conn, message, call) => {
-                self.join_one(right, key, conn, message, call, joints)
+            Err(refused) => {
+                self.make_all(right, joints);
+                Err(refused)
+            }
+            Ok(Due::Nothing) => Ok(false),
+            Ok(Due::Apart) => {
+                self.serve_apart(right, key, joints)?;
+                Ok(true)
+            }
+            Ok(Due::Rule(conn, message, call)) => {
+                self.join_one(right, key, conn, message, call, joints);
+                Ok(true)
             }
         }
     }
 
     /// Serves the next messages of connections, one after the other, as many of each as its key stands there. Neighbouring calls that add
-    /// and remove rules are routed first, then their changes are made together, then they are answered. Without memory to read them all
-    /// nothing changes.
+    /// and remove rules are routed first, then their changes are made together, then they are answered. Without memory to read them all, or
+    /// for the first, nothing changes; without memory for a later one it and those behind it stay unserved.
     pub fn turn(&mut self, right: &V::Right, keys: &[usize]) -> Result<(), AllocError>
         requires { length keys.now ≤ max_batch }
         ensures comes { OnOk result
-            (Comes V.told V.registry_of G.passes V.alone (turning [] keys.now self.old.standing)
+            (Comes V.told V.registry_of G.passes V.alone
+            (turning [] keys.now false self.old.standing)
             self.old.work.world self.new.standing self.new.work.world) }
         ensures err { OnErr result (self.new.standing ≡ self.old.standing) }
         ensures world { OnErr result (self.new.work.world ≡ self.old.work.world) }
     {
         self.read_ahead(keys)?;
         let mut joints = Vec::with_capacity(self.alloc, keys.len())?;
+        let mut begun = false;
         for key in keys {
-            self.gather(right, *key, &mut joints);
+            match self.gather(right, *key, &mut joints) {
+                Ok(served) => begun = begun || served,
+                Err(refused) => return if begun { Ok(()) } else { Err(refused) },
+            }
         }
         self.make_all(right, &mut joints);
         Ok(())

@@ -7,7 +7,7 @@ use Rattle.sasl.specs.declared.identity.Identity.{Identity}
 use Rattle.sasl.specs.declared.phase.Phase.{Phase}
 use Rattle.sasl.specs.declared.phase.Phase.TheVariants.{WaitingForNul, WaitingForAuth, WaitingForData, WaitingForBegin, Done, Closed}
 use Rattle.sasl.specs.Hearing.{Conversed, conversed}
-use Rattle.router_core.specs.Events.{Gathered, gather, gather_at, gathered, turn, next, next_at, for_peer, hear, answering, conversed_to, converse_if, is_user, closing, greet, serve_named}
+use Rattle.router_core.specs.Events.{Gathered, gather, gather_at, none_gathered, turn, next, next_at, for_peer, hear, answering, conversed_to, converse_if, is_user, closing, greet, serve_named}
 use Rattle.router_core.specs.declared.cause.CloseCause.TheVariants.{NotHello, MonitorSent}
 use Rattle.router_core.specs.Laws.{IsShut, ClosedAreNotServed, ClosedHaveNoTurn, ClosedTakeNothing, ClosedGetNoMail, NobodySpeaksBeforeBegin, OnlyBeginBegins, UnknownTypesBringNothing, OnlyHelloGreets, MonitorsSendNothing}
 use Rattle.router_core.specs.Scripts.{Script, Gives, and_then, World, Comes}
@@ -17,13 +17,13 @@ pub closed_are_not_served : ClosedAreNotServed
 closed_are_not_served s key p is = ap (next s key) is.0 ∙ ap (next_at s key p) is.1.1
 
 -- it is passed over
-not_gathered : (s : Standing) (key : ℕ) (p : Peer) → IsShut s key p → gather [] s key (peer_at s key) ≡ gathered [] s
+not_gathered : (s : Standing) (key : ℕ) (p : Peer) → IsShut s key p → gather [] s key (peer_at s key) ≡ none_gathered [] s
 not_gathered s key p is = ap (gather [] s key) is.0 ∙ ap (gather_at [] s key p) is.1.1
 
 pub closed_have_no_turn : ClosedHaveNoTurn
 closed_have_no_turn s [] all = refl
 closed_have_no_turn s (key ∷ keys) all =
-    ap (λ (g : Script Gathered). and_then g (λ (r : Gathered). turn r.joints keys r.standing)) (not_gathered s key all.0.0 all.0.1) ∙ closed_have_no_turn s keys all.1
+    ap (λ (g : Script Gathered). and_then g (λ (r : Gathered). turn r.joints keys r.served r.standing)) (not_gathered s key all.0.0 all.0.1) ∙ closed_have_no_turn s keys all.1
 
 pub closed_take_nothing : ClosedTakeNothing
 closed_take_nothing s key piece p is =

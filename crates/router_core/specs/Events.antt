@@ -258,22 +258,23 @@ make_all (j ∷ k ∷ joints) s = Wanting (λ granted. make_if (j ∷ k ∷ join
 pub record Gathered : Type 0 where
   pub joints : List Joint
   pub standing : Standing
+  -- whether there was a message, which joined or was served
+  pub served : Bool
 
 abbrev pub gathered : List Joint → Standing → Script Gathered
-gathered joints s = Gives (record { joints = joints; standing = s })
+gathered joints s = Gives (record { joints = joints; standing = s; served = true })
+
+-- There is no message.
+abbrev pub none_gathered : List Joint → Standing → Script Gathered
+none_gathered joints s = Gives (record { joints = joints; standing = s; served = false })
 
 -- what is done for a message that does not join: the changes before it are made first
 abbrev pub parted : List Joint → Standing → (Standing → Stands) → Script Gathered
 parted joints s work = and_then (make_all joints s) (λ t. and_then (work t) (λ u. gathered [] u))
 
--- Without memory it stays unserved.
-abbrev pub next_if : Standing → ℕ → Bool → Stands
-next_if s key true = next s key (peer_at s key)
-next_if s key false = Gives s
-
 -- it is served as any message is
 abbrev pub apart : List Joint → Standing → ℕ → Script Gathered
-apart joints s key = parted joints s (λ t. Wanting (λ granted. next_if t key granted))
+apart joints s key = parted joints s (λ t. next t key (peer_at t key))
 
 -- The call has come to this before its change.
 abbrev pub joined : List Joint → Standing → Joint → Joining → Script Gathered
@@ -290,6 +291,7 @@ abbrev pub join_read : List Joint → Standing → ℕ → (message : List ℕ) 
 join_read joints s key message p conn None = apart joints s key
 join_read joints s key message p conn (Some c) = join_call joints s key message p conn c
 
+-- Without memory to read it as a call it does not join.
 abbrev pub join_if : List Joint → Standing → ℕ → (message : List ℕ) → Peer → Conn → Bool → Script Gathered
 join_if joints s key message p conn true = Calling (message_said message) (λ reading. join_read joints s key message p conn (rule_call reading))
 join_if joints s key message p conn false = apart joints s key
@@ -301,34 +303,38 @@ gather_message joints s key message p conn false =
     if may_join (message_said message) then Wanting (λ granted. join_if joints s key message p conn granted) else apart joints s key
 
 abbrev pub gather_front : List Joint → Standing → ℕ → Peer → Conn → Front → Script Gathered
-gather_front joints s key p conn Waits = gathered joints s
+gather_front joints s key p conn Waits = none_gathered joints s
 gather_front joints s key p conn (Faulty fault) = apart joints s key
 gather_front joints s key p conn (Whole bytes rest) = gather_message joints s key bytes (record p { unread = rest }) conn p.watches
 
-abbrev pub gather_if : List Joint → Standing → ℕ → Peer → Conn → Bool → Script Gathered
-gather_if joints s key p conn true = Fronting p.unread (λ front. gather_front joints s key p conn front)
-gather_if joints s key p conn false = gathered joints s
+abbrev pub apart_front : List Joint → Standing → ℕ → Front → Script Gathered
+apart_front joints s key Waits = none_gathered joints s
+apart_front joints s key front = apart joints s key
 
-abbrev pub apart_if : List Joint → Standing → ℕ → Bool → Script Gathered
-apart_if joints s key true = apart joints s key
-apart_if joints s key false = gathered joints s
-
--- Only connections that have a name make changes. Without memory a message stays unserved.
+-- Only connections that have a name make changes.
 abbrev pub gather_at : List Joint → Standing → ℕ → Peer → Stage → Script Gathered
-gather_at joints s key p (Named conn) = Wanting (λ granted. gather_if joints s key p conn granted)
-gather_at joints s key p (Unnamed privileged) = Wanting (λ granted. apart_if joints s key granted)
-gather_at joints s key p (Authenticating setting state) = gathered joints s
-gather_at joints s key p (Shut conn) = gathered joints s
+gather_at joints s key p (Named conn) = Fronting p.unread (λ front. gather_front joints s key p conn front)
+gather_at joints s key p (Unnamed privileged) = Fronting p.unread (λ front. apart_front joints s key front)
+gather_at joints s key p (Authenticating setting state) = none_gathered joints s
+gather_at joints s key p (Shut conn) = none_gathered joints s
 
 abbrev pub gather : List Joint → Standing → ℕ → Option Peer → Script Gathered
-gather joints s key None = gathered joints s
+gather joints s key None = none_gathered joints s
 gather joints s key (Some p) = gather_at joints s key p p.stage
 
+-- Without memory the turn ends: neither this message is served nor any behind it.
+abbrev pub go_on_if : List Joint → Standing → (goes_on : Stands) → Bool → Stands
+go_on_if joints s goes_on true = goes_on
+go_on_if joints s goes_on false = make_all joints s
+
 -- The next messages of these keys, each in its turn. Neighbouring calls that add and remove rules are routed first, then their changes are
--- made together, then they are answered.
-abbrev pub turn : List Joint → List ℕ → Standing → Stands
-turn joints [] s = make_all joints s
-turn joints (key ∷ keys) s = and_then (gather joints s key (peer_at s key)) (λ g. turn g.joints keys g.standing)
+-- made together, then they are answered. Memory is wanted between one message and the next: once a turn is not refused whole, its first
+-- message is served.
+abbrev pub turn : List Joint → List ℕ → (begun : Bool) → Standing → Stands
+turn joints [] begun s = make_all joints s
+turn joints (key ∷ keys) false s = and_then (gather joints s key (peer_at s key)) (λ g. turn g.joints keys g.served g.standing)
+turn joints (key ∷ keys) true s =
+    Wanting (λ granted. go_on_if joints s (and_then (gather joints s key (peer_at s key)) (λ g. turn g.joints keys true g.standing)) granted)
 
 -- ## Mail
 
@@ -453,7 +459,7 @@ abbrev pub script : Standing → Occasion → Stands
 script s (Opened key challenge) = Gives (opened s key challenge)
 script s (Bytes key piece) = for_peer s key (peer_at s key) (λ p. hear key piece p p.stage)
 script s (Next key) = next s key (peer_at s key)
-script s (Turn keys) = turn [] keys s
+script s (Turn keys) = turn [] keys false s
 script s (Mail slot number told said) = noted told (mail_found s said (position (is_conn slot number) s.peers))
 script s (Closed key) = closed s key (peer_at s key)
 script s (Full number) = leave s number

@@ -22,7 +22,7 @@ pub enum Event<N: Drop> {
         key: usize,
     },
     /// The next whole messages of connections are to be served, one after the other: 1 to 64, of each connection as many as its key
-    /// stands among the keys.
+    /// stands among the keys. Once it is served the first of them was; without memory for a later one, it and those behind it stay unserved.
     Turn {
         keys: Vec<usize>,
     },

@@ -1,5 +1,5 @@
 -- Messages that are pending: the first goes first, and one more stands behind the others.
-use Rattle.std.proofs.Common.{◌≡◌, ℕ, Bool, List, [], ◌∷◌, ◌++◌, length, drop, Option, Some, None, refl, sym, ap, subst, ◌∙◌, append_assoc, arith}
+use Rattle.std.proofs.Common.{◌≡◌, ◌≢◌, ℕ, ◌<◌, Bool, List, [], ◌∷◌, ◌++◌, length, drop, Option, Some, None, refl, sym, ap, subst, ◌∙◌, append_assoc, arith}
 use Rattle.std.proofs.lemmas.List.{append-nil}
 use Rattle.std.specs.Option.{option_to_list}
 use Rattle.message_core.specs.declared.fault.FrameFault.{FrameFault}
@@ -65,6 +65,13 @@ module _ (at : Stage) (bytes : List ℕ) (serial : ℕ) (watches : Bool) (p : Pe
       let left : List ℕ = pending_bytes new ++ rest in
       front_is (pending_bytes old ++ rest) (Whole message (unread_at at left)) same
       (subst (λ (l : List ℕ). IsFront (pending_bytes old ++ rest) (Whole message l)) (sym (messages_unread at left begun_at)) (taken old new message rest split within).front)
+
+  -- some are pending
+  pub front_pending : (pending : List (List ℕ)) (rest : List ℕ) → pending_bytes pending ++ rest ≡ bytes → AreWithin pending → 0 < length pending → (front : Front) × IsFront p.unread front × (front ≢ Waits)
+  front_pending [] rest same within some = absurd (omega (arith, some))
+  front_pending (message ∷ messages) rest same within some =
+      let behind : List ℕ = unread_at at (pending_bytes messages ++ rest) in
+      (Whole message behind, front_taken (message ∷ messages) messages message rest same refl within, whole_is_there message behind)
 
   pub rest_is : (left : List ℕ) → record { stage = stage_of at; unread = left; serial = serial; watches = watches } ≡ record p { unread = left }
   rest_is left = ap (λ (x : Peer). record x { unread = left }) is

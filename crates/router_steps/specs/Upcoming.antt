@@ -1,5 +1,5 @@
 -- What comes next of a connection that has a name.
-use Rattle.std.specs.Prelude.{◌≡◌, ◌≢◌, true, false, Ok, is_some}
+use Rattle.std.specs.Prelude.{◌≡◌, ◌≢◌, Bool, true, false, Ok, is_some}
 use Rattle.message_core.specs.Said.{said}
 use Rattle.driver.specs.Calls.{IsCall}
 use Rattle.router_core.specs.Fronts.{Front, Waits, Whole, IsFront}
@@ -16,3 +16,8 @@ IsUpcoming (upcoming.Rule message call) old new =
     IsFront old.unread (Whole message new.unread) × IsRest old new × (old.watches ≡ false)
     × (may_join (said message) ≡ true) × IsCall (said message) (Ok call) × (is_some (rule_call (Ok call)) ≡ true)
 IsUpcoming upcoming.Other old new = ((front : Front) × IsFront old.unread front × (front ≢ Waits)) × (new ≡ old)
+
+-- whether something comes: a message, or what is none
+abbrev pub IsComing : Bool → Peer → Type 0
+IsComing false p = IsFront p.unread Waits
+IsComing true p = (front : Front) × IsFront p.unread front × (front ≢ Waits)

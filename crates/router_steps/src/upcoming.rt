@@ -1,4 +1,4 @@
-//! What comes next of a connection that has a name.
+//! What comes next of a connection.
 
 ghost use Rattle.std.specs.Prelude.{◌≡◌, Option, Ok, true, false, is_some, IfOk, IfSome, OnErr};
 ghost use Rattle.names.specs.Texts.{Text};
@@ -7,7 +7,7 @@ ghost use Rattle.message_core.specs.Said.{said};
 ghost use Rattle.driver.specs.Calls.{IsCall};
 ghost use Rattle.router_core.specs.Standing.{SpeaksDBus};
 ghost use Rattle.router_core.specs.Together.{is_rule_member as is_rule_member_in, may_join as may_join_in, rule_call};
-ghost use Rattle.router_steps.specs.Upcoming.{IsUpcoming};
+ghost use Rattle.router_steps.specs.Upcoming.{IsComing, IsUpcoming};
 
 use crate::front::{More, fill};
 use crate::peer::Peer;
@@ -71,6 +71,19 @@ fn read_rule_call(alloc: Global, watches: bool, message: &Message) -> Option<Cal
 }
 
 impl Peer {
+    /// Whether something comes next of it: a whole message, or what is none. It stays as it was, also without memory.
+    pub fn is_coming(&mut self) -> Result<bool, AllocError>
+        requires { SpeaksDBus self.old.stage }
+        ensures ok { IfOk result (λ coming. IsComing coming self.old) }
+        ensures kept { self.new ≡ self.old }
+    {
+        match fill(&mut self.pending, &mut self.unread)? {
+            More::Waits => Ok(false),
+            More::Faulty(_) => Ok(true),
+            More::Pending => Ok(true),
+        }
+    }
+
     /// What comes next of it. A call that adds or removes a rule and reads well is taken off its bytes. Without memory nothing changes.
     pub fn take_rule(&mut self) -> Result<Upcoming, AllocError>
         requires { SpeaksDBus self.old.stage }

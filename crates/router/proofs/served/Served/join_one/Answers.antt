@@ -1,4 +1,4 @@
-use Rattle.std.proofs.Common.{◌≡◌, [], ◌∷◌, ◌++◌, Some, List, refl, sym, ap, ◌∙◌, subst}
+use Rattle.std.proofs.Common.{◌≡◌, [], ◌∷◌, ◌++◌, Some, true, List, refl, sym, ap, ◌∙◌, subst}
 use Rattle.message_core.specs.Said.{said}
 use Rattle.router_core.specs.declared.joint.Joint.{Joint}
 use Rattle.router_core.specs.declared.joint.RuleCall.{RuleCall}
@@ -32,12 +32,12 @@ returns-in-Joins-clause-comes g c call is =
     let joint = λ (r : RuleCall). let j : Joint = record { key = key; message = c.args.message; caller = conn; call = r } in j in
     let same : call ≡ c.rule_call_of.result = same_some call c.rule_call_of.result (sym is ∙ c.rule_call_of.ensures) in
     let all : c.push_reserved.new.joints.items ≡ joints ++ joint call ∷ [] = c.push_reserved.ensures.items ∙ ap (λ (r : RuleCall). joints ++ joint r ∷ []) (sym same) in
-    let end : Gathered = record { joints = joints ++ joint call ∷ []; standing = s } in
+    let end : Gathered = record { joints = joints ++ joint call ∷ []; standing = s; served = true } in
     let came = subst (λ (r : Joining). Comes told registry_of passes alone (join m conn call) w (joining_of m conn r) v) c.in-Joins.is (c.join.ensures.comes call is) in
     let done = comes_then told registry_of passes alone (λ it. joined joints s (joint call) it) Joins v end v (refl, refl) (join m conn call) w came in
-    let kept = subst (λ (js : List Joint). let x : Gathered = record { joints = js; standing = s } in Comes told registry_of passes alone (and_then (join m conn call) (λ it. joined joints s (joint call) it)) w x v) (sym all) done in
+    let kept = subst (λ (js : List Joint). let x : Gathered = record { joints = js; standing = s; served = true } in Comes told registry_of passes alone (and_then (join m conn call) (λ it. joined joints s (joint call) it)) w x v) (sym all) done in
     subst
-    (λ (k : Table g.row.V-Note.Denot g.row.G.Denot). let x : Gathered = record { joints = c.push_reserved.new.joints.items; standing = s } in Comes told registry_of passes alone (and_then (join m conn call) (λ it. joined joints k.standing (joint call) it)) k.work.world x v)
+    (λ (k : Table g.row.V-Note.Denot g.row.G.Denot). let x : Gathered = record { joints = c.push_reserved.new.joints.items; standing = s; served = true } in Comes told registry_of passes alone (and_then (join m conn call) (λ it. joined joints k.standing (joint call) it)) k.work.world x v)
     c.self.view_is kept
 
 pub returns-in-Parts-clause-comes : goal.returns-in-Parts-clause-comes
@@ -59,11 +59,11 @@ returns-in-Parts-clause-comes g c call is =
     let v = c.part_one.new.self.work.world in
     let work = parting_of m conn c.in-Parts.parting in
     let joint : Joint = record { key = key; message = c.args.message; caller = conn; call = call } in
-    let end : Gathered = record { joints = []; standing = u } in
+    let end : Gathered = record { joints = []; standing = u; served = true } in
     let came = subst (λ (r : Joining). Comes told registry_of passes alone (join m conn call) w (joining_of m conn r) n) c.in-Parts.is (c.join.ensures.comes call is) in
     let later = parts_from told registry_of passes alone joints s t u (λ (x : Standing). done_for x key work) n q v c.make_all.ensures.comes c.part_one.ensures.comes in
     let done = comes_then told registry_of passes alone (λ it. joined joints s joint it) (Parts work) n end v later (join m conn call) w came in
-    let kept = subst (λ (js : List Joint). let x : Gathered = record { joints = js; standing = u } in Comes told registry_of passes alone (and_then (join m conn call) (λ it. joined joints s joint it)) w x v) (sym c.make_all.ensures.none) done in
+    let kept = subst (λ (js : List Joint). let x : Gathered = record { joints = js; standing = u; served = true } in Comes told registry_of passes alone (and_then (join m conn call) (λ it. joined joints s joint it)) w x v) (sym c.make_all.ensures.none) done in
     subst
-    (λ (k : Table g.row.V-Note.Denot g.row.G.Denot). let x : Gathered = record { joints = c.make_all.new.joints.items; standing = u } in Comes told registry_of passes alone (and_then (join m conn call) (λ it. joined joints k.standing joint it)) k.work.world x v)
+    (λ (k : Table g.row.V-Note.Denot g.row.G.Denot). let x : Gathered = record { joints = c.make_all.new.joints.items; standing = u; served = true } in Comes told registry_of passes alone (and_then (join m conn call) (λ it. joined joints k.standing joint it)) k.work.world x v)
     c.self.view_is kept
