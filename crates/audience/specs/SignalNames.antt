@@ -1,9 +1,6 @@
 -- What is put together of a signal of the bus.
-use Rattle.std.specs.Prelude.{◌≡◌, true, Some, None, [], codes, option_map}
+use Rattle.std.specs.Prelude.{◌≡◌, Some, option_map}
 use Rattle.names.specs.UniqueName.{unique_text}
-use Rattle.match_rules.specs.Facts.{Facts, bus_number}
-use Rattle.match_rules.specs.declared.kind.MessageKind.TheVariants.{Signal}
-use Rattle.seq_bus_core.specs.Steps.{bus_path}
 use Rattle.seq_bus_core.specs.declared.signal.BusSignal.{BusSignal}
 use Rattle.seq_bus_core.specs.declared.signal.BusSignal.TheVariants.{NameOwnerChanged, NameLost, NameAcquired}
 use Rattle.audience.specs.declared.facts.SignalNames.{SignalNames}
@@ -14,16 +11,3 @@ AreNamesOf (NameOwnerChanged name old new) names =
     (names.first ≡ option_map unique_text old) × (names.second ≡ option_map unique_text new)
 AreNamesOf (NameLost name owner) names = names.first ≡ Some (unique_text owner)
 AreNamesOf (NameAcquired name owner) names = names.first ≡ Some (unique_text owner)
-
--- what match rules see of all signals alike
-abbrev pub blank_facts : Facts
-blank_facts = record {
-  kind = Signal;
-  auto_start = true;
-  sender = bus_number;
-  path = Some bus_path;
-  interface = Some (codes "org.freedesktop.DBus");
-  member = None;
-  destination = None;
-  arguments = [];
-}

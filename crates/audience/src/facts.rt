@@ -4,15 +4,14 @@ ghost use Rattle.std.specs.Prelude.{◌≡◌, Some, [], map, option_map, unwrap
 ghost use Rattle.names.specs.UniqueName.{unique_text};
 ghost use Rattle.match_rules.specs.FactsView.{argument_of};
 ghost use Rattle.seq_bus_core.specs.Steps.{facts_of};
-ghost use Rattle.audience.specs.SignalNames.{blank_facts};
 
 use arrayvec::ArrayVec;
 use match_rules::{Argument, Facts, MessageKind};
 use names::UniqueName;
 use seq_bus_core::{BusSignal, bus_path};
 
-/// As many arguments of a message as match rules look at.
-type Arguments<'a> = ArrayVec<Argument<'a>, 64>;
+/// The arguments of a signal of the bus, of which there are three at most.
+pub(crate) type SignalArguments<'a> = ArrayVec<Argument<'a>, 3>;
 
 /// The unique names that a signal of the bus speaks of. Its facts are lent out of both.
 #[derive(Drop)]
@@ -65,16 +64,22 @@ impl SignalNames {
         }
     }
 
-    /// Puts what match rules see of the signal where nothing of it stands yet: the room for arguments is
-    /// large, and is not moved.
-    pub fn put_facts<'a>(&'a self, signal: &'a BusSignal, facts: &mut Facts<'a>)
+    /// What match rules see of the signal, with its arguments.
+    pub fn facts<'a>(&'a self, signal: &'a BusSignal, arguments: &'a [Argument<'a>]) -> Facts<'a>
         requires names { AreNamesOf signal.now self.now }
-        requires blank { facts.old ≡ blank_facts }
-        ensures { facts.new ≡ facts_of signal.entry.now }
+        requires arguments { map argument_of arguments.now ≡ (facts_of signal.now).arguments }
+        ensures { result ≡ facts_of signal.now }
     {
-        facts.member = Some(member_of(signal));
-        facts.destination = self.destination(signal);
-        self.push_arguments(signal, &mut facts.arguments);
+        Facts {
+            kind: MessageKind::Signal,
+            auto_start: true,
+            sender: 0,
+            path: Some(bus_path()),
+            interface: Some("org.freedesktop.DBus"),
+            member: Some(member_of(signal)),
+            destination: self.destination(signal),
+            arguments,
+        }
     }
 
     fn destination(&self, signal: &BusSignal) -> Option<&str>
@@ -88,11 +93,12 @@ impl SignalNames {
         }
     }
 
-    fn push_arguments<'a>(&'a self, signal: &'a BusSignal, arguments: &mut Arguments<'a>)
+    /// The arguments of the signal.
+    pub fn arguments<'a>(&'a self, signal: &'a BusSignal) -> SignalArguments<'a>
         requires names { AreNamesOf signal.now self.now }
-        requires empty { arguments.old.items ≡ [] }
-        ensures { map argument_of arguments.new.items ≡ (facts_of signal.entry.now).arguments }
+        ensures { map argument_of result.items ≡ (facts_of signal.now).arguments }
     {
+        let mut arguments = SignalArguments::new();
         match signal {
             BusSignal::NameOwnerChanged { name, .. } => {
                 arguments.push(Argument::String(name.as_str()));
@@ -102,22 +108,7 @@ impl SignalNames {
             BusSignal::NameLost { name, .. } => arguments.push(Argument::String(name.as_str())),
             BusSignal::NameAcquired { name, .. } => arguments.push(Argument::String(name.as_str())),
         }
-    }
-}
-
-/// What all signals of the bus have in common.
-pub fn blank_facts<'a>() -> Facts<'a>
-    ensures { result ≡ blank_facts }
-{
-    Facts {
-        kind: MessageKind::Signal,
-        auto_start: true,
-        sender: 0,
-        path: Some(bus_path()),
-        interface: Some("org.freedesktop.DBus"),
-        member: None,
-        destination: None,
-        arguments: ArrayVec::new(),
+        arguments
     }
 }
 

@@ -7,7 +7,7 @@ ghost use Rattle.seq_bus_core.specs.Steps.{acquired, addressed, facts_of, is_amo
 ghost use Rattle.seq_bus_core.specs.declared.signal.BusSignal.TheVariants.{NameOwnerChanged};
 
 use crate::audience::Audience;
-use crate::facts::{SignalNames, blank_facts};
+use crate::facts::SignalNames;
 use crate::judging::add_conn;
 use match_rules::Facts;
 use names::BusName;
@@ -94,8 +94,8 @@ fn address_all<A: Audience>(
 {
     let mut to = Recipients::new();
     let names = SignalNames::of(signal);
-    let mut facts = blank_facts();
-    names.put_facts(signal, &mut facts);
+    let arguments = names.arguments(signal);
+    let facts = names.facts(signal, arguments.as_slice());
     audience.add_wanting(&facts, &mut to, count);
     AddressedSignal::new(alloc, *signal, to.as_slice(), &[])
 }
@@ -113,8 +113,8 @@ fn address_watched<A: Audience>(
 {
     let mut to = Recipients::new();
     let names = SignalNames::of(signal);
-    let mut facts = blank_facts();
-    names.put_facts(signal, &mut facts);
+    let arguments = names.arguments(signal);
+    let facts = names.facts(signal, arguments.as_slice());
     add_recipients(audience, signal, &facts, &mut to, count);
     let mut shown = Recipients::new();
     audience.add_shown(&facts, &mut shown);

@@ -1,6 +1,5 @@
 //! The registry that is measured: its connections, rules and names, and messages that are routed by it.
 
-use arrayvec::ArrayVec;
 use match_rules::{Argument, Facts, MessageKind, Rule};
 use names::BusName;
 use owner_queues::RequestFlags;
@@ -54,8 +53,6 @@ pub fn release(connection: u64, name: BusName) -> Change {
 }
 
 fn message(kind: MessageKind, destination: Option<&'static str>) -> Facts<'static> {
-    let mut arguments = ArrayVec::new();
-    arguments.push(Argument::String("com.example.N7"));
     Facts {
         kind,
         auto_start: true,
@@ -64,7 +61,7 @@ fn message(kind: MessageKind, destination: Option<&'static str>) -> Facts<'stati
         interface: Some("org.freedesktop.login1.Manager"),
         member: Some("SessionNew"),
         destination,
-        arguments,
+        arguments: &[Argument::String("com.example.N7")],
     }
 }
 

@@ -2,10 +2,11 @@
 
 use crate::samples::{HELLO, arguments, many_bytes, strings};
 use anyhow::Result;
+use arrayvec::ArrayVec;
 use bench_core::{Report, Work};
 use marshal_core::Order;
-use match_rules::{Facts, MessageKind};
-use message::{Framer, Header, Message, facts, with_sender};
+use match_rules::{Argument, MessageKind};
+use message::{Framer, Header, Message, facts, first_arguments, put_arguments, with_sender};
 use names::{BusName, Interface, Member, ObjectPath, UniqueName};
 use std::alloc::Global;
 use std::time::Clock;
@@ -167,13 +168,24 @@ impl Work for Framing<'_> {
     }
 }
 
-/// A number that depends on what was seen of a message.
-fn weight(facts: &Facts<'_>) -> u64 {
+/// A number that depends on what is seen of a message with these arguments.
+fn weight_with(message: &Message, arguments: &[Argument<'_>]) -> u64 {
+    let facts = facts(message, arguments);
     let member = facts.member.map_or(0, |name| name.len() as u64);
     let destination = facts.destination.map_or(0, |name| name.len() as u64);
     member
         .wrapping_add(destination)
         .wrapping_add(facts.arguments.len() as u64)
+}
+
+/// A number that depends on what is seen of a message, whose arguments are found as a router finds them.
+fn weight(message: &Message) -> u64 {
+    let mut few = ArrayVec::<Argument<'_>, 8>::new();
+    put_arguments(message, &mut few);
+    if few.is_full() {
+        return weight_with(message, first_arguments(message).as_slice());
+    }
+    weight_with(message, few.as_slice())
 }
 
 #[derive(Drop)]
@@ -188,7 +200,7 @@ impl Work for Looking<'_> {
     }
 
     fn once(&mut self, _round: u64) -> u64 {
-        weight(&facts(self.message))
+        weight(self.message)
     }
 }
 
@@ -237,7 +249,7 @@ impl Work for Passing<'_> {
         let Ok(Some(message)) = self.framer.next() else {
             return 1;
         };
-        let weight = weight(&facts(&message));
+        let weight = weight(&message);
         match with_sender(&message, &self.sender, &mut self.output) {
             Ok(()) => weight.wrapping_add(self.output.len() as u64),
             Err(_) => 2,

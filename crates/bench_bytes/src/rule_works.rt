@@ -3,7 +3,6 @@
 ghost use Rattle.std.specs.Prelude.{None};
 
 use anyhow::Result;
-use arrayvec::ArrayVec;
 use bench_core::{Report, Work};
 use match_rules::{Argument, Facts, MessageKind, Owners, Rule};
 use std::time::Clock;
@@ -95,10 +94,6 @@ fn rule(text: &str) -> Rule {
 
 /// The signal that a name has another owner.
 fn signal() -> Facts<'static> {
-    let mut arguments = ArrayVec::new();
-    arguments.push(Argument::String("com.example.A"));
-    arguments.push(Argument::String(""));
-    arguments.push(Argument::String(":1.42"));
     Facts {
         kind: MessageKind::Signal,
         auto_start: true,
@@ -107,6 +102,10 @@ fn signal() -> Facts<'static> {
         interface: Some("org.freedesktop.DBus"),
         member: Some("NameOwnerChanged"),
         destination: None,
-        arguments,
+        arguments: &[
+            Argument::String("com.example.A"),
+            Argument::String(""),
+            Argument::String(":1.42"),
+        ],
     }
 }

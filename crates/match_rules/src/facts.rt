@@ -1,7 +1,6 @@
 //! The parts of a message that match rules and the choice of recipients look at.
 
 use crate::MessageKind;
-use arrayvec::ArrayVec;
 use std::marker::Model;
 
 /// An argument of a message, as match rules see it.
@@ -28,7 +27,7 @@ pub struct Facts<'a> {
     pub member: Option<&'a str>,
     pub destination: Option<&'a str>,
     /// The first 64 arguments.
-    pub arguments: ArrayVec<Argument<'a>, 64>,
+    pub arguments: &'a [Argument<'a>],
 }
 
 impl<'a> Model for Facts<'a> {
@@ -46,6 +45,6 @@ impl<'a> Model for Facts<'a> {
       interface = option_map (λ t. t.now) facts.interface;
       member = option_map (λ t. t.now) facts.member;
       destination = option_map (λ t. t.now) facts.destination;
-      arguments = map argument_of facts.arguments.items;
+      arguments = map argument_of facts.arguments.now;
     } };
 }

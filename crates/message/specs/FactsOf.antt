@@ -20,9 +20,12 @@ as_argument (string_argument text) = StringArgument text
 as_argument (path_argument text) = PathArgument text
 as_argument other_argument = OtherArgument
 
--- the first values of the body, those of type s and o as texts
+-- the values of the body, those of type s and o as texts
+abbrev pub all_arguments : Message → List Argument
+all_arguments m = map as_argument (arguments m.body)
+
 abbrev pub first_arguments : Message → List Argument
-first_arguments m = take max_arguments (map as_argument (arguments m.body))
+first_arguments m = take max_arguments (all_arguments m)
 
 -- Who sent it is not told by the message: the sender is that of the bus until the router puts another in its place.
 abbrev pub facts_of : Message → Facts

@@ -34,5 +34,5 @@ pub use message_core::{
     ALLOW_INTERACTIVE_AUTHORIZATION, FaultCode, FrameFault, Header, HeaderField, MAXIMUM_LENGTH,
     Message, NO_AUTO_START, NO_REPLY_EXPECTED,
 };
-pub use message_facts::{facts, put_arguments};
+pub use message_facts::{facts, first_arguments, put_arguments};
 pub use relaying::{relayed_length, with_sender, write};

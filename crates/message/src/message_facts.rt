@@ -1,10 +1,10 @@
 //! What rules and routing look at in a message.
 
-ghost use Rattle.std.specs.Prelude.{◌≡◌, [], map};
+ghost use Rattle.std.specs.Prelude.{◌≡◌, [], map, take};
 ghost use Rattle.marshal_check.specs.ArgumentViews.{seen};
 ghost use Rattle.match_rules.specs.FactsView.{argument_of};
 ghost use Rattle.message_core.specs.Said.{said};
-ghost use Rattle.message.specs.FactsOf.{as_argument, facts_of, first_arguments};
+ghost use Rattle.message.specs.FactsOf.{all_arguments, as_argument, facts_of, first_arguments};
 
 use crate::parts::parts_of;
 use arrayvec::ArrayVec;
@@ -23,11 +23,14 @@ fn as_fact(argument: Read<'_>) -> Argument<'_>
     }
 }
 
-/// Puts the first 64 arguments of a message, as match rules look at them.
+/// Puts the first arguments of a message, as match rules look at them: as many as there is room for.
 #[inline(never)]
-pub fn put_arguments<'a>(message: &'a Message, first: &mut ArrayVec<Argument<'a>, 64>)
+pub fn put_arguments<'a, const N: usize>(
+    message: &'a Message,
+    first: &mut ArrayVec<Argument<'a>, N>,
+)
     requires { first.old.items ≡ [] }
-    ensures { map argument_of first.new.items ≡ first_arguments (said message.now) }
+    ensures { map argument_of first.new.items ≡ take N (all_arguments (said message.now)) }
 {
     let parts = parts_of(message);
     let types = Types {
@@ -41,13 +44,24 @@ pub fn put_arguments<'a>(message: &'a Message, first: &mut ArrayVec<Argument<'a>
     }
 }
 
-/// What match rules and routing look at in a message, lent out of it ("Match Rules" of the D-Bus
-/// Specification). The sender is 0, the bus's number: who sent a message is not told by it. They are 1,700 bytes: who is in a hurry
-/// makes them where they stay, with [`put_arguments`].
-pub fn facts(message: &Message) -> Facts<'_>
-    ensures { result ≡ facts_of (said message.now) }
+/// The first 64 arguments of a message: all that match rules may look at.
+pub fn first_arguments(message: &Message) -> ArrayVec<Argument<'_>, 64>
+    ensures { map argument_of result.items ≡ first_arguments (said message.now) }
 {
-    let mut facts = Facts {
+    let mut first = ArrayVec::new();
+    put_arguments(message, &mut first);
+    first
+}
+
+/// What match rules and routing look at in a message, lent out of it ("Match Rules" of the D-Bus
+/// Specification). The sender is 0, the bus's number: who sent a message is not told by it. Of the arguments
+/// rules see those that are handed in, as [`first_arguments`] gives them.
+pub fn facts<'a>(message: &'a Message, arguments: &'a [Argument<'a>]) -> Facts<'a>
+    ensures { result ≡ record (facts_of (said message.now)) {
+      arguments = map argument_of arguments.now;
+    } }
+{
+    Facts {
         kind: message.kind(),
         auto_start: message.flags() & NO_AUTO_START == 0,
         sender: 0,
@@ -55,8 +69,6 @@ pub fn facts(message: &Message) -> Facts<'_>
         interface: message.interface(),
         member: message.member(),
         destination: message.destination(),
-        arguments: ArrayVec::new(),
-    };
-    put_arguments(message, &mut facts.arguments);
-    facts
+        arguments,
+    }
 }

@@ -34,5 +34,5 @@ pub use call::CallToAnswer;
 pub use content::Content;
 pub use deliveries::Deliveries;
 pub use envelope::Envelope;
-pub use own_facts::OwnNames;
+pub use own_facts::{OwnArguments, OwnNames};
 pub use own_message::{OwnMessage, ReplyContent};

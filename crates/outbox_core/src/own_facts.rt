@@ -23,8 +23,11 @@ use match_rules::{Argument, Facts, MessageKind};
 use names::UniqueName;
 use seq_bus_core::BusSignal;
 
+/// The arguments of a message of the bus, of which there are three at most.
+pub type OwnArguments<'a> = ArrayVec<Argument<'a>, 3>;
+
 /// The unique names in a message of the bus, which has them by the numbers of their connections. Its
-/// [facts](OwnMessage::put_facts) are lent out of both.
+/// [facts](OwnMessage::facts) are lent out of both.
 #[derive(Clone, Copy, Debug)]
 pub struct OwnNames {
     /// The connection that the message is for.
@@ -128,7 +131,7 @@ impl ReplyContent {
 fn put_carried<'a>(
     content: &'a ReplyContent,
     name: &'a Option<UniqueName>,
-    arguments: &mut ArrayVec<Argument<'a>, 64>,
+    arguments: &mut OwnArguments<'a>,
 )
     requires name { name.now ≡ option_map unique_text (number_in (carried_of content.now)) }
     requires none { map argument_of arguments.old.items ≡ [] }
@@ -144,11 +147,7 @@ fn put_carried<'a>(
 }
 
 /// Puts the texts of a signal.
-fn put_texts<'a>(
-    signal: &'a BusSignal,
-    names: &'a OwnNames,
-    arguments: &mut ArrayVec<Argument<'a>, 64>,
-)
+fn put_texts<'a>(signal: &'a BusSignal, names: &'a OwnNames, arguments: &mut OwnArguments<'a>)
     requires names { names.now ≡ names_of (Signals signal.now) }
     requires none { arguments.old.items ≡ [] }
     ensures { map argument_of arguments.new.items ≡ map StringArgument (signal_texts signal.now) }
@@ -234,38 +233,43 @@ impl OwnMessage {
         }
     }
 
-    /// Puts the arguments of the message.
+    /// The arguments of the message, lent out of it and its names.
     #[inline(never)]
-    fn put_arguments<'a>(&'a self, names: &'a OwnNames, arguments: &mut ArrayVec<Argument<'a>, 64>)
-        requires names { names.now ≡ names_of (own_of self.now) }
-        requires none { arguments.old.items ≡ [] }
-        ensures { map argument_of arguments.new.items
+    pub fn arguments<'a>(&'a self, names: &'a OwnNames) -> OwnArguments<'a>
+        requires { names.now ≡ names_of (own_of self.now) }
+        ensures { map argument_of result.items
             ≡ (facts_of (own_message 1 (own_of self.now))).arguments }
     {
+        let mut arguments = OwnArguments::new();
         match self {
-            OwnMessage::Signal(signal) => put_texts(signal.get(), names, arguments),
-            OwnMessage::Reply { to: _, content } => put_carried(content, &names.first, arguments),
-            OwnMessage::Error { to: _, error } => arguments.push(Argument::String(error_text(
-                *error,
-            ))),
+            OwnMessage::Signal(signal) => put_texts(signal.get(), names, &mut arguments),
+            OwnMessage::Reply { to: _, content } => {
+                put_carried(content, &names.first, &mut arguments)
+            }
+            OwnMessage::Error { to: _, error } => {
+                arguments.push(Argument::String(error_text(*error)))
+            }
         }
+        arguments
     }
 
-    /// Puts what match rules and routing look at in the message ("Match Rules" of the D-Bus Specification), lent out of
-    /// it and its names, in the place of what stood there. The message is not written for that. It takes no memory, and
-    /// facts are too large to be handed on.
-    pub fn put_facts<'a>(&'a self, names: &'a OwnNames, facts: &mut Facts<'a>)
+    /// What match rules and routing look at in the message ("Match Rules" of the D-Bus Specification), with these
+    /// arguments of it. The message is not written for that, and it takes no memory.
+    pub fn facts<'a>(&'a self, names: &'a OwnNames, arguments: &'a [Argument<'a>]) -> Facts<'a>
         requires { names.now ≡ names_of (own_of self.now) }
-        ensures { facts.new ≡ facts_of (own_message 1 (own_of self.now)) }
+        ensures { result ≡ record (facts_of (own_message 1 (own_of self.now))) {
+          arguments = map argument_of arguments.now;
+        } }
     {
-        facts.kind = self.kind();
-        facts.auto_start = true;
-        facts.sender = 0;
-        facts.path = self.path();
-        facts.interface = self.interface();
-        facts.member = self.member();
-        facts.destination = lent(&names.destination);
-        facts.arguments.clear();
-        self.put_arguments(names, &mut facts.arguments);
+        Facts {
+            kind: self.kind(),
+            auto_start: true,
+            sender: 0,
+            path: self.path(),
+            interface: self.interface(),
+            member: self.member(),
+            destination: lent(&names.destination),
+            arguments,
+        }
     }
 }

@@ -9,7 +9,6 @@ ghost use Rattle.seq_bus_core.specs.declared.verdict.VerdictKind.TheVariants.{Ab
 
 use crate::current::Current;
 use crate::registry::Registry;
-use arrayvec::ArrayVec;
 use audience::judge;
 use match_index::Steps;
 use match_rules::Facts;
@@ -120,8 +119,6 @@ fn route_with<L: Ledger>(
 fn with_sender<'a>(facts: &Facts<'a>, sender: u64) -> Facts<'a>
     ensures { result ≡ record facts.now { sender = sender } }
 {
-    let mut arguments = ArrayVec::new();
-    let _ = arguments.try_extend_from_slice(facts.arguments.as_slice());
     Facts {
         kind: facts.kind,
         auto_start: facts.auto_start,
@@ -130,6 +127,6 @@ fn with_sender<'a>(facts: &Facts<'a>, sender: u64) -> Facts<'a>
         interface: facts.interface,
         member: facts.member,
         destination: facts.destination,
-        arguments,
+        arguments: facts.arguments,
     }
 }

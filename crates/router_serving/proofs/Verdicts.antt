@@ -1,15 +1,19 @@
 -- Where a message goes is asked first.
-use Rattle.std.proofs.Common.{◌≡◌, ℕ, Bool, false, Option, Some, None, List, option_map, sym, subst, if◌then◌else◌}
+use Rattle.std.proofs.Common.{◌≡◌, ◌<◌, ◌≤◌, ◌==◌, ◌⊎◌, inl, inr, ℕ, Bool, false, Option, Some, None, List, length, map, take, option_map, sym, ap, ◌∙◌, subst, arith, if◌then◌else◌}
+use Rattle.std.proofs.lemmas.Bool.{cases_lt, eqb-false}
+use Rattle.std.proofs.lemmas.List.{length-map, length-take-le, take_all}
 use Rattle.std.specs.Borrow.{Bor}
 use Rattle.names.specs.Texts.{Text}
-use Rattle.match_rules.specs.Facts.{Facts}
+use Rattle.match_rules.specs.Facts.{Argument, Facts}
+use Rattle.match_rules.specs.FactsView.{argument_of}
+use Rattle.match_rules.specs.declared.facts.Argument.{Argument as Lent}
 use Rattle.match_rules.specs.Kinds.{kind_of}
 use Rattle.seq_bus_core.specs.Histories.{History}
 use Rattle.seq_bus_core.specs.declared.connection.Conn.{Conn}
 use Rattle.seq_bus_core.specs.declared.verdict.Verdict.{Verdict}
 use Rattle.message_core.specs.Messages.{Message}
 use Rattle.message_core.specs.Whole.{Lends}
-use Rattle.message.specs.FactsOf.{facts_of}
+use Rattle.message.specs.FactsOf.{facts_of, max_arguments}
 use Rattle.router_core.specs.declared.fate.PeerFate.{PeerFate}
 use Rattle.bus_view.specs.Views.{Knowledge}
 use Rattle.router_core.specs.Answers.{Heard, Says, Refuses, HearsVerdict}
@@ -28,23 +32,19 @@ lent None text is = sym is
 lent (Some x) text is = sym is
 
 module _ {N G : Type 0} (alone : Bool) (m : Message) (sender : Conn) (w r : World N G) (heard : Heard Verdict) where
-  -- what was looked at, field by field
-  pub routes_seen : {seen : Facts} → seen.kind ≡ (facts_of m).kind → seen.auto_start ≡ (facts_of m).auto_start → seen.sender ≡ sender.number → seen.path ≡ (facts_of m).path →
-      seen.interface ≡ (facts_of m).interface → seen.member ≡ (facts_of m).member → seen.destination ≡ (facts_of m).destination → seen.arguments ≡ (facts_of m).arguments →
-      Routes alone sender.number seen w heard r → Routes alone sender.number (facts_of m) w heard r
-  routes_seen {seen} kind auto_start from path interface member destination arguments routes =
-      let are : seen ≡ record (facts_of m) { sender = sender.number } = λ i. record {
-        kind = kind i;
-        auto_start = auto_start i;
-        sender = from i;
-        path = path i;
-        interface = interface i;
-        member = member i;
-        destination = destination i;
-        arguments = arguments i;
-      } in
-      let own : Routes alone sender.number (record (facts_of m) { sender = sender.number }) w heard r = subst (λ (f : Facts). Routes alone sender.number f w heard r) are routes in
+  -- what was looked at: the arguments were put, and the sender
+  pub routes_seen : (seen : List Argument) → seen ≡ (facts_of m).arguments → Routes alone sender.number (record (facts_of m) { sender = sender.number; arguments = seen }) w heard r → Routes alone sender.number (facts_of m) w heard r
+  routes_seen seen are routes =
+      let own : Routes alone sender.number (record (facts_of m) { sender = sender.number }) w heard r = subst (λ (xs : List Argument). Routes alone sender.number (record (facts_of m) { sender = sender.number; arguments = xs }) w heard r) are routes in
       record { hears = hears_own alone sender.number sender.number (facts_of m) w.view r.view heard own.hears; rest = own.rest }
+
+-- a message that has fewer than eight arguments has no others
+few_or_more : (lent : List Lent) (all : List Argument) → map argument_of lent ≡ take 8 all → (length lent == 8) ≡ false → (length all < 8) ⊎ (8 ≤ length all) → map argument_of lent ≡ take max_arguments all
+few_or_more lent all put few (inl within) = put ∙ take_all 8 all (omega (within, arith)) ∙ sym (take_all max_arguments all (omega (within, arith)))
+few_or_more lent all put few (inr beyond) = absurd (eqb-false (length lent) 8 few (sym (length-map lent argument_of) ∙ ap length put ∙ length-take-le 8 all beyond))
+
+pub few_are_first : (lent : List Lent) (all : List Argument) → map argument_of lent ≡ take 8 all → (length lent == 8) ≡ false → map argument_of lent ≡ take max_arguments all
+few_are_first lent all put few = few_or_more lent all put few (cases_lt (length all) 8)
 
 module _ {N G : Type 0} (told : N → History) (registry_of : N → ℕ) (passes : G → GatedCall → G → Type 0) (alone : Bool) (m : Message) (sender : Conn) (fate : PeerFate) (w r v : World N G) where
   pub serves : (heard : Heard Verdict) → is_unknown (kind_of m.kind) ≡ false → Routes alone sender.number (facts_of m) w heard r →

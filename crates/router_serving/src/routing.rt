@@ -1,10 +1,11 @@
 //! Where the messages of a connection go. (D-Bus Specification: "Message Bus Message Routing")
 
-ghost use Rattle.std.specs.Prelude.{◌≡◌, ◌<◌, ◌≤◌, ◌+◌, false};
+ghost use Rattle.std.specs.Prelude.{◌≡◌, ◌<◌, ◌≤◌, ◌+◌, false, map};
+ghost use Rattle.match_rules.specs.FactsView.{argument_of};
 ghost use Rattle.match_rules.specs.Kinds.{kind_of};
 ghost use Rattle.message_core.specs.Said.{said};
 ghost use Rattle.seq_bus_core.specs.declared.limits.TheConstants.{MAX_TICKETS};
-ghost use Rattle.message.specs.FactsOf.{facts_of};
+ghost use Rattle.message.specs.FactsOf.{facts_of, first_arguments};
 ghost use Rattle.router_core.specs.Scripts.{Routes, Comes};
 ghost use Rattle.router_core.specs.Serving.{and_stays, err_if_call, is_unknown, relay as relaying, routed as routing, serve as serving};
 ghost use Rattle.router_steps.specs.Hearing.{heard_verdict};
@@ -14,9 +15,9 @@ use crate::calls::serve_bus;
 use crate::holding::hold;
 use arrayvec::ArrayVec;
 use bus_view::{BusView, Gone};
-use match_rules::{Facts, MessageKind};
-use message::{RelayFault, put_arguments};
-use message_core::{Message, NO_AUTO_START};
+use match_rules::{Argument, MessageKind};
+use message::{RelayFault, facts, first_arguments, put_arguments};
+use message_core::Message;
 use router_core::{CloseCause, Gate, PeerFate};
 use router_steps::Context;
 use seq_bus_core::{Conn, ErrorKind, Verdict, VerdictKind};
@@ -195,6 +196,44 @@ pub(crate) fn routed<V: BusView, G: Gate>(
     }
 }
 
+/// Asks the bus where a message goes that has these first arguments.
+fn ask_with<V: BusView, G: Gate>(
+    context: &mut Context<V, G>,
+    message: &Message,
+    arguments: &[Argument<'_>],
+    sender: Conn,
+    verdict: &mut Verdict,
+) -> Result<(), Gone>
+    requires { map argument_of arguments.now ≡ first_arguments (said message.now) }
+    ensures routes { Routes V.alone sender.number (facts_of (said message.now)) context.old.world
+        (heard_verdict result verdict.new) context.new.world }
+    ensures room { context.new.room ≡ context.old.room }
+    ensures crowds { context.new.crowds ≡ context.old.crowds }
+{
+    // With the sender's number, as the bus takes them.
+    let mut seen = facts(message, arguments);
+    seen.sender = sender.number;
+    context.route(sender.number, &seen, verdict)
+}
+
+/// The same for a message that has more than a few arguments. The room for them is large, and is kept out of the way of
+/// the others.
+#[inline(never)]
+fn ask_with_many<V: BusView, G: Gate>(
+    context: &mut Context<V, G>,
+    message: &Message,
+    sender: Conn,
+    verdict: &mut Verdict,
+) -> Result<(), Gone>
+    ensures routes { Routes V.alone sender.number (facts_of (said message.now)) context.old.world
+        (heard_verdict result verdict.new) context.new.world }
+    ensures room { context.new.room ≡ context.old.room }
+    ensures crowds { context.new.crowds ≡ context.old.crowds }
+{
+    let arguments = first_arguments(message);
+    ask_with(context, message, arguments.as_slice(), sender, verdict)
+}
+
 /// Asks the bus where a message goes.
 pub(crate) fn ask_route<V: BusView, G: Gate>(
     context: &mut Context<V, G>,
@@ -207,19 +246,12 @@ pub(crate) fn ask_route<V: BusView, G: Gate>(
     ensures room { context.new.room ≡ context.old.room }
     ensures crowds { context.new.crowds ≡ context.old.crowds }
 {
-    // Made where they stay, and with the sender's number, as the bus takes them: they are too large to be copied.
-    let mut facts = Facts {
-        kind: message.kind(),
-        auto_start: message.flags() & NO_AUTO_START == 0,
-        sender: sender.number,
-        path: message.path(),
-        interface: message.interface(),
-        member: message.member(),
-        destination: message.destination(),
-        arguments: ArrayVec::new(),
-    };
-    put_arguments(message, &mut facts.arguments);
-    context.route(sender.number, &facts, verdict)
+    let mut few = ArrayVec::<Argument<'_>, 8>::new();
+    put_arguments(message, &mut few);
+    if few.is_full() {
+        return ask_with_many(context, message, sender, verdict);
+    }
+    ask_with(context, message, few.as_slice(), sender, verdict)
 }
 
 /// Asks the bus where a message goes, and relays it.

@@ -12,10 +12,9 @@ ghost use Rattle.router_steps.specs.Carrying.{answer_of};
 
 use crate::context::Context;
 use crate::verdicts::{tell_no_monitors, tell_one};
-use arrayvec::ArrayVec;
 use bus_view::BusView;
 use driver::{ReplyTo, expects_reply};
-use match_rules::{Facts, MessageKind};
+use match_rules::MessageKind;
 use message_core::Message;
 use outbox_core::{CallToAnswer, Content, OwnMessage, ReplyContent};
 use router_core::Gate;
@@ -56,18 +55,8 @@ impl<V: BusView, G: Gate> Context<V, G> {
             return verdict;
         }
         let names = own.names();
-        // Made where they stay: they are too large to be copied.
-        let mut facts = Facts {
-            kind: MessageKind::Signal,
-            auto_start: true,
-            sender: 0,
-            path: None,
-            interface: None,
-            member: None,
-            destination: None,
-            arguments: ArrayVec::new(),
-        };
-        own.put_facts(&names, &mut facts);
+        let arguments = own.arguments(&names);
+        let facts = own.facts(&names, arguments.as_slice());
         match self.route(0, &facts, &mut verdict) {
             Ok(()) => {}
             Err(_) => tell_no_monitors(&mut verdict),

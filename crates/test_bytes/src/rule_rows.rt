@@ -6,7 +6,7 @@ ghost use Rattle.std.specs.Prelude.{◌≡◌, ℕ, Some, None, if◌then◌else
 use arrayvec::ArrayVec;
 use match_rules::{Argument, Facts, MessageKind, Owners, Rule};
 use std::alloc::{AllocError, Global};
-use test_support::{Row, signal};
+use test_support::Row;
 
 /// Holds `com.example.A` by one connection, and the unique names of connections 1 and 2.
 #[derive(Clone, Copy)]
@@ -70,15 +70,17 @@ fn shown(alloc: Global, rule: &Rule) -> Result<String, AllocError> {
 /// Behind the rule's text the row has the owner of `com.example.A`, and the message's type, sender, path and destination, and its
 /// arguments: `s` and a string, `o` and an object path, or another.
 fn fits(alloc: Global, rule: &Rule, row: &Row<'_>) -> Result<String, AllocError> {
-    let mut facts = signal(row.text(5), "com.example.Backend", "Changed");
-    facts.kind = MessageKind::from(u8::try_from(row.number(3)).unwrap_or(0));
-    facts.sender = row.number(4);
-    facts.destination = if row.text(6).is_empty() {
-        None
-    } else {
-        Some(row.text(6))
+    let arguments = arguments(row);
+    let facts = Facts {
+        kind: MessageKind::from(u8::try_from(row.number(3)).unwrap_or(0)),
+        auto_start: true,
+        sender: row.number(4),
+        path: Some(row.text(5)),
+        interface: Some("com.example.Backend"),
+        member: Some("Changed"),
+        destination: Some(row.text(6)).filter(|name| !name.is_empty()),
+        arguments: arguments.as_slice(),
     };
-    facts.arguments = arguments(row);
     format!(in alloc; "{}", rule.fits(&facts, &OwnedBy(row.number(2))))
 }
 

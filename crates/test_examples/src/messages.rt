@@ -4,7 +4,7 @@ ghost use Rattle.std.specs.Prelude.{None};
 
 use marshal_core::Order;
 use match_rules::{MessageKind, Owners, Rule};
-use message::{Framer, Header, Message, facts};
+use message::{Framer, Header, Message, facts, first_arguments};
 use names::{Interface, Member, ObjectPath};
 use std::alloc::Global;
 use std::test::Fail;
@@ -54,6 +54,7 @@ impl Owners for Nobody {
 fn a_rule_fits_a_message(rt: HostRuntime) -> Result<(), Fail> {
     let rule = Rule::parse("type='signal',path_namespace='/com/example'")?;
     let message = ticked(rt.alloc())?;
-    assert!(rt; rule.fits(&facts(&message), &Nobody));
+    let arguments = first_arguments(&message);
+    assert!(rt; rule.fits(&facts(&message, arguments.as_slice()), &Nobody));
     Ok(())
 }

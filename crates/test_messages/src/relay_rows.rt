@@ -1,7 +1,10 @@
 //! Rows of messages that are written again.
 
 use crate::message_rows::only;
-use message::{FrameFault, Message, RelayFault, facts, relayed_length, with_sender, write};
+use match_rules::Facts;
+use message::{
+    FrameFault, Message, RelayFault, facts, first_arguments, relayed_length, with_sender, write,
+};
 use names::UniqueName;
 use std::alloc::Global;
 use test_support::{Escaped, Row};
@@ -35,14 +38,18 @@ fn told(
     Ok(format!(in alloc; "{} {length:?}", Escaped(output))?)
 }
 
-fn seen(alloc: Global, message: &Message) -> Result<String, FrameFault> {
-    let facts = facts(message);
+fn text_of(alloc: Global, facts: &Facts<'_>) -> Result<String, FrameFault> {
     let mut text = format!(in alloc; "{} {} {}", facts.kind, facts.auto_start, facts.sender)?;
     for part in [facts.path, facts.interface, facts.member, facts.destination] {
         write!(text, " {}", part.unwrap_or("-"))?;
     }
-    for argument in facts.arguments.as_slice() {
+    for argument in facts.arguments {
         write!(text, " {argument:?}")?;
     }
     Ok(text)
+}
+
+fn seen(alloc: Global, message: &Message) -> Result<String, FrameFault> {
+    let arguments = first_arguments(message);
+    text_of(alloc, &facts(message, arguments.as_slice()))
 }

@@ -6,7 +6,7 @@ use match_rules::{Argument, MessageKind};
 use message::{Framer, Message};
 use outbox_core::OwnMessage;
 use std::alloc::Global;
-use test_support::{Escaped, signal};
+use test_support::Escaped;
 
 const BUS: &str = "org.freedesktop.DBus";
 
@@ -103,8 +103,8 @@ pub fn put_bytes(alloc: Global, bytes: &[u8], text: &mut String) -> Result<()> {
 /// What rules see of a message of the bus itself that has no serial yet: its type, whom it is for, and its arguments.
 pub fn put_own(message: &OwnMessage, text: &mut String) -> Result<()> {
     let names = message.names();
-    let mut facts = signal("", "", "");
-    message.put_facts(&names, &mut facts);
+    let arguments = message.arguments(&names);
+    let facts = message.facts(&names, arguments.as_slice());
     let kind = match facts.kind {
         MessageKind::MethodReturn => "reply",
         MessageKind::Error => "error",
@@ -114,7 +114,7 @@ pub fn put_own(message: &OwnMessage, text: &mut String) -> Result<()> {
     if let Some(destination) = facts.destination {
         write!(text, " for {destination}")?;
     }
-    for argument in facts.arguments.as_slice() {
+    for argument in arguments.as_slice() {
         match *argument {
             Argument::String(argument) => write!(text, " \"{argument}\"")?,
             Argument::ObjectPath(argument) => write!(text, " {argument}")?,

@@ -4,7 +4,7 @@ ghost use Rattle.std.specs.Prelude.{◌≡◌, ◌≤◌, length, IfOk};
 
 use crate::scenario::ClientMessage;
 use match_rules::{Argument, MessageKind};
-use message::{Framer, Message, facts};
+use message::{Framer, Message, first_arguments};
 use router_host::Socket;
 use std::alloc::{AllocError, Global};
 use std::fmt::Write as _;
@@ -49,7 +49,8 @@ fn write_line(line: &mut String, message: &Message) -> Result<(), AllocError> {
             write!(line, "{sender} {member}")?;
         }
     }
-    for argument in facts(message).arguments.as_slice() {
+    let arguments = first_arguments(message);
+    for argument in arguments.as_slice() {
         if let Argument::String(text) = *argument {
             write!(line, " {text}")?;
         }

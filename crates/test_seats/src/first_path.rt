@@ -8,7 +8,7 @@ ghost use Rattle.seq_bus_core.specs.Tickets.{opening_bus};
 use crate::publishing::publish_to;
 use bus_view::Refused;
 use driver::{Call, ReplyBody, ReplyTo, read_call, write_reply, write_signal};
-use message::{Framer, Message, facts, with_sender};
+use message::{Framer, Message, facts, first_arguments, with_sender};
 use names::{BusName, UniqueName};
 use registry_snapshots::{Naming, Opened, Seat, Shared};
 use seq_bus_core::{BusSignal, Change, Conn, Outcome, Reply};
@@ -138,7 +138,8 @@ fn relay<J: Naming>(
     conn: Conn,
     out: &mut Vec<u8>,
 ) -> Result<(), Fail> {
-    match reader.route(conn.number, &facts(signal)) {
+    let arguments = first_arguments(signal);
+    match reader.route(conn.number, &facts(signal, arguments.as_slice())) {
         Ok(verdict) if verdict.to.as_slice() == [conn].as_slice() => {
             Ok(with_sender(signal, &UniqueName::of(conn.number), out)?)
         }

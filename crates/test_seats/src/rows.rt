@@ -1,6 +1,5 @@
 //! Runs over the seats of two routers, row by row. Each seat is told what the other has made.
 
-use arrayvec::ArrayVec;
 use match_rules::{Facts, MessageKind, Rule};
 use names::BusName;
 use owner_queues::{QueuedOwner, Reply as QueueReply, RequestFlags};
@@ -422,7 +421,7 @@ fn goes<J: Naming>(
         interface: Some("com.example"),
         member: Some("Tick"),
         destination,
-        arguments: ArrayVec::new(),
+        arguments: &[],
     };
     match seat.route(from, &facts) {
         Ok(verdict) => {

@@ -4,7 +4,6 @@ ghost use Rattle.std.specs.Prelude.{◌≡◌, []};
 ghost use Rattle.owner_queues.specs.declared.request.Profile.TheVariants.{Two};
 ghost use Rattle.seq_bus_core.specs.Tickets.{opening_bus};
 
-use arrayvec::ArrayVec;
 use match_rules::{Facts, MessageKind};
 use names::UniqueName;
 use registry_snapshots::{Naming, Opened, Seat, Shared};
@@ -45,7 +44,7 @@ fn call_to(name: &UniqueName) -> Facts<'_> {
         interface: None,
         member: None,
         destination: Some(name.as_str()),
-        arguments: ArrayVec::new(),
+        arguments: &[],
     }
 }
 

@@ -1,6 +1,5 @@
 //! What rules and routing see of messages.
 
-use arrayvec::ArrayVec;
 use match_rules::{Facts, MessageKind};
 
 /// A signal without arguments, of no connection yet.
@@ -13,7 +12,7 @@ pub fn signal<'a>(path: &'a str, interface: &'a str, member: &'a str) -> Facts<'
         interface: Some(interface),
         member: Some(member),
         destination: None,
-        arguments: ArrayVec::new(),
+        arguments: &[],
     }
 }
 

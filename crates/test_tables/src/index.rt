@@ -4,8 +4,7 @@ ghost use Rattle.std.specs.Prelude.{Some, None, codes, if◌then◌else◌};
 ghost use Rattle.names.specs.Texts.{text_eq};
 
 use crate::listeners::Listeners;
-use arrayvec::ArrayVec;
-use match_rules::{Argument, Facts, Owners};
+use match_rules::{Argument, Facts, MessageKind, Owners};
 use std::alloc::Global;
 use std::process::Abort;
 use test_support::{once_more, signal, ticked};
@@ -94,13 +93,18 @@ fn buckets(rt: HostRuntime) {
     assert!(rt; listeners.hear(&facts, &OwnedBy(8), &[1, 2, 6, 7]));
 }
 
-/// A signal with one argument.
-fn about<'a>(argument: Argument<'a>) -> Facts<'a> {
-    let mut arguments = ArrayVec::new();
-    arguments.push(argument);
-    let mut facts = signal("/", "a.b", "M");
-    facts.arguments = arguments;
-    facts
+/// A signal with these arguments.
+fn about<'a>(arguments: &'a [Argument<'a>]) -> Facts<'a> {
+    Facts {
+        kind: MessageKind::Signal,
+        auto_start: true,
+        sender: 0,
+        path: Some("/"),
+        interface: Some("a.b"),
+        member: Some("M"),
+        destination: None,
+        arguments,
+    }
 }
 
 /// 250 rules each of the connections 1 to 16. All want one member, and each wants a first argument of its own.
@@ -113,17 +117,17 @@ fn first_arguments(rt: HostRuntime) {
         assert!(rt; listeners.add(1 + number / 250, &text));
     }
     let owners = OwnedBy(1);
-    assert!(rt; listeners.hear(&about(Argument::String("0")), &owners, &[1]));
-    assert!(rt; listeners.hear(&about(Argument::String("2749")), &owners, &[11]));
-    assert!(rt; listeners.hear(&about(Argument::String("2750")), &owners, &[12]));
-    assert!(rt; listeners.hear(&about(Argument::String("4000")), &owners, &[]));
-    assert!(rt; listeners.hear(&about(Argument::String("")), &owners, &[]));
-    assert!(rt; listeners.hear(&about(Argument::ObjectPath("0")), &owners, &[]));
-    assert!(rt; listeners.hear(&about(Argument::Other), &owners, &[]));
+    assert!(rt; listeners.hear(&about(&[Argument::String("0")]), &owners, &[1]));
+    assert!(rt; listeners.hear(&about(&[Argument::String("2749")]), &owners, &[11]));
+    assert!(rt; listeners.hear(&about(&[Argument::String("2750")]), &owners, &[12]));
+    assert!(rt; listeners.hear(&about(&[Argument::String("4000")]), &owners, &[]));
+    assert!(rt; listeners.hear(&about(&[Argument::String("")]), &owners, &[]));
+    assert!(rt; listeners.hear(&about(&[Argument::ObjectPath("0")]), &owners, &[]));
+    assert!(rt; listeners.hear(&about(&[Argument::Other]), &owners, &[]));
     assert!(rt; listeners.hear(&signal("/", "a.b", "M"), &owners, &[]));
     assert!(rt; listeners.add(17, "member='M'"));
-    assert!(rt; listeners.hear(&about(Argument::String("0")), &owners, &[1, 17]));
-    assert!(rt; listeners.hear(&about(Argument::Other), &owners, &[17]));
+    assert!(rt; listeners.hear(&about(&[Argument::String("0")]), &owners, &[1, 17]));
+    assert!(rt; listeners.hear(&about(&[Argument::Other]), &owners, &[17]));
 }
 
 /// Three texts that differ only behind the 64th byte.
@@ -142,10 +146,16 @@ fn long_first_arguments(rt: HostRuntime) {
         assert!(rt; listeners.add(connection, &text));
     }
     let owners = OwnedBy(1);
-    assert!(rt; listeners.hear(&about(Argument::String(LONG[0])), &owners, &[1]));
-    assert!(rt; listeners.hear(&about(Argument::String(LONG[1])), &owners, &[2]));
-    assert!(rt; listeners.hear(&about(Argument::String(LONG[2])), &owners, &[3]));
-    assert!(rt; listeners.hear(&about(Argument::String("0123456789abcdef")), &owners, &[]));
+    assert!(rt; listeners.hear(&about(&[Argument::String(LONG[0])]), &owners, &[1]));
+    assert!(rt; listeners.hear(&about(&[Argument::String(LONG[1])]), &owners, &[2]));
+    assert!(rt; listeners.hear(&about(&[Argument::String(LONG[2])]), &owners, &[3]));
+    assert!(rt;
+        listeners.hear(
+            &about(&[Argument::String("0123456789abcdef")]),
+            &owners,
+            &[]
+        )
+    );
 }
 
 /// Once a connection is found, its other rules change nothing, and those of others are still looked at.
@@ -158,8 +168,8 @@ fn many_of_one(rt: HostRuntime) {
     }
     assert!(rt; listeners.add(2, "member='M'"));
     let owners = OwnedBy(1);
-    assert!(rt; listeners.hear(&about(Argument::String("a")), &owners, &[1, 2, 3]));
-    assert!(rt; listeners.hear(&about(Argument::String("b")), &owners, &[1, 2]));
+    assert!(rt; listeners.hear(&about(&[Argument::String("a")]), &owners, &[1, 2, 3]));
+    assert!(rt; listeners.hear(&about(&[Argument::String("b")]), &owners, &[1, 2]));
 }
 
 const A: &str = "member='A'";

@@ -1,6 +1,5 @@
 //! Steps, and what is found in their log.
 
-use arrayvec::ArrayVec;
 use bus_view::can_open;
 use interleave::{Answer, LogLine, Question, Step, World};
 use match_rules::{Facts, MessageKind, Rule};
@@ -147,7 +146,7 @@ pub(crate) fn call_to(name: &str) -> Facts<'_> {
         interface: None,
         member: Some("Ping"),
         destination: Some(name),
-        arguments: ArrayVec::new(),
+        arguments: &[],
     }
 }
 

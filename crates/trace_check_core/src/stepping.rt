@@ -73,6 +73,7 @@ fn route_text(alloc: Global, registry: &Registry, route: &Route<'_>) -> Result<S
     ensures { IfOk result (λ text. string_bytes text ≡ verdict_text
         (recipients registry.now (route_facts route.now).sender (route_facts route.now))) }
 {
-    let verdict = registry.route(route.sender, &route.facts());
+    let arguments = route.arguments();
+    let verdict = registry.route(route.sender, &route.facts(arguments.as_slice()));
     verdict_text(alloc, &verdict)
 }

@@ -201,5 +201,5 @@ pub(crate) fn write_facts(draft: &mut Draft, from: u64, facts: &Facts<'_>) -> Re
     draft.push(" ")?;
     write_text(draft, facts.destination)?;
     draft.push(" ")?;
-    write_arguments(draft, facts.arguments.as_slice())
+    write_arguments(draft, facts.arguments)
 }

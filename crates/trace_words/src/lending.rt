@@ -35,9 +35,18 @@ fn lent_arguments(arguments: &[KeptArgument]) -> ArrayVec<Argument<'_>, 64>
 }
 
 impl Route<'_> {
-    /// What match rules and the choice of recipients look at.
-    pub fn facts(&self) -> Facts<'_>
-        ensures { result ≡ route_facts self.now }
+    /// The arguments that match rules look at.
+    pub fn arguments(&self) -> ArrayVec<Argument<'_>, 64>
+        ensures { map argument_of result.items ≡ (route_facts self.now).arguments }
+    {
+        lent_arguments(self.arguments.as_slice())
+    }
+
+    /// What match rules and the choice of recipients look at, with these arguments.
+    pub fn facts<'a>(&'a self, arguments: &'a [Argument<'a>]) -> Facts<'a>
+        ensures { result ≡ record (route_facts self.now) {
+          arguments = map argument_of arguments.now;
+        } }
     {
         Facts {
             kind: self.kind,
@@ -47,7 +56,7 @@ impl Route<'_> {
             interface: self.interface,
             member: self.member,
             destination: self.destination,
-            arguments: lent_arguments(self.arguments.as_slice()),
+            arguments,
         }
     }
 }

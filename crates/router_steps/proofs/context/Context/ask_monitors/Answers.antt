@@ -1,5 +1,6 @@
-use Rattle.std.proofs.Common.{refl, sym, ap, subst, ◌∙◌}
-use Rattle.match_rules.specs.Facts.{Facts}
+use Rattle.std.proofs.Common.{◌≡◌, List, map, refl, sym, ap, subst, ◌∙◌}
+use Rattle.match_rules.specs.Facts.{Argument, Facts}
+use Rattle.match_rules.specs.FactsView.{argument_of}
 use Rattle.message.specs.FactsOf.{facts_of}
 use Rattle.outbox_core.specs.Contents.{own_of, own_message}
 use Rattle.router_core.specs.Answers.{Says, Refuses, Lost}
@@ -10,19 +11,25 @@ use Rattle.bus_view.specs.Views.{bus_seen}
 use Rattle.router_steps.proofs.Unwatched.{unwatched}
 use Rattle.router_steps.proofs.context.Context.ask_monitors.Goals as goal
 
+-- what was looked at, with its own arguments
+seen_as : (own : Facts) (seen : List Argument) → seen ≡ own.arguments → record own { arguments = seen } ≡ own
+seen_as own seen are = ap (λ (xs : List Argument). record own { arguments = xs }) are
+
 pub returns-in-Ok-clause-routes : goal.returns-in-Ok-clause-routes
 returns-in-Ok-clause-routes g c =
     let facts = facts_of (own_message 1 (own_of c.args.own.now)) in
+    let lent = c.facts-facts.ensures ∙ seen_as facts (map argument_of c.as_slice.result.now) (ap (map argument_of) c.as_slice.ensures.value ∙ c.arguments-arguments.ensures) in
     let told = c.route.new.verdict in
     let n = c.route.new.self.world in
-    let asked = subst (λ (f : Facts). Routes g.V.BusView.alone 0 f c.take_verdict-verdict.new.self.world (Says told) n) c.put_facts.ensures c.in-Ok.ensures.routes in
+    let asked = subst (λ (f : Facts). Routes g.V.BusView.alone 0 f c.take_verdict-verdict.new.self.world (Says told) n) lent c.in-Ok.ensures.routes in
     (Says told, subst (λ (w : World g.row.V-Note.Denot g.row.G.Denot). Routes g.V.BusView.alone 0 facts w (Says told) n) c.take_verdict-verdict.ensures.world asked, refl)
 
 pub returns-in-Err-clause-routes : goal.returns-in-Err-clause-routes
 returns-in-Err-clause-routes g c =
     let facts = facts_of (own_message 1 (own_of c.args.own.now)) in
+    let lent = c.facts-facts.ensures ∙ seen_as facts (map argument_of c.as_slice.result.now) (ap (map argument_of) c.as_slice.ensures.value ∙ c.arguments-arguments.ensures) in
     let n = c.route.new.self.world in
-    let asked = subst (λ (f : Facts). Routes g.V.BusView.alone 0 f c.take_verdict-verdict.new.self.world (Refuses Lost) n) c.put_facts.ensures c.in-Err.ensures.routes in
+    let asked = subst (λ (f : Facts). Routes g.V.BusView.alone 0 f c.take_verdict-verdict.new.self.world (Refuses Lost) n) lent c.in-Err.ensures.routes in
     (Refuses Lost, subst (λ (w : World g.row.V-Note.Denot g.row.G.Denot). Routes g.V.BusView.alone 0 facts w (Refuses Lost) n) c.take_verdict-verdict.ensures.world asked, ap (λ (v : Verdict). v.monitors) c.tell_no_monitors-in-Err.ensures)
 
 pub returns-then-not-is_watched-clause-routes : goal.returns-then-not-is_watched-clause-routes
