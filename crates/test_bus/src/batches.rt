@@ -119,6 +119,7 @@ fn batches_stand_together_in_the_history(rt: HostRuntime) {
         let is_right = has_replies(&outcomes, replies) && stand(added, before as u64 + 1, left);
         assert!(rt; is_right, "from {before} on");
     }
+    drop(bus);
 }
 
 fn hellos(alloc: Global, count: usize) -> Result<Vec<Change>, AllocError> {
@@ -143,6 +144,7 @@ fn batches_have_1_to_64_changes(rt: HostRuntime) {
         let is_refused = refused.cause.code() == 67 && is_whole && bus.history().is_empty();
         assert!(rt; is_refused, "{count} changes");
     }
+    drop(bus);
 }
 
 /// A router of eight has 32 slots, so of 63 that say Hello 32 come. The others are told of the limit, and then the first adds
@@ -179,6 +181,7 @@ fn batch_of_64_is_made_whole_beyond_a_limit(rt: HostRuntime) {
         .all(|(outcome, place)| is_told_of_limits(place, outcome.reply));
     let are_made = outcomes.len() == 64 && bus.history().len() == 64;
     assert!(rt; are_told && are_made && bus.present(32) && !bus.present(33));
+    drop(bus);
 }
 
 const CLOCK: &str = "com.example.Clock";
@@ -252,6 +255,7 @@ fn calls_wait_and_go_on_within_a_batch(rt: HostRuntime) {
         .zip(LET_GO)
         .all(|(outcome, calls)| lets_go(outcome, calls));
     assert!(rt; outcomes.len() == 5 && are_let_go);
+    drop(bus);
 }
 
 /// How many changes a view saw and made, and where the last of its own stands.
@@ -286,4 +290,5 @@ fn view_counts_its_changes(rt: HostRuntime) {
     let changes = once_more!(&rt; hellos(rt.alloc(), 2));
     let after = counts_after(&mut bus, &(), changes);
     assert!(rt; before == (0, 0, 0) && after == Some((3, 3, 3)));
+    drop(bus);
 }

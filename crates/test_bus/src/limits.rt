@@ -43,6 +43,8 @@ fn slots_of_a_router(rt: HostRuntime) {
         seated.seat = 0;
         let is_refused = is_told(&mut seated, Deed::Hello, Reply::LimitsExceeded);
         assert!(rt; are_filled && is_refused, "{routers} routers");
+        drop(plain);
+        drop(seated);
     }
 }
 
@@ -74,41 +76,42 @@ fn must_come<B: Bus>(rt: &impl Abort, bus: &mut B, connections: usize) {
     }
 }
 
-fn fill_one<B: Bus>(rt: &impl Abort, bus: &mut B) {
-    must_come(rt, bus, 1);
+fn fill_one<B: Bus + Drop>(rt: &impl Abort, mut bus: B) {
+    must_come(rt, &mut bus, 1);
     for number in 0..64 {
-        must_request(rt, bus, 1, number, OWNED);
+        must_request(rt, &mut bus, 1, number, OWNED);
     }
-    must_request(rt, bus, 1, 64, Reply::LimitsExceeded);
+    must_request(rt, &mut bus, 1, 64, Reply::LimitsExceeded);
     let beyond = BusName::parse(numbered(rt, 64).as_str())
         .ok()
         .expect(rt, "a bus name");
     assert!(rt; bus.has_owner(beyond, None, b""));
     let last = numbered(rt, 63);
     let released = Reply::OfQueue(QueueReply::Released);
-    assert!(rt; is_told(bus, Deed::Release(1, last.as_str()), released));
-    must_request(rt, bus, 1, 64, OWNED);
+    let release = Deed::Release(1, last.as_str());
+    assert!(rt; is_told(&mut bus, release, released));
+    must_request(rt, &mut bus, 1, 64, OWNED);
 }
 
-fn fill_all<B: Bus>(rt: &impl Abort, bus: &mut B) {
-    must_come(rt, bus, 17);
+fn fill_all<B: Bus + Drop>(rt: &impl Abort, mut bus: B) {
+    must_come(rt, &mut bus, 17);
     for number in 0..1024 {
-        must_request(rt, bus, number / 64 + 1, number, OWNED);
+        must_request(rt, &mut bus, number / 64 + 1, number, OWNED);
     }
-    must_request(rt, bus, 17, 1024, Reply::LimitsExceeded);
-    must_request(rt, bus, 17, 0, Reply::OfQueue(QueueReply::InQueue));
+    must_request(rt, &mut bus, 17, 1024, Reply::LimitsExceeded);
+    must_request(rt, &mut bus, 17, 0, Reply::OfQueue(QueueReply::InQueue));
 }
 
 #[test]
 fn names_of_one_connection(rt: HostRuntime) {
-    fill_one(&rt, &mut Plain::new(&rt, rt.alloc(), 1));
-    fill_one(&rt, &mut Seated::new(&rt, rt.alloc(), 1, 1));
+    fill_one(&rt, Plain::new(&rt, rt.alloc(), 1));
+    fill_one(&rt, Seated::new(&rt, rt.alloc(), 1, 1));
 }
 
 #[test]
 fn names_of_all_connections(rt: HostRuntime) {
-    fill_all(&rt, &mut Plain::new(&rt, rt.alloc(), 1));
-    fill_all(&rt, &mut Seated::new(&rt, rt.alloc(), 1, 1));
+    fill_all(&rt, Plain::new(&rt, rt.alloc(), 1));
+    fill_all(&rt, Seated::new(&rt, rt.alloc(), 1, 1));
 }
 
 /// The length of ListNames, and its bus and two connections.
@@ -141,4 +144,5 @@ fn a_hundred_names_in_their_order(rt: HostRuntime) {
     // The last is not padded.
     expected.truncate(2454);
     assert!(rt; plain.answers(&Query::ListNames, expected.as_slice()));
+    drop(plain);
 }

@@ -125,6 +125,7 @@ fn names_and_rules_are_given_up(rt: HostRuntime) {
     let left = make(&mut seated, Deed::Leave(1));
     assert!(rt; left.is_some_and(|(_, signals)| signals.as_slice().is_empty()));
     assert!(rt; !seated.registry.has_monitors());
+    drop(seated);
 }
 
 #[test]
@@ -137,6 +138,7 @@ fn who_may_not_become_a_monitor(rt: HostRuntime) {
     let none = MonitorRules::new(rt.alloc());
     assert!(rt; becomes(&mut seated, 4, none, Reply::Gone, &[]));
     assert!(rt; !seated.registry.has_monitors());
+    drop(seated);
 }
 
 #[test]
@@ -157,4 +159,5 @@ fn rules_of_a_monitor(rt: HostRuntime) {
     assert!(rt; becomes(&mut seated, 3, none, Reply::Gone, &[]));
     assert!(rt; route(&seated, 1, "Ticked").monitors.as_slice() == [THIRD].as_slice());
     assert!(rt; route(&seated, 1, "Struck").monitors.as_slice().is_empty());
+    drop(seated);
 }

@@ -47,6 +47,7 @@ fn what_a_bus_can_be_opened_with(rt: HostRuntime) {
         if can_be {
             let bus = once_more!(&rt; SeqBus::new(rt.alloc(), &services, routers, Profile::One));
             assert!(rt; bus.history().is_empty());
+            drop(bus);
         }
     }
 }
@@ -63,6 +64,7 @@ fn names_of_services(rt: HostRuntime) {
     let expected =
         b"\x2c\0\0\0\x14\0\0\0org.freedesktop.DBus\0\0\0\0\x0b\0\0\0com.example\0".as_slice();
     assert!(rt; plain.answers(&Query::ListActivatableNames, expected));
+    drop(plain);
 }
 
 #[test]
@@ -79,4 +81,5 @@ fn second_of_two_routers(rt: HostRuntime) {
     assert!(rt; registry.routers() == 2 && !registry.has_monitors());
     let name = BusName::from(UniqueName::of(1));
     assert!(rt; registry.owner(&name) == Some(1) && registry.names().is_empty());
+    drop(seated);
 }

@@ -47,6 +47,7 @@ fn rules_of_one_connection(rt: HostRuntime) {
             "{connection}"
         );
     }
+    drop(seated);
 }
 
 /// So many rules are taken out, one by one and with a connection that leaves, that those that are left close ranks; then
@@ -120,4 +121,5 @@ fn rules_that_are_left_of_many(rt: HostRuntime) {
             .route(1, &signal("/", "com.example", member));
         assert!(rt; verdict.to.as_slice() == listeners, "{member}");
     }
+    drop(seated);
 }

@@ -1,7 +1,6 @@
 //! Runs, row by row, over a plain bus, its view and a registry.
 
 use crate::buses::{Bus, Deed, NO_MEMORY, Plain, Seated, Told, Viewed};
-use arrayvec::ArrayVec;
 use bus_view::{Again, BusView};
 use match_rules::{Facts, MessageKind};
 use names::{BusName, UniqueName};
@@ -474,7 +473,7 @@ fn goes<B: Bus>(
         interface: Some("com.example.Clock"),
         member: Some(member),
         destination,
-        arguments: ArrayVec::new(),
+        arguments: &[],
     };
     match bus.goes(from, &facts) {
         Some(verdict) => {
@@ -534,6 +533,7 @@ fn over_a_plain_bus(rt: HostRuntime) {
         let mut plain = Plain::new(&rt, rt.alloc(), 1);
         plays(&rt, &mut plain, run);
         assert!(rt; has_made(&plain.bus, run), "{}", run.name);
+        drop(plain);
     }
 }
 
@@ -550,6 +550,7 @@ fn over_the_view_of_a_plain_bus(rt: HostRuntime) {
         let note = viewed.view.note().expect(&rt, "it made changes");
         viewed.view.take_note(&note.again());
         assert!(rt; viewed.view.seat() == 1, "{}", run.name);
+        drop(viewed);
     }
 }
 
@@ -559,5 +560,6 @@ fn over_a_registry(rt: HostRuntime) {
         let mut seated = Seated::new(&rt, rt.alloc(), 1, 1);
         plays(&rt, &mut seated, run);
         assert!(rt; !seated.registry.has_monitors(), "{}", run.name);
+        drop(seated);
     }
 }

@@ -189,6 +189,7 @@ fn owner_serves_those_that_wait(rt: HostRuntime) {
     // Its start ended.
     let late = ended(clock, 1, Ending::Killed);
     assert!(rt; is_told(&rt, alloc, &mut registry, &late, Reply::Ignored, None, &[]));
+    drop(registry);
 }
 
 #[test]
@@ -241,6 +242,7 @@ fn failed_start_fails_those_that_wait(rt: HostRuntime) {
                 &third
             )
         );
+        drop(registry);
     }
 }
 
@@ -283,6 +285,7 @@ fn ends_that_change_nothing(rt: HostRuntime) {
             &served
         )
     );
+    drop(registry);
 }
 
 #[test]
@@ -307,6 +310,7 @@ fn names_that_are_not_started(rt: HostRuntime) {
         let held = once_more!(&rt; hold(alloc, 2, name));
         assert!(rt; is_told(&rt, alloc, &mut registry, &held, reply, None, &[]));
     }
+    drop(registry);
 }
 
 /// The most services of a bus.
@@ -387,4 +391,5 @@ fn as_many_tickets_as_can_wait(rt: HostRuntime) {
             &[]
         )
     );
+    drop(registry);
 }

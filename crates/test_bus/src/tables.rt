@@ -46,4 +46,5 @@ fn names_rise(rt: HostRuntime) {
     assert!(rt; make(&mut seated, Deed::Leave(2)).is_some());
     let left = [("com.example", 3), ("com.example.b", 1)];
     assert!(rt; are_owned(&seated.registry, &left, "com.example.a"));
+    drop(seated);
 }

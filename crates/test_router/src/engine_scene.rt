@@ -112,11 +112,9 @@ pub fn play(alloc: Global, rows: &[String]) -> Result<String> {
         letters: VecDeque::new(alloc),
         events: Vec::new(alloc),
     };
-    let mut answers = String::new(alloc);
-    for row in rows {
-        scene.answer(row.as_str(), &mut answers)?;
-    }
-    Ok(answers)
+    let answers = scene.answer_all(rows);
+    drop(scene);
+    answers
 }
 
 fn put_numbers(conns: &[Conn], text: &mut String) -> Result<()> {
@@ -183,6 +181,15 @@ fn addressees(alloc: Global, mut words: Words<'_>) -> Result<Addressees, AllocEr
 }
 
 impl EngineScene {
+    /// What the rows bring, a line to each.
+    fn answer_all(&mut self, rows: &[String]) -> Result<String> {
+        let mut answers = String::new(self.alloc);
+        for row in rows {
+            self.answer(row.as_str(), &mut answers)?;
+        }
+        Ok(answers)
+    }
+
     /// Writes what a row brings. Empty ones and headings stand as they are.
     fn answer(&mut self, row: &str, answers: &mut String) -> Result<()> {
         if row.is_empty() || row.starts_with('#') {
@@ -249,8 +256,8 @@ impl EngineScene {
 
     /// What a row says happens, where it can, and is noted.
     fn happen(&mut self, row: &str, journal: &mut Journal) -> Result<()> {
-        let event = event_of(self.alloc, row)?;
         self.events.push(event_of(self.alloc, row)?)?;
+        let event = event_of(self.alloc, row)?;
         self.bring(event, journal)
     }
 
@@ -267,15 +274,26 @@ impl EngineScene {
     /// An event happens, where it can.
     fn bring(&mut self, event: Event<()>, journal: &mut Journal) -> Result<()> {
         let mut event = event;
-        if !can_happen(&self.engine, &event) {
+        let brought = self.serve(&mut event, journal);
+        drop(event);
+        brought
+    }
+
+    fn serve(&mut self, event: &mut Event<()>, journal: &mut Journal) -> Result<()> {
+        if !can_happen(&self.engine, event) {
             journal.begin("can't happen")?;
             return Ok(());
         }
-        let actions = self.engine.event(&(), &mut event)?;
-        for action in &actions {
+        let actions = self.engine.event(&(), event)?;
+        let taken = self.take_all(&actions, journal);
+        self.engine.give_back(actions);
+        taken
+    }
+
+    fn take_all(&mut self, actions: &[Action<()>], journal: &mut Journal) -> Result<()> {
+        for action in actions {
             self.take(action, journal)?;
         }
-        self.engine.give_back(actions);
         Ok(())
     }
 

@@ -71,7 +71,9 @@ pub fn play<V: BusView + Drop, G: Gate + Drop, P: Post<V>>(
         pieces: scenario.pieces,
         shows_bytes: false,
     };
-    scene.answer_all(right, scenario.rows)
+    let answers = scene.answer_all(right, scenario.rows);
+    drop(scene);
+    answers
 }
 
 impl<V: BusView, G: Gate, P: Post<V>> Scene<V, G, P> {

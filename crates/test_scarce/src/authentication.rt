@@ -21,7 +21,31 @@ fn stays_closed(server: &mut Server) -> bool {
     step.sent.is_empty() && step.progress == Progress::Closed(AuthenticationFault::NoMemory)
 }
 
-/// Whether the client is let in, and all that is sent is as it should be; an error where memory was refused, and all calls said so.
+/// Whether the client is let in; an error where memory was refused, and all calls said so. What the server sends is appended.
+fn converse(server: &mut Server, sent: &mut Vec<u8>) -> Result<bool, AllocError> {
+    let mut is_done = false;
+    for piece in PIECES {
+        let step = server.feed(piece);
+        sent.extend_from_slice(&step.sent)?;
+        match step.progress {
+            Progress::Going => {}
+            Progress::Done { identity, rest } => {
+                is_done = identity == Identity::User && rest == b"l".as_slice();
+            }
+            Progress::Closed(AuthenticationFault::NoMemory) => {
+                return if stays_closed(server) {
+                    Err(AllocError)
+                } else {
+                    Ok(false)
+                };
+            }
+            Progress::Closed(_) => return Ok(false),
+        }
+    }
+    Ok(is_done)
+}
+
+/// Whether the client is let in, and all that is sent is as it should be.
 fn let_in(alloc: Global) -> Result<bool, AllocError> {
     let cookie = match read_keyring(alloc, b"4 1 decaf\n5 2 c0ffee\n") {
         Ok(cookie) => cookie,
@@ -33,26 +57,9 @@ fn let_in(alloc: Global) -> Result<bool, AllocError> {
     let user = ArcStr::from_str(alloc, "alice")?;
     let mut server = Server::new(alloc, guid, user, cookie, challenge, true);
     let mut sent = Vec::new(alloc);
-    let mut is_done = false;
-    for piece in PIECES {
-        let step = server.feed(piece);
-        sent.extend_from_slice(&step.sent)?;
-        match step.progress {
-            Progress::Going => {}
-            Progress::Done { identity, rest } => {
-                is_done = identity == Identity::User && rest == b"l".as_slice();
-            }
-            Progress::Closed(AuthenticationFault::NoMemory) => {
-                return if stays_closed(&mut server) {
-                    Err(AllocError)
-                } else {
-                    Ok(false)
-                };
-            }
-            Progress::Closed(_) => return Ok(false),
-        }
-    }
-    Ok(is_done && sent.as_slice() == SENT)
+    let is_done = converse(&mut server, &mut sent);
+    drop(server);
+    Ok(is_done? && sent.as_slice() == SENT)
 }
 
 /// Whether a client is let in, at the second try where memory was refused at the first.

@@ -64,9 +64,10 @@ fn open_host(alloc: Global) -> Result<ScriptedHost, AllocError> {
     if !can_open(&[], 1) {
         return Err(AllocError);
     }
+    let post = LocalPost::new(alloc)?;
     let bus = SeqBus::new(alloc, &[], 1, Profile::Two)?;
     let engine = Engine::new(alloc, bus, OpenGate, None)?;
-    Host::new(alloc, engine, LocalPost::new(alloc)?, 0, 256)
+    Host::new(alloc, engine, post, 0, 256)
 }
 
 /// Opens a connection, once more where there was no memory.
@@ -106,19 +107,26 @@ fn is_served(host: &ScriptedHost, key: usize) -> bool {
 }
 
 /// Serves a client, and then another: whether the first got what it is owed, and the second too.
-fn both_served(alloc: Global) -> Result<(bool, bool), AllocError> {
-    let mut host = open_host(alloc)?;
-    let first = open(&mut host, alloc, &[HELLO, GET_NAME_OWNER])?;
-    serve(&mut host, first);
-    let is_first_served = is_served(&host, first);
-    let second = open(&mut host, alloc, &[HELLO])?;
-    serve(&mut host, second);
+fn serve_both(host: &mut ScriptedHost, alloc: Global) -> Result<(bool, bool), AllocError> {
+    let first = open(host, alloc, &[HELLO, GET_NAME_OWNER])?;
+    serve(host, first);
+    let is_first_served = is_served(host, first);
+    let second = open(host, alloc, &[HELLO])?;
+    serve(host, second);
     let Some(socket) = host.socket(second) else {
         return Ok((is_first_served, false));
     };
     // The reply to Hello, whatever number it tells.
     let is_second_served = socket.taken.starts_with(&WELCOME[..5]);
     Ok((is_first_served, is_second_served))
+}
+
+/// Opens a host that serves both.
+fn both_served(alloc: Global) -> Result<(bool, bool), AllocError> {
+    let mut host = open_host(alloc)?;
+    let served = serve_both(&mut host, alloc);
+    drop(host);
+    served
 }
 
 /// Whether a host serves two clients as it should: where memory is refused while it serves one, that one may be told so, and

@@ -29,8 +29,14 @@ const BEFORE: u8 = 255;
 pub fn is_answered(alloc: Global) -> Option<bool> {
     let clock = clock()?;
     let mut bus = open(alloc)?;
+    let answered = answers(alloc, &mut bus, clock);
+    drop(bus);
+    answered
+}
+
+fn answers(alloc: Global, bus: &mut SeqBus, clock: BusName) -> Option<bool> {
     for place in 0..CHANGES {
-        if made(&mut bus, change(place, clock))? != reply(place, SECOND) {
+        if made(bus, change(place, clock))? != reply(place, SECOND) {
             return Some(false);
         }
     }
@@ -50,14 +56,14 @@ pub fn is_answered(alloc: Global) -> Option<bool> {
             b"\x09\0\0\0\x04\0\0\0:1.1\0".as_slice(),
         ),
     ] {
-        if !is_asked(alloc, &mut bus, &query, body)? {
+        if !is_asked(alloc, bus, &query, body)? {
             return Some(false);
         }
     }
     if bus.history().len() != usize::from(CHANGES) {
         return Some(false);
     }
-    Some(are_made(alloc, &mut bus, clock)? && bus.history().len() == usize::from(CHANGES) + 3)
+    Some(are_made(alloc, bus, clock)? && bus.history().len() == usize::from(CHANGES) + 3)
 }
 
 fn open(alloc: Global) -> Option<SeqBus> {

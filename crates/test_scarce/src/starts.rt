@@ -24,17 +24,23 @@ const CALLER: Conn = Conn {
 pub fn are_made(alloc: Global) -> Option<bool> {
     let name = clock()?;
     let mut registry = open(alloc)?;
+    let made = are_made_in(alloc, &mut registry, name);
+    drop(registry);
+    made
+}
+
+fn are_made_in(alloc: Global, registry: &mut Registry, name: BusName) -> Option<bool> {
     let hello = Change::Hello { privileged: false };
     let held = hold(alloc, name)?;
     let timed_out = Change::StartTimedOut { name, start: 1 };
     let owned = Reply::OfQueue(QueueReply::PrimaryOwner);
     Some(
-        is_made(alloc, &mut registry, &hello, Reply::Welcome(CALLER), &[])?
-            && is_made(alloc, &mut registry, &start(name), Reply::Held(1), &[])?
-            && is_made(alloc, &mut registry, &held, Reply::Held(2), &[])?
-            && is_made(alloc, &mut registry, &timed_out, Reply::Done, &[1, 2])?
-            && is_made(alloc, &mut registry, &start(name), Reply::Held(3), &[])?
-            && is_made(alloc, &mut registry, &request(name), owned, &[3])?,
+        is_made(alloc, registry, &hello, Reply::Welcome(CALLER), &[])?
+            && is_made(alloc, registry, &start(name), Reply::Held(1), &[])?
+            && is_made(alloc, registry, &held, Reply::Held(2), &[])?
+            && is_made(alloc, registry, &timed_out, Reply::Done, &[1, 2])?
+            && is_made(alloc, registry, &start(name), Reply::Held(3), &[])?
+            && is_made(alloc, registry, &request(name), owned, &[3])?,
     )
 }
 

@@ -1,5 +1,7 @@
 //! An engine, and calls that wait for a service.
 
+ghost use Rattle.router_core.specs.Events.{CanHappen};
+
 use crate::changes::clock;
 use bus_view::can_open;
 use names::WellKnown;
@@ -29,30 +31,33 @@ enum Told {
 /// Whether a call waits whose service is run, is answered why it did not come, and may then wait once more. A call that there is no memory
 /// for is answered so, and sent again.
 pub fn are_answered(alloc: Global) -> Option<bool> {
-    let engine = open(alloc);
-    let mut engine = if engine.is_none() {
-        open(alloc)?
-    } else {
-        engine?
+    let mut engine = match open(alloc) {
+        Some(engine) => engine,
+        None => open(alloc)?,
     };
+    let answered = answers(&mut engine, alloc);
+    drop(engine);
+    answered
+}
+
+/// Whether the calls of a client of this engine are answered so.
+fn answers(engine: &mut Plain, alloc: Global) -> Option<bool> {
     if !engine.is_free(0) {
         return None;
     }
-    let mut comes = Event::Opened {
+    let opened = Event::Opened {
         key: 0,
         challenge: None,
     };
-    if engine.event(&(), &mut comes).is_err() {
-        engine.event(&(), &mut comes).ok()?;
-    }
-    send(&mut engine, alloc, HELLO)?;
+    brought(engine, opened)?;
+    send(engine, alloc, HELLO)?;
     if engine.number_of(0).is_none() {
-        send(&mut engine, alloc, HELLO)?;
+        send(engine, alloc, HELLO)?;
     }
     Some(
-        waits(&mut engine, alloc)? == Told::Runs(1)
-            && ends(&mut engine, alloc)? == Told::Fails(ErrorKind::ChildExited)
-            && waits(&mut engine, alloc)? == Told::Runs(2),
+        waits(engine, alloc)? == Told::Runs(1)
+            && ends(engine, alloc)? == Told::Fails(ErrorKind::ChildExited)
+            && waits(engine, alloc)? == Told::Runs(2),
     )
 }
 
@@ -66,20 +71,26 @@ fn open(alloc: Global) -> Option<Plain> {
     Engine::new(alloc, bus, OpenGate, None).ok()
 }
 
-/// What is done for a message, which comes and is served once more where there is no memory for it.
+/// What an event brings, which comes once more where there is no memory for it.
+fn brought(engine: &mut Plain, mut event: Event<()>) -> Option<Vec<Action<()>>>
+    requires { CanHappen (λ _. 0) engine.old.view.registry engine.old.standing event }
+{
+    let actions = match engine.event(&(), &mut event) {
+        Ok(actions) => Some(actions),
+        Err(_) => engine.event(&(), &mut event).ok(),
+    };
+    drop(event);
+    actions
+}
+
+/// What is done for a message, which comes and is served.
 fn send(engine: &mut Plain, alloc: Global, sent: &[u8]) -> Option<Vec<Action<()>>> {
     let piece = match Vec::from_slice(alloc, sent) {
         Ok(piece) => piece,
         Err(_) => Vec::from_slice(alloc, sent).ok()?,
     };
-    let mut comes = Event::Bytes { key: 0, piece };
-    if engine.event(&(), &mut comes).is_err() {
-        engine.event(&(), &mut comes).ok()?;
-    }
-    match engine.event(&(), &mut Event::Next { key: 0 }) {
-        Ok(actions) => Some(actions),
-        Err(_) => engine.event(&(), &mut Event::Next { key: 0 }).ok(),
-    }
+    brought(engine, Event::Bytes { key: 0, piece })?;
+    brought(engine, Event::Next { key: 0 })
 }
 
 /// What is done for the call, which is sent once more where it is answered that there is no memory.
@@ -101,11 +112,7 @@ fn ends(engine: &mut Plain, alloc: Global) -> Option<Told> {
         Ok(boxed) => boxed,
         Err(_) => Box::new(alloc, end).ok()?,
     };
-    let mut comes = Event::Child(boxed);
-    match engine.event(&(), &mut comes) {
-        Ok(actions) => Some(told_of(&actions)),
-        Err(_) => Some(told_of(&engine.event(&(), &mut comes).ok()?)),
-    }
+    Some(told_of(&brought(engine, Event::Child(boxed))?))
 }
 
 /// The one action, told shortly.

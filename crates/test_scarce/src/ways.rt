@@ -46,9 +46,12 @@ impl<'a, R: Wait> Serve for Ways<'a, R> {
             Err(AllocError) => Outboxes::new(self.alloc, &shared),
         };
         shared.end(self.rt);
-        let (lanes, taps) = made.ok()?;
+        let (mut lanes, mut taps) = made.ok()?;
         let counts = (seats.len(), lanes.len(), taps.len());
-        Some(counts == (3, 3, 2) && brings(self.rt, self.alloc, lanes, taps)?)
+        let brings = last_brings(self.rt, self.alloc, &mut lanes, &mut taps);
+        drop(lanes);
+        drop(taps);
+        Some(counts == (3, 3, 2) && brings?)
     }
 }
 
@@ -61,15 +64,13 @@ fn letter<J: Naming>(alloc: Global, number: u64) -> Result<Envelope<Note<J>>, Al
     })
 }
 
-/// Whether what the last lane puts for the last place is what its tap takes.
+/// Whether what a lane puts for the last place is what its tap takes.
 fn brings<J: Naming, R: Wait>(
     rt: &R,
     alloc: Global,
-    mut lanes: Vec<Lane<EnvelopeOf<J>>>,
-    mut taps: Vec<Vec<Tap<EnvelopeOf<J>>>>,
+    lane: &mut Lane<EnvelopeOf<J>>,
+    tap: &mut Tap<EnvelopeOf<J>>,
 ) -> Option<bool> {
-    let mut lane = lanes.pop()?;
-    let mut tap = taps.pop()?.pop()?;
     let letter = match letter::<J>(alloc, 7) {
         Ok(letter) => letter,
         Err(AllocError) => letter::<J>(alloc, 7).ok()?,
@@ -79,4 +80,16 @@ fn brings<J: Naming, R: Wait>(
     }
     let first = tap.take(rt)?.number;
     Some(first == 7 && tap.take(rt).is_none())
+}
+
+/// The same of the last lane and its tap.
+fn last_brings<J: Naming, R: Wait>(
+    rt: &R,
+    alloc: Global,
+    lanes: &mut [Lane<EnvelopeOf<J>>],
+    taps: &mut [Vec<Tap<EnvelopeOf<J>>>],
+) -> Option<bool> {
+    let lane = lanes.last_mut()?;
+    let tap = taps.last_mut()?.last_mut()?;
+    brings(rt, alloc, lane, tap)
 }

@@ -8,23 +8,15 @@
 mod answers;
 mod played;
 
-use played::Played;
 use std::io;
 use std::io::{BufRead, BufReader};
 
 fn main(rt: HostRuntime) -> io::Result<()> {
     let alloc = rt.alloc();
-    let mut played = Played::new(alloc);
+    let mut lines = Vec::new(alloc);
     for line in BufReader::new(alloc, rt.reader())?.lines(alloc) {
-        let line = line?;
-        if line.is_empty() || line.as_str().starts_with('#') {
-            println!(rt; "{line}")?;
-            continue;
-        }
-        match played.line(alloc, line.as_str())? {
-            Some(written) => println!(rt; "{written}")?,
-            None => println!(rt; "none")?,
-        }
+        lines.push(line?)?;
     }
-    Ok(())
+    let answers = played::answers(alloc, &lines)?;
+    print!(rt; "{answers}")
 }

@@ -11,9 +11,17 @@ use trace_lines::{
     read_service, routers_line, service_line, write_route_line,
 };
 
+/// What stands in the place of each line: what a bus would have written there.
+pub fn answers(alloc: Global, lines: &[String]) -> Result<String, AllocError> {
+    let mut played = Played::new(alloc);
+    let answers = played.answer_all(alloc, lines);
+    drop(played);
+    answers
+}
+
 /// The head of a trace so far, and the registry that its lines are played on.
 #[derive(Drop)]
-pub struct Played {
+struct Played {
     profile: Profile,
     routers: u8,
     services: Vec<WellKnown>,
@@ -22,7 +30,7 @@ pub struct Played {
 
 impl Played {
     /// A trace without a line.
-    pub fn new(alloc: Global) -> Played {
+    fn new(alloc: Global) -> Played {
         Played {
             profile: Profile::Two,
             routers: 1,
@@ -31,8 +39,35 @@ impl Played {
         }
     }
 
+    fn answer_all(&mut self, alloc: Global, lines: &[String]) -> Result<String, AllocError> {
+        let mut answers = String::new(alloc);
+        for line in lines {
+            self.answer(alloc, line.as_str(), &mut answers)?;
+            answers.push('\n')?;
+        }
+        Ok(answers)
+    }
+
+    /// Appends what stands in the place of a line.
+    fn answer(
+        &mut self,
+        alloc: Global,
+        text: &str,
+        answers: &mut String,
+    ) -> Result<(), AllocError> {
+        if text.is_empty() || text.starts_with('#') {
+            answers.push_str(text)?;
+            return Ok(());
+        }
+        match self.line(alloc, text)? {
+            Some(written) => answers.push_str(written.as_str())?,
+            None => answers.push_str("none")?,
+        }
+        Ok(())
+    }
+
     /// What a bus would have written in the place of a line; none for what is no line of a trace.
-    pub fn line(&mut self, alloc: Global, text: &str) -> Result<Option<String>, AllocError> {
+    fn line(&mut self, alloc: Global, text: &str) -> Result<Option<String>, AllocError> {
         if let Some(profile) = read_profile(text) {
             *self = Played::new(alloc);
             self.profile = profile;
@@ -79,7 +114,8 @@ fn written(alloc: Global, registry: &mut Registry, line: &Line<'_>) -> Result<St
         }
         Deed::Query(query) => answered(alloc, line.place, line.seat, query, registry),
         Deed::Route(route) => {
-            let facts = route.facts();
+            let arguments = route.arguments();
+            let facts = route.facts(arguments.as_slice());
             let verdict = registry.route(route.sender, &facts);
             let from = route.sender;
             let mut written = Draft::new(alloc);
