@@ -6,13 +6,13 @@ cd "$(dirname "$0")/.."
 
 passed=0
 failed=1
-bad=0
+bad=()
 while IFS= read -r line; do
     if [[ $line =~ ^([0-9]+)' passed, '([0-9]+)' failed'$ ]]; then
         passed=${BASH_REMATCH[1]}
         failed=${BASH_REMATCH[2]}
     else
-        [[ $line == *'BAD EDIT'* ]] && bad=$((bad + 1))
+        [[ $line == *'BAD EDIT'* ]] && bad+=("$line")
         printf '%s\n' "$line"
     fi
 done < <(rt ci)
@@ -34,9 +34,10 @@ if [ "$failed" = 0 ]; then
         failed=1
     fi
 fi
-if [ "$bad" != 0 ]; then
-    echo "$bad edits are not well formed: each is to be mended or removed"
-    failed=$((failed + bad))
+if [ "${#bad[@]}" != 0 ]; then
+    echo "${#bad[@]} edits are not well formed: each is to be mended or removed"
+    printf '%s\n' "${bad[@]}"
+    failed=$((failed + ${#bad[@]}))
 fi
 spent=$(mktemp)
 times > "$spent"
