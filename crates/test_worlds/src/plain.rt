@@ -117,30 +117,49 @@ pub(crate) fn is_right(
     steps: &[Step<'_>],
     lines: &[LogLine<'_>],
 ) -> Result<bool, AllocError> {
-    let schedule = Schedule::of(alloc, steps)?;
-    let due = schedule.due.as_slice();
-    if !stand_where_due(lines, due) {
-        return Ok(false);
-    }
     let services = services(alloc)?;
     if !can_open(services.as_slice(), ROUTERS) {
         return Ok(false);
     }
     let mut bus = Registry::new(alloc, services.as_slice(), ROUTERS, Profile::Two)?;
-    if !are_right(alloc, &bus, None, lines, due, 0)? {
+    let right = is_right_on(alloc, &mut bus, steps, lines);
+    drop(bus);
+    right
+}
+
+/// The same, on a bus that was just opened.
+fn is_right_on(
+    alloc: Global,
+    bus: &mut Registry,
+    steps: &[Step<'_>],
+    lines: &[LogLine<'_>],
+) -> Result<bool, AllocError> {
+    let schedule = Schedule::of(alloc, steps)?;
+    let due = schedule.due.as_slice();
+    if !stand_where_due(lines, due) || !are_right(alloc, bus, None, lines, due, 0)? {
         return Ok(false);
     }
     let mut place = 0usize;
     for (seat, change) in schedule.published.as_slice() {
-        let mut prepared = bus.prepare(alloc, *seat, change)?;
-        bus.absorb(&prepared);
+        let told = step(alloc, bus, *seat, change)?;
         place = place.saturating_add(1);
-        let told = prepared.take_outcome(alloc);
-        if !are_right(alloc, &bus, Some(&told), lines, due, place)? {
+        if !are_right(alloc, bus, Some(&told), lines, due, place)? {
             return Ok(false);
         }
     }
     Ok(true)
+}
+
+/// Makes a change of a seat, and tells what it is told.
+fn step(
+    alloc: Global,
+    bus: &mut Registry,
+    seat: u8,
+    change: &Change,
+) -> Result<NumberedOutcome, AllocError> {
+    let mut prepared = bus.prepare(alloc, seat, change)?;
+    bus.absorb(&prepared);
+    Ok(prepared.take_outcome(alloc))
 }
 
 /// Whether these lines have the seats and the places that are due.
