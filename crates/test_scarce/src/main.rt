@@ -2,19 +2,22 @@
 //!
 //! The program reads and writes bodies and messages, lets a client in, opens a plain bus and a registry of two routers with
 //! its outboxes, makes the same changes and a batch on both buses, starts services in a registry, lets calls wait for a
-//! service in an engine, and serves clients as the host of a router. It says of each whether the calls answered as they
-//! should: with what was wanted; or that memory ran out, all as it was before, and with what was wanted once they are made
-//! again. It prints the same whichever one allocation is refused: `make memory` refuses each in turn.
+//! service in an engine, serves messages in one turn of it, and serves clients as the host of a router. It says of each
+//! whether the calls answered as they should: with what was wanted; or that memory ran out, all as it was before, and with
+//! what was wanted once they are made again. It prints the same whichever one allocation is refused: `make memory` refuses
+//! each in turn.
 #![tactic(auto)]
 
 mod authentication;
 mod changes;
 mod codec;
+mod engine;
 mod hosts;
 mod messages;
 mod plain;
 mod seats;
 mod starts;
+mod turns;
 mod waiting;
 mod ways;
 
@@ -87,8 +90,9 @@ fn main(rt: HostRuntime) -> io::Result<()> {
     println!(rt; "outboxes: {ways}")?;
     let let_in = told(authentication::is_let_in(rt.alloc()));
     println!(rt; "authentication: {let_in}")?;
-    let waiting = told(waiting::are_answered(rt.alloc()).unwrap_or(false));
-    println!(rt; "calls that wait: {waiting}")?;
+    let (waiting, in_turn) = engine::serves(rt.alloc());
+    println!(rt; "calls that wait: {}", told(waiting))?;
+    println!(rt; "messages in turn: {}", told(in_turn))?;
     let served = told(hosts::are_served(rt.alloc()));
     println!(rt; "host: {served}")
 }
