@@ -16,6 +16,7 @@ mod works;
 use crate::bus::Bus;
 use crate::samples::{CONNECTIONS, ROUTERS, SERVICE};
 use crate::thread_works::Reader;
+use crate::works::Doing;
 use anyhow::{Context, Result};
 use bench_core::{Opening, Report, close, open};
 use names::WellKnown;
@@ -78,28 +79,46 @@ fn measure_seats<J: Naming + Send + Sync, R: Print + Clock + Threads + Wait + Sy
     part: Part,
 ) -> Result<()> {
     let seat = seats.pop().context("there are nine seats")?;
-    let rt = report.rt;
-    let mut bus = Bus {
-        rt,
+    let mut doing = Doing::at(Bus {
+        rt: report.rt,
         alloc,
         shared,
         seat,
-    };
+    });
+    let measured = measure_part(report, &mut doing, seats, part);
+    drop(doing);
+    measured
+}
+
+fn measure_part<J: Naming + Send + Sync, R: Print + Clock + Threads + Wait + Sync>(
+    report: &Report<'_, R>,
+    doing: &mut Doing<'_, J, R>,
+    others: Vec<Seat<J>>,
+    part: Part,
+) -> Result<()> {
     for _ in 0..CONNECTIONS {
         let hello = Change::Hello { privileged: false };
-        bus.make(hello).context("a Hello is refused")?;
+        doing.bus.make(hello).context("a Hello is refused")?;
     }
     match part {
-        Part::Signals => works::signals(report, bus),
-        Part::Changes => works::changes(report, bus),
-        Part::Threads => {
-            let mut readers = Vec::new(alloc);
-            for seat in seats {
-                readers.push(Reader { seat, found: 0 })?;
-            }
-            thread_works::measure(report, &mut bus, &mut readers)
-        }
+        Part::Signals => works::signals(report, doing),
+        Part::Changes => works::changes(report, doing),
+        Part::Threads => measure_threads(report, &mut doing.bus, others),
     }
+}
+
+fn measure_threads<J: Naming + Send + Sync, R: Print + Clock + Threads + Wait + Sync>(
+    report: &Report<'_, R>,
+    bus: &mut Bus<'_, J, R>,
+    others: Vec<Seat<J>>,
+) -> Result<()> {
+    let mut readers = Vec::new(bus.alloc);
+    for seat in others {
+        readers.push(Reader { seat, found: 0 })?;
+    }
+    let measured = thread_works::measure(report, bus, &mut readers);
+    drop(readers);
+    measured
 }
 
 fn main(rt: HostRuntime) -> Result<ExitCode> {

@@ -26,12 +26,23 @@ enum Task {
     Start(BusName),
 }
 
-/// A seat, and a task at it.
+/// A seat, and what is done at it.
 #[derive(Drop)]
-struct Doing<'a, J: Naming, R> {
+pub struct Doing<'a, J: Naming, R> {
     name: &'static str,
-    bus: Bus<'a, J, R>,
+    pub bus: Bus<'a, J, R>,
     task: Task,
+}
+
+impl<'a, J: Naming, R> Doing<'a, J, R> {
+    /// A seat at which nothing is done yet that has a name.
+    pub fn at(bus: Bus<'a, J, R>) -> Doing<'a, J, R> {
+        Doing {
+            name: "",
+            bus,
+            task: Task::Watch,
+        }
+    }
 }
 
 impl<J: Naming, R: Wait> Work for Doing<'_, J, R> {
@@ -51,15 +62,15 @@ impl<J: Naming, R: Wait> Work for Doing<'_, J, R> {
     }
 }
 
-fn tell<'a, J: Naming, R: Print + Clock + Wait>(
+fn tell<J: Naming, R: Print + Clock + Wait>(
     report: &Report<'_, R>,
-    bus: Bus<'a, J, R>,
+    doing: &mut Doing<'_, J, R>,
     name: &'static str,
     task: Task,
-) -> Result<Bus<'a, J, R>> {
-    let mut doing = Doing { name, bus, task };
-    report.tell(&mut doing)?;
-    Ok(doing.bus)
+) -> Result<()> {
+    doing.name = name;
+    doing.task = task;
+    Ok(report.tell(doing)?)
 }
 
 /// Each connection adds this rule so many times, or takes it back.
@@ -87,56 +98,56 @@ fn add_argument_rules<J: Naming, R: Wait>(bus: &mut Bus<'_, J, R>, count: u64) -
 /// Measures routes, with rules that a signal does not fit and with rules that it fits.
 pub fn signals<J: Naming, R: Print + Clock + Wait>(
     report: &Report<'_, R>,
-    mut bus: Bus<'_, J, R>,
+    doing: &mut Doing<'_, J, R>,
 ) -> Result<()> {
     let (other, own) = (Rule::parse(OTHER_RULE)?, Rule::parse(OWN_RULE)?);
     let name = "signals: route a call to a connection";
-    bus = tell(report, bus, name, Task::Route(call()))?;
+    tell(report, doing, name, Task::Route(call()))?;
     let name = "signals: route a signal, no rules";
-    bus = tell(report, bus, name, Task::Route(signal()))?;
-    change_rules(&mut bus, &other, true, 4);
+    tell(report, doing, name, Task::Route(signal()))?;
+    change_rules(&mut doing.bus, &other, true, 4);
     let name = "signals: route a signal, 64 rules of another member";
-    bus = tell(report, bus, name, Task::Route(signal()))?;
+    tell(report, doing, name, Task::Route(signal()))?;
     let name = "signals: AddMatch and RemoveMatch, 64 rules";
-    bus = tell(report, bus, name, Task::InTurn(other, 1))?;
-    change_rules(&mut bus, &other, true, 252);
+    tell(report, doing, name, Task::InTurn(other, 1))?;
+    change_rules(&mut doing.bus, &other, true, 252);
     let name = "signals: route a signal, 4,096 rules of another member";
-    bus = tell(report, bus, name, Task::Route(signal()))?;
-    change_rules(&mut bus, &other, false, 256);
-    change_rules(&mut bus, &own, true, 4);
+    tell(report, doing, name, Task::Route(signal()))?;
+    change_rules(&mut doing.bus, &other, false, 256);
+    change_rules(&mut doing.bus, &own, true, 4);
     let name = "signals: route a signal, 64 rules that it fits";
-    bus = tell(report, bus, name, Task::Route(signal()))?;
-    change_rules(&mut bus, &own, true, 252);
+    tell(report, doing, name, Task::Route(signal()))?;
+    change_rules(&mut doing.bus, &own, true, 252);
     let name = "signals: route a signal, 4,096 rules that it fits";
-    bus = tell(report, bus, name, Task::Route(signal()))?;
-    change_rules(&mut bus, &own, false, 256);
-    add_argument_rules(&mut bus, 4_096)?;
+    tell(report, doing, name, Task::Route(signal()))?;
+    change_rules(&mut doing.bus, &own, false, 256);
+    add_argument_rules(&mut doing.bus, 4_096)?;
     let name = "signals: route a signal, 4,096 rules with first arguments of their own";
-    tell(report, bus, name, Task::Route(signal()))?;
+    tell(report, doing, name, Task::Route(signal()))?;
     Ok(())
 }
 
 /// Measures changes of other kinds, and batches.
 pub fn changes<J: Naming, R: Print + Clock + Wait>(
     report: &Report<'_, R>,
-    mut bus: Bus<'_, J, R>,
+    doing: &mut Doing<'_, J, R>,
 ) -> Result<()> {
     let rule = Rule::parse(OTHER_RULE)?;
     let name = "batches: 64 AddMatch and 64 RemoveMatch, one by one";
-    bus = tell(report, bus, name, Task::InTurn(rule, BATCH))?;
+    tell(report, doing, name, Task::InTurn(rule, BATCH))?;
     let name = "batches: 64 AddMatch and 64 RemoveMatch, a batch each";
-    bus = tell(report, bus, name, Task::AtOnce(rule))?;
+    tell(report, doing, name, Task::AtOnce(rule))?;
     let name = "monitors: Hello, BecomeMonitor and Leave";
-    bus = tell(report, bus, name, Task::Watch)?;
+    tell(report, doing, name, Task::Watch)?;
     let name = "starts: 100 StartServiceByName, RequestName and ReleaseName";
-    bus = tell(report, bus, name, Task::Start(BusName::parse(SERVICE)?))?;
+    tell(report, doing, name, Task::Start(BusName::parse(SERVICE)?))?;
     let free = BusName::parse("com.example.Clock")?;
-    take_names(&mut bus, 0, 1)?;
+    take_names(&mut doing.bus, 0, 1)?;
     let name = "names: RequestName and ReleaseName, 1 name held";
-    bus = tell(report, bus, name, Task::Own(free))?;
-    take_names(&mut bus, 1, 1_000)?;
+    tell(report, doing, name, Task::Own(free))?;
+    take_names(&mut doing.bus, 1, 1_000)?;
     let name = "names: RequestName and ReleaseName, 1,000 names held";
-    tell(report, bus, name, Task::Own(free))?;
+    tell(report, doing, name, Task::Own(free))?;
     Ok(())
 }
 

@@ -269,11 +269,7 @@ fn counts_after<V: BusView>(
     right: &V::Right,
     changes: Vec<Change>,
 ) -> Option<(u64, u64, u64)> {
-    let made = match view.change_all(right, changes) {
-        Ok(made) => made,
-        Err(refused) => view.change_all(right, refused.changes).ok()?,
-    };
-    if made.0.len() as u64 != view.made() {
+    if count_made(view, right, changes)? != view.made() {
         return None;
     }
     let hello = Change::Hello { privileged: false };
@@ -281,6 +277,15 @@ fn counts_after<V: BusView>(
         view.change(right, refused.change).ok()?;
     }
     Some(counts(view))
+}
+
+/// Makes a batch, once more where one allocation failed: how many changes are told.
+fn count_made<V: BusView>(view: &mut V, right: &V::Right, changes: Vec<Change>) -> Option<u64> {
+    let made = match view.change_all(right, changes) {
+        Ok(made) => made,
+        Err(refused) => view.change_all(right, refused.changes).ok()?,
+    };
+    Some(made.0.len() as u64)
 }
 
 #[test]

@@ -99,10 +99,9 @@ const GIVEN_UP: [Shown; 7] = [
     (Signal::Passed(":1.1", Some(1), None), &[THIRD], &[FIRST]),
 ];
 
-#[test]
-fn names_and_rules_are_given_up(rt: HostRuntime) {
-    let mut seated = Seated::new(&rt, rt.alloc(), 1, 1);
-    three_connections(&rt, &mut seated);
+/// The first of three connections becomes a monitor, which had names and a rule.
+fn give_up(rt: &impl Abort, seated: &mut Seated) {
+    three_connections(rt, seated);
     for deed in [
         Deed::Request(1, B, 0),
         Deed::Request(1, A, 0),
@@ -110,21 +109,37 @@ fn names_and_rules_are_given_up(rt: HostRuntime) {
         Deed::Add(1, ""),
         Deed::Add(3, OWNERS),
     ] {
-        assert!(rt; make(&mut seated, deed).is_some());
+        assert!(rt; make(seated, deed).is_some());
     }
-    let none = MonitorRules::new(rt.alloc());
-    assert!(rt; becomes(&mut seated, 1, none, Reply::Done, &GIVEN_UP));
+    let none = MonitorRules::new(seated.alloc);
+    assert!(rt; becomes(seated, 1, none, Reply::Done, &GIVEN_UP));
+}
+
+/// What the others find once the first watches.
+fn is_watched(rt: &impl Abort, seated: &Seated) {
     let registry = &seated.registry;
     assert!(rt; registry.present(1) && !registry.is_client(1) && registry.has_monitors());
     assert!(rt; registry.rules(1).next().is_none());
-    assert!(rt; owner(&seated, A) == Some(2) && owner(&seated, B).is_none());
-    assert!(rt; owner(&seated, ":1.1").is_none());
-    let verdict = route(&seated, 2, "Ticked");
+    assert!(rt; owner(seated, A) == Some(2) && owner(seated, B).is_none());
+    assert!(rt; owner(seated, ":1.1").is_none());
+    let verdict = route(seated, 2, "Ticked");
     assert!(rt; verdict.to.as_slice().is_empty());
     assert!(rt; verdict.monitors.as_slice() == [FIRST].as_slice());
-    let left = make(&mut seated, Deed::Leave(1));
+}
+
+/// A monitor leaves, of which nobody is told.
+fn leaves(rt: &impl Abort, seated: &mut Seated) {
+    let left = make(seated, Deed::Leave(1));
     assert!(rt; left.is_some_and(|(_, signals)| signals.as_slice().is_empty()));
     assert!(rt; !seated.registry.has_monitors());
+}
+
+#[test]
+fn names_and_rules_are_given_up(rt: HostRuntime) {
+    let mut seated = Seated::new(&rt, rt.alloc(), 1, 1);
+    give_up(&rt, &mut seated);
+    is_watched(&rt, &seated);
+    leaves(&rt, &mut seated);
     drop(seated);
 }
 

@@ -45,11 +45,19 @@ fn what_a_bus_can_be_opened_with(rt: HostRuntime) {
         let can_be = can_open(&services, routers);
         assert!(rt; can_be == opens, "{routers} routers, {texts:?}");
         if can_be {
-            let bus = once_more!(&rt; SeqBus::new(rt.alloc(), &services, routers, Profile::One));
-            assert!(rt; bus.history().is_empty());
-            drop(bus);
+            open(&rt, rt.alloc(), &services, routers);
         }
     }
+}
+
+/// Opens a bus, on which nothing has happened.
+fn open(rt: &impl Abort, alloc: Global, services: &[WellKnown], routers: u8) {
+    if !can_open(services, routers) {
+        return;
+    }
+    let bus = once_more!(rt; SeqBus::new(alloc, services, routers, Profile::One));
+    assert!(rt; bus.history().is_empty());
+    drop(bus);
 }
 
 #[test]

@@ -7,6 +7,7 @@ use names::{BusName, UniqueName};
 use owner_queues::Reply as QueueReply;
 use seq_bus::{SEAT, SeqBus};
 use seq_bus_core::{AddressedSignal, BusSignal, Conn, Reply, Signals, VerdictKind};
+use std::alloc::Global;
 use std::process::Abort;
 
 /// A signal of the bus, its name as a text.
@@ -527,13 +528,18 @@ fn has_made(bus: &SeqBus, run: &Run) -> bool {
             .all(|(entry, number)| entry.number == number)
 }
 
+/// Plays a run on a plain bus.
+fn play_plain(rt: &impl Abort, alloc: Global, run: &Run) {
+    let mut plain = Plain::new(rt, alloc, 1);
+    plays(rt, &mut plain, run);
+    assert!(rt; has_made(&plain.bus, run), "{}", run.name);
+    drop(plain);
+}
+
 #[test]
 fn over_a_plain_bus(rt: HostRuntime) {
     for run in &RUNS {
-        let mut plain = Plain::new(&rt, rt.alloc(), 1);
-        plays(&rt, &mut plain, run);
-        assert!(rt; has_made(&plain.bus, run), "{}", run.name);
-        drop(plain);
+        play_plain(&rt, rt.alloc(), run);
     }
 }
 

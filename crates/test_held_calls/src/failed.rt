@@ -45,21 +45,38 @@ fn ended(
     once_more!(rt; engine.event(&(), &mut comes))
 }
 
+/// What calls are answered whose start failed with this error, or none.
+fn answers(actions: &[Action<()>], error: Option<ErrorKind>) -> bool {
+    match error {
+        Some(error) => {
+            let expected = [7, 10, 11].map(|serial| Told::Error(FIRST, serial, error));
+            actions.iter().map(told_of).eq(expected)
+        }
+        None => actions.is_empty(),
+    }
+}
+
+/// The start of the service ends, behind one of another, and once more.
+fn end(
+    rt: &impl Abort,
+    alloc: Global,
+    engine: &mut Plain,
+    how: HowEnded,
+    error: Option<ErrorKind>,
+) {
+    let another = ended(rt, alloc, engine, 2, how);
+    assert!(rt; another.is_empty(), "{how:?}");
+    let actions = ended(rt, alloc, engine, 1, how);
+    assert!(rt; answers(&actions, error), "{how:?}");
+    let again = ended(rt, alloc, engine, 1, how);
+    assert!(rt; again.is_empty(), "{how:?}");
+}
+
 #[test]
 fn calls_are_answered_why_their_service_did_not_come(rt: HostRuntime) {
     for (how, error) in ENDS {
         let mut engine = engine_with_calls(&rt, rt.alloc());
-        let another = ended(&rt, rt.alloc(), &mut engine, 2, how);
-        assert!(rt; another.is_empty(), "{how:?}");
-        let actions = ended(&rt, rt.alloc(), &mut engine, 1, how);
-        match error {
-            Some(error) => {
-                let expected = [7, 10, 11].map(|serial| Told::Error(FIRST, serial, error));
-                assert!(rt; actions.iter().map(told_of).eq(expected), "{how:?}");
-            }
-            None => assert!(rt; actions.is_empty(), "{how:?}"),
-        }
-        let again = ended(&rt, rt.alloc(), &mut engine, 1, how);
-        assert!(rt; again.is_empty(), "{how:?}");
+        end(&rt, rt.alloc(), &mut engine, how, error);
+        drop(engine);
     }
 }

@@ -16,5 +16,6 @@ fn calls_that_waited_come_behind_the_reply(rt: HostRuntime) {
         Told::Call(THIRD, 1),
         Told::Call(THIRD, 2),
     ];
+    drop(engine);
     assert!(rt; actions.iter().map(told_of).eq(expected));
 }

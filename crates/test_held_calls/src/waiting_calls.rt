@@ -336,31 +336,43 @@ fn settles(outcome: &Outcome, expected: &[Settled<'_>]) -> bool {
             .all(|(settled, ticket)| carries(settled, ticket))
 }
 
-#[test]
-fn calls_that_wait(rt: HostRuntime) {
-    for run in &RUNS {
-        let mut bus = new_bus(&rt, rt.alloc());
-        for (place, (deed, reply, start, tickets)) in run.rows.iter().enumerate() {
-            let told = make(&rt, rt.alloc(), &mut bus, *deed);
-            assert!(rt; told.reply == *reply, "{}: row {place}", run.name);
-            assert!(rt; told.start == *start, "{}: row {place}", run.name);
-            assert!(rt; settles(&told, tickets), "{}: row {place}", run.name);
-        }
+/// Whether a deed is told what its row says.
+fn tells(told: &Outcome, row: &Row<'_>) -> bool {
+    let (_, reply, start, tickets) = row;
+    told.reply == *reply && told.start == *start && settles(told, tickets)
+}
+
+/// Plays a run on a bus.
+fn play(rt: &impl Abort, alloc: Global, bus: &mut SeqBus, run: &Run<'_>) {
+    for (place, row) in run.rows.iter().enumerate() {
+        let told = make(rt, alloc, bus, row.0);
+        assert!(rt; tells(&told, row), "{}: row {place}", run.name);
     }
 }
 
 #[test]
-fn as_many_calls_as_can_wait(rt: HostRuntime) {
-    let mut bus = new_bus(&rt, rt.alloc());
-    let _welcome = make(&rt, rt.alloc(), &mut bus, Deed::Hello);
+fn calls_that_wait(rt: HostRuntime) {
+    for run in &RUNS {
+        let mut bus = new_bus(&rt, rt.alloc());
+        play(&rt, rt.alloc(), &mut bus, run);
+        drop(bus);
+    }
+}
+
+/// As many calls as can wait, for each of two services in turn.
+fn fill(rt: &impl Abort, alloc: Global, bus: &mut SeqBus) {
     for number in 1..=MAX_TICKETS as u64 {
         let name = if number % 2 == 0 { S } else { T };
-        let told = make(&rt, rt.alloc(), &mut bus, Deed::Start(1, name, 1));
+        let told = make(rt, alloc, bus, Deed::Start(1, name, 1));
         assert!(rt; told.reply == Reply::Held(number), "{number}");
     }
-    let told = make(&rt, rt.alloc(), &mut bus, Deed::Start(1, S, 1));
+    let told = make(rt, alloc, bus, Deed::Start(1, S, 1));
     assert!(rt; told.reply == Reply::LimitsExceeded && told.start.is_none());
-    let told = make(&rt, rt.alloc(), &mut bus, Deed::Request(1, S));
+}
+
+/// The calls to one of the services are served, and one more may wait.
+fn serve_half(rt: &impl Abort, alloc: Global, bus: &mut SeqBus) {
+    let told = make(rt, alloc, bus, Deed::Request(1, S));
     let tickets = told.tickets.as_slice();
     assert!(rt; told.reply == OWNS && tickets.len() == MAX_TICKETS / 2);
     for (settled, half) in tickets.iter().zip(1_u64..) {
@@ -370,6 +382,15 @@ fn as_many_calls_as_can_wait(rt: HostRuntime) {
             "{number}"
         );
     }
-    let told = make(&rt, rt.alloc(), &mut bus, Deed::Start(1, T, 1));
+    let told = make(rt, alloc, bus, Deed::Start(1, T, 1));
     assert!(rt; told.reply == Reply::Held(MAX_TICKETS as u64 + 1));
+}
+
+#[test]
+fn as_many_calls_as_can_wait(rt: HostRuntime) {
+    let mut bus = new_bus(&rt, rt.alloc());
+    let _welcome = make(&rt, rt.alloc(), &mut bus, Deed::Hello);
+    fill(&rt, rt.alloc(), &mut bus);
+    serve_half(&rt, rt.alloc(), &mut bus);
+    drop(bus);
 }

@@ -150,15 +150,15 @@ fn does<J: Naming, R: Wait>(
 pub(crate) fn stand<J: Naming, R: Wait>(
     rt: &R,
     alloc: Global,
-    mut first: Desk<'_, J, R>,
-    mut second: Desk<'_, J, R>,
+    first: &mut Desk<'_, J, R>,
+    second: &mut Desk<'_, J, R>,
 ) -> bool {
     for (router, act, of_first, of_second) in STANDINGS {
         let is_done = match router {
-            Router::First => does(rt, alloc, &mut first, &second, act),
-            Router::Second => does(rt, alloc, &mut second, &first, act),
+            Router::First => does(rt, alloc, first, second, act),
+            Router::Second => does(rt, alloc, second, first, act),
         };
-        let is_so = standing(&first) == of_first && standing(&second) == of_second;
+        let is_so = standing(first) == of_first && standing(second) == of_second;
         if is_done != Some(true) || !is_so {
             return false;
         }

@@ -90,6 +90,13 @@ fn batch(alloc: Global) -> Option<Vec<Change>> {
 /// What a view that records keeps of the calls; none for want of memory.
 fn recorded<V: BusView + Drop>(alloc: Global, view: V, right: &V::Right) -> Option<Vec<u8>> {
     let mut view = Traced::new(alloc, view);
+    let lines = record(alloc, &mut view, right);
+    drop(view);
+    lines
+}
+
+/// Makes the calls, and takes the lines that they brought.
+fn record<V: BusView>(alloc: Global, view: &mut Traced<V>, right: &V::Right) -> Option<Vec<u8>> {
     for place in 0..SINGLE {
         view.change(right, change(alloc, place)?).ok()?;
     }

@@ -176,8 +176,8 @@ fn leaves<J: Naming, R: Wait>(
 pub(crate) fn serve_both<J: Naming, R: Wait>(
     rt: &R,
     alloc: Global,
-    mut first: Desk<'_, J, R>,
-    mut second: Desk<'_, J, R>,
+    first: &mut Desk<'_, J, R>,
+    second: &mut Desk<'_, J, R>,
 ) -> bool {
     let (Ok(owned), Ok(free)) = (
         BusName::parse("com.example.A"),
@@ -188,10 +188,10 @@ pub(crate) fn serve_both<J: Naming, R: Wait>(
     first.seat() == 1
         && second.seat() == 2
         && first.note().is_none()
-        && comes(rt, &mut first, &mut second, FIRST)
-        && comes(rt, &mut second, &mut first, SECOND)
-        && listens(rt, &mut first, &mut second) == Some(true)
-        && owns(rt, &mut first, &mut second, owned)
-        && answers(alloc, &mut second, owned, free)
-        && leaves(rt, &mut first, &mut second, 1)
+        && comes(rt, first, second, FIRST)
+        && comes(rt, second, first, SECOND)
+        && listens(rt, first, second) == Some(true)
+        && owns(rt, first, second, owned)
+        && answers(alloc, second, owned, free)
+        && leaves(rt, first, second, 1)
 }

@@ -54,35 +54,55 @@ impl<'a, R: Wait> Serve for Player<'a, R> {
             shared.end(rt);
             return false;
         };
-        let is_so = match play {
-            Play::Rows(rows) => {
-                count_so(rt, alloc, &shared, &mut first, &mut second, rows) == rows.len()
-            }
-            Play::Notes => are_told(rt, alloc, &shared, &mut first, &mut second),
-            Play::MostNames => fill(rt, alloc, &shared, &mut first, &mut second) == Some(true),
-            Play::NamesInOrder => list(rt, alloc, &shared, &mut first, &mut second) == Some(true),
-            Play::Batches => {
-                batches::are_made(rt, alloc, &shared, &mut first, &mut second) == Some(true)
-            }
-            Play::Standings => {
-                let first = Desk::new(first, &shared);
-                let second = Desk::new(second, &shared);
-                let is_so = batches::stand(rt, alloc, first, second);
-                shared.end(rt);
-                return is_so;
-            }
-            Play::Desks => {
-                let first = Desk::new(first, &shared);
-                let second = Desk::new(second, &shared);
-                let is_so = serve_both(rt, alloc, first, second);
-                shared.end(rt);
-                return is_so && seats.len() == 1;
-            }
-        };
+        if let Play::Standings | Play::Desks = play {
+            let is_so = at_desks(rt, alloc, &shared, first, second, play);
+            shared.end(rt);
+            return is_so && seats.len() == 1;
+        }
+        let is_so = at_seats(rt, alloc, &shared, &mut first, &mut second, play);
         let are_two = shared.routers() == 2;
         shared.end(rt);
         is_so && are_two && is_gone(alloc, &mut first) && is_gone(alloc, &mut second)
     }
+}
+
+/// Plays at the seats of two routers.
+fn at_seats<J: Naming, R: Wait>(
+    rt: &R,
+    alloc: Global,
+    shared: &Shared<J>,
+    first: &mut Seat<J>,
+    second: &mut Seat<J>,
+    play: Play,
+) -> bool {
+    match play {
+        Play::Rows(rows) => count_so(rt, alloc, shared, first, second, rows) == rows.len(),
+        Play::Notes => are_told(rt, alloc, shared, first, second),
+        Play::MostNames => fill(rt, alloc, shared, first, second) == Some(true),
+        Play::NamesInOrder => list(rt, alloc, shared, first, second) == Some(true),
+        Play::Batches => batches::are_made(rt, alloc, shared, first, second) == Some(true),
+        Play::Standings | Play::Desks => false,
+    }
+}
+
+/// Plays at desks with these seats.
+fn at_desks<J: Naming, R: Wait>(
+    rt: &R,
+    alloc: Global,
+    shared: &Shared<J>,
+    first: Seat<J>,
+    second: Seat<J>,
+    play: Play,
+) -> bool {
+    let mut first: Desk<'_, J, R> = Desk::new(first, shared);
+    let mut second: Desk<'_, J, R> = Desk::new(second, shared);
+    let is_so = match play {
+        Play::Standings => batches::stand(rt, alloc, &mut first, &mut second),
+        _ => serve_both(rt, alloc, &mut first, &mut second),
+    };
+    drop(second);
+    drop(first);
+    is_so
 }
 
 /// Whether the registry of a seat has ended, as each of its reads tells.
