@@ -383,8 +383,8 @@ impl EngineScene {
 
     /// Runs all that has happened once more.
     fn run(&mut self, journal: &mut Journal) -> Result<()> {
-        let events = mem::replace(&mut self.events, Vec::new(self.alloc));
         let bus = bus(self.alloc, &self.services)?;
+        let events = mem::replace(&mut self.events, Vec::new(self.alloc));
         match run(self.alloc, bus, OpenGate, None, events) {
             Ok(outputs) => {
                 for (place, bytes) in outputs.iter().enumerate() {

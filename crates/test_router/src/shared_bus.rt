@@ -107,13 +107,15 @@ impl<'a, R: Wait> Stage<'a, R> {
         seats: Vec<Seat<J>>,
         coordinator: &'c Coordinator<NoWaker>,
     ) -> Result<String> {
-        let (lanes, taps) = Outboxes::new(self.alloc, shared)?;
         let findings = Findings::new(self.alloc)?;
+        let found = findings.again()?;
+        let (lanes, taps) = Outboxes::new(self.alloc, shared)?;
         // Seat 0 and its lane are those of the thread that accepts connections.
         let mut seats = seats.into_iter();
-        let mut lookout = self.lookout(shared, seats.next(), findings.again()?);
+        let mut lookout = self.lookout(shared, seats.next(), found);
         let ways = lanes.into_iter().skip(1).zip(taps);
         let mut hosts: Vec<SharedHost<'b, 'c, J, R>> = Vec::new(self.alloc);
+        let mut added = Ok(());
         for ((router, seat), (lane, taps)) in seats.enumerate().zip(ways) {
             let post = LanePost::new(router, lane, taps, coordinator);
             let first = router.saturating_mul(coordinator.places());
@@ -121,9 +123,32 @@ impl<'a, R: Wait> Stage<'a, R> {
                 alloc: self.alloc,
                 lookout: lookout.take(),
             };
-            add(&mut hosts, self.host(shared, seat, post, first, gate)?)?;
+            if let Err(fault) = self.add_host(&mut hosts, shared, seat, post, first, gate) {
+                added = Err(fault);
+            }
         }
-        scene::play(self.alloc, hosts, findings, self.rt, self.scenario)
+        drop(lookout);
+        match added {
+            Ok(()) => scene::play(self.alloc, hosts, findings, self.rt, self.scenario),
+            Err(fault) => {
+                drop(hosts);
+                Err(fault)
+            }
+        }
+    }
+
+    /// Adds a router over a seat, whose places begin with this.
+    fn add_host<'b, 'c, J: Naming>(
+        &self,
+        hosts: &mut Vec<SharedHost<'b, 'c, J, R>>,
+        shared: &'b Shared<J>,
+        seat: Seat<J>,
+        post: LanePost<'c, J, NoWaker>,
+        first: usize,
+        gate: Watch<'b, J, R>,
+    ) -> Result<()> {
+        let host = self.host(shared, seat, post, first, gate)?;
+        Ok(add(hosts, host)?)
     }
 
     /// What a gate looks through, where it is to be told what it finds.
@@ -149,12 +174,12 @@ impl<'a, R: Wait> Stage<'a, R> {
         first: usize,
         gate: Watch<'b, J, R>,
     ) -> Result<SharedHost<'b, 'c, J, R>> {
-        let desk: Desk<'b, J, R> = Desk::new(seat, shared);
-        let view = Traced::silent(self.alloc, desk);
         let login = self.scenario.login(self.alloc)?;
-        let engine = Engine::new(self.alloc, view, gate, login)?;
         let places = 256 / u16::from(self.routers.max(1));
         let first = u16::try_from(first)?;
+        let desk: Desk<'b, J, R> = Desk::new(seat, shared);
+        let view = Traced::silent(self.alloc, desk);
+        let engine = Engine::new(self.alloc, view, gate, login)?;
         Ok(Host::new(self.alloc, engine, post, first, places)?)
     }
 }
