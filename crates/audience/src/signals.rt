@@ -239,25 +239,25 @@ pub fn push_owner_signals<A: Audience>(
     audience: &A,
     alloc: Global,
     signals: &mut Signals,
-    name: BusName,
+    name: &BusName,
     old_owner: Option<u64>,
     new_owner: Option<u64>,
     count: &mut A::Count,
 ) -> Result<(), AllocError>
     ensures { OnOk result (signals.new ≡ signals.old
-        ++ map (addressed (A.state audience.now)) (owner_signals name old_owner new_owner)) }
+        ++ map (addressed (A.state audience.now)) (owner_signals name.now old_owner new_owner)) }
 {
     if is_owner(old_owner, new_owner) {
         return Ok(());
     }
-    push_lost(audience, alloc, signals, &name, old_owner, count)?;
+    push_lost(audience, alloc, signals, name, old_owner, count)?;
     let signal = BusSignal::NameOwnerChanged {
-        name,
+        name: *name,
         old_owner,
         new_owner,
     };
     push_lent(audience, alloc, signals, &signal, count)?;
-    push_acquired(audience, alloc, signals, &name, new_owner, count)
+    push_acquired(audience, alloc, signals, name, new_owner, count)
 }
 
 /// Adds the signals of a name whose owner has left: who left is told nothing.
@@ -265,22 +265,22 @@ pub fn push_left_name<A: Audience>(
     audience: &A,
     alloc: Global,
     signals: &mut Signals,
-    name: BusName,
+    name: &BusName,
     leaver: u64,
     new_owner: Option<u64>,
     count: &mut A::Count,
 ) -> Result<(), AllocError>
     ensures { OnOk result (signals.new ≡ signals.old
         ++ map (addressed (A.state audience.now))
-        (NameOwnerChanged name (Some leaver) new_owner ∷ acquired name new_owner)) }
+        (NameOwnerChanged name.now (Some leaver) new_owner ∷ acquired name.now new_owner)) }
 {
     let signal = BusSignal::NameOwnerChanged {
-        name,
+        name: *name,
         old_owner: Some(leaver),
         new_owner,
     };
     push_lent(audience, alloc, signals, &signal, count)?;
-    push_acquired(audience, alloc, signals, &name, new_owner, count)
+    push_acquired(audience, alloc, signals, name, new_owner, count)
 }
 
 /// Whether two owners of a name are one.

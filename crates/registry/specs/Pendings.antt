@@ -9,7 +9,7 @@ use Rattle.registry.specs.declared.after.Pending.TheVariants.{Joined, Requeued, 
 
 abbrev pub state_after : Pending → BusState → BusState
 state_after (Joined conn privileged) s = with_connection s (client_at conn privileged)
-state_after (Requeued name queue) s = requeued s name queue.now
+state_after (Requeued name queue) s = requeued s name.now queue.now
 state_after (Left connection) s = without_connection s connection
 state_after (Becoming connection rules) s = with_monitor s connection rules.now
 

@@ -17,7 +17,7 @@ pub enum Pending<'a> {
     /// A connection says Hello.
     Joined { conn: Conn, privileged: bool },
     /// A name has another queue.
-    Requeued { name: BusName, queue: &'a Queue },
+    Requeued { name: &'a BusName, queue: &'a Queue },
     /// A connection leaves.
     Left { connection: u64 },
     /// A connection becomes a monitor.

@@ -86,7 +86,7 @@ impl Registry {
             &after,
             alloc,
             signals,
-            name,
+            &name,
             Some(connection),
             None,
             &mut (),

@@ -55,7 +55,7 @@ impl Registry {
             &after,
             alloc,
             signals,
-            name,
+            &name,
             None,
             Some(conn.number),
             &mut (),

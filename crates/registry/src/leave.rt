@@ -87,7 +87,7 @@ impl Registry {
         };
         self.tell_of_names(alloc, &after, Parting::Leaves, connection, signals)?;
         let name = BusName::from(UniqueName::of(connection));
-        push_left_name(&after, alloc, signals, name, connection, None, &mut ())
+        push_left_name(&after, alloc, signals, &name, connection, None, &mut ())
     }
 
     /// The signals of the names that a connection owns and gives up. No other name is looked at than
@@ -183,7 +183,7 @@ fn tell_of_name(
         return Ok(());
     }
     let next = next_owner(&entry.queue, connection);
-    let name = entry.name;
+    let name = &entry.name;
     match parting {
         Parting::Leaves => push_left_name(after, alloc, signals, name, connection, next, &mut ()),
         Parting::BecomesMonitor => {

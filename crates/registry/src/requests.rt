@@ -198,7 +198,7 @@ impl Registry {
         match change {
             Ok(reply) => {
                 let mut outcome = replied(alloc, Reply::OfQueue(reply));
-                self.tell_owners(alloc, *name, owner, queue, &mut outcome.signals)?;
+                self.tell_owners(alloc, name, owner, queue, &mut outcome.signals)?;
                 Ok(outcome)
             }
             Err(reply) => Ok(replied(alloc, reply)),
@@ -209,14 +209,14 @@ impl Registry {
     fn tell_owners(
         &self,
         alloc: Global,
-        name: BusName,
+        name: &BusName,
         owner: Option<u64>,
         queue: &Queue,
         signals: &mut Signals,
     ) -> Result<(), AllocError>
-        requires owner { owner ≡ queue_head (queue_of self.now.names name) }
+        requires owner { owner ≡ queue_head (queue_of self.now.names name.now) }
         requires empty { signals.old ≡ [] }
-        ensures { OnOk result (signals.new ≡ signals_of_owners self.now name queue.now) }
+        ensures { OnOk result (signals.new ≡ signals_of_owners self.now name.now queue.now) }
     {
         let next = queue.head();
         let after = After {

@@ -19,7 +19,7 @@ pub returns-in-Requeued : goal.returns-in-Requeued
 returns-in-Requeued c none facts =
     let s : BusState = c.self.inside.registry.now in
     ap (λ (t : BusState). monitors_shown t facts) (sym c.self.view_is ∙ ap (λ p. state_after p s) c.in-Requeued.is)
-    ∙ nobody_shown (requeued s c.in-Requeued.name c.in-Requeued.queue.now) facts (sym c.has_monitors-in-Requeued.ensures ∙ none)
+    ∙ nobody_shown (requeued s c.in-Requeued.name.now c.in-Requeued.queue.now) facts (sym c.has_monitors-in-Requeued.ensures ∙ none)
 
 pub returns-in-Left : goal.returns-in-Left
 returns-in-Left c none facts =
