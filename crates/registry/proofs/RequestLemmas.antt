@@ -17,7 +17,7 @@ use Rattle.seq_bus_core.proofs.LimitLaws.{steps_keep_limits}
 use Rattle.seq_bus_core.proofs.Lists.{each_weaker}
 use Rattle.seq_bus_core.proofs.OwnedLemmas.{queue_of_each}
 use Rattle.registry_core.specs.NameTables.{are_within}
-use Rattle.registry.specs.Requests.{requeued, if_within, when_requested, when_released, request_state, request_outcome, requeue_state, requeue_outcome}
+use Rattle.registry.specs.Requests.{changed, requeued, if_within, when_requested, when_released, request_state, request_outcome, requeue_state, requeue_outcome}
 use Rattle.registry.proofs.MatchLemmas.{of_client}
 use Rattle.registry.proofs.QueueLemmas.{has_room}
 
@@ -106,6 +106,30 @@ request_state_is s seat number name flags = ap (λ r. r.0) (request_step s seat 
 
 pub release_state_is : (s : BusState) (seat number : ℕ) (name : Text) → (step s seat (Release number name)).0 ≡ requeue_state s name (when_released s number name)
 release_state_is s seat number name = ap (λ r. r.0) (release_step s seat number name) ∙ state_after s name (when_released s number name)
+
+-- ## The steps, by what a change of a queue is told
+
+pub request_made : (s t : BusState) (seat number : ℕ) (name : Text) (flags : RequestFlags) (queue : Queue) (change : Result QueueReply Reply) (reply : QueueReply) →
+    s ≡ t → changed queue change ≡ when_requested t number name flags → change ≡ Ok reply → (step s seat (Request number name flags)).0 ≡ with_owned s name queue
+request_made s t seat number name flags queue change reply same told done =
+    request_state_is s seat number name flags
+    ∙ ap (request_state s name) (sym (ap (changed queue) (sym done) ∙ told ∙ ap (λ u. when_requested u number name flags) (sym same)))
+
+pub request_unmade : (s : BusState) (seat number : ℕ) (name : Text) (flags : RequestFlags) (queue : Queue) (change : Result QueueReply Reply) (reply : Reply) →
+    changed queue change ≡ when_requested s number name flags → change ≡ Err reply → (step s seat (Request number name flags)).0 ≡ s
+request_unmade s seat number name flags queue change reply told refused =
+    request_state_is s seat number name flags ∙ ap (request_state s name) (sym (ap (changed queue) (sym refused) ∙ told))
+
+pub release_made : (s t : BusState) (seat number : ℕ) (name : Text) (queue : Queue) (change : Result QueueReply Reply) (reply : QueueReply) →
+    s ≡ t → changed queue change ≡ when_released t number name → change ≡ Ok reply → (step s seat (Release number name)).0 ≡ requeued s name queue
+release_made s t seat number name queue change reply same told done =
+    release_state_is s seat number name
+    ∙ ap (requeue_state s name) (sym (ap (changed queue) (sym done) ∙ told ∙ ap (λ u. when_released u number name) (sym same)))
+
+pub release_unmade : (s : BusState) (seat number : ℕ) (name : Text) (queue : Queue) (change : Result QueueReply Reply) (reply : Reply) →
+    changed queue change ≡ when_released s number name → change ≡ Err reply → (step s seat (Release number name)).0 ≡ s
+release_unmade s seat number name queue change reply told refused =
+    release_state_is s seat number name ∙ ap (requeue_state s name) (sym (ap (changed queue) (sym refused) ∙ told))
 
 pub request_refused : (s : BusState) (seat number : ℕ) (name : Text) (flags : RequestFlags) → (is_client s.connections number && not (is_reserved name)) ≡ false → (step s seat (Request number name flags)).0 ≡ s
 unfolding tested

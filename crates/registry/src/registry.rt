@@ -1,6 +1,6 @@
 //! The registry.
 
-ghost use Rattle.std.specs.Prelude.{◌≡◌, ◌≤◌, IfOk, List, length, is_some, map, option_map};
+ghost use Rattle.std.specs.Prelude.{◌≡◌, ◌≤◌, IfOk, List, OnErr, length, is_some, map, option_map};
 ghost use Rattle.std.specs.List.{list_any};
 ghost use Rattle.monitor.specs.Laws.{monitors_of};
 ghost use Rattle.seq_bus_core.specs.BusState.{AddedRule, connection_of, conn_of, head_of, is_client, is_monitor, queue_of};
@@ -125,6 +125,40 @@ impl Registry {
             }
             Change::StartTimedOut { name, start } => {
                 self.prepare_start_timed_out(alloc, seat, name, *start)
+            }
+        }
+    }
+
+    /// Prepares a change of a seat, and makes it here. Where memory is refused, nothing changes.
+    ///
+    /// It does what `prepare` and then `absorb` do, but looks for a name once, and makes the queue of a name in the one that
+    /// is lent: a queue is large, and is cleared where one is made.
+    pub fn make(
+        &mut self,
+        queue: &mut Queue,
+        alloc: Global,
+        seat: u8,
+        change: &Change,
+    ) -> Result<Prepared, AllocError>
+        ensures prepared { IfOk result (λ prepared.
+            prepared ≡ prepared_on self.old seat change.now) }
+        ensures made { IfOk result (λ prepared.
+            self.new ≡ (step self.old prepared.seat prepared.change).0) }
+        ensures same { OnErr result (self.new ≡ self.old) }
+    {
+        match change {
+            Change::Request {
+                connection,
+                name,
+                flags,
+            } => self.make_request(queue, alloc, seat, *connection, name, *flags),
+            Change::Release { connection, name } => {
+                self.make_release(queue, alloc, seat, *connection, name)
+            }
+            _ => {
+                let prepared = self.prepare(alloc, seat, change)?;
+                self.absorb(&prepared);
+                Ok(prepared)
             }
         }
     }

@@ -1,6 +1,6 @@
 //! RequestName and ReleaseName.
 
-ghost use Rattle.std.specs.Prelude.{◌≡◌, ◌&&◌, not, [], IfOk, OnOk};
+ghost use Rattle.std.specs.Prelude.{◌≡◌, ◌&&◌, not, [], IfOk, OnErr, OnOk};
 ghost use Rattle.owner_queues.specs.Queues.{queue_head};
 ghost use Rattle.seq_bus_core.specs.BusState.{is_client, queue_of};
 ghost use Rattle.seq_bus_core.specs.Steps.{is_reserved, step};
@@ -70,6 +70,79 @@ impl Registry {
                 name: *name,
             },
             outcome: self.outcome_of_requeue(alloc, name, owner, &queue, change)?,
+        })
+    }
+
+    /// Prepares a request, and makes it here. The name is looked for once.
+    pub(crate) fn make_request(
+        &mut self,
+        queue: &mut Queue,
+        alloc: Global,
+        seat: u8,
+        connection: u64,
+        name: &BusName,
+        flags: RequestFlags,
+    ) -> Result<Prepared, AllocError>
+        ensures prepared { IfOk result (λ prepared. prepared
+            ≡ prepared_on self.old seat (Request connection name.now flags)) }
+        ensures made { OnOk result
+            (self.new ≡ (step self.old seat (Request connection name.now flags)).0) }
+        ensures same { OnErr result (self.new ≡ self.old) }
+    {
+        let _ = &self.members;
+        let found = copy_queue(&self.names, name, queue);
+        let owner = queue.head();
+        let change = self.when_requested(connection, name, found, flags, queue);
+        let outcome = self.outcome_of_request(alloc, name, owner, queue, change)?;
+        match change {
+            Ok(_) => {
+                self.names.set_queue_at(found, name, queue);
+                self.starts.end(name);
+            }
+            Err(_) => {}
+        }
+        Ok(Prepared {
+            seat,
+            act: Act::Request {
+                connection,
+                name: *name,
+                flags,
+            },
+            outcome,
+        })
+    }
+
+    /// The same of a release.
+    pub(crate) fn make_release(
+        &mut self,
+        queue: &mut Queue,
+        alloc: Global,
+        seat: u8,
+        connection: u64,
+        name: &BusName,
+    ) -> Result<Prepared, AllocError>
+        ensures prepared { IfOk result (λ prepared. prepared
+            ≡ prepared_on self.old seat (Release connection name.now)) }
+        ensures made { OnOk result
+            (self.new ≡ (step self.old seat (Release connection name.now)).0) }
+        ensures same { OnErr result (self.new ≡ self.old) }
+    {
+        let _ = &self.members;
+        let found = copy_queue(&self.names, name, queue);
+        let owner = queue.head();
+        let change = self.when_released(connection, name, queue);
+        let outcome = self.outcome_of_requeue(alloc, name, owner, queue, change)?;
+        match change {
+            Ok(_) => self.names.set_queue_at(found, name, queue),
+            Err(_) => {}
+        }
+        Ok(Prepared {
+            seat,
+            act: Act::Release {
+                connection,
+                name: *name,
+            },
+            outcome,
         })
     }
 

@@ -27,10 +27,6 @@ use Rattle.settling.specs.Batches.{SettleAlong, bus_along}
 use Rattle.settling.specs.Settlings.{Settling, SettlesAt}
 use Rattle.settling.proofs.Along.{along_entries, few_along, limits_along}
 
--- An entry with none left after it in its batch stands alone.
-pub is_alone : (seat number left : ℕ) (change : Change) → left ≡ 0 → ◌≡◌ {A = Entry} (record { seat = seat; number = number; change = change; left = left }) (entry_alone seat number change)
-is_alone seat number left change alone = ap (λ (n : ℕ). record { seat = seat; number = number; change = change; left = n }) alone
-
 -- The copy that is shown once an entry is published, where `front` was all of the history and `next` goes on with the entry.
 pub shown_next : (book : Book) (opening : WholeBus) (s : SnapView) (front : FrontView) (e : Entry) (p : PreparedChange) (next copy : FrontView) → IsSnapOf book opening s → front ≡ s.front → e.left ≡ 0
     → e.number ≡ length (numbers_of e.seat front.log) + 1 → p.seat ≡ e.seat → p.change ≡ as_seen e.change → next ≡ front_of front.book (front.log ++ e ∷ []) → copy ≡ next → IsSnapOf book opening (absorbed s e.seat e.number p copy)

@@ -17,8 +17,7 @@ use left_right::reader::Reader;
 use left_right::writer::Writer;
 use names::WellKnown;
 use registry::Prepared;
-use registry_snapshots_core::{Batch, Front, Head, Naming, Op, Snap};
-use seq_bus_core::Entry;
+use registry_snapshots_core::{Batch, Front, Head, Naming, NextEntry, Op, Snap};
 use std::alloc::{AllocError, Global};
 use std::marker::Model;
 use std::sync::Wait;
@@ -135,7 +134,7 @@ impl<J: Naming> Copies<J> {
         &mut self,
         rt: &R,
         front: &Front,
-        entry: &Entry,
+        entry: &NextEntry<'_>,
         prepared: Prepared,
     ) -> Result<Front, Gone>
         requires settled { self.old.1 ≡ false }

@@ -16,10 +16,10 @@ use crate::copies::{Copies, SnapReader};
 use bus_view::{BatchCause, Cause, RefusedAll};
 use held_calls::HeldCalls;
 use names::WellKnown;
-use owner_queues::Profile;
+use owner_queues::{Profile, Queue};
 use registry::Registry;
-use registry_snapshots_core::{Batch, Front, Head, Naming, Snap};
-use seq_bus_core::{Change, Entry, Outcome};
+use registry_snapshots_core::{Batch, Front, Head, Naming, NextEntry, Snap};
+use seq_bus_core::{Change, Outcome};
 use settling::{prepare, prepare_all};
 use std::alloc::{AllocError, Global};
 use std::marker::Model;
@@ -33,9 +33,11 @@ const FULL: u64 = 1 << 63;
 /// Contracts see the copy that is published, and whether a publication failed: then it makes no other.
 pub struct Registrar<J: Naming> {
     copies: Copies<J>,
-    // The bus that is published, where batches are prepared: nobody reads it.
+    // The bus that is published, where changes are prepared: nobody reads it.
     third: Registry,
     calls: HeldCalls,
+    // Room for the queue that a name is about to have.
+    queue: Queue,
 }
 
 impl<J: Naming> Model for Registrar<J> {
@@ -110,6 +112,7 @@ impl<J: Naming> Registrar<J> {
             copies,
             third,
             calls,
+            queue: Queue::new(),
         })
     }
 
@@ -118,30 +121,28 @@ impl<J: Naming> Registrar<J> {
         self.copies.reader()
     }
 
-    /// Makes the change of an entry, by a seat that knows this much and made so many changes, or refuses it. The entry is given
-    /// its number. A change is large, and is not moved.
+    /// Makes a change of a seat that knows this much and made so many, or refuses it. A change is large, and is not moved.
     ///
     /// What it gives of the history is what is published, and nothing that is refused: no front lies beyond it.
     pub fn change<R: Wait>(
         &mut self,
         rt: &R,
         alloc: Global,
+        seat: u8,
         made: u64,
         known: &Front,
-        entry: &mut Entry,
+        change: &Change,
     ) -> Result<(Outcome, Front), Cause>
         requires book { known.now.book ≡ J.book }
-        requires alone { entry.old.left ≡ 0 }
-        ensures made { IfOk result (λ r. IsChanged J.opening known.now.log entry.old.seat made
-            entry.old.change r.0 r.1.log) }
+        ensures made { IfOk result (λ r.
+            IsChanged J.opening known.now.log seat made change.now r.0 r.1.log) }
         ensures few { IfOk result (λ r. length r.0.tickets ≤ MAX_TICKETS) }
         ensures next { IfOk result (λ r. (r.1.book ≡ J.book) × (made < 2 ^ 63)) }
         ensures published { IfOk result (λ r. (r.1 ≡ self.new.0.front) × (self.new.1 ≡ false)) }
-        ensures change { entry.new.change ≡ entry.old.change }
         ensures same { OnErr result (self.new.0 ≡ self.old.0) }
         ensures judged { IfErr result (λ e. e ≢ Gone → self.new ≡ self.old) }
         ensures foreign { IfErr result (λ e. e ≡ ForeignSeat →
-            (slice_get self.old.0.last entry.old.seat ≢ Some made)
+            (slice_get self.old.0.last seat ≢ Some made)
             ⊎ (length self.old.0.front.log < length known.now.log)) }
         ensures full { IfErr result (λ e. e ≡ HistoryFull →
             2 ^ 63 ≤ length self.old.0.front.log) }
@@ -150,17 +151,21 @@ impl<J: Naming> Registrar<J> {
             return Err(Cause::Gone);
         }
         let shown = self.copies.published();
-        let front = judge(shown, entry.seat, made, known, 1)?;
-        let registry = shown.registry();
-        let Ok((prepared, settling)) = prepare(alloc, registry, entry.seat, &entry.change) else {
+        let front = judge(shown, seat, made, known, 1)?;
+        let queue = &mut self.queue;
+        let Ok((prepared, settling)) = prepare(alloc, &mut self.third, queue, seat, change) else {
+            self.third.copy_from(self.copies.published().registry());
             return Err(Cause::NoMemory);
         };
-        entry.number = made + 1;
-        self.third.absorb(&prepared);
-        let Ok(next) = self.copies.publish(rt, &front, entry, prepared) else {
+        let entry = NextEntry {
+            seat,
+            number: made + 1,
+            change,
+        };
+        let Ok(next) = self.copies.publish(rt, &front, &entry, prepared) else {
             return Err(Cause::Gone);
         };
-        let outcome = settling.settle(&mut self.calls, &entry.change);
+        let outcome = settling.settle(&mut self.calls, change);
         Ok((outcome, next))
     }
 
@@ -226,6 +231,7 @@ impl<J: Naming> Registrar<J> {
             copies,
             third: _,
             calls: _,
+            queue: _,
         } = self;
         copies.end(rt);
     }

@@ -22,7 +22,7 @@ use bus_view::{Again, AskFault, Asked, BatchCause, Gone, Refused, RefusedAll};
 use left_right::reader::Reading;
 use match_rules::Facts;
 use registry_snapshots_core::{Front, Naming, Note, Snap};
-use seq_bus_core::{Change, Entry, Outcome, Query, Verdict};
+use seq_bus_core::{Change, Outcome, Query, Verdict};
 use std::marker::Model;
 use std::sync::Wait;
 
@@ -301,21 +301,12 @@ impl<J: Naming> Seat<J> {
         ensures refused { IfErr result (λ e. e.change ≡ change) }
         ensures unchanged { OnErr result (self.new ≡ self.old) }
     {
-        let mut entry = Entry {
-            seat: self.number,
-            number: 0,
-            change,
-            left: 0,
-        };
-        match shared.change(rt, self.made, &self.front, &mut entry) {
+        match shared.change(rt, self.number, self.made, &self.front, &change) {
             Ok((outcome, front)) => {
                 let note = self.go_on(1, front);
                 Ok((outcome, note))
             }
-            Err(cause) => Err(Refused {
-                change: entry.change,
-                cause,
-            }),
+            Err(cause) => Err(Refused { change, cause }),
         }
     }
 

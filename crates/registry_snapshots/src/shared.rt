@@ -17,7 +17,7 @@ use bus_view::{BatchCause, Cause, RefusedAll, can_open};
 use names::WellKnown;
 use registry_snapshots_core::{Front, Naming, Opened};
 use seq_bus_core::limits::MAX_BATCH;
-use seq_bus_core::{Change, Entry, Outcome};
+use seq_bus_core::{Change, Outcome};
 use std::alloc::{AllocError, Global};
 use std::marker::Model;
 use std::sync::{Mutex, MutexGuard, Wait};
@@ -145,24 +145,23 @@ impl<J: Naming> Shared<J> {
         self.routers
     }
 
-    // Makes the change of an entry, by a seat that knows this much and made so many changes, or refuses it.
+    // Makes a change of a seat that knows this much and made so many, or refuses it.
     pub(crate) fn change<R: Wait>(
         &self,
         rt: &R,
+        seat: u8,
         made: u64,
         known: &Front,
-        entry: &mut Entry,
+        change: &Change,
     ) -> Result<(Outcome, Front), Cause>
         requires book { known.now.book ≡ J.book }
-        requires alone { entry.old.left ≡ 0 }
-        ensures made { IfOk result (λ r. IsChanged J.opening known.now.log entry.old.seat made
-            entry.old.change r.0 r.1.log) }
+        ensures made { IfOk result (λ r.
+            IsChanged J.opening known.now.log seat made change.now r.0 r.1.log) }
         ensures few { IfOk result (λ r. length r.0.tickets ≤ MAX_TICKETS) }
         ensures next { IfOk result (λ r. (r.1.book ≡ J.book) × (made < 2 ^ 63)) }
-        ensures change { entry.new.change ≡ entry.old.change }
     {
         let mut registrar = self.registrar.lock(rt);
-        let made = registrar.change(rt, self.alloc, made, known, entry);
+        let made = registrar.change(rt, self.alloc, seat, made, known, change);
         MutexGuard::unlock(registrar);
         made
     }

@@ -54,8 +54,28 @@ impl Play<Publication, u64> for Add {
     ghost then = { Adds };
 }
 
+/// The next change of a seat, which is lent: a change is large.
+///
+/// Contracts see the entry of the history that it becomes.
+#[derive(Drop)]
+pub struct NextEntry<'a> {
+    pub seat: u8,
+    /// Its number among the changes of the seat.
+    pub number: u64,
+    pub change: &'a Change,
+}
+
+impl<'a> Model for NextEntry<'a> {
+    ghost use Rattle.seq_bus_core.specs.Histories.{entry_alone};
+    ghost use Rattle.seq_bus_core.specs.declared.entry.Entry.{Entry as Made};
+
+    ghost Value = { Made };
+
+    ghost view = { λ e. entry_alone e.seat e.number e.change.now };
+}
+
 /// What a step asks for: the publication of one entry.
-impl Plain<Entry, Publication, u64> for Add {
+impl<'a> Plain<NextEntry<'a>, Publication, u64> for Add {
     ghost use Rattle.std.specs.Prelude.{None};
     ghost use Rattle.registry_snapshots_core.specs.Publications.{publication_of};
 
@@ -190,16 +210,18 @@ impl Front {
     }
 
     /// Publishes an entry behind all that was seen, where that is the whole history.
-    pub fn add(&self, head: &Head, entry: &Entry) -> Option<Front>
+    pub fn add(&self, head: &Head, entry: &NextEntry<'_>) -> Option<Front>
         requires book { head.now ≡ self.now.book }
         requires room { length self.now.log < 2 ^ 63 }
         requires legal { IsLegal (self.now.log ++ entry.now ∷ []) }
         ensures { IfSome result (λ f. f ≡ front_of self.now.book (self.now.log ++ entry.now ∷ [])) }
     {
         let mut seen = self.seen.again();
-        let mut offer: Offer<Publication, u64, Law, Nothing> = seen.plain::<Nothing, Entry, Add>(
-            entry,
-        );
+        let mut offer: Offer<Publication, u64, Law, Nothing> = seen.plain::<
+            Nothing,
+            NextEntry<'_>,
+            Add,
+        >(entry);
         let mut pen = seen.no_pen();
         let count = self.count;
         let found = head

@@ -27,7 +27,7 @@ mod naming;
 mod note;
 mod snap;
 
-pub use history::{Batch, Front, Head, Opened};
+pub use history::{Batch, Front, Head, NextEntry, Opened};
 pub use naming::Naming;
 pub use note::Note;
 pub use snap::{Op, Snap};

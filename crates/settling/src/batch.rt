@@ -6,6 +6,7 @@ ghost use Rattle.settling.specs.Batches.{AreSettled, IsSomeBusAlong, SettleAlong
 
 use crate::settling::{Settling, prepare};
 use held_calls::HeldCalls;
+use owner_queues::Queue;
 use registry::{Prepared, Registry};
 use seq_bus_core::{Change, Outcome};
 use std::alloc::{AllocError, Global};
@@ -48,9 +49,9 @@ pub fn prepare_all(
     let mut all = Vec::with_capacity(alloc, changes.len())?;
     let mut each = VecDeque::with_capacity(alloc, changes.len())?;
     let outcomes = Vec::with_capacity(alloc, changes.len())?;
+    let mut queue = Queue::new();
     for change in changes {
-        let (prepared, settling) = prepare(alloc, registry, seat, change)?;
-        registry.absorb(&prepared);
+        let (prepared, settling) = prepare(alloc, registry, &mut queue, seat, change)?;
         all.push_reserved(prepared);
         each.push_back_reserved(settling);
     }

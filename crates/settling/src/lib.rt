@@ -2,14 +2,15 @@
 //!
 //! A bus stands in a registry, with the calls that it holds beside it. [`prepare`] makes all that a change needs of memory:
 //! what each copy of the registry absorbs, and a [`Settling`], by which the calls are settled once the change is made.
-//! Then nothing can be refused. [`prepare_all`] does the same for a batch, which is made whole or not at all: it makes the
-//! changes on a registry of its own as it goes, so that each is prepared on the state that those before it leave, and
-//! gives [`Settlings`].
+//! Then nothing can be refused. [`prepare_all`] does the same for a batch, which is made whole or not at all: each change is
+//! prepared on the state that those before it leave, and it gives [`Settlings`]. Both make the changes on a registry of
+//! their own as they go.
 //!
 //! ```
 //! ghost use Rattle.settling.specs.Settlings.{IsSomeBus, SettlesAt};
 //!
 //! use held_calls::HeldCalls;
+//! use owner_queues::Queue;
 //! use registry::Registry;
 //! use seq_bus_core::{Change, Outcome};
 //! use settling::prepare;
@@ -25,8 +26,7 @@
 //!     requires { (settling : _) → SettlesAt registry.old 1 change.now settling
 //!         → IsSomeBus change.now settling calls.old }
 //! {
-//!     let (prepared, settling) = prepare(alloc, registry, 1, change)?;
-//!     registry.absorb(&prepared);
+//!     let (_, settling) = prepare(alloc, registry, &mut Queue::new(), 1, change)?;
 //!     Ok(settling.settle(calls, change))
 //! }
 //! ```

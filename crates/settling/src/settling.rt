@@ -2,11 +2,13 @@
 
 ghost use Rattle.std.specs.Prelude.{◌≡◌, option_and_then, option_map, IfOk};
 ghost use Rattle.seq_bus_core.specs.BusState.{conn_of, connection_of};
+ghost use Rattle.seq_bus_core.specs.Steps.{step};
 ghost use Rattle.held_calls.specs.Settling.{caller_of};
 ghost use Rattle.registry.specs.PreparedChanges.{IsPreparedFor};
 ghost use Rattle.settling.specs.Settlings.{IsSettled, IsSomeBus, SettlesAt};
 
 use held_calls::{CallRoom, HeldCalls, caller_of};
+use owner_queues::Queue;
 use registry::{Prepared, Registry};
 use seq_bus_core::{Change, Conn, NumberedOutcome, Outcome};
 use std::alloc::{AllocError, Global};
@@ -28,19 +30,25 @@ impl Model for Settling {
     ghost view = { λ s. record { told = s.told; caller = s.caller; room = s.room } };
 }
 
-/// Makes all that the change of a seat needs of memory: what the copies absorb, and what settles it then.
+/// Makes all that the change of a seat needs of memory: what the copies absorb, and what settles it then. The change is made
+/// on this registry, with a queue lent to work in.
+///
+/// Where memory is refused, it may have been made on it.
 pub fn prepare(
     alloc: Global,
-    registry: &Registry,
+    registry: &mut Registry,
+    queue: &mut Queue,
     seat: u8,
     change: &Change,
 ) -> Result<(Prepared, Settling), AllocError>
     ensures prepared { IfOk result (λ r. IsPreparedFor seat change.now r.0) }
-    ensures settles { IfOk result (λ r. SettlesAt registry.now seat change.now r.1) }
+    ensures settles { IfOk result (λ r. SettlesAt registry.old seat change.now r.1) }
+    ensures made { IfOk result (λ r.
+        registry.new ≡ (step registry.old r.0.seat r.0.change).0) }
 {
-    let mut prepared = registry.prepare(alloc, seat, change)?;
-    let room = HeldCalls::room_for(alloc, change, prepared.outcome())?;
     let caller = caller_in(registry, change);
+    let mut prepared = registry.make(queue, alloc, seat, change)?;
+    let room = HeldCalls::room_for(alloc, change, prepared.outcome())?;
     let told = prepared.take_outcome(alloc);
     let settling = Settling { told, caller, room };
     Ok((prepared, settling))

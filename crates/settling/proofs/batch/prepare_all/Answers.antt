@@ -29,7 +29,7 @@ loop-change-preserved c =
           (subst (λ (ps : List PreparedChange). ArePreparedFor seat (done ++ change ∷ []) ps) (sym c.push_reserved.ensures.items) all);
       settles = subst (λ (cs : List Change). SettleAlong s seat cs c.push_back_reserved.new.self.items) (sym more)
           (subst (λ (xs : List Settling). SettleAlong s seat (done ++ change ∷ []) xs) (sym c.push_back_reserved.ensures.items) each);
-      made = c.absorb.ensures ∙ absorbed_one c.loop-change.registry seat change p c.in_ok-prepared.ensures.prepared ∙ ap (λ (t : BusState). (step t seat change).0) inv.made ∙ sym (state_more s seat done change) ∙ ap (state_along s seat) (sym more);
+      made = c.in_ok-prepared.ensures.made ∙ absorbed_one c.loop-change.registry seat change p c.in_ok-prepared.ensures.prepared ∙ ap (λ (t : BusState). (step t seat change).0) inv.made ∙ sym (state_more s seat done change) ∙ ap (state_along s seat) (sym more);
       as_many = omega (arith, inv.as_many, c.push_reserved.ensures.len);
       room = omega (arith, inv.room, c.push_reserved.ensures.capacity);
       as_many_each = omega (arith, inv.as_many_each, c.push_back_reserved.ensures.len);
