@@ -11,7 +11,9 @@ use crate::facts::SignalNames;
 use crate::judging::add_conn;
 use match_rules::Facts;
 use names::BusName;
-use seq_bus_core::{AddressedSignal, BusSignal, Conn, Recipients, Signals};
+use seq_bus_core::{
+    AddressedSignal, Addressees, BusSignal, Conn, Recipients, SharedSignal, Signals,
+};
 use std::alloc::{AllocError, Global};
 
 /// A signal of the bus with those who get it, in the state that the audience is. A monitor that it
@@ -24,41 +26,57 @@ pub fn address<A: Audience>(
 ) -> Result<AddressedSignal, AllocError>
     ensures { IfOk result (λ told. told ≡ addressed (A.state audience.now) signal) }
 {
-    address_lent(audience, alloc, &signal, count)
+    address_shared(audience, alloc, SharedSignal::new(alloc, signal)?, count)
 }
 
-/// The same of a signal that is lent: it is large, and is moved only to where it stays.
-fn address_lent<A: Audience>(
+/// The same of a signal that is shared already: it is large, and is not moved.
+fn address_shared<A: Audience>(
     audience: &A,
     alloc: Global,
-    signal: &BusSignal,
+    signal: SharedSignal,
     count: &mut A::Count,
 ) -> Result<AddressedSignal, AllocError>
-    ensures { IfOk result (λ told. told ≡ addressed (A.state audience.now) signal.now) }
+    ensures { IfOk result (λ told. told ≡ addressed (A.state audience.now) signal) }
 {
     if audience.has_monitors() {
         return address_watched(audience, alloc, signal, count);
     }
-    match signal {
+    match signal.get() {
         BusSignal::NameOwnerChanged { .. } => address_any(audience, alloc, signal, count),
-        BusSignal::NameLost { owner, .. } => address_one(audience, alloc, signal, *owner),
-        BusSignal::NameAcquired { owner, .. } => address_one(audience, alloc, signal, *owner),
+        BusSignal::NameLost { owner, .. } => address_one(audience, alloc, *owner, signal),
+        BusSignal::NameAcquired { owner, .. } => address_one(audience, alloc, *owner, signal),
     }
+}
+
+/// A signal that goes to these connections, and is shown to these monitors.
+fn addressed_to(
+    alloc: Global,
+    signal: SharedSignal,
+    to: &[Conn],
+    monitors: &[Conn],
+) -> Result<AddressedSignal, AllocError>
+    ensures { IfOk result (λ told. told ≡ addressed_to signal to.now monitors.now) }
+{
+    Ok(AddressedSignal {
+        signal,
+        to: Addressees::of(alloc, to)?,
+        monitors: Addressees::of(alloc, monitors)?,
+    })
 }
 
 /// A signal that goes to the connection of a number, if it is there, and is shown to no monitor.
 fn address_one<A: Audience>(
     audience: &A,
     alloc: Global,
-    signal: &BusSignal,
     number: u64,
+    signal: SharedSignal,
 ) -> Result<AddressedSignal, AllocError>
     ensures { IfOk result (λ told. told
-        ≡ addressed_to signal.now (conn_at (A.state audience.now) (Some number)) []) }
+        ≡ addressed_to signal (conn_at (A.state audience.now) (Some number)) []) }
 {
     match audience.conn(number) {
-        Some(conn) => AddressedSignal::new(alloc, *signal, &[conn], &[]),
-        None => AddressedSignal::new(alloc, *signal, &[], &[]),
+        Some(conn) => addressed_to(alloc, signal, &[conn], &[]),
+        None => addressed_to(alloc, signal, &[], &[]),
     }
 }
 
@@ -67,16 +85,16 @@ fn address_one<A: Audience>(
 fn address_any<A: Audience>(
     audience: &A,
     alloc: Global,
-    signal: &BusSignal,
+    signal: SharedSignal,
     count: &mut A::Count,
 ) -> Result<AddressedSignal, AllocError>
     ensures { IfOk result (λ told. told
-        ≡ addressed_to signal.now (all_that_want (A.state audience.now) (facts_of signal.now)) []) }
+        ≡ addressed_to signal (all_that_want (A.state audience.now) (facts_of signal)) []) }
 {
     if audience.has_rules() {
         address_all(audience, alloc, signal, count)
     } else {
-        AddressedSignal::new(alloc, *signal, &[], &[])
+        addressed_to(alloc, signal, &[], &[])
     }
 }
 
@@ -86,18 +104,18 @@ fn address_any<A: Audience>(
 fn address_all<A: Audience>(
     audience: &A,
     alloc: Global,
-    signal: &BusSignal,
+    signal: SharedSignal,
     count: &mut A::Count,
 ) -> Result<AddressedSignal, AllocError>
     ensures { IfOk result (λ told. told
-        ≡ addressed_to signal.now (all_that_want (A.state audience.now) (facts_of signal.now)) []) }
+        ≡ addressed_to signal (all_that_want (A.state audience.now) (facts_of signal)) []) }
 {
     let mut to = Recipients::new();
-    let names = SignalNames::of(signal);
-    let arguments = names.arguments(signal);
-    let facts = names.facts(signal, arguments.as_slice());
+    let names = SignalNames::of(signal.get());
+    let arguments = names.arguments(signal.get());
+    let facts = names.facts(signal.get(), arguments.as_slice());
     audience.add_wanting(&facts, &mut to, count);
-    AddressedSignal::new(alloc, *signal, to.as_slice(), &[])
+    addressed_to(alloc, signal, to.as_slice(), &[])
 }
 
 /// The same as `address`, where monitors may be shown the signal. Its room for them is large, and is kept
@@ -106,24 +124,24 @@ fn address_all<A: Audience>(
 fn address_watched<A: Audience>(
     audience: &A,
     alloc: Global,
-    signal: &BusSignal,
+    signal: SharedSignal,
     count: &mut A::Count,
 ) -> Result<AddressedSignal, AllocError>
-    ensures { IfOk result (λ told. told ≡ addressed (A.state audience.now) signal.now) }
+    ensures { IfOk result (λ told. told ≡ addressed (A.state audience.now) signal) }
 {
     let mut to = Recipients::new();
-    let names = SignalNames::of(signal);
-    let arguments = names.arguments(signal);
-    let facts = names.facts(signal, arguments.as_slice());
-    add_recipients(audience, signal, &facts, &mut to, count);
+    let names = SignalNames::of(signal.get());
+    let arguments = names.arguments(signal.get());
+    let facts = names.facts(signal.get(), arguments.as_slice());
+    add_recipients(audience, signal.get(), &facts, &mut to, count);
     let mut shown = Recipients::new();
     audience.add_shown(&facts, &mut shown);
     if shown.as_slice().is_empty() {
-        return AddressedSignal::new(alloc, *signal, to.as_slice(), &[]);
+        return addressed_to(alloc, signal, to.as_slice(), &[]);
     }
     let mut monitors = Recipients::new();
     push_others(shown.as_slice(), to.as_slice(), &mut monitors);
-    AddressedSignal::new(alloc, *signal, to.as_slice(), monitors.as_slice())
+    addressed_to(alloc, signal, to.as_slice(), monitors.as_slice())
 }
 
 /// Adds those who get a signal of the bus: whom it concerns, or all that want it.
@@ -175,21 +193,7 @@ pub fn push<A: Audience>(
     ensures { OnOk result
         (signals.new ≡ signals.old ++ addressed (A.state audience.now) signal ∷ []) }
 {
-    push_lent(audience, alloc, signals, &signal, count)
-}
-
-/// The same of a signal that is lent.
-fn push_lent<A: Audience>(
-    audience: &A,
-    alloc: Global,
-    signals: &mut Signals,
-    signal: &BusSignal,
-    count: &mut A::Count,
-) -> Result<(), AllocError>
-    ensures { OnOk result
-        (signals.new ≡ signals.old ++ addressed (A.state audience.now) signal.now ∷ []) }
-{
-    signals.push(address_lent(audience, alloc, signal, count)?)
+    signals.push(address(audience, alloc, signal, count)?)
 }
 
 /// Tells the owner of a name, if it had one, that it has lost it.
@@ -207,7 +211,7 @@ fn push_lost<A: Audience>(
     match owner {
         Some(owner) => {
             let signal = BusSignal::NameLost { name: *name, owner };
-            push_lent(audience, alloc, signals, &signal, count)
+            push(audience, alloc, signals, signal, count)
         }
         None => Ok(()),
     }
@@ -228,7 +232,7 @@ fn push_acquired<A: Audience>(
     match owner {
         Some(owner) => {
             let signal = BusSignal::NameAcquired { name: *name, owner };
-            push_lent(audience, alloc, signals, &signal, count)
+            push(audience, alloc, signals, signal, count)
         }
         None => Ok(()),
     }
@@ -256,7 +260,7 @@ pub fn push_owner_signals<A: Audience>(
         old_owner,
         new_owner,
     };
-    push_lent(audience, alloc, signals, &signal, count)?;
+    push(audience, alloc, signals, signal, count)?;
     push_acquired(audience, alloc, signals, name, new_owner, count)
 }
 
@@ -279,7 +283,7 @@ pub fn push_left_name<A: Audience>(
         old_owner: Some(leaver),
         new_owner,
     };
-    push_lent(audience, alloc, signals, &signal, count)?;
+    push(audience, alloc, signals, signal, count)?;
     push_acquired(audience, alloc, signals, name, new_owner, count)
 }
 
