@@ -9,12 +9,12 @@ use Rattle.registry.specs.declared.prepared.Act.TheVariants.{Hello, Leave, Reque
 abbrev pub change_of : Act → Change
 change_of (Hello privileged) = SaysHello privileged
 change_of (Leave connection) = Leaves connection
-change_of (Request connection name flags) = Requests connection name flags
-change_of (Release connection name) = Releases connection name
+change_of (Request connection name flags) = Requests connection name.value flags
+change_of (Release connection name) = Releases connection name.value
 change_of (AddMatch connection rule) = AddsMatch connection rule.value
 change_of (RemoveMatch connection rule) = RemovesMatch connection rule.value
 change_of (BecomeMonitor connection rules) = BecomesMonitor connection rules
-change_of (Start connection name) = Starts connection name no_call
-change_of (Hold connection name) = Holds connection name no_call []
-change_of (ChildEnded name start how) = EndsChild name start how
-change_of (StartTimedOut name start) = TimesOut name start
+change_of (Start connection name) = Starts connection name.value no_call
+change_of (Hold connection name) = Holds connection name.value no_call []
+change_of (ChildEnded name start how) = EndsChild name.value start how
+change_of (StartTimedOut name start) = TimesOut name.value start

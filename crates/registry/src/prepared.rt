@@ -10,8 +10,8 @@ use std::alloc::Global;
 use std::marker::Model;
 use std::mem::replace;
 
-/// A change by what its step looks at. A rule lies on the heap, since it is larger than all else that a change has: a
-/// prepared change is moved often.
+/// A change by what its step looks at. Names and rules lie on the heap, since they have their fixed room in them: a prepared
+/// change is moved often.
 #[derive(Drop)]
 pub enum Act {
     Hello {
@@ -22,12 +22,12 @@ pub enum Act {
     },
     Request {
         connection: u64,
-        name: BusName,
+        name: Box<BusName>,
         flags: RequestFlags,
     },
     Release {
         connection: u64,
-        name: BusName,
+        name: Box<BusName>,
     },
     AddMatch {
         connection: u64,
@@ -43,19 +43,19 @@ pub enum Act {
     },
     Start {
         connection: u64,
-        name: BusName,
+        name: Box<BusName>,
     },
     Hold {
         connection: u64,
-        name: BusName,
+        name: Box<BusName>,
     },
     ChildEnded {
-        name: BusName,
+        name: Box<BusName>,
         start: u64,
         how: Ending,
     },
     StartTimedOut {
-        name: BusName,
+        name: Box<BusName>,
         start: u64,
     },
 }

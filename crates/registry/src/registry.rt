@@ -114,12 +114,12 @@ impl Registry {
                 connection,
                 name,
                 ..
-            } => Ok(self.prepare_start(alloc, seat, *connection, name)),
+            } => self.prepare_start(alloc, seat, *connection, name),
             Change::Hold {
                 connection,
                 name,
                 ..
-            } => Ok(self.prepare_hold(alloc, seat, *connection, name)),
+            } => self.prepare_hold(alloc, seat, *connection, name),
             Change::ChildEnded { name, start, how } => {
                 self.prepare_child_ended(alloc, seat, name, *start, *how)
             }
@@ -156,9 +156,11 @@ impl Registry {
                 self.make_release(queue, alloc, seat, *connection, name)
             }
             _ => {
-                let prepared = self.prepare(alloc, seat, change)?;
-                self.absorb(&prepared);
-                Ok(prepared)
+                let prepared = self.prepare(alloc, seat, change);
+                if let Ok(prepared) = &prepared {
+                    self.absorb(prepared);
+                }
+                prepared
             }
         }
     }

@@ -20,6 +20,15 @@ use registry_core::NameTable;
 use seq_bus_core::{Fate, NumberedOutcome, Reply, Signals};
 use std::alloc::{AllocError, Global};
 
+/// What a request or a release of a name comes to: the change as it is prepared, where the name was found, and the reply of
+/// its queue, or why nothing changes.
+#[derive(Drop)]
+struct Asked {
+    prepared: Prepared,
+    found: Result<usize, usize>,
+    change: Result<QueueReply, Reply>,
+}
+
 impl Registry {
     pub(crate) fn prepare_request(
         &self,
@@ -32,20 +41,8 @@ impl Registry {
         ensures { IfOk result (λ prepared. prepared
             ≡ prepared_on self.now seat (Request connection name.now flags)) }
     {
-        let _ = &self.members;
-        let mut queue = Queue::new();
-        let found = copy_queue(&self.names, name, &mut queue);
-        let owner = queue.head();
-        let change = self.when_requested(connection, name, found, flags, &mut queue);
-        Ok(Prepared {
-            seat,
-            act: Act::Request {
-                connection,
-                name: *name,
-                flags,
-            },
-            outcome: self.outcome_of_request(alloc, name, owner, &queue, change)?,
-        })
+        let asked = self.ask_request(&mut Queue::new(), alloc, seat, connection, name, flags)?;
+        Ok(asked.prepared)
     }
 
     pub(crate) fn prepare_release(
@@ -58,19 +55,8 @@ impl Registry {
         ensures { IfOk result (λ prepared. prepared
             ≡ prepared_on self.now seat (Release connection name.now)) }
     {
-        let _ = &self.members;
-        let mut queue = Queue::new();
-        let _ = copy_queue(&self.names, name, &mut queue);
-        let owner = queue.head();
-        let change = self.when_released(connection, name, &mut queue);
-        Ok(Prepared {
-            seat,
-            act: Act::Release {
-                connection,
-                name: *name,
-            },
-            outcome: self.outcome_of_requeue(alloc, name, owner, &queue, change)?,
-        })
+        let asked = self.ask_release(&mut Queue::new(), alloc, seat, connection, name)?;
+        Ok(asked.prepared)
     }
 
     /// Prepares a request, and makes it here. The name is looked for once.
@@ -89,27 +75,15 @@ impl Registry {
             (self.new ≡ (step self.old seat (Request connection name.now flags)).0) }
         ensures same { OnErr result (self.new ≡ self.old) }
     {
-        let _ = &self.members;
-        let found = copy_queue(&self.names, name, queue);
-        let owner = queue.head();
-        let change = self.when_requested(connection, name, found, flags, queue);
-        let outcome = self.outcome_of_request(alloc, name, owner, queue, change)?;
-        match change {
+        let asked = self.ask_request(queue, alloc, seat, connection, name, flags)?;
+        match asked.change {
             Ok(_) => {
-                self.names.set_queue_at(found, name, queue);
+                self.names.set_queue_at(asked.found, name, queue);
                 self.starts.end(name);
             }
             Err(_) => {}
         }
-        Ok(Prepared {
-            seat,
-            act: Act::Request {
-                connection,
-                name: *name,
-                flags,
-            },
-            outcome,
-        })
+        Ok(asked.prepared)
     }
 
     /// The same of a release.
@@ -127,22 +101,81 @@ impl Registry {
             (self.new ≡ (step self.old seat (Release connection name.now)).0) }
         ensures same { OnErr result (self.new ≡ self.old) }
     {
+        let asked = self.ask_release(queue, alloc, seat, connection, name)?;
+        match asked.change {
+            Ok(_) => self.names.set_queue_at(asked.found, name, queue),
+            Err(_) => {}
+        }
+        Ok(asked.prepared)
+    }
+
+    /// What a request comes to. The queue becomes the queue of the name after it, where it changes that.
+    fn ask_request(
+        &self,
+        queue: &mut Queue,
+        alloc: Global,
+        seat: u8,
+        connection: u64,
+        name: &BusName,
+        flags: RequestFlags,
+    ) -> Result<Asked, AllocError>
+        ensures prepared { IfOk result (λ asked. asked.prepared
+            ≡ prepared_on self.now seat (Request connection name.now flags)) }
+        ensures found { IfOk result (λ asked. SearchGives self.now.names name.now asked.found) }
+        ensures change { IfOk result (λ asked. changed queue.new asked.change
+            ≡ when_requested self.now connection name.now flags) }
+    {
+        let _ = &self.members;
+        let found = copy_queue(&self.names, name, queue);
+        let owner = queue.head();
+        let change = self.when_requested(connection, name, found, flags, queue);
+        let prepared = Prepared {
+            seat,
+            act: Act::Request {
+                connection,
+                name: Box::new(alloc, *name)?,
+                flags,
+            },
+            outcome: self.outcome_of_request(alloc, name, owner, queue, change)?,
+        };
+        Ok(Asked {
+            prepared,
+            found,
+            change,
+        })
+    }
+
+    /// The same of a release.
+    fn ask_release(
+        &self,
+        queue: &mut Queue,
+        alloc: Global,
+        seat: u8,
+        connection: u64,
+        name: &BusName,
+    ) -> Result<Asked, AllocError>
+        ensures prepared { IfOk result (λ asked. asked.prepared
+            ≡ prepared_on self.now seat (Release connection name.now)) }
+        ensures found { IfOk result (λ asked. SearchGives self.now.names name.now asked.found) }
+        ensures change { IfOk result (λ asked. changed queue.new asked.change
+            ≡ when_released self.now connection name.now) }
+    {
         let _ = &self.members;
         let found = copy_queue(&self.names, name, queue);
         let owner = queue.head();
         let change = self.when_released(connection, name, queue);
-        let outcome = self.outcome_of_requeue(alloc, name, owner, queue, change)?;
-        match change {
-            Ok(_) => self.names.set_queue_at(found, name, queue),
-            Err(_) => {}
-        }
-        Ok(Prepared {
+        let prepared = Prepared {
             seat,
             act: Act::Release {
                 connection,
-                name: *name,
+                name: Box::new(alloc, *name)?,
             },
-            outcome,
+            outcome: self.outcome_of_requeue(alloc, name, owner, queue, change)?,
+        };
+        Ok(Asked {
+            prepared,
+            found,
+            change,
         })
     }
 

@@ -25,18 +25,19 @@ impl Registry {
         seat: u8,
         connection: u64,
         name: &BusName,
-    ) -> Prepared
-        ensures { result ≡ prepared_on self.now seat (Start connection name.now no_call) }
+    ) -> Result<Prepared, AllocError>
+        ensures { IfOk result (λ prepared. prepared
+            ≡ prepared_on self.now seat (Start connection name.now no_call)) }
     {
         let reply = self.reply_to_start(connection, name);
-        Prepared {
+        Ok(Prepared {
             seat,
             act: Act::Start {
                 connection,
-                name: *name,
+                name: Box::new(alloc, *name)?,
             },
             outcome: self.told_to_wait(alloc, name, reply),
-        }
+        })
     }
 
     pub(crate) fn prepare_hold(
@@ -45,18 +46,19 @@ impl Registry {
         seat: u8,
         connection: u64,
         name: &BusName,
-    ) -> Prepared
-        ensures { result ≡ prepared_on self.now seat (Hold connection name.now no_call []) }
+    ) -> Result<Prepared, AllocError>
+        ensures { IfOk result (λ prepared. prepared
+            ≡ prepared_on self.now seat (Hold connection name.now no_call [])) }
     {
         let reply = self.reply_to_hold(connection, name);
-        Prepared {
+        Ok(Prepared {
             seat,
             act: Act::Hold {
                 connection,
-                name: *name,
+                name: Box::new(alloc, *name)?,
             },
             outcome: self.told_to_wait(alloc, name, reply),
-        }
+        })
     }
 
     pub(crate) fn prepare_child_ended(
@@ -74,7 +76,7 @@ impl Registry {
         Ok(Prepared {
             seat,
             act: Act::ChildEnded {
-                name: *name,
+                name: Box::new(alloc, *name)?,
                 start,
                 how,
             },
@@ -95,7 +97,10 @@ impl Registry {
         let outcome = self.outcome_of_failure(alloc, name, start)?;
         Ok(Prepared {
             seat,
-            act: Act::StartTimedOut { name: *name, start },
+            act: Act::StartTimedOut {
+                name: Box::new(alloc, *name)?,
+                start,
+            },
             outcome,
         })
     }

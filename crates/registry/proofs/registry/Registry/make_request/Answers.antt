@@ -5,13 +5,10 @@ use Rattle.seq_bus_core.specs.BusState.{BusState, OwnedName, RunningStart}
 use Rattle.seq_bus_core.specs.Steps.{step, with_owned}
 use Rattle.seq_bus_core.specs.declared.change.Change.{Change}
 use Rattle.seq_bus_core.specs.declared.change.Change.TheVariants.{Request}
-use Rattle.seq_bus_core.specs.declared.outcome.NumberedOutcome.{NumberedOutcome}
 use Rattle.registry.specs.declared.registry.Registry.TheInside.{Inside}
-use Rattle.registry.specs.PreparedChanges.{PreparedChange}
-use Rattle.registry.specs.Requests.{request_outcome}
 use Rattle.registry.specs.Tables.{state_of}
 use Rattle.registry.proofs.Kept.{kept}
-use Rattle.registry.proofs.RequestLemmas.{limits_after, request_made, request_told, request_unmade}
+use Rattle.registry.proofs.RequestLemmas.{limits_after, request_made, request_unmade}
 use Rattle.registry.proofs.registry.Registry.make_request.Goals as goal
 use Rattle.registry.proofs.registry.Registry.make_request.Goals.{After-end, in-Ok, in-Err}
 
@@ -19,10 +16,10 @@ pub set_queue_at-requires-clause-few_places : goal.set_queue_at-requires-clause-
 set_queue_at-requires-clause-few_places c =
     let s : BusState = state_of c.self.inside in
     let name = c.args.name.now in
-    let queue : Queue = c.when_requested-change.new.queue in
+    let queue : Queue = c.ask_request.new.queue in
     let change : Change = Request c.args.connection name c.args.flags in
     (limits_after s c.args.seat change (with_owned s name queue) c.self.invariant.consistent c.self.invariant.within_limits
-    (request_made s c.args.self.now c.args.seat c.args.connection name c.args.flags queue _ c.in-Ok.field-0 c.self.view_is c.when_requested-change.ensures c.in-Ok.is)).queued
+    (request_made s c.args.self.now c.args.seat c.args.connection name c.args.flags queue _ c.in-Ok.field-0 c.self.view_is c.in_ok-asked.ensures.change c.in-Ok.is)).queued
 
 next : After-end → Inside
 next c = record c.self.inside { names = c.set_queue_at.new.self; starts = c.end.new.self }
@@ -32,8 +29,8 @@ unfolding next
 after c =
     let s : BusState = state_of c.self.inside in
     let name = c.args.name.now in
-    let queue : Queue = c.when_requested-change.new.queue in
-    request_made s c.args.self.now c.args.seat c.args.connection name c.args.flags queue _ c.in-Ok.field-0 c.self.view_is c.when_requested-change.ensures c.in-Ok.is
+    let queue : Queue = c.ask_request.new.queue in
+    request_made s c.args.self.now c.args.seat c.args.connection name c.args.flags queue _ c.in-Ok.field-0 c.self.view_is c.in_ok-asked.ensures.change c.in-Ok.is
     ∙ ap (λ (names : List OwnedName). record s { names = names; starts = filter (λ r. not (text_eq r.name name)) s.starts }) (sym c.set_queue_at.ensures)
     ∙ ap (λ (starts : List RunningStart). record s { names = c.set_queue_at.new.self; starts = starts }) (sym c.end.ensures)
 
@@ -41,25 +38,18 @@ pub invariant_of-self : goal.invariant_of-self
 unfolding next
 invariant_of-self c = kept c.self.inside (next c) c.self.invariant c.args.seat (Request c.args.connection c.args.name.now c.args.flags) (after c) refl
 
-pub returns-clause-prepared : goal.returns-clause-prepared
-returns-clause-prepared c =
-    let s : BusState = c.args.self.now in
-    let told : NumberedOutcome → PreparedChange = λ o. record { seat = c.args.seat; change = Request c.args.connection c.args.name.now c.args.flags; outcome = o } in
-    ap told (c.in_ok-outcome.ensures ∙ ap (request_outcome s c.args.name.now) c.when_requested-change.ensures
-    ∙ sym (request_told s c.args.seat c.args.connection c.args.name.now c.args.flags))
-
 pub returns-clause-made : goal.returns-clause-made
 returns-clause-made c =
     let s : BusState = state_of c.self.inside in
     let name = c.args.name.now in
-    let queue : Queue = c.when_requested-change.new.queue in
-    elim c.match-change.branch [
+    let queue : Queue = c.ask_request.new.queue in
+    elim c.match-asked.branch [
       | in-Ok w ↦
           w.self-is
-          ∙ rw (← c.self.view_is) (sym (request_made s c.args.self.now c.args.seat c.args.connection name c.args.flags queue _ w.in-Ok.field-0 c.self.view_is c.when_requested-change.ensures w.in-Ok.is
+          ∙ rw (← c.self.view_is) (sym (request_made s c.args.self.now c.args.seat c.args.connection name c.args.flags queue _ w.in-Ok.field-0 c.self.view_is c.in_ok-asked.ensures.change w.in-Ok.is
           ∙ ap (λ (names : List OwnedName). record s { names = names; starts = filter (λ r. not (text_eq r.name name)) s.starts }) (sym w.set_queue_at.ensures)
           ∙ ap (λ (starts : List RunningStart). record s { names = w.set_queue_at.new.self; starts = starts }) (sym w.end.ensures)))
       | in-Err w ↦
           w.self-is
-          ∙ sym (request_unmade c.args.self.now c.args.seat c.args.connection name c.args.flags queue _ w.in-Err.field-0 c.when_requested-change.ensures w.in-Err.is)
+          ∙ sym (request_unmade c.args.self.now c.args.seat c.args.connection name c.args.flags queue _ w.in-Err.field-0 c.in_ok-asked.ensures.change w.in-Err.is)
     ]

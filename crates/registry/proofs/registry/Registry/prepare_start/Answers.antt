@@ -13,4 +13,5 @@ returns c =
     let s : BusState = c.args.self.now in
     let name = c.args.name.now in
     let told : NumberedOutcome → PreparedChange = λ o. record { seat = c.args.seat; change = Start c.args.connection name no_call; outcome = o } in
-    ap told (c.told_to_wait.ensures ∙ ap (told_to_wait s name) c.reply_to_start-reply.ensures ∙ sym (ap (λ r. r.1) (start_by s c.args.seat c.args.connection name no_call)))
+    ap (λ name. record { seat = c.args.seat; change = Start c.args.connection name no_call; outcome = c.told_to_wait.result }) c.in_ok-new.ensures.ok
+    ∙ ap told (c.told_to_wait.ensures ∙ ap (told_to_wait s name) c.reply_to_start-reply.ensures ∙ sym (ap (λ r. r.1) (start_by s c.args.seat c.args.connection name no_call)))

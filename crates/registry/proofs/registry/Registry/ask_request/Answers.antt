@@ -5,11 +5,12 @@ use Rattle.seq_bus_core.specs.declared.outcome.NumberedOutcome.{NumberedOutcome}
 use Rattle.registry.specs.PreparedChanges.{PreparedChange}
 use Rattle.registry.specs.Requests.{request_outcome}
 use Rattle.registry.proofs.RequestLemmas.{request_told}
-use Rattle.registry.proofs.registry.Registry.prepare_request.Goals as goal
+use Rattle.registry.proofs.registry.Registry.ask_request.Goals as goal
 
-pub returns : goal.returns
-returns c =
+pub returns-clause-prepared : goal.returns-clause-prepared
+returns-clause-prepared c =
     let s : BusState = c.args.self.now in
     let told : NumberedOutcome → PreparedChange = λ o. record { seat = c.args.seat; change = Request c.args.connection c.args.name.now c.args.flags; outcome = o } in
-    ap told (c.in_ok-outcome_of_request.ensures ∙ ap (request_outcome s c.args.name.now) c.when_requested-change.ensures
+    ap (λ name. record { seat = c.args.seat; change = Request c.args.connection name c.args.flags; outcome = c.in_ok-outcome_of_request.field-0 }) c.in_ok-new.ensures.ok
+    ∙ ap told (c.in_ok-outcome_of_request.ensures ∙ ap (request_outcome s c.args.name.now) c.when_requested-change.ensures
     ∙ sym (request_told s c.args.seat c.args.connection c.args.name.now c.args.flags))
