@@ -9,6 +9,14 @@ use seq_bus_core::{Call, Change, MonitorRules, Outcome, Reply};
 use std::alloc::Global;
 use std::sync::Wait;
 
+/// Whether a change is answered so: 1 or 0.
+fn is_told(outcome: &Option<Outcome>, reply: Reply) -> u64 {
+    match outcome {
+        Some(outcome) => u64::from(outcome.reply == reply),
+        None => 0,
+    }
+}
+
 /// A seat, with what it takes to make changes.
 #[derive(Drop)]
 pub struct Bus<'a, J: Naming, R> {
@@ -27,14 +35,6 @@ impl<J: Naming, R: Wait> Bus<'_, J, R> {
         }
     }
 
-    /// Makes a change: 1 where it is answered so.
-    fn told(&mut self, change: Change, reply: Reply) -> u64 {
-        match self.make(change) {
-            Some(outcome) => u64::from(outcome.reply == reply),
-            None => 0,
-        }
-    }
-
     /// How many get a message of connection 1, and one.
     pub fn route(&mut self, facts: &Facts<'_>) -> u64 {
         match self.seat.route(1, facts) {
@@ -47,7 +47,8 @@ impl<J: Naming, R: Wait> Bus<'_, J, R> {
     pub fn change_rules(&mut self, of: u64, rule: &Rule, is_added: bool, count: usize) -> u64 {
         let mut done = 0u64;
         for _ in 0..count {
-            done = done.wrapping_add(self.told(rule_change(of, rule, is_added), Reply::Done));
+            let told = self.make(rule_change(of, rule, is_added));
+            done = done.wrapping_add(is_told(&told, Reply::Done));
         }
         done
     }
@@ -76,9 +77,12 @@ impl<J: Naming, R: Wait> Bus<'_, J, R> {
 
     /// RequestName of a name that nobody has, and ReleaseName: how many are answered so.
     pub fn own(&mut self, name: BusName) -> u64 {
-        let owned = self.told(request(1, name), Reply::OfQueue(QueueReply::PrimaryOwner));
-        let released = self.told(release(1, name), Reply::OfQueue(QueueReply::Released));
-        owned.wrapping_add(released)
+        let owned = self.make(request(1, name));
+        let released = self.make(release(1, name));
+        is_told(&owned, Reply::OfQueue(QueueReply::PrimaryOwner)).wrapping_add(is_told(
+            &released,
+            Reply::OfQueue(QueueReply::Released),
+        ))
     }
 
     /// Hello, BecomeMonitor and Leave of one connection: how many of the last two are done.
@@ -88,8 +92,9 @@ impl<J: Naming, R: Wait> Bus<'_, J, R> {
         };
         let connection = conn.number;
         let rules = MonitorRules::new(self.alloc);
-        let done = self.told(Change::BecomeMonitor { connection, rules }, Reply::Done);
-        Some(done.wrapping_add(self.told(Change::Leave { connection }, Reply::Done)))
+        let watches = self.make(Change::BecomeMonitor { connection, rules });
+        let left = self.make(Change::Leave { connection });
+        Some(is_told(&watches, Reply::Done).wrapping_add(is_told(&left, Reply::Done)))
     }
 
     /// 100 StartServiceByName of connection 1, RequestName of connection 2, and its ReleaseName: 1,000 for each call that
