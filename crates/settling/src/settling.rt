@@ -1,6 +1,6 @@
 //! What settles a change once it is made.
 
-ghost use Rattle.std.specs.Prelude.{◌≡◌, option_and_then, option_map, IfOk};
+ghost use Rattle.std.specs.Prelude.{◌≡◌, ◌⊎◌, option_and_then, option_map, IfOk, OnErr};
 ghost use Rattle.seq_bus_core.specs.BusState.{conn_of, connection_of};
 ghost use Rattle.seq_bus_core.specs.Steps.{step};
 ghost use Rattle.held_calls.specs.Settling.{caller_of};
@@ -33,7 +33,7 @@ impl Model for Settling {
 /// Makes all that the change of a seat needs of memory: what the copies absorb, and what settles it then. The change is made
 /// on this registry, with a queue lent to work in.
 ///
-/// Where memory is refused, it may have been made on it.
+/// Where memory is refused, the registry is as it was, or the change is made on it.
 pub fn prepare(
     alloc: Global,
     registry: &mut Registry,
@@ -45,6 +45,8 @@ pub fn prepare(
     ensures settles { IfOk result (λ r. SettlesAt registry.old seat change.now r.1) }
     ensures made { IfOk result (λ r.
         registry.new ≡ (step registry.old r.0.seat r.0.change).0) }
+    ensures refused { OnErr result ((registry.new ≡ registry.old)
+        ⊎ (registry.new ≡ (step registry.old seat change.now).0)) }
 {
     let caller = caller_in(registry, change);
     let mut prepared = registry.make(queue, alloc, seat, change)?;
