@@ -10,6 +10,8 @@ mod buses;
 #[cfg(test)]
 mod limits;
 #[cfg(test)]
+mod made;
+#[cfg(test)]
 mod monitors;
 #[cfg(test)]
 mod openings;
