@@ -109,17 +109,25 @@ impl<'a, V: BusView, G: Gate, P: Post<V>, S: Socket, E: Source<S>, W: Wake + Dro
     fn take_events<R: Wait>(&mut self, rt: &R, right: &V::Right) -> bool {
         self.coordinator.looks_for_connections(self.me);
         for _ in rt.forever() {
-            match self.source.next(rt) {
-                None => return false,
-                Some(SourceEvent::Accepted { socket, challenge }) => self.open(
-                    right, socket, challenge,
-                ),
-                Some(SourceEvent::Readable { key, closing }) => self.host.readable(key, closing),
-                Some(SourceEvent::Writable { key }) => self.host.writable(key),
-                Some(SourceEvent::Ended) => return true,
+            let Some(event) = self.source.next(rt) else {
+                return false;
+            };
+            if self.take_event(right, event) {
+                return true;
             }
         }
         unreachable!()
+    }
+
+    /// Tells the host of an event, and whether it is the last.
+    fn take_event(&mut self, right: &V::Right, event: SourceEvent<S>) -> bool {
+        match event {
+            SourceEvent::Accepted { socket, challenge } => self.open(right, socket, challenge),
+            SourceEvent::Readable { key, closing } => self.host.readable(key, closing),
+            SourceEvent::Writable { key } => self.host.writable(key),
+            SourceEvent::Ended => return true,
+        }
+        false
     }
 
     /// A connection came. It is dropped where there is no room for it.

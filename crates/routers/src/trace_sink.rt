@@ -56,13 +56,18 @@ impl<'a, J: Naming, W: Wake + Drop, R: Wait, G: Gate, S: Socket, T: TraceSink> R
         &mut self,
         host: &mut Host<Traced<Desk<'a, J, R>>, G, LanePost<'a, J, W>, S>,
     ) -> Result<(), Fault> {
-        let lines = host.take_lines();
-        if !lines.is_empty() {
-            self.write(lines.as_slice())?;
-        }
+        write_any(self, host.take_lines())?;
         match host.lost() {
             true => Err(Fault::Memory),
             false => Ok(()),
         }
+    }
+}
+
+/// Writes lines, if there are any.
+fn write_any<T: TraceSink>(sink: &mut T, lines: Vec<u8>) -> Result<(), Fault> {
+    match lines.is_empty() {
+        true => Ok(()),
+        false => sink.write(lines.as_slice()),
     }
 }
