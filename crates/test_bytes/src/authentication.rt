@@ -41,6 +41,19 @@ fn speak(
         end: End::Going,
         rest: Vec::new(alloc),
     };
+    let spoken = feed(&mut server, text, length, &mut outcome);
+    drop(server);
+    spoken?;
+    Ok(outcome)
+}
+
+/// Feeds the server a text in pieces of a length.
+fn feed(
+    server: &mut Server,
+    text: &[u8],
+    length: usize,
+    outcome: &mut Outcome,
+) -> Result<(), AllocError> {
     for piece in text.chunks(length.max(1)) {
         let step = server.feed(piece);
         outcome.sent.extend_from_slice(&step.sent)?;
@@ -53,7 +66,7 @@ fn speak(
             Progress::Closed(fault) => End::Closed(fault.code()),
         };
     }
-    Ok(outcome)
+    Ok(())
 }
 
 /// `talk | USER | anonymous or not | BYTES`: what the server sends, and how the conversation stands, in one piece and byte by byte.

@@ -93,24 +93,36 @@ fn written(alloc: Global, row: &Row<'_>, values: &[Value]) -> Result<Vec<u8>, Al
 /// `arguments | ORDER | OFFSET | SIGNATURE | BYTES`: the arguments in a body; and those in it when it was checked.
 pub fn arguments(alloc: Global, row: &Row<'_>) -> Result<String, AllocError> {
     let bytes = row.bytes(alloc, 4)?;
-    let Ok(types) = Types::parse(row.text(3)) else {
-        return String::from_str(alloc, "no signature");
+    let mut text = String::new(alloc);
+    let written = match Types::parse(row.text(3)) {
+        Ok(types) => write_arguments(row, types, &bytes, &mut text),
+        Err(_) => text.push_str("no signature"),
     };
+    drop(bytes);
+    written?;
+    Ok(text)
+}
+
+fn write_arguments(
+    row: &Row<'_>,
+    types: Types<'_>,
+    bytes: &[u8],
+    text: &mut String,
+) -> Result<(), AllocError> {
     let order = order_of(row);
     let offset = row.number(2) as usize;
-    let mut text = String::new(alloc);
-    for argument in Arguments::new(order, offset, types, &bytes) {
+    for argument in Arguments::new(order, offset, types, bytes) {
         write!(text, "{argument:?} ")?;
     }
     text.push_str("=")?;
-    let Ok(length) = check(order, offset, types, &bytes) else {
-        return Ok(text);
+    let Ok(length) = check(order, offset, types, bytes) else {
+        return Ok(());
     };
     if length < bytes.len() {
-        return Ok(text);
+        return Ok(());
     }
-    for argument in CheckedArguments::new(order, offset, types, &bytes) {
+    for argument in CheckedArguments::new(order, offset, types, bytes) {
         write!(text, " {argument:?}")?;
     }
-    Ok(text)
+    Ok(())
 }

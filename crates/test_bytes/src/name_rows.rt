@@ -23,9 +23,15 @@ fn told(alloc: Global, fault: NameFault) -> Result<String, AllocError> {
 /// `connection | NUMBER`, `padded | NUMBER`: the unique name of a connection. `order | A | B`: two bus names compared.
 pub fn name(alloc: Global, row: &Row<'_>) -> Result<String, AllocError> {
     let bytes = row.bytes(alloc, 1)?;
-    let Ok(text) = str::from_utf8(&bytes) else {
-        return String::from_str(alloc, "no text");
+    let told = match str::from_utf8(&bytes) {
+        Ok(text) => name_of(alloc, row, text),
+        Err(_) => String::from_str(alloc, "no text"),
     };
+    drop(bytes);
+    told
+}
+
+fn name_of(alloc: Global, row: &Row<'_>, text: &str) -> Result<String, AllocError> {
     match row.text(0) {
         "interface" => read!(alloc; Interface::parse(text)),
         "error" => read!(alloc; ErrorName::parse(text)),

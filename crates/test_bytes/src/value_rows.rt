@@ -24,24 +24,44 @@ pub fn value(alloc: Global, row: &Row<'_>) -> Result<String, AllocError> {
 
 fn string(alloc: Global, row: &Row<'_>) -> Result<String, MarshalFault> {
     let bytes = row.bytes(alloc, 1)?;
-    let text = str::from_utf8(&bytes).unwrap_or("no text");
-    let value = Value::from_str(alloc, text)?;
+    let told = both_values(alloc, str::from_utf8(&bytes).unwrap_or("no text"));
+    drop(bytes);
+    told
+}
+
+fn both_values(alloc: Global, text: &str) -> Result<String, MarshalFault> {
+    let value = shown(alloc, Value::from_str(alloc, text)?)?;
     let basic = BasicValue::from_str(alloc, text)?;
-    Ok(format!(in alloc; "{value:?} {basic:?}")?)
+    let told = format!(in alloc; "{value} {basic:?}");
+    drop(basic);
+    Ok(told?)
+}
+
+/// A value as it is debugged.
+fn shown(alloc: Global, value: Value) -> Result<String, AllocError> {
+    let told = format!(in alloc; "{value:?}");
+    drop(value);
+    told
 }
 
 fn object(alloc: Global, text: &str) -> Result<String, MarshalFault> {
     match ObjectPath::parse(text) {
-        Ok(path) => {
-            let value = Value::from_path(alloc, &path)?;
-            Ok(format!(in alloc; "{value:?}")?)
-        }
+        Ok(path) => Ok(shown(alloc, Value::from_path(alloc, &path)?)?),
         Err(_) => Err(MarshalFault::Path),
     }
 }
 
 fn every_type(alloc: Global) -> Result<String, MarshalFault> {
     let mut fields = Vec::new(alloc);
+    let pushed = push_every_type(alloc, &mut fields);
+    let value = Value::Struct(fields);
+    let told = format!(in alloc; "{value}");
+    drop(value);
+    pushed?;
+    Ok(told?)
+}
+
+fn push_every_type(alloc: Global, fields: &mut Vec<Value>) -> Result<(), MarshalFault> {
     fields.push(Value::from(7u8))?;
     fields.push(Value::from(true))?;
     fields.push(Value::from(i16::MIN))?;
@@ -52,10 +72,9 @@ fn every_type(alloc: Global) -> Result<String, MarshalFault> {
     fields.push(Value::from(u64::MAX))?;
     fields.push(Value::from(String::from_str(alloc, "a \"b\"")?))?;
     fields.push(Value::from(Signature::parse(alloc, "a{sv}")?))?;
-    push_containers(alloc, &mut fields)?;
+    push_containers(alloc, fields)?;
     fields.push(Value::Basic(BasicValue::Double([0, 1, 2, 3, 4, 5, 6, 255])))?;
-    let value = Value::Struct(fields);
-    Ok(format!(in alloc; "{value}")?)
+    Ok(())
 }
 
 fn push_containers(alloc: Global, fields: &mut Vec<Value>) -> Result<(), MarshalFault> {
@@ -68,23 +87,32 @@ fn push_containers(alloc: Global, fields: &mut Vec<Value>) -> Result<(), Marshal
 }
 
 fn written(alloc: Global, row: &Row<'_>) -> Result<String, MarshalFault> {
-    let count = row.number(2);
-    let values = match row.text(1) {
+    let values = values_of(alloc, row)?;
+    let told = encoded(alloc, &values);
+    drop(values);
+    Ok(told?)
+}
+
+fn values_of(alloc: Global, row: &Row<'_>) -> Result<Vec<Value>, AllocError> {
+    match row.text(1) {
         "nul" => one(alloc, BasicValue::String(String::from_str(alloc, "a\0b")?)),
         "relative" => one(
             alloc,
             BasicValue::ObjectPath(String::from_str(alloc, "a/b")?),
         ),
         "mixed" => mixed(alloc),
-        "variants" => within_variants(alloc, count),
+        "variants" => within_variants(alloc, row.number(2)),
         _ => empty_struct(alloc),
-    }?;
+    }
+}
+
+/// The bytes behind one that stands there, or the fault and what stands there then.
+fn encoded(alloc: Global, values: &[Value]) -> Result<String, AllocError> {
     let mut output = vec![in alloc; 255]?;
-    let fault = encode(alloc, Order::Little, 0, &values, &mut output).err();
-    Ok(match fault {
-        Some(fault) => format!(in alloc; "{}: {fault}, {}", fault.code(), Escaped(&output))?,
-        None => format!(in alloc; "{} bytes", output.len())?,
-    })
+    match encode(alloc, Order::Little, 0, values, &mut output) {
+        Err(fault) => format!(in alloc; "{}: {fault}, {}", fault.code(), Escaped(&output)),
+        Ok(()) => format!(in alloc; "{} bytes", output.len()),
+    }
 }
 
 fn one(alloc: Global, value: BasicValue) -> Result<Vec<Value>, AllocError> {

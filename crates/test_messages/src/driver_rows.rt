@@ -1,5 +1,7 @@
 //! Rows of calls to the bus, and of its replies and signals.
 
+ghost use Rattle.std.specs.Prelude.{◌<◌};
+
 use driver::{
     Call, DriverFault, ReplyBody, ReplyTo, error_name, expects_reply, is_call_to_bus, is_hello,
     read_call, write_error, write_reply, write_signal,
@@ -39,12 +41,21 @@ fn call(alloc: Global, row: &Row<'_>) -> Result<String, FrameFault> {
         destination: Some(BusName::bus()),
         sender: None,
     };
-    let message = Message::with_body(alloc, &header, row.text(3), &row.bytes(alloc, 4)?)?;
-    let to_bus = is_call_to_bus(&message);
-    let expects = expects_reply(&message);
-    let hello = is_hello(&message);
-    let read = read(&read_call(alloc, &message));
-    Ok(format!(in alloc; "{read} {to_bus} {expects} {hello}")?)
+    let body = row.bytes(alloc, 4)?;
+    let message = Message::with_body(alloc, &header, row.text(3), &body);
+    drop(body);
+    let message = message?;
+    let told = told(alloc, &message);
+    drop(message);
+    Ok(told?)
+}
+
+fn told(alloc: Global, message: &Message) -> Result<String, AllocError> {
+    let to_bus = is_call_to_bus(message);
+    let expects = expects_reply(message);
+    let hello = is_hello(message);
+    let read = read(&read_call(alloc, message));
+    format!(in alloc; "{read} {to_bus} {expects} {hello}")
 }
 
 /// The member that was read, or the name of the fault.
@@ -81,12 +92,26 @@ fn put_reply(alloc: Global, row: &Row<'_>, output: &mut Vec<u8>) -> Result<(), A
         return write_error(serial, to, ErrorKind::NoMemory, output);
     }
     let bytes = row.bytes(alloc, 5)?;
+    let written = put_body(row, &bytes, serial, to, output);
+    drop(bytes);
+    written
+}
+
+fn put_body(
+    row: &Row<'_>,
+    bytes: &[u8],
+    serial: u32,
+    to: ReplyTo,
+    output: &mut Vec<u8>,
+) -> Result<(), AllocError>
+    requires { (0 < serial) × (0 < to.call) }
+{
     let body = match row.text(4) {
         "number" => ReplyBody::Number(row.text(5).parse().unwrap_or(0)),
         "unique-name" => ReplyBody::UniqueName(row.number(5)),
-        "string" => ReplyBody::String(&bytes),
-        "boolean" => ReplyBody::Boolean(&bytes),
-        "strings" => ReplyBody::Strings(&bytes),
+        "string" => ReplyBody::String(bytes),
+        "boolean" => ReplyBody::Boolean(bytes),
+        "strings" => ReplyBody::Strings(bytes),
         _ => ReplyBody::Empty,
     };
     write_reply(serial, to, body, output)

@@ -12,11 +12,19 @@ use test_support::{Escaped, Row};
 pub fn made(alloc: Global, row: &Row<'_>) -> Result<String, FrameFault> {
     let header = header(row);
     let message = if row.text(0) == "body" {
-        Message::with_body(alloc, &header, row.text(5), &row.bytes(alloc, 6)?)?
+        let body = row.bytes(alloc, 6)?;
+        let made = Message::with_body(alloc, &header, row.text(5), &body);
+        drop(body);
+        made
     } else {
-        Message::new(alloc, &header, &values(alloc, row)?)?
-    };
-    Ok(format!(in alloc; "{}", Escaped(message.as_bytes()))?)
+        let values = values(alloc, row)?;
+        let made = Message::new(alloc, &header, &values);
+        drop(values);
+        made
+    }?;
+    let told = format!(in alloc; "{}", Escaped(message.as_bytes()));
+    drop(message);
+    Ok(told?)
 }
 
 fn header<'a>(row: &Row<'a>) -> Header<'a> {

@@ -24,18 +24,33 @@ pub fn message(alloc: Global, row: &Row<'_>, bytes: &[u8]) -> Result<String, Fra
     let Some(message) = only(alloc, bytes)? else {
         return Ok(String::from_str(alloc, "no message")?);
     };
+    let told = told(alloc, row, &message, bytes);
+    drop(message);
+    told
+}
+
+fn told(
+    alloc: Global,
+    row: &Row<'_>,
+    message: &Message,
+    bytes: &[u8],
+) -> Result<String, FrameFault> {
     match row.text(0) {
         "message" => Ok(format!(in alloc; "{message:?} {}", message.as_bytes() == bytes)?),
         "shown" => {
             let text = message.to_string(alloc)?;
             Ok(format!(in alloc; "{}", Escaped(text.as_bytes()))?)
         }
-        "fields" => fields(alloc, &message),
+        "fields" => fields(alloc, message),
         "arguments" => match message.arguments(alloc) {
-            Ok(values) => Ok(format!(in alloc; "{values:?}")?),
+            Ok(values) => {
+                let told = format!(in alloc; "{values:?}");
+                drop(values);
+                Ok(told?)
+            }
             Err(fault) => Err(FrameFault::Body(fault)),
         },
-        _ => rebuilt(alloc, &message),
+        _ => rebuilt(alloc, message),
     }
 }
 
@@ -62,8 +77,12 @@ fn rebuilt(alloc: Global, message: &Message) -> Result<String, FrameFault> {
         sender: None,
     };
     let values = message.arguments(alloc).map_err(FrameFault::Body)?;
-    let own = Message::new(alloc, &header, &values)?;
+    let own = Message::new(alloc, &header, &values);
+    drop(values);
+    let own = own?;
     let signature = own.signature() == message.signature();
     let body = own.body() == message.body();
-    Ok(format!(in alloc; "{:?} {signature} {body}", own.order())?)
+    let told = format!(in alloc; "{:?} {signature} {body}", own.order());
+    drop(own);
+    Ok(told?)
 }

@@ -15,17 +15,24 @@ pub fn relayed(alloc: Global, row: &Row<'_>, bytes: &[u8]) -> Result<String, Fra
     let Some(message) = only(alloc, bytes)? else {
         return Ok(String::from_str(alloc, "no message")?);
     };
+    let told = match row.text(0) {
+        "facts" => seen(alloc, &message),
+        word => written(alloc, word, &message),
+    };
+    drop(message);
+    told
+}
+
+fn written(alloc: Global, word: &str, message: &Message) -> Result<String, FrameFault> {
     let mut output = Vec::new(alloc);
-    let written = match row.text(0) {
-        "facts" => return seen(alloc, &message),
-        "again" => write(&message, &mut output),
-        _ => {
-            output.extend_from_slice(b"rest")?;
-            with_sender(&message, &UniqueName::of(1), &mut output)
-        }
+    let written = if word == "again" {
+        write(message, &mut output)
+    } else {
+        output.extend_from_slice(b"rest")?;
+        with_sender(message, &UniqueName::of(1), &mut output)
     };
     match written {
-        Ok(()) => told(alloc, &output, relayed_length(&message, &UniqueName::of(1))),
+        Ok(()) => told(alloc, &output, relayed_length(message, &UniqueName::of(1))),
         Err(fault) => Ok(format!(in alloc; "{}: {fault}", fault.code())?),
     }
 }

@@ -11,20 +11,27 @@ use test_support::messages::HELLO;
 /// whether, with any one byte 0 or 255, it is told to be the same wherever it is cut. `long | LENGTH | BYTES | BYTE | BYTES`: the lengths of
 /// a body and of a message with one byte again and again between others, whether these are its bytes, and what relaying it says. `byte | PLACE | BYTE`: the fault where one byte is another, and whether it is told again.
 pub fn stream(alloc: Global, row: &Row<'_>, bytes: &[u8]) -> Result<String, FrameFault> {
+    let mut framer = Framer::new(alloc);
+    let told = told(alloc, &mut framer, row, bytes);
+    drop(framer);
+    told
+}
+
+fn told(
+    alloc: Global,
+    framer: &mut Framer,
+    row: &Row<'_>,
+    bytes: &[u8],
+) -> Result<String, FrameFault> {
     match row.text(0) {
-        "stream" => owned(alloc, bytes, row.number(2) as usize),
-        "pieces" => pieces(alloc, bytes),
+        "stream" => owned(alloc, framer, bytes, row.number(2) as usize),
+        "pieces" => pieces(alloc, framer, bytes),
         "cuts" => cuts(alloc, bytes),
-        "long" => long(alloc, row),
+        "long" => long(alloc, framer, row),
         _ => {
-            let other = row.bytes(alloc, 2)?;
-            let changed = changed(
-                alloc,
-                bytes,
-                row.number(1) as usize,
-                other.first().copied().unwrap_or(0),
-            )?;
-            fault(alloc, &changed)
+            let other = row.bytes(alloc, 2)?.first().copied().unwrap_or(0);
+            let changed = changed(alloc, bytes, row.number(1) as usize, other)?;
+            fault(alloc, framer, &changed)
         }
     }
 }
@@ -38,8 +45,7 @@ fn changed(alloc: Global, bytes: &[u8], place: usize, other: u8) -> Result<Vec<u
     Ok(changed)
 }
 
-fn fault(alloc: Global, bytes: &[u8]) -> Result<String, FrameFault> {
-    let mut framer = Framer::new(alloc);
+fn fault(alloc: Global, framer: &mut Framer, bytes: &[u8]) -> Result<String, FrameFault> {
     for byte in bytes {
         framer.feed(&[*byte])?;
     }
@@ -51,15 +57,19 @@ fn fault(alloc: Global, bytes: &[u8]) -> Result<String, FrameFault> {
     Ok(format!(in alloc; "{}: {fault} {again}", fault.code())?)
 }
 
-fn owned(alloc: Global, bytes: &[u8], cut: usize) -> Result<String, FrameFault> {
+fn owned(
+    alloc: Global,
+    framer: &mut Framer,
+    bytes: &[u8],
+    cut: usize,
+) -> Result<String, FrameFault> {
     let (front, rest) = split(bytes, cut);
     let mut text = String::new(alloc);
     let mut found = Vec::new(alloc);
-    let mut framer = Framer::new(alloc);
     framer.feed_owned(&mut Vec::from_slice(alloc, front)?)?;
-    take(&mut framer, &mut text, &mut found)?;
+    take(framer, &mut text, &mut found)?;
     framer.feed_owned(&mut Vec::from_slice(alloc, rest)?)?;
-    take(&mut framer, &mut text, &mut found)?;
+    take(framer, &mut text, &mut found)?;
     write!(text, "{}", found.as_slice() == bytes)?;
     Ok(text)
 }
@@ -82,8 +92,7 @@ fn take(framer: &mut Framer, text: &mut String, found: &mut Vec<u8>) -> Result<(
     Ok(())
 }
 
-fn pieces(alloc: Global, bytes: &[u8]) -> Result<String, FrameFault> {
-    let mut framer = Framer::new(alloc);
+fn pieces(alloc: Global, framer: &mut Framer, bytes: &[u8]) -> Result<String, FrameFault> {
     for (place, byte) in bytes.iter().enumerate() {
         if framer.next()?.is_some() {
             return Ok(format!(in alloc; "at {place}")?);
@@ -147,9 +156,15 @@ fn filled(alloc: Global, row: &Row<'_>) -> Result<Vec<u8>, AllocError> {
     Ok(bytes)
 }
 
-fn long(alloc: Global, row: &Row<'_>) -> Result<String, FrameFault> {
+fn long(alloc: Global, framer: &mut Framer, row: &Row<'_>) -> Result<String, FrameFault> {
     let bytes = filled(alloc, row)?;
-    let mut framer = Framer::new(alloc);
+    let told = whole(alloc, framer, &bytes);
+    drop(bytes);
+    told
+}
+
+/// What comes of the bytes in large pieces.
+fn whole(alloc: Global, framer: &mut Framer, bytes: &[u8]) -> Result<String, FrameFault> {
     for piece in bytes.chunks(65_536) {
         if framer.next()?.is_some() {
             return Ok(String::from_str(alloc, "too early")?);
@@ -158,16 +173,22 @@ fn long(alloc: Global, row: &Row<'_>) -> Result<String, FrameFault> {
     }
     match framer.next()? {
         Some(message) => {
-            let is_same = message.as_bytes() == bytes.as_slice();
-            let relayed = relayed(alloc, &message)?;
-            Ok(format!(in alloc;
-                "{} {} {is_same} {relayed}",
-                message.body().len(),
-                bytes.len()
-            )?)
+            let told = lengths(alloc, &message, bytes);
+            drop(message);
+            Ok(told?)
         }
         None => Ok(String::from_str(alloc, "no message")?),
     }
+}
+
+fn lengths(alloc: Global, message: &Message, bytes: &[u8]) -> Result<String, AllocError> {
+    let is_same = message.as_bytes() == bytes;
+    let relayed = relayed(alloc, message)?;
+    format!(in alloc;
+        "{} {} {is_same} {relayed}",
+        message.body().len(),
+        bytes.len()
+    )
 }
 
 fn relayed(alloc: Global, message: &Message) -> Result<String, AllocError> {

@@ -61,18 +61,16 @@ pub(crate) fn are_made<J: Naming, R: Wait>(
         .change(rt, shared, Change::Hello { privileged: false })
         .ok()?;
     let before = found(second)?;
-    let (outcomes, note) = first.change_all(rt, shared, rule_changes(alloc)?).ok()?;
+    let rules = rule_changes(alloc)?;
+    let (outcomes, note) = first.change_all(rt, shared, rules).ok()?;
     let untold = second.place();
     second.take_note(&note);
+    drop(note);
+    let is_done = are_done(outcomes.as_slice(), 4);
+    drop(outcomes);
     let told = second.place();
     let after = found(second)?;
-    Some(
-        are_done(outcomes.as_slice(), 4)
-            && before == (1, true)
-            && untold == 1
-            && told == 5
-            && after == (5, true),
-    )
+    Some(is_done && before == (1, true) && untold == 1 && told == 5 && after == (5, true))
 }
 
 /// What is done at a desk.
@@ -126,23 +124,44 @@ fn does<J: Naming, R: Wait>(
     act: Act,
 ) -> Option<bool> {
     match act {
-        Act::Hello => {
-            let (outcome, _) = desk.change(rt, Change::Hello { privileged: false }).ok()?;
-            Some(matches!(outcome.reply, Reply::Welcome(_)))
-        }
-        Act::Rules => {
-            let (outcomes, _) = desk.change_all(rt, rule_changes(alloc)?).ok()?;
-            Some(are_done(outcomes.as_slice(), 4))
-        }
-        Act::HandedBack(count) => match desk.change_all(rt, hellos(alloc, count)?) {
-            Ok(_) => Some(false),
-            Err(refused) => Some(is_handed_back(&refused, count)),
-        },
+        Act::Hello => Some(is_welcome(rt, desk)),
+        Act::Rules => Some(rules_are_done(rt, desk, rule_changes(alloc)?)),
+        Act::HandedBack(count) => Some(hands_back(rt, desk, hellos(alloc, count)?, count)),
         Act::Present => Some(desk.present(3) == Ok(false)),
         Act::Note => {
             desk.take_note(&other.note()?);
             Some(true)
         }
+    }
+}
+
+fn is_welcome<J: Naming, R: Wait>(rt: &R, desk: &mut Desk<'_, J, R>) -> bool {
+    match desk.change(rt, Change::Hello { privileged: false }) {
+        Ok((outcome, _)) => matches!(outcome.reply, Reply::Welcome(_)),
+        Err(_) => false,
+    }
+}
+
+fn rules_are_done<J: Naming, R: Wait>(
+    rt: &R,
+    desk: &mut Desk<'_, J, R>,
+    rules: Vec<Change>,
+) -> bool {
+    match desk.change_all(rt, rules) {
+        Ok((outcomes, _)) => are_done(outcomes.as_slice(), 4),
+        Err(_) => false,
+    }
+}
+
+fn hands_back<J: Naming, R: Wait>(
+    rt: &R,
+    desk: &mut Desk<'_, J, R>,
+    hellos: Vec<Change>,
+    count: usize,
+) -> bool {
+    match desk.change_all(rt, hellos) {
+        Ok(_) => false,
+        Err(refused) => is_handed_back(&refused, count),
     }
 }
 

@@ -73,11 +73,19 @@ fn listens<J: Naming, R: Wait>(
         connection: 1,
         rule,
     };
-    let (outcome, _) = make(rt, first, listening)?;
+    if !is_done(rt, first, listening) {
+        return Some(false);
+    }
     second.take_note(&first.note()?);
     let verdict = second.route(2, &ticked()).ok()?;
-    let is_plain = outcome.reply == Reply::Done && verdict.kind == VerdictKind::Plain;
-    Some(is_plain && verdict.to.as_slice() == [FIRST].as_slice())
+    Some(verdict.kind == VerdictKind::Plain && verdict.to.as_slice() == [FIRST].as_slice())
+}
+
+fn is_done<J: Naming, R: Wait>(rt: &R, desk: &mut Desk<'_, J, R>, change: Change) -> bool {
+    match make(rt, desk, change) {
+        Some((outcome, _)) => outcome.reply == Reply::Done,
+        None => false,
+    }
 }
 
 /// Whether connection 1 becomes the owner of a name at its desk, as the other is told.
