@@ -1,12 +1,16 @@
 //! The index of match rules.
 
-ghost use Rattle.std.specs.Prelude.{Some, None, codes, if◌then◌else◌};
+ghost use Rattle.std.specs.Prelude.{◌≡◌, ◌<◌, Some, None, codes, if◌then◌else◌};
 ghost use Rattle.names.specs.Texts.{text_eq};
 
 use crate::listeners::Listeners;
+use crate::tally::Tally;
+use match_index::Steps;
 use match_rules::{Argument, Facts, MessageKind, Owners};
 use std::alloc::Global;
+use std::marker::Brand;
 use std::process::Abort;
+use std::sync::ledger::{Blank, Ledger};
 use test_support::{once_more, signal, ticked};
 
 /// The owner of `com.example.A`; nobody owns another name.
@@ -29,24 +33,17 @@ fn new(rt: &impl Abort, alloc: Global) -> Listeners {
     once_more!(rt; Listeners::new(alloc))
 }
 
-/// 255 rules each of the connections 1 to 16, and 16 of the connection 17.
-fn fill(listeners: &mut Listeners) -> bool {
-    let mut all = true;
-    for connection in 1..17 {
-        for _ in 0..255 {
-            all = listeners.add(connection, "member='M',arg0='a'") && all;
-        }
-    }
-    for _ in 0..16 {
-        all = listeners.add(17, "member='N',interface='a.b'") && all;
-    }
-    all
-}
-
 #[test]
 fn full(rt: HostRuntime) {
     let mut listeners = new(&rt, rt.alloc());
-    assert!(rt; fill(&mut listeners));
+    for connection in 1..17 {
+        for _ in 0..255 {
+            assert!(rt; listeners.add(connection, "member='M',arg0='a'"));
+        }
+    }
+    for _ in 0..16 {
+        assert!(rt; listeners.add(17, "member='N',interface='a.b'"));
+    }
     assert!(rt; listeners.len() == 4096);
     assert!(rt; !listeners.add(1, ""));
     assert!(rt; listeners.count_of(3) == 255);
@@ -58,6 +55,36 @@ fn full(rt: HostRuntime) {
     assert!(rt; listeners.hear(&signal("/", "a.b", "N"), &owners, &[]));
     assert!(rt; listeners.add(1, "interface='a.b'"));
     assert!(rt; listeners.hear(&signal("/", "a.b", "N"), &owners, &[1]));
+}
+
+/// Whether these connections hear the message of a tally, by no more tests of rules than it tells.
+fn hears<L: Ledger>(blank: Blank, tally: &Tally<'_>, wanted: &[u64]) -> bool
+    requires name { blank.name ≡ L.name }
+    requires parts { (blank.parts ≡ L.parts) × (0 < L.parts) }
+{
+    let mut steps = Steps::<L>::new(blank);
+    tally.hear(&OwnedBy(1), wanted, &mut steps)
+}
+
+/// 255 rules each of the connections 1 to 16, which want one member and each a first argument of its own, and 16 rules
+/// of the connection 17, which want another member of an interface. A signal of that member is tested by 16 rules at most,
+/// and by none where it has another interface.
+#[test]
+fn few_are_tested(rt: HostRuntime) {
+    let alloc = rt.alloc();
+    for (interface, most, wanted) in [("a.b", 16, &[17][..]), ("a.c", 0, &[])] {
+        let mut tally = once_more!(&rt; Tally::new(alloc, signal("/", interface, "N")));
+        for number in 0..4080 {
+            let text = once_more!(&rt; format!(in alloc; "member='M',arg0='{number}'"));
+            assert!(rt; tally.add(1 + number / 255, &text));
+        }
+        for _ in 0..16 {
+            assert!(rt; tally.add(17, "member='N',interface='a.b'"));
+        }
+        assert!(rt; tally.listeners().len() == 4096);
+        assert!(rt; tally.most() == most);
+        assert!(rt; hears::<Brand>(Blank::new(1), &tally, wanted));
+    }
 }
 
 /// The keys that a rule is found by, and who of the connections 1 to 9 hears what.

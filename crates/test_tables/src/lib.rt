@@ -10,3 +10,5 @@ mod index;
 mod listeners;
 #[cfg(test)]
 mod monitors;
+#[cfg(test)]
+mod tally;

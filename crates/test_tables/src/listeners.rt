@@ -1,11 +1,13 @@
 //! An index for tests, where few connections have rules.
 
-ghost use Rattle.std.specs.Prelude.{◌≡◌, ◌<◌, [], IfOk};
+ghost use Rattle.std.specs.Prelude.{◌≡◌, ◌<◌, ◌≤◌, ◌+◌, ◌++◌, ◌∷◌, [], true, false, IfOk};
+ghost use Rattle.match_index.specs.Near.{near_rules};
 
-use match_index::{ConnSet, Index};
+use match_index::{ConnSet, Index, Steps};
 use match_rules::{Facts, Owners, Rule};
 use std::alloc::{AllocError, Global};
 use std::marker::Model;
+use std::sync::ledger::Ledger;
 
 /// An index of the rules of connections with numbers below 256, so that they are few.
 #[derive(Drop)]
@@ -26,7 +28,9 @@ impl Model for Listeners {
 }
 
 impl Listeners {
-    pub fn new(alloc: Global) -> Result<Listeners, AllocError> {
+    pub fn new(alloc: Global) -> Result<Listeners, AllocError>
+        ensures { IfOk result (λ listeners. listeners ≡ []) }
+    {
         Ok(Listeners {
             index: Index::new(alloc)?,
         })
@@ -40,8 +44,13 @@ impl Listeners {
         }
     }
 
+    /// Adds a rule; false where there is no room.
     #[tactic(auto, using(crate::proofs::Few::low_added))]
-    fn add_rule(&mut self, connection: u64, rule: Rule) -> bool {
+    pub fn add_rule(&mut self, connection: u64, rule: Rule) -> bool
+        ensures added { result ≡ true → self.new
+            ≡ self.old ++ record { connection = connection; rule = rule } ∷ [] }
+        ensures same { result ≡ false → self.new ≡ self.old }
+    {
         if connection >= 256 || !self.index.has_room() {
             return false;
         }
@@ -97,6 +106,22 @@ impl Listeners {
     pub fn hear<O: Owners>(&self, facts: &Facts<'_>, owners: &O, wanted: &[u64]) -> bool {
         let mut found = ConnSet::new();
         self.index.gather(facts, owners, &mut found);
+        found.as_slice() == wanted
+    }
+
+    /// The same, where each rule that is tested is a step.
+    #[tactic(auto, using(crate::proofs::Few::low_are_few))]
+    pub fn hear_in<O: Owners, L: Ledger>(
+        &self,
+        facts: &Facts<'_>,
+        owners: &O,
+        wanted: &[u64],
+        steps: &mut Steps<L>,
+    ) -> bool
+        ensures cost { steps.new ≤ steps.old + near_rules facts.now self.now }
+    {
+        let mut found = ConnSet::new();
+        self.index.collect(facts, owners, &mut found, steps);
         found.as_slice() == wanted
     }
 }
