@@ -142,13 +142,10 @@ fn two(alloc: Global) -> Result<MemberTable, AllocError> {
     Ok(table)
 }
 
-#[test]
-fn client_becomes_monitor(rt: HostRuntime) {
-    let mut table = once_more!(&rt; two(rt.alloc()));
-    let before = once_more!(&rt; two(rt.alloc()));
+/// The first of two connections becomes a monitor, and leaves.
+fn watch_and_leave(rt: &impl Abort, table: &mut MemberTable, rules: &MonitorRules) {
     assert!(rt; table.is_privileged(1) && !table.is_privileged(2) && !table.has_monitors());
-    let rules = once_more!(&rt; rules_of(&rt, rt.alloc(), &[]));
-    table.become_monitor(1, &rules);
+    table.become_monitor(1, rules);
     assert!(rt; !table.is_client(1) && table.is_client(2) && table.conn(1) == Some(conn(1)));
     assert!(rt; table.is_taken(1) && table.has_monitors() && table.len() == 2);
     let mut shown = Recipients::new();
@@ -156,6 +153,15 @@ fn client_becomes_monitor(rt: HostRuntime) {
     assert!(rt; are_numbered(&shown, &[1]));
     table.leave(1);
     assert!(rt; !table.has_monitors() && !table.is_taken(1) && table.conn(1).is_none());
+}
+
+#[test]
+fn client_becomes_monitor(rt: HostRuntime) {
+    let mut table = once_more!(&rt; two(rt.alloc()));
+    let before = once_more!(&rt; two(rt.alloc()));
+    let rules = once_more!(&rt; rules_of(&rt, rt.alloc(), &[]));
+    watch_and_leave(&rt, &mut table, &rules);
     table.copy_from(&before);
     assert!(rt; table.is_client(1) && table.len() == 2);
+    drop(table);
 }
