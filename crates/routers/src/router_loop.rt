@@ -41,15 +41,9 @@ impl<
         right: &V::Right,
         recorder: &mut T,
     ) -> Result<(), Fault> {
-        for _ in rt.forever() {
-            self.rest()?;
-            if self.coordinator.is_over() || self.take_events(rt, right) {
-                return Ok(());
-            }
-            self.turn(right);
-            recorder.record(&mut self.host)?;
-        }
-        unreachable!()
+        let ended = self.serve(rt, right, recorder);
+        drop(self);
+        ended
     }
 }
 
@@ -76,6 +70,24 @@ impl<'a, V: BusView, G: Gate, P: Post<V>, S: Socket, E: Source<S>, W: Wake + Dro
             source,
             is_short_of_memory: false,
         }
+    }
+
+    /// Takes turn after turn, until all are to end or nothing happens any more.
+    fn serve<R: Wait, T: Recorder<V, G, P, S>>(
+        &mut self,
+        rt: &R,
+        right: &V::Right,
+        recorder: &mut T,
+    ) -> Result<(), Fault> {
+        for _ in rt.forever() {
+            self.rest()?;
+            if self.coordinator.is_over() || self.take_events(rt, right) {
+                return Ok(());
+            }
+            self.turn(right);
+            recorder.record(&mut self.host)?;
+        }
+        unreachable!()
     }
 
     /// Waits for what happens next, unless there is something to do.
