@@ -1,8 +1,7 @@
 //! A bus that clients can connect to.
 
-use crate::fault::poll_fault;
 use crate::login::LoginSettings;
-use crate::polls::{RouterPolls, open_polls};
+use crate::polls::{Polls, open_polls};
 use crate::runtime::DaemonRuntime;
 use crate::serving::begin;
 use crate::tracing::{TraceFile, trace_files};
@@ -15,6 +14,7 @@ use mio::Poll;
 use mio::net::UnixListener;
 use names::WellKnown;
 use routers::Coordinator;
+use sasl::Cookie;
 use service_files::Service;
 use std::fmt;
 use std::net::Net;
@@ -71,6 +71,38 @@ impl fmt::Display for BusAddress<'_> {
     }
 }
 
+/// What is read and begun before the socket is made.
+#[derive(Drop)]
+struct Prepared<F: Drop> {
+    cookie: Cookie,
+    services: Vec<Service>,
+    names: Vec<WellKnown>,
+    traces: Vec<TraceFile<F>>,
+    random: F,
+    guid: [u8; 16],
+}
+
+/// Reads what the options name, and begins the trace where they want one.
+fn prepare<R: Files + AllocGlobal + Clone + Drop>(
+    rt: &R,
+    options: &Options<'_>,
+) -> Result<Prepared<R::File>, ServeFault> {
+    let cookie = read_cookie(rt, options.keyring)?;
+    let services = read_services(rt, options.services)?;
+    let names = rising_names(rt.alloc(), services.as_slice())?;
+    let traces = trace_files(rt, options, names.as_slice())?;
+    let mut random = open_random(rt)?;
+    let guid = random_bytes(&mut random)?;
+    Ok(Prepared {
+        cookie,
+        services,
+        names,
+        traces,
+        random,
+        guid,
+    })
+}
+
 impl<'a> Bus<'a> {
     /// Reads what the options name, begins the trace where they want one, and makes the socket. From then on clients can connect;
     /// they are served once [`Bus::serve`] runs.
@@ -82,24 +114,24 @@ impl<'a> Bus<'a> {
         rt: &R,
         options: Options<'a>,
     ) -> Result<(Bus<'a>, Listening<R::File>), ServeFault> {
-        let alloc = rt.alloc();
-        let cookie = read_cookie(rt, options.keyring)?;
-        let services = read_services(rt, options.services)?;
-        let names = rising_names(alloc, services.as_slice())?;
-        let traces = trace_files(rt, &options, names.as_slice())?;
-        let mut random = open_random(rt)?;
-        let guid = random_bytes(&mut random)?;
+        let Prepared {
+            cookie,
+            services,
+            names,
+            traces,
+            random,
+            guid,
+        } = prepare(rt, &options)?;
         let Ok(listener) = UnixListener::bind(rt, options.path.as_str()) else {
             return Err(ServeFault::Device(Device::Listen));
         };
-        let RouterPolls {
-            polls,
-            wakers,
+        let Polls {
+            poll,
+            waker,
+            coordinator,
+            router_polls,
             new_connections,
-        } = open_polls(rt, alloc, options.routers)?;
-        let poll = Poll::new(rt).map_err(poll_fault)?;
-        let waker = PollWaker::new(alloc, &poll).map_err(poll_fault)?;
-        let main_waker = waker.again()?;
+        } = open_polls(rt, rt.alloc(), options.routers)?;
         let bus = Bus {
             login: LoginSettings {
                 guid,
@@ -108,7 +140,7 @@ impl<'a> Bus<'a> {
                 allow_anonymous: options.allow_anonymous,
             },
             options,
-            coordinator: Coordinator::new(alloc, wakers, waker)?,
+            coordinator,
             new_connections,
         };
         let listening = Listening {
@@ -120,8 +152,8 @@ impl<'a> Bus<'a> {
             services,
             names,
             traces,
-            waker: main_waker,
-            router_polls: polls,
+            waker,
+            router_polls,
         };
         Ok((bus, listening))
     }

@@ -5,22 +5,55 @@ use busd_sockets::{NewConnections, PollWaker};
 use busd_start::ServeFault;
 use crossbeam_queue::ArrayQueue;
 use mio::Poll;
+use routers::Coordinator;
 use std::alloc::{AllocError, Global};
 use std::net::Net;
 
 /// How many connections wait for a router at most.
 const WAITING: usize = 64;
 
-/// The polls of the routers, with their wakers and the queues of the connections that come to them.
+/// The polls of a bus, with what wakes its threads and the queues of the connections that come to them.
 #[derive(Drop)]
-pub(crate) struct RouterPolls {
-    pub(crate) polls: Vec<Poll>,
-    pub(crate) wakers: Vec<PollWaker>,
+pub(crate) struct Polls {
+    /// The poll of the thread that accepts.
+    pub(crate) poll: Poll,
+    /// What ends the wait of that thread.
+    pub(crate) waker: PollWaker,
+    pub(crate) coordinator: Coordinator<PollWaker>,
+    /// By routers.
+    pub(crate) router_polls: Vec<Poll>,
+    /// By routers.
     pub(crate) new_connections: Vec<NewConnections>,
 }
 
-/// The polls of so many routers.
-pub(crate) fn open_polls<R: Net>(
+/// The polls of a bus with so many routers.
+pub(crate) fn open_polls<R: Net>(rt: &R, alloc: Global, routers: u8) -> Result<Polls, ServeFault> {
+    let poll = Poll::new(rt).map_err(poll_fault)?;
+    let waker = PollWaker::new(alloc, &poll).map_err(poll_fault)?;
+    let main_waker = waker.again()?;
+    let RouterPolls {
+        polls,
+        wakers,
+        new_connections,
+    } = open_router_polls(rt, alloc, routers)?;
+    Ok(Polls {
+        coordinator: Coordinator::new(alloc, wakers, main_waker)?,
+        poll,
+        waker,
+        router_polls: polls,
+        new_connections,
+    })
+}
+
+/// What is made for each router.
+#[derive(Drop)]
+struct RouterPolls {
+    polls: Vec<Poll>,
+    wakers: Vec<PollWaker>,
+    new_connections: Vec<NewConnections>,
+}
+
+fn open_router_polls<R: Net>(
     rt: &R,
     alloc: Global,
     routers: u8,
@@ -31,13 +64,21 @@ pub(crate) fn open_polls<R: Net>(
         new_connections: Vec::new(alloc),
     };
     for _router in 0..routers {
-        let poll = Poll::new(rt).map_err(poll_fault)?;
-        let waker = PollWaker::new(alloc, &poll).map_err(poll_fault)?;
-        push(&mut polls.wakers, waker)?;
-        push(&mut polls.polls, poll)?;
-        push(&mut polls.new_connections, ArrayQueue::new(alloc, WAITING)?)?;
+        polls.open_one(rt, alloc)?;
     }
     Ok(polls)
+}
+
+impl RouterPolls {
+    /// One more.
+    fn open_one<R: Net>(&mut self, rt: &R, alloc: Global) -> Result<(), ServeFault> {
+        let poll = Poll::new(rt).map_err(poll_fault)?;
+        let waker = PollWaker::new(alloc, &poll).map_err(poll_fault)?;
+        push(&mut self.wakers, waker)?;
+        push(&mut self.polls, poll)?;
+        push(&mut self.new_connections, ArrayQueue::new(alloc, WAITING)?)?;
+        Ok(())
+    }
 }
 
 /// Adds an item, or lets go of it where there is no memory for it.

@@ -1,11 +1,13 @@
 //! The programs of services.
 
+use crate::bus::Bus;
 use crate::launch::{Launch, ProgramJob, start_launching};
 use crate::runtime::DaemonRuntime;
 use busd_sockets::PollWaker;
 use crossbeam_channel::{Sender, bounded};
 use names::BusName;
 use routers::Coordinator;
+use service_files::Service;
 use starter::Programs;
 use std::alloc::{AllocError, Global};
 use std::sync::{Arc, Wait};
@@ -25,7 +27,8 @@ pub(crate) struct Launcher<'a, R: Wait> {
     jobs: Sender<ProgramJob, Global>,
 }
 
-/// Runs programs for the bus of this coordinator. Where it has services, a thread is started that waits for programs to start.
+/// Runs the programs of these services for a bus. Where there are any, a thread is started that waits for programs to start. The waker wakes
+/// the main thread.
 ///
 /// # Errors
 ///
@@ -33,9 +36,11 @@ pub(crate) struct Launcher<'a, R: Wait> {
 pub(crate) fn start_launcher<'a, R: DaemonRuntime>(
     rt: &'a R,
     alloc: Global,
-    coordinator: &'a Coordinator<PollWaker>,
-    launch: Launch,
+    bus: &'a Bus<'_>,
+    services: Vec<Service>,
+    waker: PollWaker,
 ) -> Result<Launcher<'a, R>, AllocError> {
+    let launch = Launch::new(alloc, services, bus.options.path, waker)?;
     let (jobs, taken) = bounded(alloc, JOBS)?;
     if launch.has_services() && !start_launching(rt, taken) {
         return Err(AllocError);
@@ -46,7 +51,7 @@ pub(crate) fn start_launcher<'a, R: DaemonRuntime>(
     Ok(Launcher {
         rt,
         alloc,
-        coordinator,
+        coordinator: &bus.coordinator,
         launch,
         jobs,
     })

@@ -7,21 +7,21 @@ ghost use Rattle.seq_bus_core.specs.Tickets.{opening_bus};
 use crate::bus::{Bus, Entrance, Listening};
 use crate::chores::SeatByClock;
 use crate::fault::{fault_of, poll_fault};
-use crate::launch::Launch;
 use crate::logging::{AcceptErrors, Log};
 use crate::polls::push;
 use crate::programs::start_launcher;
 use crate::runtime::DaemonRuntime;
 use crate::tracing::TraceFile;
-use busd_sockets::{Acceptor, Chores, EndLog, PollWaker, Sockets};
+use busd_sockets::{Acceptor, Chores, EndLog, NewConnections, PollWaker, Sockets};
 use busd_start::ServeFault;
 use mio::Poll;
 use names::WellKnown;
 use outbox::{EnvelopeOf, Lane, Outboxes, Tap};
 use registry_snapshots::{Naming, Opened, Seat, Shared};
 use router_core::OpenGate;
-use routers::{Coordinator, RouterSetup, TraceSink, serve};
+use routers::{Coordinator, RouterSetup, serve};
 use starter::{MainSeat, Programs};
+use std::alloc::AllocError;
 use std::io::{Read, Write};
 use std::marker::Brand;
 use std::mem;
@@ -30,14 +30,34 @@ use std::rt::Clock;
 use std::sync::Wait;
 use std::thread::Threads;
 
-/// What the routers are made of, those of the last router last.
+/// What the seats are served by, those of the last router last, and those of the main thread first.
 #[derive(Drop)]
-struct RouterParts<J: Naming, F> {
+struct Parts<J: Naming, F> {
     seats: Vec<Seat<J>>,
     lanes: Vec<Lane<EnvelopeOf<J>>>,
     traces: Vec<TraceFile<F>>,
+    /// Of routers alone.
     taps: Vec<Vec<Tap<EnvelopeOf<J>>>>,
+    /// Of routers alone.
     polls: Vec<Poll>,
+}
+
+/// What a seat is served by: its lane, and where it writes what it recorded.
+#[derive(Drop)]
+struct Place<J: Naming, F> {
+    seat: Seat<J>,
+    lane: Lane<EnvelopeOf<J>>,
+    trace: TraceFile<F>,
+}
+
+impl<J: Naming, F: Drop> Parts<J, F> {
+    /// The last seat that is not taken yet.
+    fn take_place(&mut self) -> Result<Place<J, F>, AllocError> {
+        let trace = self.traces.pop().ok_or(AllocError)?;
+        let lane = self.lanes.pop().ok_or(AllocError)?;
+        let seat = self.seats.pop().ok_or(AllocError)?;
+        Ok(Place { seat, lane, trace })
+    }
 }
 
 /// Picks the registry.
@@ -75,55 +95,61 @@ fn open_registry<
     served
 }
 
-/// What the routers begin with.
-type Setups<'a, J, F, R> = Vec<RouterSetup<J, Sockets<'a, Log<'a, R>>, OpenGate, TraceFile<F>>>;
+/// What a router begins with.
+type Setup<'a, J, F, R> = RouterSetup<J, Sockets<'a, Log<'a, R>>, OpenGate, TraceFile<F>>;
 
-/// What each router begins with: its seat, its ways to the others, the connections that come to it, and where it writes what it recorded.
-/// The parts of the main thread are left.
+/// What the routers begin with.
+type Setups<'a, J, F, R> = Vec<Setup<'a, J, F, R>>;
+
+/// What each router begins with. The seat of the main thread is left.
 fn setups<'a, J: Naming, F: Drop, R: Net + Eprint + AllocGlobal>(
     rt: &'a R,
     bus: &'a Bus<'_>,
-    parts: &mut RouterParts<J, F>,
+    parts: &mut Parts<J, F>,
 ) -> Result<Setups<'a, J, F, R>, ServeFault> {
-    let alloc = rt.alloc();
-    let mut setups = Vec::new(alloc);
+    let mut setups = Vec::new(rt.alloc());
     for new_connections in bus.new_connections.iter().rev() {
-        let (Some(seat), Some(lane), Some(taps), Some(poll), Some(trace)) = (
-            parts.seats.pop(),
-            parts.lanes.pop(),
-            parts.taps.pop(),
-            parts.polls.pop(),
-            parts.traces.pop(),
-        ) else {
-            return Err(ServeFault::Memory);
-        };
-        let log = Log::new(rt, bus.options.is_verbose);
-        let setup = RouterSetup {
-            seat,
-            lane,
-            taps,
-            source: Sockets::new(alloc, poll, new_connections, log)?,
-            gate: OpenGate,
-            login: Some(bus.login.login(alloc)?),
-            trace,
-        };
-        push(&mut setups, setup)?;
+        push(&mut setups, setup(rt, bus, new_connections, parts)?)?;
     }
     setups.reverse();
     Ok(setups)
 }
 
-/// The seat of the main thread, with its lane: it runs the programs of services.
-fn main_seat<'a, J: Naming, R: Wait + Clock + AllocGlobal, Q: Programs + Drop, T: TraceSink + Drop>(
+/// What the last router that is not taken yet begins with: its seat, its ways to the others, and the connections that come to it.
+fn setup<'a, J: Naming, F: Drop, R: Net + Eprint + AllocGlobal>(
+    rt: &'a R,
+    bus: &'a Bus<'_>,
+    new_connections: &'a NewConnections,
+    parts: &mut Parts<J, F>,
+) -> Result<Setup<'a, J, F, R>, ServeFault> {
+    let alloc = rt.alloc();
+    let login = bus.login.login(alloc)?;
+    let poll = parts.polls.pop().ok_or(AllocError)?;
+    let log = Log::new(rt, bus.options.is_verbose);
+    let source = Sockets::new(alloc, poll, new_connections, log)?;
+    let taps = parts.taps.pop().ok_or(AllocError)?;
+    let Place { seat, lane, trace } = parts.take_place()?;
+    Ok(RouterSetup {
+        seat,
+        lane,
+        taps,
+        source,
+        gate: OpenGate,
+        login: Some(login),
+        trace,
+    })
+}
+
+/// The seat of the main thread: it runs the programs of services.
+fn main_seat<'a, J: Naming, F: Write + Drop, Q: Programs + Drop, R: Wait + Clock + AllocGlobal>(
     rt: &'a R,
     shared: &'a Shared<J>,
     coordinator: &'a Coordinator<PollWaker>,
-    seat: Seat<J>,
-    lane: Lane<EnvelopeOf<J>>,
+    place: Place<J, F>,
     programs: Q,
-    trace: T,
-) -> Result<SeatByClock<'a, J, Q, T, R>, ServeFault> {
+) -> Result<SeatByClock<'a, J, Q, TraceFile<F>, R>, ServeFault> {
     let alloc = rt.alloc();
+    let Place { seat, lane, trace } = place;
     match MainSeat::new(rt, alloc, shared, coordinator, seat, lane, programs, trace) {
         Some(seat) => Ok(SeatByClock::new(rt, seat)),
         None => Err(ServeFault::Memory),
@@ -146,6 +172,7 @@ fn serve_over<
     requires { J.opening.state.routers ≡ bus.now.options.routers }
 {
     let alloc = rt.alloc();
+    let (lanes, taps) = Outboxes::new(alloc, shared)?;
     let Listening {
         entrance,
         services,
@@ -154,17 +181,17 @@ fn serve_over<
         waker,
         router_polls,
     } = listening;
-    let launch = Launch::new(alloc, services, bus.options.path, waker)?;
-    let programs = start_launcher(rt, alloc, &bus.coordinator, launch)?;
-    let (lanes, taps) = Outboxes::new(alloc, shared)?;
-    let parts = RouterParts {
+    let mut parts = Parts {
         seats,
         lanes,
         traces,
         taps,
         polls: router_polls,
     };
-    serve_with(rt, shared, parts, bus, entrance, programs)
+    let programs = start_launcher(rt, alloc, bus, services, waker)?;
+    let served = serve_with(rt, shared, &mut parts, bus, entrance, programs);
+    drop(parts);
+    served
 }
 
 /// Makes what each thread begins with, and runs them.
@@ -177,20 +204,14 @@ fn serve_with<
 >(
     rt: &'a R,
     shared: &'a Shared<J>,
-    mut parts: RouterParts<J, F>,
+    parts: &mut Parts<J, F>,
     bus: &'a Bus<'_>,
     entrance: Entrance<F>,
     programs: Q,
 ) -> Result<(), ServeFault> {
-    let setups = setups(rt, bus, &mut parts)?;
-    let (Some(seat), Some(lane), Some(trace)) = (
-        parts.seats.pop(),
-        parts.lanes.pop(),
-        parts.traces.pop(),
-    ) else {
-        return Err(ServeFault::Memory);
-    };
-    let seat = main_seat(rt, shared, &bus.coordinator, seat, lane, programs, trace)?;
+    let setups = setups(rt, bus, parts)?;
+    let place = parts.take_place()?;
+    let seat = main_seat(rt, shared, &bus.coordinator, place, programs)?;
     run_threads(rt, shared, bus, setups, entrance, seat)
 }
 
