@@ -108,18 +108,34 @@ fn two_routers<J: Naming + Send + Sync, R: Threads + Wait + Abort + Sync>(
         move || hellos(rt, alloc, lent, first),
         move || hellos(rt, alloc, lent, second),
     );
-    for seat in [&first, &second] {
-        main.take_note(&seat.note().expect(rt, "it made changes"));
+    let told = tell(&mut main, &first) && tell(&mut main, &second);
+    drop(first);
+    drop(second);
+    let are_all = told && is_each_once(&mut main, &one, &two);
+    shared.end(rt);
+    let is_over = main.present(1).is_err();
+    drop(main);
+    assert!(rt; are_all && is_over);
+}
+
+/// Tells a seat what another made; false where that made no change.
+fn tell<J: Naming>(seat: &mut Seat<J>, other: &Seat<J>) -> bool {
+    match other.note() {
+        Some(note) => {
+            seat.take_note(&note);
+            true
+        }
+        None => false,
     }
+}
+
+/// Whether nothing was refused, and each number is that of one connection, which is present.
+fn is_each_once<J: Naming>(seat: &mut Seat<J>, one: &Done, two: &Done) -> bool {
     for number in 1..=2 * HELLOS {
         let is_of_one = one.numbers.contains(&number) != two.numbers.contains(&number);
-        assert!(rt; is_of_one && main.present(number) == Ok(true), "{number}");
+        if !is_of_one || seat.present(number) != Ok(true) {
+            return false;
+        }
     }
-    let counts = (
-        one.numbers.len() + two.numbers.len(),
-        one.refused,
-        two.refused,
-    );
-    shared.end(rt);
-    assert!(rt; counts == (200, 0, 0) && main.present(1).is_err());
+    one.numbers.len() + two.numbers.len() == 200 && one.refused == 0 && two.refused == 0
 }
