@@ -32,67 +32,67 @@ fn told(is_answered: bool) -> &'static str {
     }
 }
 
+/// Bodies that are read and written, each with its order and signature.
+const BODIES: [(Order, &str, &[u8]); 8] = [
+    (
+        Order::Little,
+        "ynyiyx",
+        b"\x01\0\x02\0\x03\0\0\0\x04\0\0\0\x05\0\0\0\x06\0\0\0\0\0\0\0",
+    ),
+    (
+        Order::Big,
+        "oo",
+        b"\0\0\0\x01/\0\0\0\0\0\0\x0c/com/example\0",
+    ),
+    (Order::Little, "gg", b"\0\0\x0ca{s(ua{yv})}\0"),
+    (
+        Order::Big,
+        "yaya(y)atas",
+        b"\x07\0\0\0\0\0\0\0\0\0\0\0\0\0\0\0\0\0\0\0\0\0\0\0\0\0\0\0",
+    ),
+    (
+        Order::Little,
+        "a{sv}",
+        b".\0\0\0\0\0\0\0\x01\0\0\0a\0\x01u\0\0\0\0\x07\0\0\0\x01\0\0\0b\0\x02as\0\0\0\x0e\0\0\0\x01\0\0\0x\0\0\0\x01\0\0\0y\0",
+    ),
+    (
+        Order::Big,
+        "(yu)(y(t))",
+        b"\x07\0\0\0\0\0\0\x05\x01\0\0\0\0\0\0\0\0\0\0\0\0\0\0\x02",
+    ),
+    (
+        Order::Little,
+        "a{ya{qs}}",
+        b"\x12\0\0\0\0\0\0\0\x01\0\0\0\x0a\0\0\0\x02\0\0\0\x01\0\0\0x\0",
+    ),
+    (
+        Order::Big,
+        "vv",
+        b"\x01v\0\x01v\0\x01y\0\x09\x04(sd)\0\0\0\0\x01x\0\0\0@\0\0\0\0\0\0\0",
+    ),
+];
+
 fn main(rt: HostRuntime) -> io::Result<()> {
-    for (order, signature, body) in [
-        (
-            Order::Little,
-            "ynyiyx",
-            b"\x01\0\x02\0\x03\0\0\0\x04\0\0\0\x05\0\0\0\x06\0\0\0\0\0\0\0".as_slice(),
-        ),
-        (
-            Order::Big,
-            "oo",
-            b"\0\0\0\x01/\0\0\0\0\0\0\x0c/com/example\0".as_slice(),
-        ),
-        (Order::Little, "gg", b"\0\0\x0ca{s(ua{yv})}\0".as_slice()),
-        (
-            Order::Big,
-            "yaya(y)atas",
-            b"\x07\0\0\0\0\0\0\0\0\0\0\0\0\0\0\0\0\0\0\0\0\0\0\0\0\0\0\0".as_slice(),
-        ),
-        (
-            Order::Little,
-            "a{sv}",
-            b".\0\0\0\0\0\0\0\x01\0\0\0a\0\x01u\0\0\0\0\x07\0\0\0\x01\0\0\0b\0\x02as\0\0\0\x0e\0\0\0\x01\0\0\0x\0\0\0\x01\0\0\0y\0".as_slice(),
-        ),
-        (
-            Order::Big,
-            "(yu)(y(t))",
-            b"\x07\0\0\0\0\0\0\x05\x01\0\0\0\0\0\0\0\0\0\0\0\0\0\0\x02".as_slice(),
-        ),
-        (
-            Order::Little,
-            "a{ya{qs}}",
-            b"\x12\0\0\0\0\0\0\0\x01\0\0\0\x0a\0\0\0\x02\0\0\0\x01\0\0\0x\0".as_slice(),
-        ),
-        (
-            Order::Big,
-            "vv",
-            b"\x01v\0\x01v\0\x01y\0\x09\x04(sd)\0\0\0\0\x01x\0\0\0@\0\0\0\0\0\0\0".as_slice(),
-        ),
-    ] {
-        let answer = told(codec::is_answered(rt.alloc(), order, signature, body));
+    let alloc = rt.alloc();
+    for (order, signature, body) in BODIES {
+        let answer = told(codec::is_answered(alloc, order, signature, body));
         println!(rt; "{signature}: {answer}")?;
     }
-    let framed = told(messages::are_framed(rt.alloc()));
-    println!(rt; "framed: {framed}")?;
-    let relayed = told(messages::is_relayed(rt.alloc()).unwrap_or(false));
-    println!(rt; "relayed: {relayed}")?;
-    let made = told(messages::is_made(rt.alloc()).unwrap_or(false));
-    println!(rt; "made: {made}")?;
-    let plain = told(plain::is_answered(rt.alloc()).unwrap_or(false));
-    println!(rt; "plain bus: {plain}")?;
-    let starts = told(starts::are_made(rt.alloc()).unwrap_or(false));
-    println!(rt; "starts: {starts}")?;
-    let seats = told(seats::are_answered(&rt, rt.alloc()).unwrap_or(false));
-    println!(rt; "seats: {seats}")?;
-    let ways = told(ways::are_opened(&rt, rt.alloc()).unwrap_or(false));
-    println!(rt; "outboxes: {ways}")?;
-    let let_in = told(authentication::is_let_in(rt.alloc()));
-    println!(rt; "authentication: {let_in}")?;
-    let (waiting, in_turn) = engine::serves(rt.alloc());
-    println!(rt; "calls that wait: {}", told(waiting))?;
-    println!(rt; "messages in turn: {}", told(in_turn))?;
-    let served = told(hosts::are_served(rt.alloc()));
-    println!(rt; "host: {served}")
+    let (waiting, in_turn) = engine::serves(alloc);
+    for (what, is_answered) in [
+        ("framed", messages::are_framed(alloc)),
+        ("relayed", messages::is_relayed(alloc).unwrap_or(false)),
+        ("made", messages::is_made(alloc).unwrap_or(false)),
+        ("plain bus", plain::is_answered(alloc).unwrap_or(false)),
+        ("starts", starts::are_made(alloc).unwrap_or(false)),
+        ("seats", seats::are_answered(&rt, alloc).unwrap_or(false)),
+        ("outboxes", ways::are_opened(&rt, alloc).unwrap_or(false)),
+        ("authentication", authentication::is_let_in(alloc)),
+        ("calls that wait", waiting),
+        ("messages in turn", in_turn),
+        ("host", hosts::are_served(alloc)),
+    ] {
+        println!(rt; "{what}: {}", told(is_answered))?;
+    }
+    Ok(())
 }

@@ -30,17 +30,14 @@ pub fn are_made(alloc: Global) -> Option<bool> {
 }
 
 fn are_made_in(alloc: Global, registry: &mut Registry, name: BusName) -> Option<bool> {
-    let hello = Change::Hello { privileged: false };
-    let held = hold(alloc, name)?;
-    let timed_out = Change::StartTimedOut { name, start: 1 };
     let owned = Reply::OfQueue(QueueReply::PrimaryOwner);
     Some(
-        is_made(alloc, registry, &hello, Reply::Welcome(CALLER), &[])?
-            && is_made(alloc, registry, &start(name), Reply::Held(1), &[])?
-            && is_made(alloc, registry, &held, Reply::Held(2), &[])?
-            && is_made(alloc, registry, &timed_out, Reply::Done, &[1, 2])?
-            && is_made(alloc, registry, &start(name), Reply::Held(3), &[])?
-            && is_made(alloc, registry, &request(name), owned, &[3])?,
+        is_made(alloc, registry, HELLO, Reply::Welcome(CALLER), &[])?
+            && is_made(alloc, registry, start(name), Reply::Held(1), &[])?
+            && is_made(alloc, registry, hold(alloc, name)?, Reply::Held(2), &[])?
+            && is_made(alloc, registry, timed_out(name), Reply::Done, &[1, 2])?
+            && is_made(alloc, registry, start(name), Reply::Held(3), &[])?
+            && is_made(alloc, registry, request(name), owned, &[3])?,
     )
 }
 
@@ -61,13 +58,13 @@ fn open(alloc: Global) -> Option<Registry> {
 fn is_made(
     alloc: Global,
     registry: &mut Registry,
-    change: &Change,
+    change: Change,
     reply: Reply,
     settled: &[u64],
 ) -> Option<bool> {
-    let prepared = match registry.prepare(alloc, 1, change) {
+    let prepared = match registry.prepare(alloc, 1, &change) {
         Ok(prepared) => prepared,
-        Err(_) => registry.prepare(alloc, 1, change).ok()?,
+        Err(_) => registry.prepare(alloc, 1, &change).ok()?,
     };
     registry.absorb(&prepared);
     let outcome = prepared.outcome();
@@ -79,6 +76,12 @@ fn is_made(
                 .map(|ticket| ticket.number)
                 .eq(settled.iter().copied()),
     )
+}
+
+const HELLO: Change = Change::Hello { privileged: false };
+
+fn timed_out(name: BusName) -> Change {
+    Change::StartTimedOut { name, start: 1 }
 }
 
 fn start(name: BusName) -> Change {
