@@ -157,13 +157,22 @@ impl Both {
         change: &Change,
         told: &Told,
     ) -> Result<bool, AllocError> {
+        Ok(self.absorbs(alloc, change, told)? && self.makes(alloc, change, told)?)
+    }
+
+    fn absorbs(&mut self, alloc: Global, change: &Change, told: &Told) -> Result<bool, AllocError> {
         let prepared = self.absorbing.prepare(alloc, 1, change)?;
+        self.absorbing.absorb(&prepared);
+        Ok(is_told(prepared.outcome(), told))
+    }
+
+    /// Makes a change by one call, once more where one allocation failed.
+    fn makes(&mut self, alloc: Global, change: &Change, told: &Told) -> Result<bool, AllocError> {
         let made = match self.making.make(&mut self.queue, alloc, 1, change) {
             Ok(made) => made,
             Err(_) => self.making.make(&mut self.queue, alloc, 1, change)?,
         };
-        self.absorbing.absorb(&prepared);
-        Ok(is_told(prepared.outcome(), told) && is_told(made.outcome(), told))
+        Ok(is_told(made.outcome(), told))
     }
 
     /// Whether both have one connection, the second, without rules, and no names.

@@ -99,9 +99,8 @@ const GIVEN_UP: [Shown; 7] = [
     (Signal::Passed(":1.1", Some(1), None), &[THIRD], &[FIRST]),
 ];
 
-/// The first of three connections becomes a monitor, which had names and a rule.
-fn give_up(rt: &impl Abort, seated: &mut Seated) {
-    three_connections(rt, seated);
+/// Whether the first of three connections becomes a monitor, which had names and a rule.
+fn gives_up(seated: &mut Seated) -> bool {
     for deed in [
         Deed::Request(1, B, 0),
         Deed::Request(1, A, 0),
@@ -109,37 +108,43 @@ fn give_up(rt: &impl Abort, seated: &mut Seated) {
         Deed::Add(1, ""),
         Deed::Add(3, OWNERS),
     ] {
-        assert!(rt; make(seated, deed).is_some());
+        if make(seated, deed).is_none() {
+            return false;
+        }
     }
     let none = MonitorRules::new(seated.alloc);
-    assert!(rt; becomes(seated, 1, none, Reply::Done, &GIVEN_UP));
+    becomes(seated, 1, none, Reply::Done, &GIVEN_UP)
 }
 
-/// What the others find once the first watches.
-fn is_watched(rt: &impl Abort, seated: &Seated) {
+/// Whether the others find that the first watches, and has neither names nor rules.
+fn is_watched(seated: &Seated) -> bool {
     let registry = &seated.registry;
-    assert!(rt; registry.present(1) && !registry.is_client(1) && registry.has_monitors());
-    assert!(rt; registry.rules(1).next().is_none());
-    assert!(rt; owner(seated, A) == Some(2) && owner(seated, B).is_none());
-    assert!(rt; owner(seated, ":1.1").is_none());
     let verdict = route(seated, 2, "Ticked");
-    assert!(rt; verdict.to.as_slice().is_empty());
-    assert!(rt; verdict.monitors.as_slice() == [FIRST].as_slice());
+    registry.present(1)
+        && !registry.is_client(1)
+        && registry.has_monitors()
+        && registry.rules(1).next().is_none()
+        && owner(seated, A) == Some(2)
+        && owner(seated, B).is_none()
+        && owner(seated, ":1.1").is_none()
+        && verdict.to.as_slice().is_empty()
+        && verdict.monitors.as_slice() == [FIRST].as_slice()
 }
 
-/// A monitor leaves, of which nobody is told.
-fn leaves(rt: &impl Abort, seated: &mut Seated) {
+/// Whether a monitor leaves, of which nobody is told.
+fn leaves(seated: &mut Seated) -> bool {
     let left = make(seated, Deed::Leave(1));
-    assert!(rt; left.is_some_and(|(_, signals)| signals.as_slice().is_empty()));
-    assert!(rt; !seated.registry.has_monitors());
+    left.is_some_and(|(_, signals)| signals.as_slice().is_empty())
+        && !seated.registry.has_monitors()
 }
 
 #[test]
 fn names_and_rules_are_given_up(rt: HostRuntime) {
     let mut seated = Seated::new(&rt, rt.alloc(), 1, 1);
-    give_up(&rt, &mut seated);
-    is_watched(&rt, &seated);
-    leaves(&rt, &mut seated);
+    three_connections(&rt, &mut seated);
+    assert!(rt; gives_up(&mut seated));
+    assert!(rt; is_watched(&seated));
+    assert!(rt; leaves(&mut seated));
     drop(seated);
 }
 

@@ -95,20 +95,31 @@ const LISTENERS: [(&str, &[Conn]); 4] = [
     ("D", &[FIRST]),
 ];
 
-#[test]
-fn rules_that_are_left_of_many(rt: HostRuntime) {
-    let mut seated = Seated::new(&rt, rt.alloc(), 1, 1);
-    repeat(&rt, &mut seated, Deed::Hello, 3);
+/// Each of three connections adds each of four rules twelve times, and takes some out again.
+fn add_and_take_out(rt: &impl Abort, seated: &mut Seated) {
+    repeat(rt, seated, Deed::Hello, 3);
     for _round in 0..12 {
         for rule in [A, B, C, D] {
             for connection in 1..4 {
-                repeat(&rt, &mut seated, Deed::Add(connection, rule), 1);
+                repeat(rt, seated, Deed::Add(connection, rule), 1);
             }
         }
     }
     for (deed, times) in TAKEN_OUT {
-        repeat(&rt, &mut seated, deed, times);
+        repeat(rt, seated, deed, times);
     }
+}
+
+/// Whether these connections hear a signal of this member.
+fn hear(registry: &Registry, member: &str, listeners: &[Conn]) -> bool {
+    let verdict = registry.route(1, &signal("/", "com.example", member));
+    verdict.to.as_slice() == listeners
+}
+
+#[test]
+fn rules_that_are_left_of_many(rt: HostRuntime) {
+    let mut seated = Seated::new(&rt, rt.alloc(), 1, 1);
+    add_and_take_out(&rt, &mut seated);
     for (connection, left) in LEFT {
         assert!(rt;
             has_rules(&seated.registry, connection, left),
@@ -116,10 +127,7 @@ fn rules_that_are_left_of_many(rt: HostRuntime) {
         );
     }
     for (member, listeners) in LISTENERS {
-        let verdict = seated
-            .registry
-            .route(1, &signal("/", "com.example", member));
-        assert!(rt; verdict.to.as_slice() == listeners, "{member}");
+        assert!(rt; hear(&seated.registry, member, listeners), "{member}");
     }
     drop(seated);
 }

@@ -2,7 +2,7 @@
 
 use arrayvec::ArrayString;
 use bus_view::can_open;
-use names::{BusName, UniqueName, WellKnown};
+use names::{BusName, WellKnown};
 use owner_queues::{Profile, Reply as QueueReply, RequestFlags};
 use registry::Registry;
 use seq_bus_core::{Call, Change, Conn, Ending, Fate, Reply, SettledNumber, SharedBytes};
@@ -31,64 +31,177 @@ const SECOND: Conn = Conn {
 
 const OWNED: Reply = Reply::OfQueue(QueueReply::PrimaryOwner);
 
+/// A change. A connection stands as its number, and a name as its text.
+#[derive(Clone, Copy)]
+enum Deed<'a> {
+    Hello,
+    Leave(u64),
+    Start(u64, &'a str),
+    Hold(u64, &'a str),
+    Request(u64, &'a str),
+    Ended(&'a str, u64, Ending),
+    TimedOut(&'a str, u64),
+}
+
+/// A change, its reply, the start that it asks for, and the tickets that it settles.
+type Row<'a> = (Deed<'a>, Reply, Option<u64>, &'a [SettledNumber]);
+
+const CLOCK: &str = "com.example.Clock";
+
+const LAMP: &str = "com.example.Lamp";
+
+const OTHER: &str = "com.example.Other";
+
+/// Tickets 1 and 2, as those of an owner that serves them.
+const SERVED: &[SettledNumber] = &[
+    SettledNumber {
+        fate: Fate::Served,
+        number: 1,
+    },
+    SettledNumber {
+        fate: Fate::Served,
+        number: 2,
+    },
+];
+
+/// Tickets 1 and 2, as those of a start that failed.
+const FAILED: &[SettledNumber] = &[
+    SettledNumber {
+        fate: Fate::Failed,
+        number: 1,
+    },
+    SettledNumber {
+        fate: Fate::Failed,
+        number: 2,
+    },
+];
+
+const THIRD_FAILED: &[SettledNumber] = &[SettledNumber {
+    fate: Fate::Failed,
+    number: 3,
+}];
+
+/// Two calls wait for the first service.
+const TWO_WAIT: &[Row] = &[
+    (Deed::Start(1, CLOCK), Reply::Held(1), Some(1), &[]),
+    (Deed::Hold(2, CLOCK), Reply::Held(2), None, &[]),
+];
+
+/// A start goes on after one that failed, with other numbers, and fails too.
+const GOES_ON: &[Row] = &[
+    (Deed::Start(1, CLOCK), Reply::Held(3), Some(2), &[]),
+    (Deed::TimedOut(CLOCK, 1), Reply::Ignored, None, &[]),
+    (Deed::TimedOut(CLOCK, 2), Reply::Done, None, THIRD_FAILED),
+];
+
+/// What is done to a registry with two connections and two services, part by part.
+const RUNS: [(&str, &[&[Row]]); 6] = [
+    (
+        "an owner serves those that wait, and its start ends",
+        &[
+            TWO_WAIT,
+            &[
+                (Deed::Request(2, CLOCK), OWNED, None, SERVED),
+                (Deed::Start(1, CLOCK), Reply::AlreadyRunning, None, &[]),
+                (Deed::Hold(1, CLOCK), Reply::Pass(SECOND), None, &[]),
+                (
+                    Deed::Ended(CLOCK, 1, Ending::Killed),
+                    Reply::Ignored,
+                    None,
+                    &[],
+                ),
+            ],
+        ],
+    ),
+    (
+        "a program exits",
+        &[
+            TWO_WAIT,
+            &[(
+                Deed::Ended(CLOCK, 1, Ending::Exit(1)),
+                Reply::Done,
+                None,
+                FAILED,
+            )],
+            GOES_ON,
+        ],
+    ),
+    (
+        "a program is killed",
+        &[
+            TWO_WAIT,
+            &[(
+                Deed::Ended(CLOCK, 1, Ending::Killed),
+                Reply::Done,
+                None,
+                FAILED,
+            )],
+            GOES_ON,
+        ],
+    ),
+    (
+        "a program can't be run",
+        &[
+            TWO_WAIT,
+            &[(
+                Deed::Ended(CLOCK, 1, Ending::NotRun),
+                Reply::Done,
+                None,
+                FAILED,
+            )],
+            GOES_ON,
+        ],
+    ),
+    (
+        "ends that change nothing, and a caller that leaves",
+        &[
+            TWO_WAIT,
+            &[
+                (
+                    Deed::Ended(CLOCK, 1, Ending::Exit(0)),
+                    Reply::Ignored,
+                    None,
+                    &[],
+                ),
+                (
+                    Deed::Ended(LAMP, 1, Ending::Killed),
+                    Reply::Ignored,
+                    None,
+                    &[],
+                ),
+                (Deed::TimedOut(LAMP, 1), Reply::Ignored, None, &[]),
+                (Deed::TimedOut(CLOCK, 2), Reply::Ignored, None, &[]),
+                (Deed::Leave(1), Reply::Done, None, &[]),
+                (Deed::Request(2, CLOCK), OWNED, None, SERVED),
+            ],
+        ],
+    ),
+    (
+        "names that are not started",
+        &[&[
+            (Deed::Start(1, OTHER), Reply::ServiceUnknown, None, &[]),
+            (Deed::Start(2, ":1.1"), Reply::AlreadyRunning, None, &[]),
+            (
+                Deed::Start(1, "org.freedesktop.DBus"),
+                Reply::AlreadyRunning,
+                None,
+                &[],
+            ),
+            (Deed::Start(3, OTHER), Reply::Gone, None, &[]),
+            (Deed::Hold(2, OTHER), Reply::ServiceUnknown, None, &[]),
+            (Deed::Hold(2, ":1.1"), Reply::Pass(FIRST), None, &[]),
+            (
+                Deed::Hold(2, "org.freedesktop.DBus"),
+                Reply::ServiceUnknown,
+                None,
+                &[],
+            ),
+        ]],
+    ),
+];
+
 fn name_of(rt: &impl Abort, text: &str) -> BusName {
     BusName::parse(text).ok().expect(rt, "a name")
-}
-
-/// A registry with two connections and these services.
-fn registry_of(rt: &impl Abort, alloc: Global, services: &[WellKnown]) -> Registry {
-    assert!(rt; can_open(services, 1));
-    let mut registry = once_more!(rt; Registry::new(alloc, services, 1, Profile::One));
-    for conn in [FIRST, SECOND] {
-        let hello = Change::Hello { privileged: false };
-        assert!(rt;
-            is_told(
-                rt,
-                alloc,
-                &mut registry,
-                &hello,
-                Reply::Welcome(conn),
-                None,
-                &[]
-            )
-        );
-    }
-    registry
-}
-
-/// A registry with two services.
-fn with_two_services(rt: &impl Abort, alloc: Global) -> Registry {
-    let services = ["com.example.Clock", "com.example.Lamp"].map(|text| WellKnown::parse(
-        text,
-    ).ok());
-    match services {
-        [Some(clock), Some(lamp)] => registry_of(rt, alloc, &[clock, lamp]),
-        _ => rt.abort(),
-    }
-}
-
-/// Makes a change: whether it has this reply, asks for this start, and settles these tickets.
-fn is_told(
-    rt: &impl Abort,
-    alloc: Global,
-    registry: &mut Registry,
-    change: &Change,
-    reply: Reply,
-    start: Option<u64>,
-    settled: &[SettledNumber],
-) -> bool {
-    let prepared = once_more!(rt; registry.prepare(alloc, 1, change));
-    registry.absorb(&prepared);
-    let outcome = prepared.outcome();
-    outcome.reply == reply && outcome.start == start && outcome.tickets.as_slice() == settled
-}
-
-fn start(connection: u64, name: BusName) -> Change {
-    Change::Start {
-        connection,
-        name,
-        call: CALL,
-    }
 }
 
 fn hold(alloc: Global, connection: u64, name: BusName) -> Result<Change, AllocError> {
@@ -100,296 +213,157 @@ fn hold(alloc: Global, connection: u64, name: BusName) -> Result<Change, AllocEr
     })
 }
 
-fn request(connection: u64, name: BusName) -> Change {
-    Change::Request {
-        connection,
-        name,
-        flags: RequestFlags::from_bits(0),
+fn change_of(rt: &impl Abort, alloc: Global, deed: Deed<'_>) -> Change {
+    match deed {
+        Deed::Hello => Change::Hello { privileged: false },
+        Deed::Leave(connection) => Change::Leave { connection },
+        Deed::Start(connection, name) => Change::Start {
+            connection,
+            name: name_of(rt, name),
+            call: CALL,
+        },
+        Deed::Hold(connection, name) => {
+            once_more!(rt; hold(alloc, connection, name_of(rt, name)))
+        }
+        Deed::Request(connection, name) => Change::Request {
+            connection,
+            name: name_of(rt, name),
+            flags: RequestFlags::from_bits(0),
+        },
+        Deed::Ended(name, start, how) => Change::ChildEnded {
+            name: name_of(rt, name),
+            start,
+            how,
+        },
+        Deed::TimedOut(name, start) => Change::StartTimedOut {
+            name: name_of(rt, name),
+            start,
+        },
     }
 }
 
-fn ended(name: BusName, start: u64, how: Ending) -> Change {
-    Change::ChildEnded { name, start, how }
+/// Makes the change of a row: whether it is told so.
+fn is_so(rt: &impl Abort, alloc: Global, registry: &mut Registry, row: Row<'_>) -> bool {
+    let (deed, reply, start, settled) = row;
+    let change = change_of(rt, alloc, deed);
+    let prepared = once_more!(rt; registry.prepare(alloc, 1, &change));
+    registry.absorb(&prepared);
+    let outcome = prepared.outcome();
+    outcome.reply == reply && outcome.start == start && outcome.tickets.as_slice() == settled
 }
 
-fn timed_out(name: BusName, start: u64) -> Change {
-    Change::StartTimedOut { name, start }
+fn play(rt: &impl Abort, alloc: Global, registry: &mut Registry, name: &str, rows: &[Row<'_>]) {
+    for (place, row) in rows.iter().enumerate() {
+        assert!(rt; is_so(rt, alloc, registry, *row), "{name}: row {place}");
+    }
 }
 
-/// Two calls wait for the first service, by tickets 1 and 2 and start 1.
-fn two_wait(rt: &impl Abort, alloc: Global) -> Registry {
-    let clock = name_of(rt, "com.example.Clock");
-    let mut registry = with_two_services(rt, alloc);
-    assert!(rt;
-        is_told(
-            rt,
-            alloc,
-            &mut registry,
-            &start(1, clock),
-            Reply::Held(1),
-            Some(1),
-            &[]
-        )
-    );
-    let held = once_more!(rt; hold(alloc, 2, clock));
-    assert!(rt; is_told(rt, alloc, &mut registry, &held, Reply::Held(2), None, &[]));
+/// A registry with two connections and these services.
+fn registry_of(rt: &impl Abort, alloc: Global, services: &[WellKnown]) -> Registry {
+    assert!(rt; can_open(services, 1));
+    let mut registry = once_more!(rt; Registry::new(alloc, services, 1, Profile::One));
+    let come = [
+        (Deed::Hello, Reply::Welcome(FIRST), None, [].as_slice()),
+        (Deed::Hello, Reply::Welcome(SECOND), None, &[]),
+    ];
+    play(rt, alloc, &mut registry, "two connections", &come);
     registry
 }
 
-/// Tickets 1 and 2, with this fate.
-fn both(fate: Fate) -> [SettledNumber; 2] {
-    [
-        SettledNumber { fate, number: 1 },
-        SettledNumber { fate, number: 2 },
-    ]
-}
-
 #[test]
-fn owner_serves_those_that_wait(rt: HostRuntime) {
+fn calls_wait_for_starts(rt: HostRuntime) {
     let alloc = rt.alloc();
-    let clock = name_of(&rt, "com.example.Clock");
-    let mut registry = two_wait(&rt, alloc);
-    let served = both(Fate::Served);
-    assert!(rt;
-        is_told(
-            &rt,
-            alloc,
-            &mut registry,
-            &request(2, clock),
-            OWNED,
-            None,
-            &served
-        )
-    );
-    // The name has an owner now.
-    let running = Reply::AlreadyRunning;
-    assert!(rt;
-        is_told(
-            &rt,
-            alloc,
-            &mut registry,
-            &start(1, clock),
-            running,
-            None,
-            &[]
-        )
-    );
-    let held = once_more!(&rt; hold(alloc, 1, clock));
-    assert!(rt;
-        is_told(
-            &rt,
-            alloc,
-            &mut registry,
-            &held,
-            Reply::Pass(SECOND),
-            None,
-            &[]
-        )
-    );
-    // Its start ended.
-    let late = ended(clock, 1, Ending::Killed);
-    assert!(rt; is_told(&rt, alloc, &mut registry, &late, Reply::Ignored, None, &[]));
-    drop(registry);
-}
-
-#[test]
-fn failed_start_fails_those_that_wait(rt: HostRuntime) {
-    let alloc = rt.alloc();
-    let clock = name_of(&rt, "com.example.Clock");
-    for how in [Ending::Exit(1), Ending::Killed, Ending::NotRun] {
-        let mut registry = two_wait(&rt, alloc);
-        let failed = both(Fate::Failed);
-        let failure = ended(clock, 1, how);
-        assert!(rt;
-            is_told(
-                &rt,
-                alloc,
-                &mut registry,
-                &failure,
-                Reply::Done,
-                None,
-                &failed
-            )
-        );
-        // The next start has other numbers.
-        let again = start(1, clock);
-        assert!(rt;
-            is_told(
-                &rt,
-                alloc,
-                &mut registry,
-                &again,
-                Reply::Held(3),
-                Some(2),
-                &[]
-            )
-        );
-        let late = timed_out(clock, 1);
-        assert!(rt; is_told(&rt, alloc, &mut registry, &late, Reply::Ignored, None, &[]));
-        let third = [SettledNumber {
-            fate: Fate::Failed,
-            number: 3,
-        }];
-        let failure = timed_out(clock, 2);
-        assert!(rt;
-            is_told(
-                &rt,
-                alloc,
-                &mut registry,
-                &failure,
-                Reply::Done,
-                None,
-                &third
-            )
-        );
+    let clock = WellKnown::parse(CLOCK).ok().expect(&rt, "a name");
+    let lamp = WellKnown::parse(LAMP).ok().expect(&rt, "a name");
+    for (name, parts) in RUNS {
+        let mut registry = registry_of(&rt, alloc, &[clock, lamp]);
+        for rows in parts {
+            play(&rt, alloc, &mut registry, name, rows);
+        }
         drop(registry);
     }
-}
-
-#[test]
-fn ends_that_change_nothing(rt: HostRuntime) {
-    let alloc = rt.alloc();
-    let clock = name_of(&rt, "com.example.Clock");
-    let lamp = name_of(&rt, "com.example.Lamp");
-    let mut registry = two_wait(&rt, alloc);
-    for change in [
-        ended(clock, 1, Ending::Exit(0)),
-        ended(lamp, 1, Ending::Killed),
-        timed_out(lamp, 1),
-        timed_out(clock, 2),
-    ] {
-        assert!(rt;
-            is_told(
-                &rt,
-                alloc,
-                &mut registry,
-                &change,
-                Reply::Ignored,
-                None,
-                &[]
-            )
-        );
-    }
-    // Those that waited still do, also those of a connection that left.
-    let leave = Change::Leave { connection: 1 };
-    assert!(rt; is_told(&rt, alloc, &mut registry, &leave, Reply::Done, None, &[]));
-    let served = both(Fate::Served);
-    assert!(rt;
-        is_told(
-            &rt,
-            alloc,
-            &mut registry,
-            &request(2, clock),
-            OWNED,
-            None,
-            &served
-        )
-    );
-    drop(registry);
-}
-
-#[test]
-fn names_that_are_not_started(rt: HostRuntime) {
-    let alloc = rt.alloc();
-    let mut registry = with_two_services(&rt, alloc);
-    let own = BusName::from(UniqueName::of(1));
-    let other = name_of(&rt, "com.example.Other");
-    for (change, reply) in [
-        (start(1, other), Reply::ServiceUnknown),
-        (start(2, own), Reply::AlreadyRunning),
-        (start(1, BusName::bus()), Reply::AlreadyRunning),
-        (start(3, other), Reply::Gone),
-    ] {
-        assert!(rt; is_told(&rt, alloc, &mut registry, &change, reply, None, &[]));
-    }
-    for (name, reply) in [
-        (other, Reply::ServiceUnknown),
-        (own, Reply::Pass(FIRST)),
-        (BusName::bus(), Reply::ServiceUnknown),
-    ] {
-        let held = once_more!(&rt; hold(alloc, 2, name));
-        assert!(rt; is_told(&rt, alloc, &mut registry, &held, reply, None, &[]));
-    }
-    drop(registry);
 }
 
 /// The most services of a bus.
 const SERVICES: u64 = 256;
 
 /// The name of a service by its number.
-fn service(rt: &impl Abort, number: u64) -> WellKnown {
+fn service(rt: &impl Abort, number: u64) -> ArrayString<32> {
     let mut text = ArrayString::<32>::new();
     write!(text, "com.example.s{number:03}")
         .ok()
         .expect(rt, "a short text");
-    WellKnown::parse(text.as_str()).ok().expect(rt, "a name")
+    text
 }
 
-#[test]
-fn as_many_tickets_as_can_wait(rt: HostRuntime) {
-    let alloc = rt.alloc();
-    let mut services = once_more!(&rt; Vec::with_capacity(alloc, SERVICES as usize));
+fn services(rt: &impl Abort, alloc: Global) -> Vec<WellKnown> {
+    let mut services = once_more!(rt; Vec::with_capacity(alloc, SERVICES as usize));
     for number in 0..SERVICES {
+        let name = WellKnown::parse(service(rt, number).as_str());
         services
-            .push(service(&rt, number))
-            .expect(&rt, "there is room");
+            .push(name.ok().expect(rt, "a name"))
+            .expect(rt, "there is room");
     }
-    let mut registry = registry_of(&rt, alloc, &services);
-    // Two wait for each service.
+    services
+}
+
+/// Two calls wait for each service, as many as can wait.
+fn fill(rt: &impl Abort, alloc: Global, registry: &mut Registry) {
     for ticket in 1..=2 * SERVICES {
-        let number = (ticket - 1) % SERVICES;
+        let name = service(rt, (ticket - 1) % SERVICES);
         let asked = if ticket <= SERVICES {
             Some(ticket)
         } else {
             None
         };
-        let change = start(1, BusName::from(service(&rt, number)));
-        let is_held = is_told(
-            &rt,
-            alloc,
-            &mut registry,
-            &change,
+        let waits = (
+            Deed::Start(1, name.as_str()),
             Reply::Held(ticket),
             asked,
-            &[],
+            [].as_slice(),
         );
-        assert!(rt; is_held, "ticket {ticket}");
+        assert!(rt; is_so(rt, alloc, registry, waits), "ticket {ticket}");
     }
-    let first = BusName::from(service(&rt, 0));
-    let full = Reply::LimitsExceeded;
-    assert!(rt; is_told(&rt, alloc, &mut registry, &start(2, first), full, None, &[]));
-    // One start fails, and there is room for two.
-    let fate = Fate::Failed;
-    let failed = [
-        SettledNumber { fate, number: 1 },
-        SettledNumber {
-            fate,
-            number: SERVICES + 1,
-        },
-    ];
-    assert!(rt;
-        is_told(
-            &rt,
-            alloc,
-            &mut registry,
-            &timed_out(first, 1),
-            Reply::Done,
-            None,
-            &failed
-        )
-    );
-    let next = Reply::Held(2 * SERVICES + 1);
-    let asked = Some(SERVICES + 1);
-    assert!(rt;
-        is_told(
-            &rt,
-            alloc,
-            &mut registry,
-            &start(2, first),
-            next,
-            asked,
-            &[]
-        )
-    );
+}
+
+const FIRST_SERVICE: &str = "com.example.s000";
+
+/// Where as many wait as can, none more does; then one start fails, and there is room for two.
+const FULL: &[Row] = &[
+    (
+        Deed::Start(2, FIRST_SERVICE),
+        Reply::LimitsExceeded,
+        None,
+        &[],
+    ),
+    (
+        Deed::TimedOut(FIRST_SERVICE, 1),
+        Reply::Done,
+        None,
+        &[
+            SettledNumber {
+                fate: Fate::Failed,
+                number: 1,
+            },
+            SettledNumber {
+                fate: Fate::Failed,
+                number: SERVICES + 1,
+            },
+        ],
+    ),
+    (
+        Deed::Start(2, FIRST_SERVICE),
+        Reply::Held(2 * SERVICES + 1),
+        Some(SERVICES + 1),
+        &[],
+    ),
+];
+
+#[test]
+fn as_many_tickets_as_can_wait(rt: HostRuntime) {
+    let alloc = rt.alloc();
+    let mut registry = registry_of(&rt, alloc, &services(&rt, alloc));
+    fill(&rt, alloc, &mut registry);
+    play(&rt, alloc, &mut registry, "a full table", FULL);
     drop(registry);
 }
