@@ -16,6 +16,8 @@
 //! - `N times ROW`: the row is done so many times.
 //! - `show bytes`, `show words`: what comes from now on is told so.
 
+ghost use Rattle.std.specs.Prelude.{◌≡◌};
+
 use crate::client::Client;
 use crate::happening::CHALLENGE;
 use crate::journal::Journal;
@@ -26,9 +28,10 @@ use crate::watch::Findings;
 use crate::words::Words;
 use anyhow::{Context, Result, bail};
 use bus_view::BusView;
+use router::{Engine, Login};
 use router_core::Gate;
 use router_host::{Ended, Host, Post};
-use std::alloc::Global;
+use std::alloc::{AllocError, Global};
 use std::cell::RefCell;
 use std::rc::Rc;
 use test_support::messages::HELLO;
@@ -42,6 +45,36 @@ const PLACES: usize = 256;
 
 /// A router of a stage.
 pub type StageHost<V, G, P> = Host<V, G, P, Script>;
+
+/// The connections of a router: the first of its places, and how many it has.
+#[derive(Clone, Copy)]
+pub struct Places {
+    pub first: u16,
+    pub count: u16,
+}
+
+/// A router over a view, by whose login connections are let in.
+pub fn host<V: BusView + Drop, G: Gate + Drop, P: Post<V>>(
+    alloc: Global,
+    view: V,
+    gate: G,
+    login: Result<Option<Login>, AllocError>,
+    post: P,
+    places: Places,
+) -> Result<StageHost<V, G, P>, AllocError>
+    requires { P.registry post ≡ (V.knows view).registry }
+{
+    let engine = Engine::new(alloc, view, gate, login?)?;
+    Host::new(alloc, engine, post, places.first, places.count)
+}
+
+/// One more router, where it could be made.
+pub fn add<T: Drop>(hosts: &mut Vec<T>, host: Result<T, AllocError>) -> Result<(), AllocError> {
+    match hosts.push(host?) {
+        Ok(()) => Ok(()),
+        Err(_) => Err(AllocError),
+    }
+}
 
 /// The routers of a bus and their clients.
 #[derive(Drop)]

@@ -5,13 +5,12 @@ ghost use Rattle.seq_bus_core.specs.Histories.{max_routers};
 
 use crate::scenario::Scenario;
 use crate::scene;
-use crate::scene::StageHost;
+use crate::scene::{Places, StageHost};
 use crate::watch::{Findings, Lookout, Watch};
 use anyhow::{Result, bail};
 use outbox::Outboxes;
 use registry_snapshots::{Desk, Naming, Seat, Serve, Shared, start};
-use router::{Engine, Traced};
-use router_host::Host;
+use router::Traced;
 use routers::{Coordinator, LanePost, Wake};
 use std::alloc::{AllocError, Global};
 use std::sync::Wait;
@@ -28,14 +27,6 @@ impl Wake for NoWaker {
 fn coordinator(alloc: Global, routers: u8) -> Result<Coordinator<NoWaker>, AllocError> {
     let wakers = Vec::from_elem(alloc, NoWaker, usize::from(routers))?;
     Coordinator::new(alloc, wakers, NoWaker)
-}
-
-/// One more, behind the others.
-fn add<T: Drop>(list: &mut Vec<T>, item: T) -> Result<(), AllocError> {
-    match list.push(item) {
-        Ok(()) => Ok(()),
-        Err(_) => Err(AllocError),
-    }
 }
 
 /// A router of a registry.
@@ -115,40 +106,39 @@ impl<'a, R: Wait> Stage<'a, R> {
         let mut lookout = self.lookout(shared, seats.next(), found);
         let ways = lanes.into_iter().skip(1).zip(taps);
         let mut hosts: Vec<SharedHost<'b, 'c, J, R>> = Vec::new(self.alloc);
-        let mut added = Ok(());
+        let mut is_short = false;
         for ((router, seat), (lane, taps)) in seats.enumerate().zip(ways) {
-            let post = LanePost::new(router, lane, taps, coordinator);
-            let first = router.saturating_mul(coordinator.places());
+            let desk: Desk<'b, J, R> = Desk::new(seat, shared);
             let gate = Watch {
                 alloc: self.alloc,
                 lookout: lookout.take(),
             };
-            if let Err(fault) = self.add_host(&mut hosts, shared, seat, post, first, gate) {
-                added = Err(fault);
-            }
+            let host = scene::host(
+                self.alloc,
+                Traced::silent(self.alloc, desk),
+                gate,
+                self.scenario.login(self.alloc),
+                LanePost::new(router, lane, taps, coordinator),
+                self.places(router),
+            );
+            is_short = scene::add(&mut hosts, host).is_err() || is_short;
         }
         drop(lookout);
-        match added {
-            Ok(()) => scene::play(self.alloc, hosts, findings, self.rt, self.scenario),
-            Err(fault) => {
-                drop(hosts);
-                Err(fault)
-            }
+        if is_short {
+            drop(hosts);
+            bail!("out of memory");
         }
+        scene::play(self.alloc, hosts, findings, self.rt, self.scenario)
     }
 
-    /// Adds a router over a seat, whose places begin with this.
-    fn add_host<'b, 'c, J: Naming>(
-        &self,
-        hosts: &mut Vec<SharedHost<'b, 'c, J, R>>,
-        shared: &'b Shared<J>,
-        seat: Seat<J>,
-        post: LanePost<'c, J, NoWaker>,
-        first: usize,
-        gate: Watch<'b, J, R>,
-    ) -> Result<()> {
-        let host = self.host(shared, seat, post, first, gate)?;
-        Ok(add(hosts, host)?)
+    /// The places of a router, of which the first has the number 0.
+    fn places(&self, router: usize) -> Places {
+        let count = 256 / u16::from(self.routers.max(1));
+        let router = u16::try_from(router).unwrap_or(0);
+        Places {
+            first: router.saturating_mul(count),
+            count,
+        }
     }
 
     /// What a gate looks through, where it is to be told what it finds.
@@ -163,23 +153,5 @@ impl<'a, R: Wait> Stage<'a, R> {
         }
         let desk: Desk<'b, J, R> = Desk::new(seat?, shared);
         Some(Lookout { desk, findings })
-    }
-
-    /// A router over a seat, whose places begin with this.
-    fn host<'b, 'c, J: Naming>(
-        &self,
-        shared: &'b Shared<J>,
-        seat: Seat<J>,
-        post: LanePost<'c, J, NoWaker>,
-        first: usize,
-        gate: Watch<'b, J, R>,
-    ) -> Result<SharedHost<'b, 'c, J, R>> {
-        let login = self.scenario.login(self.alloc)?;
-        let places = 256 / u16::from(self.routers.max(1));
-        let first = u16::try_from(first)?;
-        let desk: Desk<'b, J, R> = Desk::new(seat, shared);
-        let view = Traced::silent(self.alloc, desk);
-        let engine = Engine::new(self.alloc, view, gate, login)?;
-        Ok(Host::new(self.alloc, engine, post, first, places)?)
     }
 }
