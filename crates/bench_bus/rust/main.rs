@@ -24,8 +24,11 @@ use std::sync::{Mutex, RwLock};
 use std::thread;
 use tables::Tables;
 
+const SERVICE: &str = "com.example.Service";
 const CONNECTIONS: u64 = 16;
 const ROUTES: u64 = 4_000;
+const BATCH: u64 = 64;
+const TICKETS: u64 = 100;
 
 fn other_rule() -> Rule {
     Rule::parse("type='signal',interface='org.freedesktop.login1.Manager',member='SessionRemoved'").expect("it is a rule")
@@ -61,8 +64,8 @@ fn call() -> Facts {
 
 fn opened() -> RwLock<Tables> {
     let mut tables = Tables::default();
-    for number in 1..=CONNECTIONS {
-        tables.connect(number);
+    for _ in 0..CONNECTIONS {
+        tables.come();
     }
     RwLock::new(tables)
 }
@@ -110,6 +113,55 @@ fn measure_signals(report: &Report) {
     let bus = opened();
     add_argument_rules(&bus, 4_096);
     route(report, "signals: route a signal, 4,096 rules with first arguments of their own", &bus, &signal());
+}
+
+/// 64 AddMatch and 64 RemoveMatch, one by one: how many are done.
+fn change_in_turn(bus: &RwLock<Tables>, rule: &Rule) -> u64 {
+    for _ in 0..BATCH {
+        bus.write().unwrap().add(1, black_box(rule).clone());
+    }
+    BATCH + (0..BATCH).filter(|_| bus.write().unwrap().remove(1, black_box(rule))).count() as u64
+}
+
+/// The same, with the lock taken once for each 64.
+fn change_at_once(bus: &RwLock<Tables>, rule: &Rule) -> u64 {
+    let mut tables = bus.write().unwrap();
+    for _ in 0..BATCH {
+        tables.add(1, black_box(rule).clone());
+    }
+    drop(tables);
+    let mut tables = bus.write().unwrap();
+    BATCH + (0..BATCH).filter(|_| tables.remove(1, black_box(rule))).count() as u64
+}
+
+/// A connection comes, becomes a monitor of all messages, and leaves: how many of the last two are done.
+fn watch(bus: &RwLock<Tables>) -> u64 {
+    let number = bus.write().unwrap().come();
+    let watches = bus.write().unwrap().become_monitor(number, Vec::new());
+    let left = bus.write().unwrap().leave(number);
+    u64::from(watches) + u64::from(left)
+}
+
+/// 100 calls wait for a service, which takes its name and gives it up: 1,000 for each that waits, and one for each that
+/// it serves then.
+fn start(names: &Mutex<Owned>, name: &str) -> u64 {
+    let waiting = (0..TICKETS).filter(|_| names.lock().unwrap().start(1, black_box(name)).is_some()).count() as u64;
+    let mut owned = names.lock().unwrap();
+    owned.request(2, black_box(name));
+    let served = owned.started(name).len() as u64;
+    drop(owned);
+    names.lock().unwrap().release(2, black_box(name));
+    1_000 * waiting + served
+}
+
+fn measure_changes(report: &Report) {
+    let (bus, rule) = (opened(), other_rule());
+    report.tell("batches: 64 AddMatch and 64 RemoveMatch, one by one", |_| change_in_turn(&bus, &rule));
+    report.tell("batches: 64 AddMatch and 64 RemoveMatch, a batch each", |_| change_at_once(&bus, &rule));
+    report.tell("monitors: Hello, BecomeMonitor and Leave", |_| watch(&bus));
+    let names = Mutex::new(Owned::default());
+    let name = "starts: 100 StartServiceByName, RequestName and ReleaseName";
+    report.tell(name, |_| start(&names, SERVICE));
 }
 
 fn tell_of_names(report: &Report, name: &str, names: &Mutex<Owned>) {
@@ -174,6 +226,7 @@ fn measure_reads(report: &Report) {
 fn main() {
     let report = Report::from_arguments();
     measure_signals(&report);
+    measure_changes(&report);
     measure_names(&report);
     measure_reads(&report);
 }

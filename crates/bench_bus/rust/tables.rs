@@ -1,17 +1,40 @@
-//! Who is connected, and the rules of each.
+//! Who is connected or watches, and the rules of each.
 
 use crate::rules::{Facts, Rule};
-use std::collections::BTreeSet;
+use std::collections::{BTreeMap, BTreeSet};
 
 #[derive(Default)]
 pub struct Tables {
+    last: u64,
     connections: BTreeSet<u64>,
+    monitors: BTreeMap<u64, Vec<Rule>>,
     rules: Vec<(u64, Rule)>,
 }
 
 impl Tables {
-    pub fn connect(&mut self, number: u64) {
-        self.connections.insert(number);
+    /// A connection comes, and has the next number.
+    pub fn come(&mut self) -> u64 {
+        self.last += 1;
+        self.connections.insert(self.last);
+        self.last
+    }
+
+    /// A connection gives up its rules, and is shown messages by these.
+    pub fn become_monitor(&mut self, number: u64, rules: Vec<Rule>) -> bool {
+        if !self.connections.remove(&number) {
+            return false;
+        }
+        self.rules.retain(|(owner, _)| *owner != number);
+        self.monitors.insert(number, rules);
+        true
+    }
+
+    pub fn leave(&mut self, number: u64) -> bool {
+        if self.monitors.remove(&number).is_some() {
+            return true;
+        }
+        self.rules.retain(|(owner, _)| *owner != number);
+        self.connections.remove(&number)
     }
 
     pub fn add(&mut self, number: u64, rule: Rule) {
