@@ -7,7 +7,7 @@ ghost use Rattle.seq_bus_core.specs.Steps.{facts_of};
 
 use arrayvec::ArrayVec;
 use match_rules::{Argument, Facts, MessageKind};
-use names::UniqueName;
+use names::ConnectionName;
 use seq_bus_core::{BusSignal, bus_path};
 
 /// The arguments of a signal of the bus, of which there are three at most.
@@ -16,21 +16,21 @@ pub(crate) type SignalArguments<'a> = ArrayVec<Argument<'a>, 3>;
 /// The unique names that a signal of the bus speaks of. Its facts are lent out of both.
 #[derive(Drop)]
 pub struct SignalNames {
-    first: Option<UniqueName>,
-    second: Option<UniqueName>,
+    first: Option<ConnectionName>,
+    second: Option<ConnectionName>,
 }
 
-fn name_of(number: Option<u64>) -> Option<UniqueName>
+fn name_of(number: Option<u64>) -> Option<ConnectionName>
     ensures { result ≡ option_map unique_text number }
 {
     match number {
-        Some(number) => Some(UniqueName::of(number)),
+        Some(number) => Some(ConnectionName::of(number)),
         None => None,
     }
 }
 
 /// A name as a text, which is empty where there is none.
-fn text_of(name: &Option<UniqueName>) -> &str
+fn text_of(name: &Option<ConnectionName>) -> &str
     ensures { result.now ≡ unwrap_or name.now [] }
 {
     match name {

@@ -6,8 +6,8 @@ use arrayvec::ArrayVec;
 use bench_core::{Report, Work};
 use marshal_core::Order;
 use match_rules::{Argument, MessageKind};
-use message::{Framer, Header, Message, facts, first_arguments, put_arguments, with_sender};
-use names::{BusName, Interface, Member, ObjectPath, UniqueName};
+use message::{Framer, Header, Message, facts, first_arguments, put_arguments};
+use names::{BusName, ConnectionName, Interface, Member, ObjectPath};
 use std::alloc::Global;
 use std::time::Clock;
 
@@ -62,7 +62,7 @@ pub fn measure<R: Print + Clock>(alloc: Global, report: &Report<'_, R>) -> Resul
         name: "messages: frame, read, look at and write a signal with 20 string arguments",
         framer: Framer::new(alloc),
         bytes: arguments.as_bytes(),
-        sender: UniqueName::of(42),
+        sender: ConnectionName::of(42),
         output: Vec::new(alloc),
     })?;
     Ok(())
@@ -136,7 +136,7 @@ fn relay<R: Print + Clock>(
     report.tell(&mut Relaying {
         name,
         message,
-        sender: UniqueName::of(42),
+        sender: ConnectionName::of(42),
         output: Vec::new(alloc),
     })?;
     Ok(())
@@ -208,7 +208,7 @@ impl Work for Looking<'_> {
 struct Relaying<'a> {
     name: &'static str,
     message: &'a Message,
-    sender: UniqueName,
+    sender: ConnectionName,
     output: Vec<u8>,
 }
 
@@ -219,7 +219,7 @@ impl Work for Relaying<'_> {
 
     fn once(&mut self, _round: u64) -> u64 {
         self.output.clear();
-        match with_sender(self.message, &self.sender, &mut self.output) {
+        match message::relay(self.message, &self.sender, &mut self.output) {
             Ok(()) => self.output.len() as u64,
             Err(_) => 0,
         }
@@ -232,7 +232,7 @@ struct Passing<'a> {
     name: &'static str,
     framer: Framer,
     bytes: &'a [u8],
-    sender: UniqueName,
+    sender: ConnectionName,
     output: Vec<u8>,
 }
 
@@ -250,7 +250,7 @@ impl Work for Passing<'_> {
             return 1;
         };
         let weight = weight(&message);
-        match with_sender(&message, &self.sender, &mut self.output) {
+        match message::relay(&message, &self.sender, &mut self.output) {
             Ok(()) => weight.wrapping_add(self.output.len() as u64),
             Err(_) => 2,
         }

@@ -17,7 +17,7 @@ ghost use Rattle.driver.specs.Layout.{end_fields, IsNamed};
 
 use marshal_core::Order;
 use message_core::{HeaderField, in_room};
-use names::UniqueName;
+use names::ConnectionName;
 
 /// The name of the bus, which is that of its interface too.
 pub const BUS: &str = "org.freedesktop.DBus";
@@ -106,7 +106,7 @@ fn put_destination(fields: &mut Vec<u8>, number: Option<u64>)
     ensures room { length fields.new.items ≤ length fields.old.items + 271 }
 {
     if let Some(number) = number {
-        let name = UniqueName::of(number);
+        let name = ConnectionName::of(number);
         put_string(fields, HeaderField::Destination, name.as_str());
     }
 }

@@ -6,7 +6,7 @@ ghost use Rattle.marshal_core.specs.Spelling.{IsString, text_spelling};
 ghost use Rattle.driver.specs.OwnMessages.{owner_text};
 
 use arrayvec::ArrayVec;
-use names::{BusName, UniqueName};
+use names::{BusName, ConnectionName};
 
 /// The most bytes of the strings of a message of the bus.
 pub const ROOM: usize = 1024;
@@ -48,8 +48,8 @@ pub fn put_owner(body: &mut ArrayVec<u8, ROOM>, owner: Option<u64>)
 {
     match owner {
         Some(number) => {
-            let name = BusName::from(UniqueName::of(number));
-            put_name(body, &name);
+            let name = ConnectionName::of(number);
+            put_string(body, name.as_str());
         }
         None => put_string(body, ""),
     }

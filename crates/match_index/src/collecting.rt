@@ -18,7 +18,7 @@ use crate::place_index::{Place, PlaceIndex};
 use crate::steps::Steps;
 use match_rules::laws::rules_are_read_again;
 use match_rules::{Facts, Owners};
-use names::UniqueName;
+use names::ConnectionName;
 use std::sync::ledger::Ledger;
 
 /// Adds the connections that have a rule that fits a message. Only the rules of the buckets that the
@@ -43,7 +43,7 @@ pub(crate) fn collect<O: Owners, L: Ledger>(
     ensures rising { AreRising found.new }
     ensures cost { steps.new ≤ steps.old + near_rules facts.now (live entries.now) }
 {
-    let name = UniqueName::of(facts.sender);
+    let name = ConnectionName::of(facts.sender);
     let sender = name.as_str();
     let parts = Parts::of(facts, sender);
     for shape in 0..SHAPES {

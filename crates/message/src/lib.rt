@@ -35,4 +35,4 @@ pub use message_core::{
     Message, NO_AUTO_START, NO_REPLY_EXPECTED,
 };
 pub use message_facts::{facts, first_arguments, put_arguments};
-pub use relaying::{relayed_length, with_sender, write};
+pub use relaying::{relay, relayed_length, with_sender, write};

@@ -2,6 +2,7 @@
 
 ghost use Rattle.std.specs.Prelude.{◌≡◌, ◌+◌, ◌-◌, ◌++◌, ◌^◌, ◌<◌, ◌≤◌, ◌↔◌, length, take, vec_capacity, nat_lt, Ok, Err, OnOk, OnErr, IsErrOf, IsTrue, if◌then◌else◌};
 ghost use Rattle.std.specs.Int.{w32};
+ghost use Rattle.names.specs.UniqueName.{IsUniqueName};
 ghost use Rattle.marshal_core.specs.Spelling.{pad_len, pads, number_bytes};
 ghost use Rattle.message_core.specs.Messages.{IsWritten};
 ghost use Rattle.message_core.specs.Said.{said};
@@ -18,7 +19,7 @@ use crate::putting::{put_fields, put_sender};
 use marshal_core::Order;
 use message_core::in_room::{put, put_number, put_padding};
 use message_core::{FIXED_LENGTH, MAXIMUM_LENGTH, Message};
-use names::UniqueName;
+use names::{ConnectionName, UniqueName};
 
 /// The length of a message whose fields end at a place, and whose body has so many bytes.
 fn whole_length(end: usize, body: usize) -> Result<usize, RelayFault>
@@ -151,18 +152,32 @@ pub fn with_sender(
         → vec_capacity output.old < length output.old.items
         + length (message_bytes (sent_by sender.now (said message.now))) }
 {
-    let parts = parts_of(message);
-    let name = sender.as_str();
-    let layout = lay_out(parts.fields, name)?;
-    make_room(output, layout.end, parts.body.len())?;
-    put_start(output, parts.order, parts.bytes, layout.end);
-    put_sent_fields(output, parts.order, parts.bytes, &layout, name);
-    put_body(output, layout.end, parts.body);
-    Ok(())
+    put_sent(message, sender.as_str(), output)
 }
 
-/// How many bytes `with_sender` appends, or why it refuses.
-pub fn relayed_length(message: &Message, sender: &UniqueName) -> Result<usize, RelayFault>
+/// The same as `with_sender`, for a name that the bus gave.
+pub fn relay(
+    message: &Message,
+    sender: &ConnectionName,
+    output: &mut Vec<u8>,
+) -> Result<(), RelayFault>
+    ensures appended { OnOk result (output.new.items
+        ≡ output.old.items ++ message_bytes (sent_by sender.now (said message.now))) }
+    ensures written { OnOk result
+        (IsWritten (message_bytes (sent_by sender.now (said message.now)))
+        (sent_by sender.now (said message.now))) }
+    ensures kept { OnErr result (output.new.items ≡ output.old.items) }
+    ensures too_long { IsErrOf result TooLong
+        ↔ IsTrue (is_too_long (sent_by sender.now (said message.now))) }
+    ensures memory { IsErrOf result NoMemory
+        → vec_capacity output.old < length output.old.items
+        + length (message_bytes (sent_by sender.now (said message.now))) }
+{
+    put_sent(message, sender.as_str(), output)
+}
+
+/// How many bytes `relay` appends, or why it refuses.
+pub fn relayed_length(message: &Message, sender: &ConnectionName) -> Result<usize, RelayFault>
     ensures { result
         ≡ (if is_too_long (sent_by sender.now (said message.now)) then Err TooLong else Ok
         (length (message_bytes (sent_by sender.now (said message.now))))) }
@@ -170,4 +185,28 @@ pub fn relayed_length(message: &Message, sender: &UniqueName) -> Result<usize, R
     let parts = parts_of(message);
     let layout = lay_out(parts.fields, sender.as_str())?;
     whole_length(layout.end, parts.body.len())
+}
+
+/// Appends the message with SENDER set to this text, which is a unique name.
+fn put_sent(message: &Message, name: &str, output: &mut Vec<u8>) -> Result<(), RelayFault>
+    requires { IsUniqueName name.now }
+    ensures appended { OnOk result (output.new.items
+        ≡ output.old.items ++ message_bytes (sent_by name.now (said message.now))) }
+    ensures written { OnOk result
+        (IsWritten (message_bytes (sent_by name.now (said message.now)))
+        (sent_by name.now (said message.now))) }
+    ensures kept { OnErr result (output.new.items ≡ output.old.items) }
+    ensures too_long { IsErrOf result TooLong
+        ↔ IsTrue (is_too_long (sent_by name.now (said message.now))) }
+    ensures memory { IsErrOf result NoMemory
+        → vec_capacity output.old < length output.old.items
+        + length (message_bytes (sent_by name.now (said message.now))) }
+{
+    let parts = parts_of(message);
+    let layout = lay_out(parts.fields, name)?;
+    make_room(output, layout.end, parts.body.len())?;
+    put_start(output, parts.order, parts.bytes, layout.end);
+    put_sent_fields(output, parts.order, parts.bytes, &layout, name);
+    put_body(output, layout.end, parts.body);
+    Ok(())
 }

@@ -19,6 +19,7 @@
 
 mod bus_name;
 mod bus_name_kind;
+mod connection_name;
 mod elements;
 mod error_name;
 mod fault;
@@ -32,6 +33,7 @@ mod well_known_name;
 
 pub use bus_name::BusName;
 pub use bus_name_kind::BusNameKind;
+pub use connection_name::ConnectionName;
 pub use error_name::ErrorName;
 pub use fault::NameFault;
 pub use interface_name::Interface;

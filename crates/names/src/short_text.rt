@@ -13,14 +13,17 @@ use std::hash::{Hash, Hasher};
 use std::marker::Model;
 use std::{fmt, str};
 
-/// A text of at most 255 bytes, which lie in the value itself. The room behind them is zero.
+/// A text of at most `ROOM` bytes, which lie in the value itself. The room behind them is zero.
 #[derive(Clone, Copy)]
-pub struct ShortText {
-    bytes: [u8; 255],
+pub struct FixedText<const ROOM: usize> {
+    bytes: [u8; ROOM],
     length: u8,
 }
 
-impl Model for ShortText {
+/// A text with room for any name.
+pub type ShortText = FixedText<255>;
+
+impl<const ROOM: usize> Model for FixedText<ROOM> {
     ghost use Rattle.std.specs.Prelude.{◌≡◌, ◌-◌, ◌≤◌, ◌++◌, length as len, take, drop, replicate, IsUtf8};
     ghost use Rattle.std.proofs.Common.{arith, ap, sym, ◌∙◌, take-append-drop, length-take-le};
     ghost use Rattle.names.specs.Texts.{Text};
@@ -29,45 +32,48 @@ impl Model for ShortText {
 
     ghost view = { λ t. take t.length t.bytes };
 
-    ghost invariant = { λ t. (t.length ≤ 255) × (len t.bytes ≡ 255)
-        × (drop t.length t.bytes ≡ replicate (255 - t.length) 0)
+    ghost invariant = { λ t. (t.length ≤ ROOM) × (len t.bytes ≡ ROOM)
+        × (drop t.length t.bytes ≡ replicate (ROOM - t.length) 0)
         × ∥ IsUtf8 (take t.length t.bytes) ∥₁ };
 
     ghost inverse = { λ text.
-        record { bytes = text ++ replicate (255 - len text) 0; length = len text } };
+        record { bytes = text ++ replicate (ROOM - len text) 0; length = len text } };
 
     ghost inverse_ok = { λ t h.
         let long = length-take-le t.length t.bytes (omega (arith, h.0, h.1)) in
-        let whole = ap (λ n. take t.length t.bytes ++ replicate (255 - n) 0) long
+        let whole = ap (λ n. take t.length t.bytes ++ replicate (ROOM - n) 0) long
         ∙ ap (λ room. take t.length t.bytes ++ room) (sym h.2)
         ∙ take-append-drop t.length t.bytes in
         λ i. record { bytes = whole i; length = long i } };
 }
 
-impl ShortText {
+impl FixedText<255> {
     /// A copy of the text.
     pub fn new(text: &str) -> Self
         requires { text_length text.now ≤ 255 }
         ensures { result ≡ text.now }
     {
-        ShortText::joined(text, "")
+        Self::joined(text, "")
     }
+}
 
+impl<const ROOM: usize> FixedText<ROOM> {
     /// A copy of two texts, one after the other.
     pub fn joined(front: &str, back: &str) -> Self
-        requires { text_length front.now + text_length back.now ≤ 255 }
+        requires room { text_length front.now + text_length back.now ≤ ROOM }
+        requires short { ROOM ≤ 255 }
         ensures { result ≡ front.now ++ back.now }
     {
-        let mut bytes = [0; 255];
+        let mut bytes = [0; ROOM];
         write_at(&mut bytes, 0, front.as_bytes());
         write_at(&mut bytes, front.len(), back.as_bytes());
         let length = (front.len() + back.len()) as u8;
-        ShortText { bytes, length }
+        FixedText { bytes, length }
     }
 
     pub fn as_str(&self) -> &str
         ensures value { result.now ≡ self.now }
-        ensures fits { text_length result.now ≤ 255 }
+        ensures fits { text_length result.now ≤ ROOM }
     {
         let bytes = &self.bytes[..usize::from(self.length)];
         unsafe { str::from_utf8_unchecked(bytes) }
@@ -82,7 +88,7 @@ fn write_at(room: &mut [u8], place: usize, bytes: &[u8])
     room[place..place + bytes.len()].copy_from_slice(bytes);
 }
 
-impl PartialEq for ShortText {
+impl<const ROOM: usize> PartialEq for FixedText<ROOM> {
     ghost eq = { λ a b. pointwise nat_eq a b };
 
     ghost laws = { on_per (λ a. a) (partial_equiv_from_equiv nat_list_eq_equiv) };
@@ -92,11 +98,11 @@ impl PartialEq for ShortText {
     }
 }
 
-impl Eq for ShortText {
+impl<const ROOM: usize> Eq for FixedText<ROOM> {
     ghost laws = { on_equiv (λ a. a) nat_list_eq_equiv };
 }
 
-impl PartialOrd for ShortText {
+impl<const ROOM: usize> PartialOrd for FixedText<ROOM> {
     ghost partial_cmp = { λ a b. Some (slice_cmp nat_cmp a b) };
 
     ghost laws = { on_po (λ a. a) texts_po };
@@ -106,7 +112,7 @@ impl PartialOrd for ShortText {
     }
 }
 
-impl Ord for ShortText {
+impl<const ROOM: usize> Ord for FixedText<ROOM> {
     ghost cmp = { λ a b. slice_cmp nat_cmp a b };
 
     ghost total = { on_total (λ a. a) nat_list_cmp_total };
@@ -120,7 +126,7 @@ impl Ord for ShortText {
     }
 }
 
-impl Hash for ShortText {
+impl<const ROOM: usize> Hash for FixedText<ROOM> {
     ghost hash_input = { λ a. fed.str a };
 
     ghost respects_eq = { Prim.search (hashing, rules) };
@@ -130,13 +136,13 @@ impl Hash for ShortText {
     }
 }
 
-impl fmt::Debug for ShortText {
+impl<const ROOM: usize> fmt::Debug for FixedText<ROOM> {
     fn fmt<W: fmt::Write>(&self, f: &mut fmt::Formatter<W>) -> fmt::Result {
         fmt::Debug::fmt(&self.as_str(), f)
     }
 }
 
-impl fmt::Display for ShortText {
+impl<const ROOM: usize> fmt::Display for FixedText<ROOM> {
     ghost output = { λ a. Some a };
 
     fn fmt<W: fmt::Write>(&self, f: &mut fmt::Formatter<W>) -> fmt::Result {

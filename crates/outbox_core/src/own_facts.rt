@@ -20,7 +20,7 @@ use driver::error_text;
 use marshal_check::{Argument as Read, Arguments, Types};
 use marshal_core::Order;
 use match_rules::{Argument, Facts, MessageKind};
-use names::UniqueName;
+use names::ConnectionName;
 use seq_bus_core::BusSignal;
 
 /// The arguments of a message of the bus, of which there are three at most.
@@ -31,22 +31,22 @@ pub type OwnArguments<'a> = ArrayVec<Argument<'a>, 3>;
 #[derive(Clone, Copy, Debug)]
 pub struct OwnNames {
     /// The connection that the message is for.
-    destination: Option<UniqueName>,
+    destination: Option<ConnectionName>,
     /// The connections in its body.
-    first: Option<UniqueName>,
-    second: Option<UniqueName>,
+    first: Option<ConnectionName>,
+    second: Option<ConnectionName>,
 }
 
-fn name_of(number: Option<u64>) -> Option<UniqueName>
+fn name_of(number: Option<u64>) -> Option<ConnectionName>
     ensures { result ≡ option_map unique_text number }
 {
     match number {
-        Some(number) => Some(UniqueName::of(number)),
+        Some(number) => Some(ConnectionName::of(number)),
         None => None,
     }
 }
 
-fn lent(name: &Option<UniqueName>) -> Option<&str>
+fn lent(name: &Option<ConnectionName>) -> Option<&str>
     ensures { option_map (λ t. t.now) result ≡ name.now }
 {
     match name {
@@ -56,7 +56,7 @@ fn lent(name: &Option<UniqueName>) -> Option<&str>
 }
 
 /// A name as an argument, which is an empty text where there is none.
-fn owner_argument(name: &Option<UniqueName>) -> Argument<'_>
+fn owner_argument(name: &Option<ConnectionName>) -> Argument<'_>
     ensures { argument_of result ≡ StringArgument (unwrap_or name.now []) }
 {
     match name {
@@ -130,7 +130,7 @@ impl ReplyContent {
 /// Puts what a reply carries.
 fn put_carried<'a>(
     content: &'a ReplyContent,
-    name: &'a Option<UniqueName>,
+    name: &'a Option<ConnectionName>,
     arguments: &mut OwnArguments<'a>,
 )
     requires name { name.now ≡ option_map unique_text (number_in (carried_of content.now)) }

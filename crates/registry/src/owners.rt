@@ -9,7 +9,7 @@ ghost use Rattle.registry.specs.Requests.{requeued};
 
 use crate::registry::Registry;
 use match_rules::Owners;
-use names::{BusName, UniqueName};
+use names::{BusName, ConnectionName};
 use owner_queues::Queue;
 use registry_core::number_of;
 use seq_bus_core::Conn;
@@ -60,7 +60,7 @@ impl Registry {
         match self.head(name) {
             Some(number) => Some(number),
             None => {
-                if name == UniqueName::of(conn.number).as_str() {
+                if name == ConnectionName::of(conn.number).as_str() {
                     Some(conn.number)
                 } else {
                     None

@@ -13,9 +13,9 @@ ghost use Rattle.router_steps.specs.OncePut.{is_long, once_put};
 use crate::context::Context;
 use crate::verdicts::{is_for_nobody, tell_monitors_alone};
 use bus_view::BusView;
-use message::{RelayFault, relayed_length, with_sender};
+use message::{RelayFault, relay, relayed_length};
 use message_core::Message;
-use names::UniqueName;
+use names::ConnectionName;
 use outbox_core::Content;
 use router_core::Gate;
 use seq_bus_core::{Conn, SharedBytes, Verdict};
@@ -30,7 +30,7 @@ impl<V: BusView, G: Gate> Context<V, G> {
         ensures too_long { is_too_long (signed (said message.now) sender) ≡ is_long result }
     {
         let mut bytes = Vec::new(self.alloc);
-        if let Err(fault) = with_sender(message, &UniqueName::of(sender.number), &mut bytes) {
+        if let Err(fault) = relay(message, &ConnectionName::of(sender.number), &mut bytes) {
             return Err(fault);
         }
         match Arc::new(self.alloc, bytes) {
@@ -69,7 +69,7 @@ impl<V: BusView, G: Gate> Context<V, G> {
     {
         if is_for_nobody(&verdict) {
             self.keep_verdict(verdict);
-            return match relayed_length(message, &UniqueName::of(sender.number)) {
+            return match relayed_length(message, &ConnectionName::of(sender.number)) {
                 Ok(_) => Ok(()),
                 Err(fault) => Err(fault),
             };

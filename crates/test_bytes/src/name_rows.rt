@@ -1,6 +1,9 @@
 //! Rows of names.
 
-use names::{BusName, ErrorName, Interface, Member, NameFault, ObjectPath, UniqueName, WellKnown};
+use names::{
+    BusName, ConnectionName, ErrorName, Interface, Member, NameFault, ObjectPath, UniqueName,
+    WellKnown,
+};
 use std::alloc::{AllocError, Global};
 use std::str;
 use test_support::Row;
@@ -20,7 +23,8 @@ fn told(alloc: Global, fault: NameFault) -> Result<String, AllocError> {
 }
 
 /// `KIND | TEXT`: the text as a name of a kind. `namespace | TEXT`: whether it is one.
-/// `connection | NUMBER`, `padded | NUMBER`: the unique name of a connection. `order | A | B`: two bus names compared.
+/// `connection | NUMBER`, `padded | NUMBER`: the unique name of a connection; `given | NUMBER`: in the room that it needs.
+/// `order | A | B`: two bus names compared.
 pub fn name(alloc: Global, row: &Row<'_>) -> Result<String, AllocError> {
     let bytes = row.bytes(alloc, 1)?;
     let told = match str::from_utf8(&bytes) {
@@ -40,6 +44,7 @@ fn name_of(alloc: Global, row: &Row<'_>, text: &str) -> Result<String, AllocErro
         "well-known" => read!(alloc; WellKnown::parse(text)),
         "unique" => unique(alloc, UniqueName::parse(text)),
         "connection" => unique(alloc, Ok(UniqueName::of(row.number(1)))),
+        "given" => given(alloc, ConnectionName::of(row.number(1))),
         "padded" => format!(in alloc; "{:>6}", UniqueName::of(row.number(1))),
         "namespace" => format!(in alloc; "{}", WellKnown::is_namespace(text)),
         "order" => order(alloc, row),
@@ -54,6 +59,10 @@ fn unique(alloc: Global, read: Result<UniqueName, NameFault>) -> Result<String, 
         Ok(name) => format!(in alloc; "{name} {} {:?}", name.as_str(), name.connection()),
         Err(fault) => told(alloc, fault),
     }
+}
+
+fn given(alloc: Global, name: ConnectionName) -> Result<String, AllocError> {
+    format!(in alloc; "{name} {name:>6}")
 }
 
 fn bus(alloc: Global, read: Result<BusName, NameFault>) -> Result<String, AllocError> {

@@ -21,7 +21,7 @@ fn answer(alloc: Global, row: &Row<'_>, bytes: &[u8]) -> Result<String, FrameFau
     match row.text(0) {
         "call" | "reply" | "error-reply" | "signal" => driver_rows::driver(alloc, row),
         "body" | "values" => header_rows::made(alloc, row),
-        "again" | "relayed" | "facts" => relay_rows::relayed(alloc, row, bytes),
+        "again" | "named" | "relayed" | "facts" => relay_rows::relayed(alloc, row, bytes),
         "stream" | "pieces" | "cuts" | "long" | "byte" => stream_rows::stream(alloc, row, bytes),
         _ => message_rows::message(alloc, row, bytes),
     }

@@ -3,13 +3,15 @@
 use crate::message_rows::only;
 use match_rules::Facts;
 use message::{
-    FrameFault, Message, RelayFault, facts, first_arguments, relayed_length, with_sender, write,
+    FrameFault, Message, RelayFault, facts, first_arguments, relay, relayed_length, with_sender,
+    write,
 };
-use names::UniqueName;
+use names::{ConnectionName, UniqueName};
 use std::alloc::Global;
 use test_support::{Escaped, Row};
 
-/// `again`: the bytes that the message is written as. `relayed`: the same behind what stands there, as from `:1.1`, and its length.
+/// `again`: the bytes that the message is written as. `relayed`: the same behind what stands there, as from `:1.1`, and its length;
+/// `named`: the same, as from a unique name.
 /// `facts`: what rules and routing see of the message.
 pub fn relayed(alloc: Global, row: &Row<'_>, bytes: &[u8]) -> Result<String, FrameFault> {
     let Some(message) = only(alloc, bytes)? else {
@@ -25,14 +27,20 @@ pub fn relayed(alloc: Global, row: &Row<'_>, bytes: &[u8]) -> Result<String, Fra
 
 fn written(alloc: Global, word: &str, message: &Message) -> Result<String, FrameFault> {
     let mut output = Vec::new(alloc);
-    let written = if word == "again" {
-        write(message, &mut output)
-    } else {
+    if word != "again" {
         output.extend_from_slice(b"rest")?;
-        with_sender(message, &UniqueName::of(1), &mut output)
+    }
+    let written = match word {
+        "again" => write(message, &mut output),
+        "named" => with_sender(message, &UniqueName::of(1), &mut output),
+        _ => relay(message, &ConnectionName::of(1), &mut output),
     };
     match written {
-        Ok(()) => told(alloc, &output, relayed_length(message, &UniqueName::of(1))),
+        Ok(()) => told(
+            alloc,
+            &output,
+            relayed_length(message, &ConnectionName::of(1)),
+        ),
         Err(fault) => Ok(format!(in alloc; "{}: {fault}", fault.code())?),
     }
 }

@@ -1,4 +1,4 @@
-use Rattle.std.proofs.Common.{◌≡◌, ◌+◌, ◌-◌, ◌≤◌, ◌++◌, ℕ, List, Ok, IsUtf8, length, take, arith, sym, ap, subst, ◌∙◌}
+use Rattle.std.proofs.Common.{◌≡◌, refl, ◌+◌, ◌-◌, ◌≤◌, ◌++◌, ℕ, List, Ok, length, take, arith, sym, ap, ◌∙◌}
 use Rattle.std.specs.Int.{w32}
 use Rattle.std.proofs.lemmas.List.{length-append}
 use Rattle.std.proofs.lemmas.Result.{err_from_is_err_and}
@@ -13,7 +13,7 @@ use Rattle.message.proofs.Known.{within_known}
 use Rattle.message.proofs.PartLemmas.{facts, sent_facts, sent_fields_are, length_is, put_together, started}
 use Rattle.message.proofs.Ready.{ready_written}
 use Rattle.message.proofs.Refusals.{fields_too_long, whole_too_long, bad}
-use Rattle.message.proofs.relaying.with_sender.Goals as goal
+use Rattle.message.proofs.relaying.put_sent.Goals as goal
 
 pub lay_out-requires-clause-within : goal.lay_out-requires-clause-within
 lay_out-requires-clause-within c =
@@ -28,14 +28,12 @@ returns-in_err-layout-clause-too_long c =
     let body = c.parts_of-parts.result.body.now in
     let f = facts c.args.message.now body ps c.parts_of-parts.ensures.lies in
     let bytes = c.args.message.now in
-    let name = c.args.sender.now in
+    let name = c.args.name.now in
     let m = sent_by name (said bytes) in
-    let seen = c.as_str-name.result.now in
-    let e : seen ≡ name = c.as_str-name.ensures.value in
-    let s = sent_facts bytes body name ps c.as_str-name.ensures.name (subst IsUtf8 e c.as_str-name.utf8) c.parts_of-parts.ensures.lies in
-    let last : sent_end seen (known_places ps) ≡ 16 + length (fields_bytes m) = ap (λ (x : List ℕ). sent_end x (known_places ps)) e ∙ s.end in
+    let s = sent_facts bytes body name ps c.requires c.utf8.name c.parts_of-parts.ensures.lies in
+    let last : sent_end name (known_places ps) ≡ 16 + length (fields_bytes m) = s.end in
     let p = err_from_is_err_and c.from_residual.result c.from_residual.ensures.1 in
-    fields_too_long m (sent_end seen (known_places ps)) c.from_residual.result p.0 c.in_err-layout.field-0.0 last p.1 p.2 c.in_err-layout.ensures.too_long
+    fields_too_long m (sent_end name (known_places ps)) c.from_residual.result p.0 c.in_err-layout.field-0.0 last p.1 p.2 c.in_err-layout.ensures.too_long
 
 pub make_room-requires-clause-small : goal.make_room-requires-clause-small
 make_room-requires-clause-small c =
@@ -50,12 +48,10 @@ returns-in_err-make_room-clause-too_long c =
     let body = c.parts_of-parts.result.body.now in
     let f = facts c.args.message.now body ps c.parts_of-parts.ensures.lies in
     let bytes = c.args.message.now in
-    let name = c.args.sender.now in
+    let name = c.args.name.now in
     let m = sent_by name (said bytes) in
-    let seen = c.as_str-name.result.now in
-    let e : seen ≡ name = c.as_str-name.ensures.value in
-    let s = sent_facts bytes body name ps c.as_str-name.ensures.name (subst IsUtf8 e c.as_str-name.utf8) c.parts_of-parts.ensures.lies in
-    let last : sent_end seen (known_places ps) ≡ 16 + length (fields_bytes m) = ap (λ (x : List ℕ). sent_end x (known_places ps)) e ∙ s.end in
+    let s = sent_facts bytes body name ps c.requires c.utf8.name c.parts_of-parts.ensures.lies in
+    let last : sent_end name (known_places ps) ≡ 16 + length (fields_bytes m) = s.end in
     let layout = c.in_ok-layout.layout in
     let end : layout.end ≡ 16 + length (fields_bytes m) = c.in_ok-layout.ensures.end ∙ last in
     let short : layout.end ≤ last_end = omega (arith, c.in_ok-layout.ensures.end, c.in_ok-layout.ensures.too_long) in
@@ -72,12 +68,10 @@ returns-in_err-make_room-clause-memory c =
     let body = c.parts_of-parts.result.body.now in
     let f = facts c.args.message.now body ps c.parts_of-parts.ensures.lies in
     let bytes = c.args.message.now in
-    let name = c.args.sender.now in
+    let name = c.args.name.now in
     let m = sent_by name (said bytes) in
-    let seen = c.as_str-name.result.now in
-    let e : seen ≡ name = c.as_str-name.ensures.value in
-    let s = sent_facts bytes body name ps c.as_str-name.ensures.name (subst IsUtf8 e c.as_str-name.utf8) c.parts_of-parts.ensures.lies in
-    let last : sent_end seen (known_places ps) ≡ 16 + length (fields_bytes m) = ap (λ (x : List ℕ). sent_end x (known_places ps)) e ∙ s.end in
+    let s = sent_facts bytes body name ps c.requires c.utf8.name c.parts_of-parts.ensures.lies in
+    let last : sent_end name (known_places ps) ≡ 16 + length (fields_bytes m) = s.end in
     let layout = c.in_ok-layout.layout in
     let end : layout.end ≡ 16 + length (fields_bytes m) = c.in_ok-layout.ensures.end ∙ last in
     let short : layout.end ≤ last_end = omega (arith, c.in_ok-layout.ensures.end, c.in_ok-layout.ensures.too_long) in
@@ -93,12 +87,10 @@ put_start-requires-clause-begins c =
     let body = c.parts_of-parts.result.body.now in
     let f = facts c.args.message.now body ps c.parts_of-parts.ensures.lies in
     let bytes = c.args.message.now in
-    let name = c.args.sender.now in
+    let name = c.args.name.now in
     let m = sent_by name (said bytes) in
-    let seen = c.as_str-name.result.now in
-    let e : seen ≡ name = c.as_str-name.ensures.value in
-    let s = sent_facts bytes body name ps c.as_str-name.ensures.name (subst IsUtf8 e c.as_str-name.utf8) c.parts_of-parts.ensures.lies in
-    let last : sent_end seen (known_places ps) ≡ 16 + length (fields_bytes m) = ap (λ (x : List ℕ). sent_end x (known_places ps)) e ∙ s.end in
+    let s = sent_facts bytes body name ps c.requires c.utf8.name c.parts_of-parts.ensures.lies in
+    let last : sent_end name (known_places ps) ≡ 16 + length (fields_bytes m) = s.end in
     let layout = c.in_ok-layout.layout in
     let end : layout.end ≡ 16 + length (fields_bytes m) = c.in_ok-layout.ensures.end ∙ last in
     let short : layout.end ≤ last_end = omega (arith, c.in_ok-layout.ensures.end, c.in_ok-layout.ensures.too_long) in
@@ -110,12 +102,10 @@ put_start-requires-clause-room c =
     let body = c.parts_of-parts.result.body.now in
     let f = facts c.args.message.now body ps c.parts_of-parts.ensures.lies in
     let bytes = c.args.message.now in
-    let name = c.args.sender.now in
+    let name = c.args.name.now in
     let m = sent_by name (said bytes) in
-    let seen = c.as_str-name.result.now in
-    let e : seen ≡ name = c.as_str-name.ensures.value in
-    let s = sent_facts bytes body name ps c.as_str-name.ensures.name (subst IsUtf8 e c.as_str-name.utf8) c.parts_of-parts.ensures.lies in
-    let last : sent_end seen (known_places ps) ≡ 16 + length (fields_bytes m) = ap (λ (x : List ℕ). sent_end x (known_places ps)) e ∙ s.end in
+    let s = sent_facts bytes body name ps c.requires c.utf8.name c.parts_of-parts.ensures.lies in
+    let last : sent_end name (known_places ps) ≡ 16 + length (fields_bytes m) = s.end in
     let layout = c.in_ok-layout.layout in
     let end : layout.end ≡ 16 + length (fields_bytes m) = c.in_ok-layout.ensures.end ∙ last in
     let short : layout.end ≤ last_end = omega (arith, c.in_ok-layout.ensures.end, c.in_ok-layout.ensures.too_long) in
@@ -141,20 +131,18 @@ put_body-requires c =
     let body = c.parts_of-parts.result.body.now in
     let f = facts c.args.message.now body ps c.parts_of-parts.ensures.lies in
     let bytes = c.args.message.now in
-    let name = c.args.sender.now in
+    let name = c.args.name.now in
     let m = sent_by name (said bytes) in
-    let seen = c.as_str-name.result.now in
-    let e : seen ≡ name = c.as_str-name.ensures.value in
-    let s = sent_facts bytes body name ps c.as_str-name.ensures.name (subst IsUtf8 e c.as_str-name.utf8) c.parts_of-parts.ensures.lies in
-    let last : sent_end seen (known_places ps) ≡ 16 + length (fields_bytes m) = ap (λ (x : List ℕ). sent_end x (known_places ps)) e ∙ s.end in
+    let s = sent_facts bytes body name ps c.requires c.utf8.name c.parts_of-parts.ensures.lies in
+    let last : sent_end name (known_places ps) ≡ 16 + length (fields_bytes m) = s.end in
     let layout = c.in_ok-layout.layout in
     let end : layout.end ≡ 16 + length (fields_bytes m) = c.in_ok-layout.ensures.end ∙ last in
     let short : layout.end ≤ last_end = omega (arith, c.in_ok-layout.ensures.end, c.in_ok-layout.ensures.too_long) in
     let there = c.parts_of-parts.result.bytes.now in
     let order = c.parts_of-parts.result.order in
-    let put : List ℕ = copied there 16 layout.before.now ++ ((pads 8 layout.sender ++ sender_bytes order seen) ++ copied there layout.next layout.after.now) in
+    let put : List ℕ = copied there 16 layout.before.now ++ ((pads 8 layout.sender ++ sender_bytes order name) ++ copied there layout.next layout.after.now) in
     let fields : put ≡ fields_bytes m =
-    sent_fields_are bytes there name seen (known_places ps) layout.before.now layout.after.now layout.sender layout.next order c.parts_of-parts.ensures.bytes e c.in_ok-layout.ensures.before c.in_ok-layout.ensures.after c.in_ok-layout.ensures.sender c.in_ok-layout.ensures.next c.parts_of-parts.ensures.order s in
+    sent_fields_are bytes there name name (known_places ps) layout.before.now layout.after.now layout.sender layout.next order c.parts_of-parts.ensures.bytes refl c.in_ok-layout.ensures.before c.in_ok-layout.ensures.after c.in_ok-layout.ensures.sender c.in_ok-layout.ensures.next c.parts_of-parts.ensures.order s in
     let out : length c.put_start.new.output.items ≡ length c.make_room.new.output.items + 16 = started order there c.make_room.new.output.items c.put_start.new.output.items (layout.end - 16) (rw c.parts_of-parts.ensures.bytes f.long) c.put_start.ensures.items in
     omega (arith, out, ap length fields, end, ap length c.put_sent_fields.ensures.items, length-append c.put_start.new.output.items put, ap length c.make_room.ensures.kept, c.in_ok-make_room.ensures.room, c.put_start.ensures.capacity, c.put_sent_fields.ensures.capacity)
 
@@ -164,21 +152,19 @@ returns-clause-appended c =
     let body = c.parts_of-parts.result.body.now in
     let f = facts c.args.message.now body ps c.parts_of-parts.ensures.lies in
     let bytes = c.args.message.now in
-    let name = c.args.sender.now in
+    let name = c.args.name.now in
     let m = sent_by name (said bytes) in
-    let seen = c.as_str-name.result.now in
-    let e : seen ≡ name = c.as_str-name.ensures.value in
-    let s = sent_facts bytes body name ps c.as_str-name.ensures.name (subst IsUtf8 e c.as_str-name.utf8) c.parts_of-parts.ensures.lies in
-    let last : sent_end seen (known_places ps) ≡ 16 + length (fields_bytes m) = ap (λ (x : List ℕ). sent_end x (known_places ps)) e ∙ s.end in
+    let s = sent_facts bytes body name ps c.requires c.utf8.name c.parts_of-parts.ensures.lies in
+    let last : sent_end name (known_places ps) ≡ 16 + length (fields_bytes m) = s.end in
     let layout = c.in_ok-layout.layout in
     let end : layout.end ≡ 16 + length (fields_bytes m) = c.in_ok-layout.ensures.end ∙ last in
     let short : layout.end ≤ last_end = omega (arith, c.in_ok-layout.ensures.end, c.in_ok-layout.ensures.too_long) in
     let body_is : body_bytes m ≡ body = s.body ∙ f.body_is in
     let there = c.parts_of-parts.result.bytes.now in
     let order = c.parts_of-parts.result.order in
-    let put : List ℕ = copied there 16 layout.before.now ++ ((pads 8 layout.sender ++ sender_bytes order seen) ++ copied there layout.next layout.after.now) in
+    let put : List ℕ = copied there 16 layout.before.now ++ ((pads 8 layout.sender ++ sender_bytes order name) ++ copied there layout.next layout.after.now) in
     let fields : put ≡ fields_bytes m =
-    sent_fields_are bytes there name seen (known_places ps) layout.before.now layout.after.now layout.sender layout.next order c.parts_of-parts.ensures.bytes e c.in_ok-layout.ensures.before c.in_ok-layout.ensures.after c.in_ok-layout.ensures.sender c.in_ok-layout.ensures.next c.parts_of-parts.ensures.order s in
+    sent_fields_are bytes there name name (known_places ps) layout.before.now layout.after.now layout.sender layout.next order c.parts_of-parts.ensures.bytes refl c.in_ok-layout.ensures.before c.in_ok-layout.ensures.after c.in_ok-layout.ensures.sender c.in_ok-layout.ensures.next c.parts_of-parts.ensures.order s in
     let old : List ℕ = c.args.output.now.items in
     let word : List ℕ = number_bytes m.order w32 (layout.end - 16) in
     let one : c.put_start.new.output.items ≡ old ++ (take 12 bytes ++ word) =
@@ -193,12 +179,10 @@ returns-clause-written c =
     let body = c.parts_of-parts.result.body.now in
     let f = facts c.args.message.now body ps c.parts_of-parts.ensures.lies in
     let bytes = c.args.message.now in
-    let name = c.args.sender.now in
+    let name = c.args.name.now in
     let m = sent_by name (said bytes) in
-    let seen = c.as_str-name.result.now in
-    let e : seen ≡ name = c.as_str-name.ensures.value in
-    let s = sent_facts bytes body name ps c.as_str-name.ensures.name (subst IsUtf8 e c.as_str-name.utf8) c.parts_of-parts.ensures.lies in
-    let last : sent_end seen (known_places ps) ≡ 16 + length (fields_bytes m) = ap (λ (x : List ℕ). sent_end x (known_places ps)) e ∙ s.end in
+    let s = sent_facts bytes body name ps c.requires c.utf8.name c.parts_of-parts.ensures.lies in
+    let last : sent_end name (known_places ps) ≡ 16 + length (fields_bytes m) = s.end in
     let layout = c.in_ok-layout.layout in
     let end : layout.end ≡ 16 + length (fields_bytes m) = c.in_ok-layout.ensures.end ∙ last in
     let short : layout.end ≤ last_end = omega (arith, c.in_ok-layout.ensures.end, c.in_ok-layout.ensures.too_long) in
@@ -210,12 +194,10 @@ returns-clause-too_long c =
     let body = c.parts_of-parts.result.body.now in
     let f = facts c.args.message.now body ps c.parts_of-parts.ensures.lies in
     let bytes = c.args.message.now in
-    let name = c.args.sender.now in
+    let name = c.args.name.now in
     let m = sent_by name (said bytes) in
-    let seen = c.as_str-name.result.now in
-    let e : seen ≡ name = c.as_str-name.ensures.value in
-    let s = sent_facts bytes body name ps c.as_str-name.ensures.name (subst IsUtf8 e c.as_str-name.utf8) c.parts_of-parts.ensures.lies in
-    let last : sent_end seen (known_places ps) ≡ 16 + length (fields_bytes m) = ap (λ (x : List ℕ). sent_end x (known_places ps)) e ∙ s.end in
+    let s = sent_facts bytes body name ps c.requires c.utf8.name c.parts_of-parts.ensures.lies in
+    let last : sent_end name (known_places ps) ≡ 16 + length (fields_bytes m) = s.end in
     let layout = c.in_ok-layout.layout in
     let end : layout.end ≡ 16 + length (fields_bytes m) = c.in_ok-layout.ensures.end ∙ last in
     let short : layout.end ≤ last_end = omega (arith, c.in_ok-layout.ensures.end, c.in_ok-layout.ensures.too_long) in
