@@ -55,52 +55,58 @@ fn flag<'a>(alloc: Global, name: &'a str, help: &'a str) -> Arg<'a> {
         .help(help)
 }
 
-/// The subcommand `serve`, whose matches [`Options::of`](crate::Options::of) reads.
-pub fn serve_command<'a>(alloc: Global) -> Result<Command<'a>, AllocError> {
-    let routers = value(
-        alloc,
-        "routers",
-        "N",
-        "Threads that serve connections, 1 to 8",
-    )
-    .value_parser(ValueParser::unsigned(1, 8));
-    Command::new(alloc, "serve")
-        .about("Serves the clients that connect to a socket, until it is stopped")
-        .after_help(NOTES)
-        .arg(value(
+fn options<'a>(alloc: Global) -> Result<Vec<Arg<'a>>, AllocError> {
+    Ok(vec![in alloc;
+        value(
             alloc,
             "address",
             "PATH",
             "Path of the socket, which is made",
-        ))?
-        .arg(routers)?
-        .arg(value(alloc, "services", "DIR", "Folder of the services' files"))?
-        .arg(value(
+        ),
+        value(
+            alloc,
+            "routers",
+            "N",
+            "Threads that serve connections, 1 to 8",
+        )
+        .value_parser(ValueParser::unsigned(1, 8)),
+        value(alloc, "services", "DIR", "Folder of the services' files"),
+        value(
             alloc,
             "keyring",
             "FILE",
             "File of the cookies; its last line is used",
-        ))?
-        .arg(value(
+        ),
+        value(
             alloc,
             "user",
             "NAME",
             "Who clients say that they are; most tell their user's number",
-        ))?
-        .arg(optional(alloc, "trace", "DIR", "Folder that the run is recorded in"))?
-        .arg(flag(
+        ),
+        optional(alloc, "trace", "DIR", "Folder that the run is recorded in"),
+        flag(
             alloc,
             "anonymous",
             "Lets clients in that do not say who they are",
-        ))?
-        .arg(flag(
+        ),
+        flag(
             alloc,
             "print-address",
             "Prints the address once clients can connect",
-        ))?
-        .arg(flag(
+        ),
+        flag(
             alloc,
             "verbose",
             "Tells of each connection that ends by a fault",
-        ))
+        ),
+    ]?)
+}
+
+/// The subcommand `serve`, whose matches [`Options::of`](crate::Options::of) reads.
+pub fn serve_command<'a>(alloc: Global) -> Result<Command<'a>, AllocError> {
+    let options = options(alloc)?;
+    Command::new(alloc, "serve")
+        .about("Serves the clients that connect to a socket, until it is stopped")
+        .after_help(NOTES)
+        .args(options)
 }

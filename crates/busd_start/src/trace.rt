@@ -42,6 +42,38 @@ fn create<R: Files + AllocGlobal>(rt: &R, folder: &str, name: &str) -> io::Resul
     File::create(rt, path.as_str())
 }
 
+/// Adds a file of the folder, made anew.
+fn add_file<R: Files + AllocGlobal>(
+    rt: &R,
+    folder: &str,
+    name: &str,
+    files: &mut Vec<R::File>,
+) -> io::Result<()> {
+    let file = create(rt, folder, name)?;
+    Ok(push(files, file)?)
+}
+
+fn add_routers<R: Files + AllocGlobal>(
+    rt: &R,
+    folder: &str,
+    routers: u8,
+    files: &mut Vec<R::File>,
+) -> io::Result<()> {
+    for router in 1..=routers {
+        let name = format!(in rt.alloc(); "router-{router}")?;
+        add_file(rt, folder, name.as_str(), files)?;
+    }
+    Ok(())
+}
+
+/// Makes the file of each seat.
+fn seats<R: Files + AllocGlobal>(rt: &R, folder: &str, routers: u8) -> io::Result<Vec<R::File>> {
+    let mut files = Vec::new(rt.alloc());
+    add_file(rt, folder, "main", &mut files)?;
+    add_routers(rt, folder, routers, &mut files)?;
+    Ok(files)
+}
+
 /// Writes the head, and makes the file of each seat.
 fn begin<R: Files + AllocGlobal>(
     rt: &R,
@@ -52,16 +84,10 @@ fn begin<R: Files + AllocGlobal>(
     if folder.is_empty() {
         return Err(io::Error::from(ErrorKind::NotFound));
     }
-    let alloc = rt.alloc();
-    let head = head(alloc, routers, services)?;
+    let head = head(rt.alloc(), routers, services)?;
     create(rt, folder, "head")?.write_all(head.as_bytes())?;
-    let mut files = Vec::new(alloc);
-    push(&mut files, create(rt, folder, "main")?)?;
-    for router in 1..=routers {
-        let name = format!(in alloc; "router-{router}")?;
-        push(&mut files, create(rt, folder, name.as_str())?)?;
-    }
-    Ok(files)
+    drop(head);
+    seats(rt, folder, routers)
 }
 
 /// Begins the trace of a bus with so many routers and these services, whose names rise, in a folder: writes `head.trace`, and makes
