@@ -1,6 +1,7 @@
 //! The words of changes.
 
-ghost use Rattle.std.specs.Prelude.{◌≡◌, option_map};
+ghost use Rattle.std.specs.Prelude.{◌≡◌, None, codes, if◌then◌else◌, option_map};
+ghost use Rattle.names.specs.Texts.{text_eq};
 ghost use Rattle.seq_bus_core.specs.Changes.{no_call};
 ghost use Rattle.seq_bus_core.specs.declared.change.Change.TheVariants.{Release, Start};
 ghost use Rattle.trace_words.specs.Changes.{ended_from, ending_of, hello_from, is_exit, leave_from, named_from, plain_change_of, request_from, timeout_from};
@@ -130,6 +131,27 @@ fn timed_out(words: &mut Parts<'_>) -> Option<Change>
     Some(Change::StartTimedOut { name, start })
 }
 
+/// Reads what befell a start, or one that is asked for, behind its verb.
+fn start_change(verb: &str, words: &mut Parts<'_>) -> Option<Change>
+    ensures { let behind = parts_left words.old in
+        option_map (λ change. (change, parts_left words.new)) result
+        ≡ (if text_eq verb.now (codes "start") then named_from (λ c n. Start c n no_call) behind
+        else if text_eq verb.now (codes "ended") then ended_from behind
+        else if text_eq verb.now (codes "timeout") then timeout_from behind
+        else None) }
+{
+    if verb == "start" {
+        return start(words);
+    }
+    if verb == "ended" {
+        return ended(words);
+    }
+    if verb == "timeout" {
+        return timed_out(words);
+    }
+    None
+}
+
 /// Reads a change that has no rule and carries no message, behind its verb.
 pub(crate) fn plain_change(verb: &str, words: &mut Parts<'_>) -> Option<Change>
     ensures { option_map (λ change. (change, parts_left words.new)) result
@@ -147,14 +169,5 @@ pub(crate) fn plain_change(verb: &str, words: &mut Parts<'_>) -> Option<Change>
     if verb == "release" {
         return release(words);
     }
-    if verb == "start" {
-        return start(words);
-    }
-    if verb == "ended" {
-        return ended(words);
-    }
-    if verb == "timeout" {
-        return timed_out(words);
-    }
-    None
+    start_change(verb, words)
 }

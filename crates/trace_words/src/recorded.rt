@@ -1,12 +1,12 @@
 //! What stands behind the arrow of a line.
 
-ghost use Rattle.std.specs.Prelude.{◌≡◌, ◌||◌, unwrap_or, codes, false, None};
+ghost use Rattle.std.specs.Prelude.{◌≡◌, ◌||◌, ◌&&◌, unwrap_or, codes, false, None};
 ghost use Rattle.names.specs.Texts.{text_eq};
 ghost use Rattle.std.specs.Option.{option_copied};
 ghost use Rattle.std.specs.List.{list_all};
 ghost use Rattle.trace_words.specs.Cutting.{parts_left};
 ghost use Rattle.trace_words.specs.Recorded.{are_names, are_rising, has_value, is_answer, is_held, is_kind, is_marked, is_name_told, is_number_or_none, is_numbered, is_outcome, is_owner_change, is_passed, is_recipients, is_reply, is_signal, is_signal_of, is_signals, is_ticket, is_tickets, is_verdict, rises, value_of};
-ghost use Rattle.trace_words.specs.Words.{equals, is_bus_name, parts};
+ghost use Rattle.trace_words.specs.Words.{equals, is_bus_name, is_number, parts};
 
 use crate::parts::Parts;
 use crate::words::{is_bus_name, is_number, number};
@@ -49,6 +49,13 @@ fn is_recipients(text: &str) -> bool
     text == "-" || are_rising(Parts::of(text, '+'))
 }
 
+/// Whether these are the recipients of a signal or a message, and the monitors that see it.
+fn are_told(to: &str, monitors: &str) -> bool
+    ensures { result ≡ (is_recipients to.now && is_recipients monitors.now) }
+{
+    is_recipients(to) && is_recipients(monitors)
+}
+
 fn owner_change(mut told: Parts<'_>) -> Option<bool>
     ensures { unwrap_or result false ≡ is_owner_change (parts_left told.entry) }
 {
@@ -64,8 +71,7 @@ fn owner_change(mut told: Parts<'_>) -> Option<bool>
         is_bus_name(name)
             && is_number_or_none(old)
             && is_number_or_none(new)
-            && is_recipients(to)
-            && is_recipients(monitors),
+            && are_told(to, monitors),
     )
 }
 
@@ -78,7 +84,7 @@ fn name_told(mut told: Parts<'_>) -> Option<bool>
     if told.take().is_some() {
         return None;
     }
-    Some(is_bus_name(name) && is_recipients(to) && is_recipients(monitors))
+    Some(is_bus_name(name) && are_told(to, monitors))
 }
 
 fn signal(mut parts: Parts<'_>) -> Option<bool>
@@ -216,21 +222,47 @@ fn is_reply_to_hold(text: &str) -> bool
     text == "unknown" || text == "limits" || text == "gone" || is_held(text) || is_passed(text)
 }
 
+fn is_done(text: &str) -> bool
+    ensures { result ≡ (text_eq text.now (codes "ok") || text_eq text.now (codes "gone")) }
+{
+    text == "ok" || text == "gone"
+}
+
+/// Whether a text says that it is done, that the asker is gone, or why it is not done.
+fn is_done_or(refusal: &str, text: &str) -> bool
+    ensures { result ≡ (text_eq text.now (codes "ok") || text_eq text.now refusal.now
+        || text_eq text.now (codes "gone")) }
+{
+    text == "ok" || text == refusal || text == "gone"
+}
+
+fn is_reply_to_hello(text: &str) -> bool
+    ensures { result ≡ (text_eq text.now (codes "limits") || is_number text.now) }
+{
+    text == "limits" || is_number(text)
+}
+
+fn is_reply_to_starter(text: &str) -> bool
+    ensures { result ≡ (text_eq text.now (codes "ok") || text_eq text.now (codes "ignored")) }
+{
+    text == "ok" || text == "ignored"
+}
+
 fn is_reply(change: &Change, text: &str) -> bool
     ensures { result ≡ is_reply change.now text.now }
 {
     match change {
-        Change::Hello { .. } => text == "limits" || is_number(text),
-        Change::Leave { .. } => text == "ok" || text == "gone",
+        Change::Hello { .. } => is_reply_to_hello(text),
+        Change::Leave { .. } => is_done(text),
         Change::Request { .. } => is_reply_to_request(text),
         Change::Release { .. } => is_reply_to_release(text),
-        Change::AddMatch { .. } => text == "ok" || text == "limits" || text == "gone",
-        Change::RemoveMatch { .. } => text == "ok" || text == "notfound" || text == "gone",
-        Change::BecomeMonitor { .. } => text == "ok" || text == "denied" || text == "gone",
+        Change::AddMatch { .. } => is_done_or("limits", text),
+        Change::RemoveMatch { .. } => is_done_or("notfound", text),
+        Change::BecomeMonitor { .. } => is_done_or("denied", text),
         Change::Start { .. } => is_reply_to_start(text),
         Change::Hold { .. } => is_reply_to_hold(text),
-        Change::ChildEnded { .. } => text == "ok" || text == "ignored",
-        Change::StartTimedOut { .. } => text == "ok" || text == "ignored",
+        Change::ChildEnded { .. } => is_reply_to_starter(text),
+        Change::StartTimedOut { .. } => is_reply_to_starter(text),
     }
 }
 
@@ -356,7 +388,7 @@ fn verdict(mut words: Parts<'_>) -> Option<bool>
     if words.take().is_some() {
         return None;
     }
-    Some(is_kind(kind) && is_recipients(to) && is_recipients(monitors))
+    Some(is_kind(kind) && are_told(to, monitors))
 }
 
 /// Whether words say where a message goes.

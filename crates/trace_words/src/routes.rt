@@ -1,6 +1,6 @@
 //! The words of routes.
 
-ghost use Rattle.std.specs.Prelude.{◌≡◌, None, option_map, IfOk, MatchOption};
+ghost use Rattle.std.specs.Prelude.{◌≡◌, ◌∷◌, None, option_map, IfOk, MatchOption};
 ghost use Rattle.std.specs.Option.{option_copied};
 ghost use Rattle.trace_words.specs.Cutting.{parts_left};
 ghost use Rattle.trace_words.specs.RouteViews.{route_facts, route_words};
@@ -99,15 +99,17 @@ pub(crate) struct RouteWords<'a> {
     behind: Parts<'a>,
 }
 
-/// Takes the words of a message.
-fn route_words(mut words: Parts<'_>) -> Option<RouteWords<'_>>
-    ensures { MatchOption result (header_from (parts_left words.entry) ≡ None)
-        (λ taken. parts_left words.entry ≡ route_words taken) }
+/// Takes the words of a message behind its path.
+fn words_behind<'a>(
+    sender: &'a str,
+    kind: &'a str,
+    auto_start: &'a str,
+    path: &'a str,
+    mut words: Parts<'a>,
+) -> Option<RouteWords<'a>>
+    ensures { let all = sender.now ∷ kind.now ∷ auto_start.now ∷ path.now ∷ parts_left words.entry in
+        MatchOption result (header_from all ≡ None) (λ taken. all ≡ route_words taken) }
 {
-    let sender = words.take()?;
-    let kind = words.take()?;
-    let auto_start = words.take()?;
-    let path = words.take()?;
     let interface = words.take()?;
     let member = words.take()?;
     let destination = words.take()?;
@@ -123,6 +125,18 @@ fn route_words(mut words: Parts<'_>) -> Option<RouteWords<'_>>
         arguments,
         behind: words,
     })
+}
+
+/// Takes the words of a message.
+fn route_words(mut words: Parts<'_>) -> Option<RouteWords<'_>>
+    ensures { MatchOption result (header_from (parts_left words.entry) ≡ None)
+        (λ taken. parts_left words.entry ≡ route_words taken) }
+{
+    let sender = words.take()?;
+    let kind = words.take()?;
+    let auto_start = words.take()?;
+    let path = words.take()?;
+    words_behind(sender, kind, auto_start, path, words)
 }
 
 /// Reads a message without its arguments out of its words.

@@ -5,8 +5,8 @@ ghost use Rattle.std.specs.List.{list_any};
 ghost use Rattle.std.specs.Result.{result_ok};
 ghost use Rattle.hex.specs.Hex.{decode_of};
 ghost use Rattle.seq_bus_core.specs.Changes.{no_call};
-ghost use Rattle.seq_bus_core.specs.declared.change.Change.TheVariants.{Hold};
-ghost use Rattle.trace_words.specs.Changes.{change_from, monitor_from, named_from, rule_in, rule_of, rule_of_bytes, ruled_from, rules_from, rules_of};
+ghost use Rattle.seq_bus_core.specs.declared.change.Change.TheVariants.{AddMatch, Hold, RemoveMatch};
+ghost use Rattle.trace_words.specs.Changes.{Read, change_from, monitor_from, named_from, rule_in, rule_of, rule_of_bytes, ruled_from, rules_from, rules_of};
 ghost use Rattle.trace_words.specs.Cutting.{parts_left};
 ghost use Rattle.trace_words.specs.Hex.{bytes_of, hex_bytes, is_upper_case};
 
@@ -192,6 +192,26 @@ fn hold(alloc: Global, words: &mut Parts<'_>) -> Result<Option<Change>, AllocErr
     }))
 }
 
+fn add_match(alloc: Global, words: &mut Parts<'_>) -> Result<Option<Change>, AllocError>
+    ensures { let said : Read = option_map (λ r. (AddMatch r.0.0 r.0.1, r.1)) (ruled_from (parts_left words.old)) in
+        IfOk result (λ change. option_map (λ c. (c, parts_left words.new)) change ≡ said) }
+{
+    match ruled(alloc, words)? {
+        Some((connection, rule)) => Ok(Some(Change::AddMatch { connection, rule })),
+        None => Ok(None),
+    }
+}
+
+fn remove_match(alloc: Global, words: &mut Parts<'_>) -> Result<Option<Change>, AllocError>
+    ensures { let said : Read = option_map (λ r. (RemoveMatch r.0.0 r.0.1, r.1)) (ruled_from (parts_left words.old)) in
+        IfOk result (λ change. option_map (λ c. (c, parts_left words.new)) change ≡ said) }
+{
+    match ruled(alloc, words)? {
+        Some((connection, rule)) => Ok(Some(Change::RemoveMatch { connection, rule })),
+        None => Ok(None),
+    }
+}
+
 /// Reads a change, and leaves the words behind it. None where they say no change; then some may be
 /// taken.
 pub fn read_change(alloc: Global, words: &mut Parts<'_>) -> Result<Option<Change>, AllocError>
@@ -202,16 +222,10 @@ pub fn read_change(alloc: Global, words: &mut Parts<'_>) -> Result<Option<Change
         return Ok(None);
     };
     if verb == "addmatch" {
-        return match ruled(alloc, words)? {
-            Some((connection, rule)) => Ok(Some(Change::AddMatch { connection, rule })),
-            None => Ok(None),
-        };
+        return add_match(alloc, words);
     }
     if verb == "removematch" {
-        return match ruled(alloc, words)? {
-            Some((connection, rule)) => Ok(Some(Change::RemoveMatch { connection, rule })),
-            None => Ok(None),
-        };
+        return remove_match(alloc, words);
     }
     if verb == "monitor" {
         return become_monitor(alloc, words);
