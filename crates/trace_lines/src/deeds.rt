@@ -1,8 +1,9 @@
 //! How changes, queries and messages are written.
 
-ghost use Rattle.std.specs.Prelude.{◌≡◌, ◌++◌, OnOk, map, option_map};
+ghost use Rattle.std.specs.Prelude.{◌≡◌, ◌++◌, OnOk, codes, decimal, map, option_map};
 ghost use Rattle.match_rules.specs.FactsView.{argument_of};
-ghost use Rattle.trace_lines.specs.Texts.{arguments_text, change_text, ending_text, facts_text, flag_bits, named_text, query_text, ruled_text, text_or_dash};
+ghost use Rattle.match_rules.specs.Kinds.{kind_number};
+ghost use Rattle.trace_lines.specs.Texts.{arguments_text, bit_text, change_text, ending_text, facts_text, flag_bits, listed, named_text, query_text, rule_word, ruled_text, text_or_dash};
 
 use crate::draft::Draft;
 use crate::told::write_bit;
@@ -69,32 +70,96 @@ fn write_ending(draft: &mut Draft, ending: Ending) -> Result<(), AllocError>
     }
 }
 
+/// Writes a verb, a connection and a name.
+fn write_asked(
+    draft: &mut Draft,
+    verb: &str,
+    connection: u64,
+    name: &BusName,
+) -> Result<(), AllocError>
+    ensures { OnOk result (draft.new ≡ draft.old ++ verb.now ++ named_text connection name.now) }
+{
+    draft.push(verb)?;
+    write_named(draft, connection, name)
+}
+
+fn write_hello(draft: &mut Draft, privileged: bool) -> Result<(), AllocError>
+    ensures { OnOk result (draft.new ≡ draft.old ++ codes "hello " ++ bit_text privileged) }
+{
+    draft.push("hello ")?;
+    write_bit(draft, privileged)
+}
+
+fn write_leave(draft: &mut Draft, connection: u64) -> Result<(), AllocError>
+    ensures { OnOk result (draft.new ≡ draft.old ++ codes "leave " ++ decimal connection) }
+{
+    draft.push("leave ")?;
+    draft.push_number(connection)
+}
+
+fn write_request(
+    draft: &mut Draft,
+    connection: u64,
+    name: &BusName,
+    flags: RequestFlags,
+) -> Result<(), AllocError>
+    ensures { OnOk result (draft.new ≡ draft.old ++ codes "request "
+        ++ named_text connection name.now ++ codes " " ++ decimal (flag_bits flags)) }
+{
+    write_asked(draft, "request ", connection, name)?;
+    draft.push(" ")?;
+    draft.push_number(u64::from(flag_bits(flags)))
+}
+
+fn write_monitor(draft: &mut Draft, connection: u64, rules: &[Rule]) -> Result<(), AllocError>
+    ensures { OnOk result (draft.new ≡ draft.old ++ codes "monitor " ++ decimal connection
+        ++ codes " " ++ listed (codes ",") rule_word rules.now) }
+{
+    draft.push("monitor ")?;
+    draft.push_number(connection)?;
+    draft.push(" ")?;
+    write_list(draft, ",", rules)
+}
+
+/// Writes a verb, and the name and the number of a start.
+fn write_started(
+    draft: &mut Draft,
+    verb: &str,
+    name: &BusName,
+    start: u64,
+) -> Result<(), AllocError>
+    ensures { OnOk result (draft.new ≡ draft.old ++ verb.now ++ name.now ++ codes " "
+        ++ decimal start) }
+{
+    draft.push(verb)?;
+    draft.push(name.as_str())?;
+    draft.push(" ")?;
+    draft.push_number(start)
+}
+
+fn write_ended(draft: &mut Draft, name: &BusName, start: u64, how: Ending) -> Result<(), AllocError>
+    ensures { OnOk result (draft.new ≡ draft.old ++ codes "ended " ++ name.now ++ codes " "
+        ++ decimal start ++ codes " " ++ ending_text how) }
+{
+    write_started(draft, "ended ", name, start)?;
+    draft.push(" ")?;
+    write_ending(draft, how)
+}
+
 /// Writes a change.
 pub(crate) fn write_change(draft: &mut Draft, change: &Change) -> Result<(), AllocError>
     ensures { OnOk result (draft.new ≡ draft.old ++ change_text change.now) }
 {
     match change {
-        Change::Hello { privileged } => {
-            draft.push("hello ")?;
-            write_bit(draft, *privileged)
-        }
-        Change::Leave { connection } => {
-            draft.push("leave ")?;
-            draft.push_number(*connection)
-        }
+        Change::Hello { privileged } => write_hello(draft, *privileged),
+        Change::Leave { connection } => write_leave(draft, *connection),
         Change::Request {
             connection,
             name,
             flags,
-        } => {
-            draft.push("request ")?;
-            write_named(draft, *connection, name)?;
-            draft.push(" ")?;
-            draft.push_number(u64::from(flag_bits(*flags)))
-        }
+        } => write_request(draft, *connection, name, *flags),
         Change::Release { connection, name } => {
-            draft.push("release ")?;
-            write_named(draft, *connection, name)
+            write_asked(draft, "release ", *connection, name)
         }
         Change::AddMatch { connection, rule } => {
             write_ruled(draft, "addmatch", *connection, rule)
@@ -103,41 +168,20 @@ pub(crate) fn write_change(draft: &mut Draft, change: &Change) -> Result<(), All
             write_ruled(draft, "removematch", *connection, rule)
         }
         Change::BecomeMonitor { connection, rules } => {
-            draft.push("monitor ")?;
-            draft.push_number(*connection)?;
-            draft.push(" ")?;
-            write_list(draft, ",", rules.as_slice())
+            write_monitor(draft, *connection, rules.as_slice())
         }
         Change::Start {
             connection,
             name,
             ..
-        } => {
-            draft.push("start ")?;
-            write_named(draft, *connection, name)
-        }
+        } => write_asked(draft, "start ", *connection, name),
         Change::Hold {
             connection,
             name,
             ..
-        } => {
-            draft.push("hold ")?;
-            write_named(draft, *connection, name)
-        }
-        Change::ChildEnded { name, start, how } => {
-            draft.push("ended ")?;
-            draft.push(name.as_str())?;
-            draft.push(" ")?;
-            draft.push_number(*start)?;
-            draft.push(" ")?;
-            write_ending(draft, *how)
-        }
-        Change::StartTimedOut { name, start } => {
-            draft.push("timeout ")?;
-            draft.push(name.as_str())?;
-            draft.push(" ")?;
-            draft.push_number(*start)
-        }
+        } => write_asked(draft, "hold ", *connection, name),
+        Change::ChildEnded { name, start, how } => write_ended(draft, name, *start, *how),
+        Change::StartTimedOut { name, start } => write_started(draft, "timeout ", name, *start),
     }
 }
 
@@ -182,24 +226,46 @@ fn write_arguments(draft: &mut Draft, arguments: &[Argument<'_>]) -> Result<(), 
     write_separated(draft, ",", arguments)
 }
 
-/// Writes what match rules and the choice of recipients look at in a message, which comes from this connection.
-pub(crate) fn write_facts(draft: &mut Draft, from: u64, facts: &Facts<'_>) -> Result<(), AllocError>
-    ensures { OnOk result (draft.new ≡ draft.old
-        ++ facts_text (record facts.now { sender = from })) }
+/// Writes who sends a message, its kind, and whether it may start its receiver.
+fn write_origin(draft: &mut Draft, from: u64, facts: &Facts<'_>) -> Result<(), AllocError>
+    ensures { OnOk result (draft.new ≡ draft.old ++ decimal from ++ codes " "
+        ++ decimal (kind_number facts.now.kind) ++ codes " " ++ bit_text facts.now.auto_start) }
 {
     draft.push_number(from)?;
     draft.push(" ")?;
     draft.push_number(u64::from(facts.kind.number()))?;
     draft.push(" ")?;
-    write_bit(draft, facts.auto_start)?;
+    write_bit(draft, facts.auto_start)
+}
+
+/// Writes a space, and a part of a message.
+fn write_next(draft: &mut Draft, text: Option<&str>) -> Result<(), AllocError>
+    ensures { OnOk result (draft.new ≡ draft.old ++ codes " "
+        ++ text_or_dash (option_map (λ t. t.now) text.entry)) }
+{
     draft.push(" ")?;
-    write_text(draft, facts.path)?;
-    draft.push(" ")?;
-    write_text(draft, facts.interface)?;
-    draft.push(" ")?;
-    write_text(draft, facts.member)?;
-    draft.push(" ")?;
-    write_text(draft, facts.destination)?;
+    write_text(draft, text)
+}
+
+/// Writes what a message is about.
+fn write_header(draft: &mut Draft, facts: &Facts<'_>) -> Result<(), AllocError>
+    ensures { OnOk result (draft.new ≡ draft.old ++ codes " " ++ text_or_dash facts.now.path
+        ++ codes " " ++ text_or_dash facts.now.interface ++ codes " "
+        ++ text_or_dash facts.now.member ++ codes " " ++ text_or_dash facts.now.destination) }
+{
+    write_next(draft, facts.path)?;
+    write_next(draft, facts.interface)?;
+    write_next(draft, facts.member)?;
+    write_next(draft, facts.destination)
+}
+
+/// Writes what match rules and the choice of recipients look at in a message, which comes from this connection.
+pub(crate) fn write_facts(draft: &mut Draft, from: u64, facts: &Facts<'_>) -> Result<(), AllocError>
+    ensures { OnOk result (draft.new ≡ draft.old
+        ++ facts_text (record facts.now { sender = from })) }
+{
+    write_origin(draft, from, facts)?;
+    write_header(draft, facts)?;
     draft.push(" ")?;
     write_arguments(draft, facts.arguments)
 }
