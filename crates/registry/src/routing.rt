@@ -23,20 +23,20 @@ impl Registry {
         ensures { result ≡ recipients self.now from facts.now }
     {
         let mut verdict = Verdict::new();
-        self.route_into(from, facts, &mut verdict);
+        self.tell_route(from, facts, &mut verdict);
         verdict
     }
 
     /// The same as `route`, told where there is room for it: a verdict is large, and is not moved.
-    pub fn route_into(&self, from: u64, facts: &Facts<'_>, told: &mut Verdict)
+    pub fn tell_route(&self, from: u64, facts: &Facts<'_>, told: &mut Verdict)
         ensures { told.new ≡ recipients self.now from facts.now }
     {
         route_with::<Brand>(self, from, facts, told, Blank::new(1));
     }
 
-    /// The same as `route_into`, where each rule that is tested is a step. Only rules are tested whose
-    /// type, interface, member and first argument are the message's, and whose sender may be its own.
-    pub fn route_counted<L: Ledger>(
+    /// The same as `tell_route`, where each rule that is tested is a step. Only rules are tested whose type, interface,
+    /// member and first argument are the message's, and whose sender may be its own.
+    pub fn route_into<L: Ledger>(
         &self,
         from: u64,
         facts: &Facts<'_>,
@@ -112,7 +112,7 @@ fn route_with<L: Ledger>(
     ensures { told.new ≡ recipients registry.now from facts.now }
 {
     let mut steps = Steps::<L>::new(blank);
-    registry.route_counted(from, facts, told, &mut steps);
+    registry.route_into(from, facts, told, &mut steps);
 }
 
 /// The facts of a message as from this sender.

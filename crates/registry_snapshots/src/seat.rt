@@ -20,11 +20,13 @@ use crate::rule::{Finds, Kept};
 use crate::shared::Shared;
 use bus_view::{Again, AskFault, Asked, BatchCause, Gone, Refused, RefusedAll};
 use left_right::reader::Reading;
+use match_index::Steps;
 use match_rules::Facts;
 use registry_snapshots_core::{Front, Naming, Note, Snap};
 use seq_bus_core::{Change, Outcome, Query, Verdict};
-use std::marker::Model;
+use std::marker::{Brand, Model};
 use std::sync::Wait;
+use std::sync::ledger::{Blank, Ledger};
 
 /// What one router reads the bus with, and makes changes.
 ///
@@ -85,6 +87,22 @@ fn enter<J: Naming>(
     }
     let _legal = front.len();
     Ok((reading, front))
+}
+
+// Where a message goes, with a counter of its own for the rules that are tested.
+fn route_with<L: Ledger>(
+    snap: &Snap,
+    from: u64,
+    facts: &Facts<'_>,
+    told: &mut Verdict,
+    blank: Blank,
+)
+    requires name { blank.name ≡ L.name }
+    requires parts { (blank.parts ≡ L.parts) × (0 < L.parts) }
+    ensures verdict { told.new ≡ recipients snap.now.bus from facts.now }
+{
+    let mut steps = Steps::<L>::new(blank);
+    snap.route_into(from, facts, told, &mut steps);
 }
 
 impl<J: Naming> Seat<J> {
@@ -198,9 +216,8 @@ impl<J: Naming> Seat<J> {
             × (self.new.last ≡ self.old.last) × (self.new.held ≡ self.old.held) }
         ensures gone { OnErr result (self.new.seen ≡ self.old.seen) }
     {
-        let (reading, front) = self.begin_reading()?;
-        let verdict = reading.get().route(from, facts);
-        self.end_reading(reading, front);
+        let mut verdict = Verdict::new();
+        self.route_into(from, facts, &mut verdict)?;
         Ok(verdict)
     }
 
@@ -222,7 +239,7 @@ impl<J: Naming> Seat<J> {
         ensures untold { OnErr result (told.new ≡ told.old) }
     {
         let (reading, front) = self.begin_reading()?;
-        reading.get().route_into(from, facts, told);
+        route_with::<Brand>(reading.get(), from, facts, told, Blank::new(1));
         self.end_reading(reading, front);
         Ok(())
     }

@@ -1,7 +1,7 @@
 //! What a copy of the registry answers, and what it lends.
 
 ghost use Rattle.std.specs.List.{list_any};
-ghost use Rattle.std.specs.Prelude.{◌≡◌, is_some, map, option_map, IfOk, IfErr, OnErr};
+ghost use Rattle.std.specs.Prelude.{◌≡◌, ◌≤◌, ◌+◌, is_some, map, option_map, IfOk, IfErr, OnErr};
 ghost use Rattle.bus_view.specs.Bodies.{Answers};
 ghost use Rattle.bus_view.specs.declared.answer.AskFault.TheVariants.{NoMemory as AskNoMemory};
 ghost use Rattle.monitor.specs.Laws.{monitors_of};
@@ -9,17 +9,20 @@ ghost use Rattle.seq_bus_core.specs.Answers.{answer};
 ghost use Rattle.seq_bus_core.specs.BusState.{connection_of, conn_of, head_of, is_monitor, queue_of};
 ghost use Rattle.seq_bus_core.specs.Consistency.{IsConsistent, IsWithinLimits};
 ghost use Rattle.seq_bus_core.specs.Recipients.{recipients};
+ghost use Rattle.registry_core.specs.Listening.{near_rules};
 ghost use Rattle.registry_core.specs.NameTables.{owned_name};
 ghost use Rattle.registry_core.specs.RulesOf.{rules_by, rules_left};
 
 use crate::snap::Snap;
 use bus_view::{AskFault, Asked};
+use match_index::Steps;
 use match_rules::Facts;
 use monitor::Monitor;
 use names::BusName;
 use owner_queues::QueuedOwner;
 use registry_core::{NameEntry, RulesOf};
 use seq_bus_core::{Conn, Query, Verdict};
+use std::sync::ledger::Ledger;
 
 impl Snap {
     /// Answers a query: appends the body of the reply, in little-endian order as from offset 0 on, or says that the name has no
@@ -41,10 +44,21 @@ impl Snap {
     }
 
     /// The same as `route`, told where there is room for it: a verdict is large, and is not moved.
-    pub fn route_into(&self, from: u64, facts: &Facts<'_>, told: &mut Verdict)
-        ensures { told.new ≡ recipients self.now.bus from facts.now }
+    ///
+    /// Each rule that is tested is a step. Only rules are tested whose type, interface, member and first argument are the
+    /// message's, and whose sender may be its own.
+    pub fn route_into<L: Ledger>(
+        &self,
+        from: u64,
+        facts: &Facts<'_>,
+        told: &mut Verdict,
+        steps: &mut Steps<L>,
+    )
+        ensures verdict { told.new ≡ recipients self.now.bus from facts.now }
+        ensures cost { steps.new
+            ≤ steps.old + near_rules (record facts.now { sender = from }) self.now.bus.rules }
     {
-        self.registry().route_into(from, facts, told);
+        self.registry().route_into(from, facts, told, steps);
     }
 
     /// The head of a name: the connection that messages to it are delivered to. The bus itself is no connection.

@@ -176,7 +176,7 @@ impl SeqBus {
     pub fn route_into(&self, from: u64, facts: &Facts<'_>, told: &mut Verdict)
         ensures { told.new ≡ recipients (bus_now self.now).state from facts.now }
     {
-        self.registry.route_into(from, facts, told);
+        self.registry.tell_route(from, facts, told);
     }
 
     /// The changes that were made, in order. They are a legal history, and all of its one seat.
