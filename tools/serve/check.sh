@@ -20,6 +20,7 @@ printf '5 1700000000 c0ffee\n' > keyring
 printf '5 1700000000 c0ffee\n5 1700000000\n' > bad_line
 : > taken
 tried=0
+status=0
 
 # run ARGUMENT..: what busd writes and its status; a daemon that should not have started is stopped.
 run() {
@@ -234,11 +235,11 @@ help() {
     [ "$("$session" --version)" = "$("$BUSD" --version)" ] || wrong "in a session: --version"
 }
 
-# begin OPTION..: starts a daemon, and waits until clients can connect
+# begin OPTION..: starts a daemon, and waits until clients can connect; FILES is how many files it may have open
 begin() {
     start --print-address "$@"
     mkfifo ready
-    "$BUSD" "${words[@]}" > ready 2> said < /dev/null &
+    (ulimit -n "${FILES:-1024}" && exec "$BUSD" "${words[@]}" > ready 2> said < /dev/null) &
     bus=$!
     IFS= read -r -t 20 address < ready || wrong "${words[@]}"
     rm ready
@@ -246,13 +247,13 @@ begin() {
         wrong "tells the address $address"
 }
 
-# A signal ends it at once, without a word.
+# finish [WORDS]: a signal ends it at once, and these words are all that it has written.
 finish() {
     status=0
     kill "$bus"
     wait "$bus" || status=$?
     bus=
-    [ "$status" = 143 ] && [ ! -s said ] || wrong "told to end: $(< said)"
+    [ "$status" = 143 ] && [ "$(< said)" = "${1:-}" ] || wrong "told to end: $(< said)"
     rm "${wanted[address]}"
 }
 
@@ -307,6 +308,63 @@ told_to() {
     local wanted=$1
     shift
     [ "$(timeout 60 "$client" "$address" "$@" 2>&1)" = "$wanted" ] || wrong "a client: $* is not told $wanted"
+}
+
+# Clients are let in who know the cookie, and nobody else. Whoever is closed for a fault is told of where that is wanted.
+logins() {
+    if ! command -v python3 > /dev/null; then
+        echo "there is no python3 here: nobody logged in"
+        return
+    fi
+    local bus_name=org.freedesktop.DBus notice="busd: closed: 31: it didn't say who it is"
+    begin --verbose
+    COOKIE=1000:c0ffee told_to "$bus_name :1.1" ask ListNames
+    COOKIE=1000:decaf told_to "it isn't let in" ask ListNames
+    COOKIE=1001:c0ffee told_to "it isn't let in" ask ListNames
+    told_to "it isn't let in" ask ListNames
+    told_to '' bytes 41
+    waits grep -qx "$notice" said || wrong "tells of a client that was closed: $(< said)"
+    COOKIE=1000:c0ffee told_to "$bus_name :1.2" ask ListNames
+    finish "$notice"
+}
+
+# serves_within N: with N open files at most it serves; else it has told what it could not open
+serves_within() {
+    start
+    status=0
+    (ulimit -n "$1" && exec timeout 1 "$BUSD" "${words[@]}") > out 2> err < /dev/null || status=$?
+    tried=$((tried + 1))
+    rm -f bus
+    case $status:$(< err) in
+        4:'busd: device: '*) return 1 ;;
+        124:) ;;
+        *) wrong "with $1 open files" ;;
+    esac
+}
+
+# The processor time of the daemon so far, in hundredths of a second.
+spent() {
+    awk '{ print $14 + $15 }' "/proc/$bus/stat"
+}
+
+# However few files may be open, it says what it could not open, or serves.
+few_files() {
+    local count=4
+    until serves_within "$count"; do
+        count=$((count + 1))
+        [ "$count" -lt 64 ] || wrong "does not start with $count open files"
+    done
+    [ "$count" -gt 7 ] || wrong "serves with $count open files"
+    if ! command -v python3 > /dev/null || [ ! -r /proc/self/stat ]; then
+        echo "no python3, or no /proc: no client was kept waiting for an open file"
+        return
+    fi
+    FILES=$((count + 4)) begin --anonymous
+    local ticks
+    ticks=$(spent)
+    told_to "org.freedesktop.DBus :1.1" crowd 40
+    [ "$(($(spent) - ticks))" -lt 40 ] || wrong "does not rest while no file can be opened"
+    finish
 }
 
 # program NAME LINE..: a service com.example.NAME whose program is a shell script of these lines
@@ -463,6 +521,8 @@ order
 full_device
 help
 daemons
+logins
+few_files
 starts routers=3
 traces
 sessions

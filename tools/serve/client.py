@@ -8,13 +8,19 @@ client.py ADDRESS ask MEMBER      calls a method of the bus that takes nothing
 client.py ADDRESS calls PREFIX N  calls the owners of N names at once, and prints how often each answer came
 client.py ADDRESS flood N         sends N signals to a listener that does not read, and asks for the names then
 client.py ADDRESS own NAME        owns a name, and answers every call until the bus is gone
+client.py ADDRESS bytes HEX       sends bytes in place of a conversation, and waits for the end
+client.py ADDRESS crowd N         connects N times for a second and says nothing, and asks for the names after that
 
-An answer is printed as the text, the texts or the number that it has, an error as its name.
+It says that it is nobody, or where COOKIE is USER:COOKIE, who it is. An answer is printed as the text, the texts or the
+number that it has, an error as its name.
 """
 import collections
+import hashlib
+import os
 import socket
 import struct
 import sys
+import time
 
 BUS = "org.freedesktop.DBus"
 CALL, RETURN, ERROR, SIGNAL = 1, 2, 3, 4
@@ -83,18 +89,39 @@ def fields_of(data):
     return fields
 
 
+def connected(address):
+    to = socket.socket(socket.AF_UNIX)
+    to.settimeout(60)
+    to.connect(address.removeprefix("unix:path=").split(",")[0])
+    return to
+
+
 class Client:
     def __init__(self, address):
-        self.socket = socket.socket(socket.AF_UNIX)
-        self.socket.settimeout(60)
-        self.socket.connect(address.removeprefix("unix:path=").split(",")[0])
+        self.socket = connected(address)
         self.input = self.socket.makefile("rb")
         self.serial = 0
-        self.socket.sendall(b"\0AUTH ANONYMOUS\r\n")
-        if not self.input.readline().startswith(b"OK "):
+        self.socket.sendall(b"\0")
+        known = os.environ.get("COOKIE")
+        told = self.digested(*known.split(":")) if known else self.said("AUTH ANONYMOUS")
+        if told[0] != "OK":
             sys.exit("it isn't let in")
         self.socket.sendall(b"BEGIN\r\n")
         self.answer(self.call(BUS, "Hello"))
+
+    def said(self, line):
+        """What a line is answered, in words."""
+        self.socket.sendall(line.encode() + b"\r\n")
+        return self.input.readline().decode().split()
+
+    def digested(self, user, cookie):
+        """What DBUS_COOKIE_SHA1 comes to for a user that knows this cookie."""
+        told = self.said(f"AUTH DBUS_COOKIE_SHA1 {user.encode().hex()}")
+        if told[0] != "DATA":
+            return told
+        challenge = bytes.fromhex(told[1]).decode().split()[2]
+        digest = hashlib.sha1(f"{challenge}:5eed:{cookie}".encode()).hexdigest()
+        return self.said("DATA " + f"5eed {digest}".encode().hex())
 
     def send(self, kind, flags, fields, body=b""):
         self.serial += 1
@@ -138,6 +165,16 @@ class Client:
 
 
 def main(address, what, name, count="0"):
+    if what == "bytes":
+        to = connected(address)
+        to.sendall(bytes.fromhex(name))
+        return to.recv(1)
+    if what == "crowd":
+        crowd = [connected(address) for _ in range(int(name))]
+        time.sleep(1)
+        for to in crowd:
+            to.close()
+        what, name = "ask", "ListNames"
     client = Client(address)
     if what == "own":
         client.own(name)
