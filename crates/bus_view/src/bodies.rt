@@ -12,7 +12,7 @@ ghost use Rattle.bus_view.specs.Bodies.{Answers, AreListed, HasGrown};
 ghost use Rattle.bus_view.specs.declared.answer.AskFault.TheVariants.{NoMemory};
 
 use crate::answer::{AskFault, Asked};
-use names::BusName;
+use names::{BusName, ConnectionName};
 use std::alloc::AllocError;
 
 /// Appends a string, which is the whole body.
@@ -58,6 +58,22 @@ pub fn begin_names(body: &mut Vec<u8>) -> Result<usize, AllocError>
 /// Writes a name of an array that begins at this place of the body. Where there is no memory for it, a part of it may
 /// stand behind what was there, which `undo_names` takes away.
 pub fn push_name(body: &mut Vec<u8>, start: usize, name: &BusName) -> Result<(), AllocError>
+    requires { start ≤ length body.old.items }
+    ensures listed { OnOk result ((before : List ℕ) (names : List Text) → length before ≡ start →
+        AreListed before names body.old.items →
+        AreListed before (names ++ name.now ∷ []) body.new.items) }
+    ensures within { start ≤ length body.new.items }
+    ensures kept { take start body.new.items ≡ take start body.old.items }
+{
+    push_string(body, start, name.as_str())
+}
+
+/// Writes the unique name of a connection as a name of such an array.
+pub fn push_connection(
+    body: &mut Vec<u8>,
+    start: usize,
+    name: &ConnectionName,
+) -> Result<(), AllocError>
     requires { start ≤ length body.old.items }
     ensures listed { OnOk result ((before : List ℕ) (names : List Text) → length before ≡ start →
         AreListed before names body.old.items →
@@ -122,8 +138,19 @@ fn push_padding(body: &mut Vec<u8>, start: usize) -> Result<(), AllocError>
     body.extend_from_slice(&zeros[..count])
 }
 
-/// Appends the owner of a name, or says that there is none.
-pub fn append_owner(body: &mut Vec<u8>, owner: Option<BusName>) -> Result<Asked, AskFault>
+/// Appends a name that is its own owner.
+pub fn append_name(body: &mut Vec<u8>, name: &BusName) -> Result<Asked, AskFault>
+    ensures answered { IfOk result (λ asked.
+        Answers asked (Some (OneName name.now)) body.old.items body.new.items) }
+    ensures fault { IfErr result (λ fault. fault ≡ NoMemory) }
+    ensures unanswered { OnErr result (body.new.items ≡ body.old.items) }
+{
+    append_string(body, name.as_str())?;
+    Ok(Asked::Body)
+}
+
+/// Appends the owner of a name, which is a connection, or says that there is none.
+pub fn append_owner(body: &mut Vec<u8>, owner: Option<ConnectionName>) -> Result<Asked, AskFault>
     ensures answered { IfOk result (λ asked.
         Answers asked (option_map OneName owner) body.old.items body.new.items) }
     ensures fault { IfErr result (λ fault. fault ≡ NoMemory) }

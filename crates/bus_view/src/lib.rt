@@ -4,8 +4,9 @@
 //! what is answered by the definitions of `seq_bus_core` alone, so that what is proved over it holds over each bus. A
 //! change that is not made is a [`Refused`] one, with its [`Cause`]; of a batch all changes are made or none, and then
 //! they are [`RefusedAll`], with their [`BatchCause`]. Whether a bus can be opened with given services is said by
-//! [`can_open`]. Bodies of replies are written by [`append_owner`] and [`append_whether`], and those that are lists of
-//! names by [`begin_names`], [`push_name`], [`end_names`] and [`undo_names`], for whoever answers queries.
+//! [`can_open`]. Bodies of replies are written by [`append_name`], [`append_owner`] and [`append_whether`], and those that
+//! are lists of names by [`begin_names`], [`push_name`], [`push_connection`], [`end_names`] and [`undo_names`], for whoever
+//! answers queries.
 //!
 //! ```
 //! use bus_view::{AskFault, Asked, BusView};
@@ -37,7 +38,10 @@ mod view;
 
 pub use again::Again;
 pub use answer::{AskFault, Asked};
-pub use bodies::{append_owner, append_whether, begin_names, end_names, push_name, undo_names};
+pub use bodies::{
+    append_name, append_owner, append_whether, begin_names, end_names, push_connection, push_name,
+    undo_names,
+};
 pub use opening::can_open;
 pub use refusal::{BatchCause, Cause, Gone, Refused, RefusedAll};
 pub use view::BusView;

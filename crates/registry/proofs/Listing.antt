@@ -17,7 +17,7 @@ use Rattle.registry_core.specs.MemberTables.{member_of}
 use Rattle.registry_core.specs.declared.member.Member.{Member}
 use Rattle.registry.specs.NamesListed.{only, names_in}
 use Rattle.registry.specs.declared.listed.NamesOf.{NamesOf}
-use Rattle.registry.specs.declared.listed.NamesOf.TheVariants.{All, Services, Itself, Queued}
+use Rattle.registry.specs.declared.listed.NamesOf.TheVariants.{All, Services, Bus, Client, Queued}
 use Rattle.registry.proofs.QueueLemmas.{places}
 
 -- ## How many
@@ -52,7 +52,8 @@ few_in_queue s name consistent within =
 pub few_in : (s : BusState) (list : NamesOf) → IsConsistent s → IsWithinLimits s → length s.services ≤ max_services → length (names_in s list) ≤ 2048
 few_in s All consistent within few = few_there s within
 few_in s Services consistent within few = omega (arith, few)
-few_in s (Itself name) consistent within few = omega arith
+few_in s Bus consistent within few = omega arith
+few_in s (Client number) consistent within few = omega arith
 few_in s (Queued name) consistent within few =
     let count = length-map (queue_of s.names name) (λ (q : QueuedOwner). unique_text q.connection) in
     omega (arith, count, few_in_queue s name consistent within)

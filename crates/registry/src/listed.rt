@@ -9,22 +9,30 @@ ghost use Rattle.bus_view.specs.declared.answer.AskFault.TheVariants.{NoMemory};
 ghost use Rattle.registry.specs.NamesListed.{only, names_in};
 
 use crate::registry::Registry;
-use bus_view::{AskFault, Asked, begin_names, end_names, push_name, undo_names};
-use names::{BusName, UniqueName, WellKnown};
+use bus_view::{AskFault, Asked, begin_names, end_names, push_connection, push_name, undo_names};
+use names::{BusName, ConnectionName, WellKnown};
 use owner_queues::QueuedOwner;
 use registry_core::{Member, NameEntry};
 use std::alloc::AllocError;
 
 /// What may stand in a list of names.
 trait Listed {
-    ghost use Rattle.std.specs.Prelude.{Option};
+    ghost use Rattle.std.specs.Prelude.{◌≡◌, ◌≤◌, ◌++◌, ℕ, List, Option, OnOk, length, take};
     ghost use Rattle.names.specs.Texts.{Text as Name};
+    ghost use Rattle.bus_view.specs.Bodies.{AreListed};
+    ghost use Rattle.registry.specs.NamesListed.{only};
 
     /// Its name there, if it has one.
     ghost text: { Self → Option Name };
 
-    fn name(&self) -> Option<BusName>
-        ensures { result ≡ text self.now };
+    /// Writes its name into an array that begins at this place of the body, if it has one.
+    fn push_name(&self, body: &mut Vec<u8>, start: usize) -> Result<(), AllocError>
+        requires { start ≤ length body.old.items }
+        ensures listed { OnOk result ((before : List ℕ) (names : List Name) →
+            length before ≡ start → AreListed before names body.old.items →
+            AreListed before (names ++ only (text self.now)) body.new.items) }
+        ensures within { start ≤ length body.new.items }
+        ensures kept { take start body.new.items ≡ take start body.old.items };
 }
 
 /// A connection stands there by its unique name, unless it is a monitor.
@@ -34,11 +42,11 @@ impl Listed for Member {
 
     ghost text = { λ m. if m.is_monitor then None else Some (unique_text m.conn.number) };
 
-    fn name(&self) -> Option<BusName> {
+    fn push_name(&self, body: &mut Vec<u8>, start: usize) -> Result<(), AllocError> {
         if self.is_monitor {
-            return None;
+            return Ok(());
         }
-        Some(BusName::from(UniqueName::of(self.conn.number)))
+        push_connection(body, start, &ConnectionName::of(self.conn.number))
     }
 }
 
@@ -48,8 +56,8 @@ impl Listed for QueuedOwner {
 
     ghost text = { λ q. Some (unique_text q.connection) };
 
-    fn name(&self) -> Option<BusName> {
-        Some(BusName::from(UniqueName::of(self.connection)))
+    fn push_name(&self, body: &mut Vec<u8>, start: usize) -> Result<(), AllocError> {
+        push_connection(body, start, &ConnectionName::of(self.connection))
     }
 }
 
@@ -58,8 +66,8 @@ impl Listed for Box<NameEntry> {
 
     ghost text = { λ b. Some b.value.name };
 
-    fn name(&self) -> Option<BusName> {
-        Some(self.name)
+    fn push_name(&self, body: &mut Vec<u8>, start: usize) -> Result<(), AllocError> {
+        push_name(body, start, &self.name)
     }
 }
 
@@ -68,8 +76,8 @@ impl Listed for WellKnown {
 
     ghost text = { λ service. Some service };
 
-    fn name(&self) -> Option<BusName> {
-        Some(BusName::from(*self))
+    fn push_name(&self, body: &mut Vec<u8>, start: usize) -> Result<(), AllocError> {
+        push_name(body, start, &BusName::from(*self))
     }
 }
 
@@ -80,8 +88,10 @@ pub enum NamesOf {
     All,
     /// The bus and the services.
     Services,
-    /// A name that is its own owner.
-    Itself(BusName),
+    /// The bus alone.
+    Bus,
+    /// A client alone, by its number.
+    Client(u64),
     /// The connections in the queue of a name, by their unique names.
     Queued(BusName),
 }
@@ -122,7 +132,10 @@ impl Registry {
                 push_name(body, start, &BusName::bus())?;
                 push_all(body, start, self.services.as_slice())
             }
-            NamesOf::Itself(name) => push_name(body, start, name),
+            NamesOf::Bus => push_name(body, start, &BusName::bus()),
+            NamesOf::Client(number) => {
+                push_connection(body, start, &ConnectionName::of(*number))
+            }
             NamesOf::Queued(name) => push_all(body, start, self.queue(name.as_str())),
         }
     }
@@ -139,22 +152,7 @@ fn push_all<T: Listed>(body: &mut Vec<u8>, start: usize, entries: &[T]) -> Resul
     ensures kept { take start body.new.items ≡ take start body.old.items }
 {
     for entry in entries {
-        push_one(body, start, entry)?;
+        entry.push_name(body, start)?;
     }
     Ok(())
-}
-
-/// Writes the name of one of them, if it has one.
-fn push_one<T: Listed>(body: &mut Vec<u8>, start: usize, entry: &T) -> Result<(), AllocError>
-    requires { start ≤ length body.old.items }
-    ensures listed { OnOk result ((before : List ℕ) (names : List Text) →
-        length before ≡ start → AreListed before names body.old.items →
-        AreListed before (names ++ only (T.text entry.now)) body.new.items) }
-    ensures within { start ≤ length body.new.items }
-    ensures kept { take start body.new.items ≡ take start body.old.items }
-{
-    match entry.name() {
-        Some(name) => push_name(body, start, &name),
-        None => Ok(()),
-    }
 }

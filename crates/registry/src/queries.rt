@@ -1,16 +1,15 @@
 //! What queries are answered. (D-Bus Specification: "Message Bus Messages")
 
-ghost use Rattle.std.specs.Prelude.{◌≡◌, ◌||◌, option_map, IfOk, IfErr, OnErr};
-ghost use Rattle.names.specs.BusName.{is_bus, is_unique};
-ghost use Rattle.seq_bus_core.specs.Answers.{NameList, answer, owner_name, queue_names};
+ghost use Rattle.std.specs.Prelude.{◌≡◌, is_some, option_map, IfOk, IfErr, OnErr};
+ghost use Rattle.seq_bus_core.specs.Answers.{NameList, OneName, answer, owner_name, queue_names};
 ghost use Rattle.bus_view.specs.Bodies.{Answers};
 ghost use Rattle.bus_view.specs.declared.answer.AskFault.TheVariants.{NoMemory};
 
 use crate::listed::NamesOf;
 use crate::owners::is_unique;
 use crate::registry::Registry;
-use bus_view::{AskFault, Asked, append_owner, append_whether};
-use names::{BusName, UniqueName};
+use bus_view::{AskFault, Asked, append_name, append_owner, append_whether};
+use names::{BusName, ConnectionName};
 use seq_bus_core::Query;
 
 impl Registry {
@@ -23,25 +22,35 @@ impl Registry {
         ensures unanswered { OnErr result (body.new.items ≡ body.old.items) }
     {
         match query {
-            Query::GetNameOwner(name) => append_owner(body, self.owner_name(name)),
-            Query::NameHasOwner(name) => append_whether(body, self.owner_name(name).is_some()),
+            Query::GetNameOwner(name) => self.append_owner(name, body),
+            Query::NameHasOwner(name) => append_whether(body, self.is_owned(name)),
             Query::ListNames => self.append_list(&NamesOf::All, body),
             Query::ListActivatableNames => self.append_list(&NamesOf::Services, body),
             Query::ListQueuedOwners(name) => self.append_queue(name, body),
         }
     }
 
-    /// The owner of a name by its unique name. The bus and each connection own their names themselves.
-    fn owner_name(&self, name: &BusName) -> Option<BusName>
-        ensures { result ≡ owner_name self.now name.now }
+    /// Whether a name has an owner. The bus and each connection own their names themselves.
+    fn is_owned(&self, name: &BusName) -> bool
+        ensures { result ≡ is_some (owner_name self.now name.now) }
     {
-        let _ = &self.members;
+        name.is_bus() || self.owner(name).is_some()
+    }
+
+    /// Appends the owner of a name by its unique name.
+    fn append_owner(&self, name: &BusName, body: &mut Vec<u8>) -> Result<Asked, AskFault>
+        ensures answered { IfOk result (λ asked.
+            Answers asked (option_map OneName (owner_name self.now name.now))
+            body.old.items body.new.items) }
+        ensures fault { IfErr result (λ fault. fault ≡ NoMemory) }
+        ensures unanswered { OnErr result (body.new.items ≡ body.old.items) }
+    {
         if name.is_bus() {
-            return Some(BusName::bus());
+            return append_name(body, name);
         }
         match self.owner(name) {
-            Some(number) => Some(BusName::from(UniqueName::of(number))),
-            None => None,
+            Some(number) => append_owner(body, Some(ConnectionName::of(number))),
+            None => Ok(Asked::NameHasNoOwner),
         }
     }
 
@@ -53,9 +62,12 @@ impl Registry {
         ensures fault { IfErr result (λ fault. fault ≡ NoMemory) }
         ensures unanswered { OnErr result (body.new.items ≡ body.old.items) }
     {
-        if has_no_queue(name) {
-            return match self.owner_name(name) {
-                Some(owner) => self.append_list(&NamesOf::Itself(owner), body),
+        if name.is_bus() {
+            return self.append_list(&NamesOf::Bus, body);
+        }
+        if is_unique(name.as_str()) {
+            return match self.owner(name) {
+                Some(number) => self.append_list(&NamesOf::Client(number), body),
                 None => Ok(Asked::NameHasNoOwner),
             };
         }
@@ -64,11 +76,4 @@ impl Registry {
         }
         self.append_list(&NamesOf::Queued(*name), body)
     }
-}
-
-/// Whether a name is the bus's own or a connection's unique name, which nobody waits for.
-fn has_no_queue(name: &BusName) -> bool
-    ensures { result ≡ (is_bus name.now || is_unique name.now) }
-{
-    name.is_bus() || is_unique(name.as_str())
 }

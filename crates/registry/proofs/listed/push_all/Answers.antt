@@ -18,11 +18,11 @@ loop-entry-preserved g c =
     let lt : i < length entries = omega (arith, c.loop-entry-test.true) in
     let grown : flat_map one (take (i + 1) entries) ≡ flat_map one (take i entries) ++ one x =
     ap (flat_map one) (take_more entries i x lt) ∙ ap (λ y. flat_map one (take i entries ++ y ∷ [])) (sym c.entry-item.is) ∙ flat_push one (take i entries) x in (
-      c.in_ok-push_one.ensures.within,
-      c.in_ok-push_one.ensures.kept ∙ c.loop-entry.invariant.1,
-      λ before names at listed. subst (λ (ns : List Text). AreListed before ns c.push_one.new.body.items)
+      c.in_ok-push_name.ensures.within,
+      c.in_ok-push_name.ensures.kept ∙ c.loop-entry.invariant.1,
+      λ before names at listed. subst (λ (ns : List Text). AreListed before ns c.push_name.new.body.items)
           (append_assoc names (flat_map one (take i entries)) (one x) ∙ ap (λ (ms : List Text). names ++ ms) (sym grown))
-          (c.in_ok-push_one.ensures.listed before (names ++ flat_map one (take i entries)) at (c.loop-entry.invariant.2 before names at listed)),
+          (c.in_ok-push_name.ensures.listed before (names ++ flat_map one (take i entries)) at (c.loop-entry.invariant.2 before names at listed)),
     )
 
 pub returns-clause-listed : goal.returns-clause-listed

@@ -46,11 +46,19 @@ returns-in_ok-push_name-in-Services-clause-listed c =
     (listed before (c.bus-in-Services.result ∷ []) at (c.in_ok-push_name-in-Services.ensures.listed before [] at empty)))
     c.push_all-in-Services.ensures.listed
 
-pub returns-in-Itself-clause-listed : goal.returns-in-Itself-clause-listed
-returns-in-Itself-clause-listed c =
-    on_ok_weaker c.push_name-in-Itself.result
-    (λ listed before at empty. subst (λ (list : NamesOf). AreListed before (names_in c.args.self.now list) c.push_name-in-Itself.new.body.items) (sym c.in-Itself.is) (listed before [] at empty))
-    c.push_name-in-Itself.ensures.listed
+pub returns-in-Bus-clause-listed : goal.returns-in-Bus-clause-listed
+returns-in-Bus-clause-listed c =
+    let names : c.bus-in-Bus.result ∷ [] ≡ names_in c.args.self.now c.args.list.now = ap (λ (text : Text). text ∷ []) c.bus-in-Bus.ensures ∙ ap (names_in c.args.self.now) (sym c.in-Bus.is) in
+    on_ok_weaker c.push_name-in-Bus.result
+    (λ listed before at empty. subst (λ (ns : List Text). AreListed before ns c.push_name-in-Bus.new.body.items) names (listed before [] at empty))
+    c.push_name-in-Bus.ensures.listed
+
+pub returns-in-Client-clause-listed : goal.returns-in-Client-clause-listed
+returns-in-Client-clause-listed c =
+    let names : c.of.result ∷ [] ≡ names_in c.args.self.now c.args.list.now = ap (λ (text : Text). text ∷ []) c.of.ensures ∙ ap (names_in c.args.self.now) (sym c.in-Client.is) in
+    on_ok_weaker c.push_connection.result
+    (λ listed before at empty. subst (λ (ns : List Text). AreListed before ns c.push_connection.new.body.items) names (listed before [] at empty))
+    c.push_connection.ensures.listed
 
 pub returns-in-Queued-clause-listed : goal.returns-in-Queued-clause-listed
 returns-in-Queued-clause-listed c =
