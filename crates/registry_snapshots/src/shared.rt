@@ -16,14 +16,11 @@ use crate::seat::Seat;
 use bus_view::{BatchCause, Cause, RefusedAll, can_open};
 use names::WellKnown;
 use registry_snapshots_core::{Front, Naming, Opened};
-use seq_bus_core::limits::MAX_BATCH;
+use seq_bus_core::limits::{MAX_BATCH, MAX_ROUTERS};
 use seq_bus_core::{Change, Outcome};
 use std::alloc::{AllocError, Global};
 use std::marker::Model;
 use std::sync::{Mutex, MutexGuard, Wait};
-
-/// The most routers of a bus.
-const MAX_ROUTERS: u8 = 8;
 
 /// What the seats of a registry share to make changes.
 ///
