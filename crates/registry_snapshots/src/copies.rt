@@ -61,6 +61,49 @@ fn publish<J: Naming, R: Wait>(rt: &R, writer: SnapWriter<J>) -> (SnapWriter<J>,
     (writer, shown.is_ok())
 }
 
+// The two copies of a bus that was just opened, with places for so many readers.
+fn new_writer<J: Naming>(
+    alloc: Global,
+    services: &[WellKnown],
+    routers: u8,
+    seats: usize,
+    front: &Front,
+) -> Result<SnapWriter<J>, AllocError>
+    requires bus { CanOpen routers services.now
+        × (J.opening ≡ opening_bus Two routers services.now) }
+    requires seats { (0 < seats) × (seats < 2 ^ 32) }
+    requires front { (front.now.book ≡ J.book) × (front.now.log ≡ []) }
+    ensures kept { IfOk result (λ w. IsSnapOf J.book J.opening w.desk.shown.value) }
+    ensures opened { IfOk result (λ w. (w.desk.shown.value.front.log ≡ [])
+        × (w.desk.shown.value.bus ≡ J.opening.state)) }
+    ensures settled { IfOk result (λ w. drop w.behind w.log.items ≡ []) }
+{
+    let first = Snap::new(alloc, services, routers, seats, front.again())?;
+    let second = Snap::new(alloc, services, routers, seats, front.again())?;
+    Writer::new(alloc, first, second, seats)
+}
+
+// Shows what is pending, where the writer stands.
+fn publish_in_place<J: Naming, R: Wait>(rt: &R, writer: &mut SnapWriter<J>)
+    requires { IsReady J.book J.opening writer.old.desk.shown.value
+        (drop writer.old.behind writer.old.log.items) }
+    ensures settled { drop writer.new.behind writer.new.log.items ≡ [] }
+    ensures shown { Shows writer.old.desk.shown.value
+        (drop writer.old.behind writer.old.log.items) writer.new.desk.shown.value }
+{
+    replace_with(
+        writer,
+        rt,
+        |writer: SnapWriter<J>, rt: &R| -> (SnapWriter<J>, bool)
+            requires { IsReady J.book J.opening writer.desk.shown.value
+                (drop writer.behind writer.log.items) }
+            ensures settled { drop result.0.behind result.0.log.items ≡ [] }
+            ensures shown { Shows writer.desk.shown.value
+                (drop writer.behind writer.log.items) result.0.desk.shown.value }
+        { publish(rt, writer) },
+    );
+}
+
 // Makes room in the writer's queue for the operations that it ever has, so that no later one needs memory.
 fn warm<J: Naming, R: Wait>(rt: &R, mut writer: SnapWriter<J>) -> Result<SnapWriter<J>, AllocError>
     requires kept { IsSnapOf J.book J.opening writer.desk.shown.value }
@@ -95,10 +138,9 @@ impl<J: Naming> Copies<J> {
         ensures { IfOk result (λ c. (c.0.front.log ≡ []) × (c.1 ≡ false)
             × (c.0.bus ≡ J.opening.state)) }
     {
-        let first = Snap::new(alloc, services, routers, seats, front.again())?;
-        let second = Snap::new(alloc, services, routers, seats, front.again())?;
+        let writer = new_writer(alloc, services, routers, seats, front)?;
         // An operation that one copy has and the other has not stays in the queue beside the next one, so there are two.
-        let writer = warm(rt, warm(rt, Writer::new(alloc, first, second, seats)?)?)?;
+        let writer = warm(rt, warm(rt, writer)?)?;
         Ok(Copies {
             writer,
             head,
@@ -220,17 +262,7 @@ impl<J: Naming> Copies<J> {
     {
         match self.writer.append(op) {
             Ok(()) => {
-                replace_with(
-                    &mut self.writer,
-                    rt,
-                    |writer: SnapWriter<J>, rt: &R| -> (SnapWriter<J>, bool)
-                        requires { IsReady J.book J.opening writer.desk.shown.value
-                            (drop writer.behind writer.log.items) }
-                        ensures settled { drop result.0.behind result.0.log.items ≡ [] }
-                        ensures shown { Shows writer.desk.shown.value
-                            (drop writer.behind writer.log.items) result.0.desk.shown.value }
-                    { publish(rt, writer) },
-                );
+                publish_in_place(rt, &mut self.writer);
                 Ok(())
             }
             Err(_) => {

@@ -4,8 +4,8 @@ use Rattle.registry_snapshots_core.specs.Pending.{brought_up}
 use Rattle.registry_snapshots_core.specs.declared.snap.Op.{Op}
 use Rattle.registry_snapshots.proofs.copies.Copies.show.Goals as goal
 
-pub replace_with-requires : goal.replace_with-requires
-replace_with-requires g c =
+pub publish_in_place-requires : goal.publish_in_place-requires
+publish_in_place-requires g c =
     let s : SnapView = c.self.inside.writer.desk.shown.value in
     let unspent : c.self.inside.spent ≡ false = ap (λ (v : SnapView × Bool). v.1) c.self.view_is ∙ c.requires.settled in
     let ready : IsSnapOf g.J.Naming.book g.J.Naming.opening (brought_up s c.args.op) =
@@ -20,5 +20,5 @@ invariant_of-self g c =
     let ready : IsSnapOf g.J.Naming.book g.J.Naming.opening (brought_up s c.args.op) =
     subst (λ (v : SnapView × Bool). IsSnapOf g.J.Naming.book g.J.Naming.opening (brought_up v.0 c.args.op)) (sym c.self.view_is) c.requires.kept in
     let pending : drop c.append.new.self.behind c.append.new.self.log.items ≡ c.args.op ∷ [] = subst (λ (ops : List Op). drop c.append.new.self.behind c.append.new.self.log.items ≡ ops ++ c.args.op ∷ []) (c.self.invariant.2 unspent) c.in-Ok.ensures.pending in
-    let shown : c.replace_with.new.dest.desk.shown.value ≡ brought_up s c.args.op = rw (pending, c.in-Ok.ensures.desk) at c.replace_with.ensures.1 in
-    (c.self.invariant.0, rw shown ready, λ _. c.replace_with.ensures.0)
+    let shown : c.publish_in_place.new.writer.desk.shown.value ≡ brought_up s c.args.op = rw (pending, c.in-Ok.ensures.desk) at c.publish_in_place.ensures.shown in
+    (c.self.invariant.0, rw shown ready, λ _. c.publish_in_place.ensures.settled)
