@@ -55,23 +55,19 @@ is_signals text = text_eq text dash || list_all is_signal (parts comma text)
 
 -- ## Tickets
 
-abbrev pub is_marked : List Text → Bool
-is_marked (front ∷ number ∷ []) = text_eq front [] && is_number number
-is_marked other = false
+-- a word and a number, as in held/7
+abbrev pub is_numbered : Text → List Text → Bool
+is_numbered word (front ∷ number ∷ []) = text_eq front word && is_number number
+is_numbered word other = false
 
--- a ticket that was released, or one that failed
+-- a ticket that was released, or one that failed: a number behind a sign
 abbrev pub is_ticket : Text → Bool
-is_ticket text = is_marked (parts plus text) || is_marked (parts exclamation text)
+is_ticket text = is_numbered [] (parts plus text) || is_numbered [] (parts exclamation text)
 
 abbrev pub is_tickets : Text → Bool
 is_tickets text = text_eq text dash || list_all is_ticket (parts comma text)
 
 -- ## Replies
-
--- a word and a number, as in held/7
-abbrev pub is_numbered : Text → List Text → Bool
-is_numbered word (front ∷ number ∷ []) = text_eq front word && is_number number
-is_numbered word other = false
 
 abbrev pub is_held : Text → Bool
 is_held text = is_numbered (codes "held") (parts slash text)

@@ -1,11 +1,10 @@
 //! What stands behind the arrow of a line.
 
-ghost use Rattle.std.specs.Prelude.{◌≡◌, ◌||◌, ◌&&◌, unwrap_or, codes, false, None};
+ghost use Rattle.std.specs.Prelude.{◌≡◌, ◌||◌, ◌&&◌, ◌<◌, unwrap_or, codes, false, None};
 ghost use Rattle.names.specs.Texts.{text_eq};
 ghost use Rattle.std.specs.Option.{option_copied};
-ghost use Rattle.std.specs.List.{list_all};
 ghost use Rattle.trace_words.specs.Cutting.{parts_left};
-ghost use Rattle.trace_words.specs.Recorded.{are_names, are_rising, has_value, is_answer, is_held, is_kind, is_marked, is_name_told, is_number_or_none, is_numbered, is_outcome, is_owner_change, is_passed, is_recipients, is_reply, is_signal, is_signal_of, is_signals, is_ticket, is_tickets, is_verdict, rises, value_of};
+ghost use Rattle.trace_words.specs.Recorded.{are_names, are_rising, has_value, is_answer, is_held, is_kind, is_name_told, is_number_or_none, is_numbered, is_outcome, is_owner_change, is_passed, is_recipients, is_reply, is_signal, is_signal_of, is_signals, is_ticket, is_tickets, is_verdict, rises, value_of};
 ghost use Rattle.trace_words.specs.Words.{equals, is_bus_name, is_number, parts};
 
 use crate::parts::Parts;
@@ -109,55 +108,19 @@ fn is_signal(text: &str) -> bool
     signal(Parts::of(text, '/')).unwrap_or(false)
 }
 
-fn are_signals(mut signals: Parts<'_>) -> bool
-    ensures { result ≡ list_all is_signal (parts_left signals.entry) }
-{
-    while let Some(text) = signals.take() {
-        if !is_signal(text) {
-            return false;
-        }
-    }
-    true
-}
-
 fn is_signals(text: &str) -> bool
     ensures { result ≡ is_signals text.now }
 {
-    text == "-" || are_signals(Parts::of(text, ','))
-}
-
-fn marked(mut parts: Parts<'_>) -> Option<bool>
-    ensures { unwrap_or result false ≡ is_marked (parts_left parts.entry) }
-{
-    let front = parts.take()?;
-    let number = parts.take()?;
-    if parts.take().is_some() {
-        return None;
+    if text == "-" {
+        return true;
     }
-    Some(front.is_empty() && is_number(number))
-}
-
-fn is_ticket(text: &str) -> bool
-    ensures { result ≡ is_ticket text.now }
-{
-    marked(Parts::of(text, '+')).unwrap_or(false) || marked(Parts::of(text, '!')).unwrap_or(false)
-}
-
-fn are_tickets(mut tickets: Parts<'_>) -> bool
-    ensures { result ≡ list_all is_ticket (parts_left tickets.entry) }
-{
-    while let Some(text) = tickets.take() {
-        if !is_ticket(text) {
+    let mut signals = Parts::of(text, ',');
+    while let Some(told) = signals.take() {
+        if !is_signal(told) {
             return false;
         }
     }
     true
-}
-
-fn is_tickets(text: &str) -> bool
-    ensures { result ≡ is_tickets text.now }
-{
-    text == "-" || are_tickets(Parts::of(text, ','))
 }
 
 /// Whether the parts are a word and a number.
@@ -172,16 +135,32 @@ fn numbered(word: &str, mut parts: Parts<'_>) -> Option<bool>
     Some(front == word && is_number(number))
 }
 
-fn is_held(text: &str) -> bool
-    ensures { result ≡ is_held text.now }
+fn is_numbered(word: &str, separator: char, text: &str) -> bool
+    requires { separator < 128 }
+    ensures { result ≡ is_numbered word.now (parts separator text.now) }
 {
-    numbered("held", Parts::of(text, '/')).unwrap_or(false)
+    numbered(word, Parts::of(text, separator)).unwrap_or(false)
 }
 
-fn is_passed(text: &str) -> bool
-    ensures { result ≡ is_passed text.now }
+fn is_ticket(text: &str) -> bool
+    ensures { result ≡ is_ticket text.now }
 {
-    numbered("pass", Parts::of(text, '/')).unwrap_or(false)
+    is_numbered("", '+', text) || is_numbered("", '!', text)
+}
+
+fn is_tickets(text: &str) -> bool
+    ensures { result ≡ is_tickets text.now }
+{
+    if text == "-" {
+        return true;
+    }
+    let mut tickets = Parts::of(text, ',');
+    while let Some(ticket) = tickets.take() {
+        if !is_ticket(ticket) {
+            return false;
+        }
+    }
+    true
 }
 
 fn is_reply_to_request(text: &str) -> bool
@@ -212,14 +191,22 @@ fn is_reply_to_start(text: &str) -> bool
         || text_eq text.now (codes "limits") || text_eq text.now (codes "gone")
         || is_held text.now) }
 {
-    text == "2" || text == "unknown" || text == "limits" || text == "gone" || is_held(text)
+    text == "2"
+        || text == "unknown"
+        || text == "limits"
+        || text == "gone"
+        || is_numbered("held", '/', text)
 }
 
 fn is_reply_to_hold(text: &str) -> bool
     ensures { result ≡ (text_eq text.now (codes "unknown") || text_eq text.now (codes "limits")
         || text_eq text.now (codes "gone") || is_held text.now || is_passed text.now) }
 {
-    text == "unknown" || text == "limits" || text == "gone" || is_held(text) || is_passed(text)
+    text == "unknown"
+        || text == "limits"
+        || text == "gone"
+        || is_numbered("held", '/', text)
+        || is_numbered("pass", '/', text)
 }
 
 fn is_done(text: &str) -> bool

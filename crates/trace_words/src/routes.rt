@@ -107,7 +107,8 @@ fn words_behind<'a>(
     path: &'a str,
     mut words: Parts<'a>,
 ) -> Option<RouteWords<'a>>
-    ensures { let all = sender.now ∷ kind.now ∷ auto_start.now ∷ path.now ∷ parts_left words.entry in
+    ensures { let all = sender.now ∷ kind.now ∷ auto_start.now ∷ path.now
+        ∷ parts_left words.entry in
         MatchOption result (header_from all ≡ None) (λ taken. all ≡ route_words taken) }
 {
     let interface = words.take()?;

@@ -193,7 +193,8 @@ fn hold(alloc: Global, words: &mut Parts<'_>) -> Result<Option<Change>, AllocErr
 }
 
 fn add_match(alloc: Global, words: &mut Parts<'_>) -> Result<Option<Change>, AllocError>
-    ensures { let said : Read = option_map (λ r. (AddMatch r.0.0 r.0.1, r.1)) (ruled_from (parts_left words.old)) in
+    ensures { let said : Read = option_map (λ r. (AddMatch r.0.0 r.0.1, r.1))
+        (ruled_from (parts_left words.old)) in
         IfOk result (λ change. option_map (λ c. (c, parts_left words.new)) change ≡ said) }
 {
     match ruled(alloc, words)? {
@@ -203,7 +204,8 @@ fn add_match(alloc: Global, words: &mut Parts<'_>) -> Result<Option<Change>, All
 }
 
 fn remove_match(alloc: Global, words: &mut Parts<'_>) -> Result<Option<Change>, AllocError>
-    ensures { let said : Read = option_map (λ r. (RemoveMatch r.0.0 r.0.1, r.1)) (ruled_from (parts_left words.old)) in
+    ensures { let said : Read = option_map (λ r. (RemoveMatch r.0.0 r.0.1, r.1))
+        (ruled_from (parts_left words.old)) in
         IfOk result (λ change. option_map (λ c. (c, parts_left words.new)) change ≡ said) }
 {
     match ruled(alloc, words)? {
