@@ -1,10 +1,10 @@
 -- Connections that have a name.
 use Rattle.std.specs.Prelude.{◌≡◌, ℕ, Bool, true, false, Option, Some, None}
-use Rattle.seq_bus_core.specs.Histories.{History}
+use Rattle.bus_view.specs.declared.view.BusView.{Ghosts as BusView}
+use Rattle.router_core.specs.declared.gate.Gate.{Ghosts as Gate}
 use Rattle.router_core.specs.declared.fate.PeerFate.{PeerFate}
-use Rattle.router_core.specs.Deeds.{GatedCall}
 use Rattle.router_core.specs.Events.{fated}
-use Rattle.router_core.specs.Scripts.{World, Comes}
+use Rattle.router_core.specs.Scripts.{World, RunsTo}
 use Rattle.router_core.specs.Standing.{Stage, Authenticating, Unnamed, Named, Shut, Peer}
 
 -- it is there, and has a name
@@ -19,6 +19,6 @@ is_named (Some p) = is_in p.stage
     is_in (Shut conn) = false
 
 -- What is to become of a connection that is there was done to it.
-abbrev pub IsSettled : {N G : Type 0} → (N → History) → (N → ℕ) → (G → GatedCall → G → Type 0) → Bool → ℕ → PeerFate → Option Peer → World N G → Option Peer → World N G → Type 0
-IsSettled told registry_of passes alone key fate None w new v = ⊥
-IsSettled told registry_of passes alone key fate (Some p) w new v = (q : Peer) × (new ≡ Some q) × Comes told registry_of passes alone (fated key fate p) w q v
+abbrev pub IsSettled : {V N R G : Type 0} → BusView V N R → Gate G → ℕ → PeerFate → Option Peer → World N G → Option Peer → World N G → Type 0
+IsSettled view gate key fate None w new v = ⊥
+IsSettled view gate key fate (Some p) w new v = (q : Peer) × (new ≡ Some q) × RunsTo view gate (fated key fate p) w q v

@@ -4,7 +4,7 @@ ghost use Rattle.std.specs.Prelude.{◌≡◌, ◌<◌, ◌≤◌, ◌+◌, leng
 ghost use Rattle.message_core.specs.Said.{said};
 ghost use Rattle.router_core.specs.Answers.{error_for, refusal_of};
 ghost use Rattle.router_core.specs.Events.{refuse_with, turn_away, for_peer, close_former, welcome, greeted, greeted_by, greet};
-ghost use Rattle.router_core.specs.Scripts.{Comes};
+ghost use Rattle.router_core.specs.Scripts.{RunsTo};
 ghost use Rattle.router_core.specs.Standing.{next_serial, has_slot};
 ghost use Rattle.router_steps.specs.Hearing.{heard_change};
 ghost use Rattle.router_steps.specs.Refusing.{IsRefusal, AreRefusals};
@@ -86,9 +86,8 @@ impl<V: BusView, G: Gate> Served<V, G> {
     /// Whoever had the slot before has left, though its connection is not gone yet: it is closed.
     fn close_former(&mut self, conn: Conn)
         requires { 0 < self.old.work.room }
-        ensures comes { Comes V.told V.registry_of G.passes V.alone
-            (close_former self.old.standing conn) self.old.work.world self.new.standing
-            self.new.work.world }
+        ensures comes { RunsTo V.BusView G.Gate (close_former self.old.standing conn)
+            self.old.work.world self.new.standing self.new.work.world }
         ensures room { self.old.work.room ≤ self.new.work.room + 1 }
         ensures crowds { self.new.work.crowds ≡ self.old.work.crowds }
         ensures keys { length self.new.standing.peers ≡ length self.old.standing.peers }
@@ -107,9 +106,9 @@ impl<V: BusView, G: Gate> Served<V, G> {
         requires unnamed { IsUnnamed peer.stage }
         requires key { key < length self.old.standing.peers }
         requires vacant { IsVacant conn.slot self.old.standing.peers }
-        ensures { Comes V.told V.registry_of G.passes V.alone
-            (welcome key (said hello.now) peer outcome conn self.old.standing) self.old.work.world
-            self.new.standing self.new.work.world }
+        ensures { RunsTo V.BusView G.Gate
+            (welcome key (said hello.now) peer outcome conn self.old.standing)
+            self.old.work.world self.new.standing self.new.work.world }
     {
         self.context
             .reply_with(hello, conn, ReplyContent::UniqueName(conn.number));
@@ -133,10 +132,10 @@ impl<V: BusView, G: Gate> Served<V, G> {
         requires unnamed { IsUnnamed peer.stage }
         requires key { key < length self.old.standing.peers }
         requires written { AreRefusals (said hello.now) (next_serial peer.serial) errors }
-        ensures { Comes V.told V.registry_of G.passes V.alone
+        ensures { RunsTo V.BusView G.Gate
             (for_peer self.old.standing key (Some peer)
-            (refuse_with key (said hello.now) (error_for (refusal_of why)))) self.old.work.world
-            self.new.standing self.new.work.world }
+            (refuse_with key (said hello.now) (error_for (refusal_of why))))
+            self.old.work.world self.new.standing self.new.work.world }
     {
         self.context.refuse_for(key, hello, &mut peer, why, errors);
         self.peers[key] = Some(peer);
@@ -149,7 +148,7 @@ impl<V: BusView, G: Gate> Served<V, G> {
         requires key { key < length self.old.standing.peers }
         requires written { IsRefusal (said hello.now) ErrorKind.LimitsExceeded
             (next_serial peer.serial) bytes }
-        ensures { Comes V.told V.registry_of G.passes V.alone
+        ensures { RunsTo V.BusView G.Gate
             (for_peer self.old.standing key (Some peer) (turn_away key (said hello.now)))
             self.old.work.world self.new.standing self.new.work.world }
     {
@@ -171,7 +170,7 @@ impl<V: BusView, G: Gate> Served<V, G> {
         requires unnamed { IsUnnamed peer.stage }
         requires key { key < length self.old.standing.peers }
         requires written { AreRefusals (said hello.now) (next_serial peer.serial) errors }
-        ensures { Comes V.told V.registry_of G.passes V.alone
+        ensures { RunsTo V.BusView G.Gate
             (greeted_by self.old.standing key (said hello.now) peer outcome outcome.reply)
             self.old.work.world self.new.standing self.new.work.world }
     {
@@ -198,7 +197,7 @@ impl<V: BusView, G: Gate> Served<V, G> {
         requires unnamed { IsUnnamed peer.stage }
         requires key { key < length self.old.standing.peers }
         requires written { AreRefusals (said hello.now) (next_serial peer.serial) errors }
-        ensures { Comes V.told V.registry_of G.passes V.alone
+        ensures { RunsTo V.BusView G.Gate
             (greeted self.old.standing key (said hello.now) peer (heard_change heard))
             self.old.work.world self.new.standing self.new.work.world }
     {
@@ -227,9 +226,9 @@ impl<V: BusView, G: Gate> Served<V, G> {
         requires unnamed { IsUnnamed peer.stage }
         requires key { key < length self.old.standing.peers }
         requires written { AreRefusals (said hello.now) (next_serial peer.serial) errors }
-        ensures { Comes V.told V.registry_of G.passes V.alone
-            (greet self.old.standing key (said hello.now) peer privileged) self.old.work.world
-            self.new.standing self.new.work.world }
+        ensures { RunsTo V.BusView G.Gate
+            (greet self.old.standing key (said hello.now) peer privileged)
+            self.old.work.world self.new.standing self.new.work.world }
     {
         self.context.pass(&Call::Hello);
         let heard = self.context.change(right, Change::Hello { privileged });

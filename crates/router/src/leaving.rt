@@ -2,7 +2,7 @@
 
 ghost use Rattle.std.specs.Prelude.{◌≡◌, ◌≢◌, ◌↔◌, [], IsTrue, None, slice_index_or, slice_set, OnOk, OnErr};
 ghost use Rattle.router_core.specs.Events.{closed, leave};
-ghost use Rattle.router_core.specs.Scripts.{Comes};
+ghost use Rattle.router_core.specs.Scripts.{RunsTo};
 ghost use Rattle.router_core.specs.Standing.{peer_at};
 
 use crate::served::Served;
@@ -28,10 +28,9 @@ impl<V: BusView, G: Gate> Served<V, G> {
     /// made at a [`tick`](Served::tick). Without memory nothing changes.
     #[tactic(auto, using(crate::proofs::Slots::set_same))]
     pub fn close(&mut self, right: &V::Right, key: usize) -> Result<(), AllocError>
-        ensures comes { OnOk result
-            (Comes V.told V.registry_of G.passes V.alone
-            (closed self.old.standing key (peer_at self.old.standing key)) self.old.work.world
-            self.new.standing self.new.work.world) }
+        ensures comes { OnOk result (RunsTo V.BusView G.Gate
+            (closed self.old.standing key (peer_at self.old.standing key))
+            self.old.work.world self.new.standing self.new.work.world) }
         ensures err { OnErr result (self.new.standing ≡ self.old.standing) }
         ensures world { OnErr result (self.new.work.world ≡ self.old.work.world) }
     {
@@ -48,8 +47,7 @@ impl<V: BusView, G: Gate> Served<V, G> {
     /// The Leave of a number is made, whoever has it. One that is refused is kept, and made at a [`tick`](Served::tick). Without memory
     /// nothing changes.
     pub fn leave(&mut self, right: &V::Right, number: u64) -> Result<(), AllocError>
-        ensures comes { OnOk result
-            (Comes V.told V.registry_of G.passes V.alone (leave self.old.standing number)
+        ensures comes { OnOk result (RunsTo V.BusView G.Gate (leave self.old.standing number)
             self.old.work.world self.new.standing self.new.work.world) }
         ensures err { OnErr result (self.new.standing ≡ self.old.standing) }
         ensures world { OnErr result (self.new.work.world ≡ self.old.work.world) }

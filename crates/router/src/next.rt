@@ -2,7 +2,7 @@
 
 ghost use Rattle.std.specs.Prelude.{◌≡◌, true, false, IfSome, OnOk, OnErr};
 ghost use Rattle.router_core.specs.Events.{next as coming_next};
-ghost use Rattle.router_core.specs.Scripts.{Comes};
+ghost use Rattle.router_core.specs.Scripts.{RunsTo};
 ghost use Rattle.router_core.specs.Standing.{peer_at};
 ghost use Rattle.router_steps.specs.Quiet.{IsQuiet};
 ghost use Rattle.router.specs.Upcoming.{HasNoNext};
@@ -43,10 +43,9 @@ impl<V: BusView, G: Gate> Served<V, G> {
     /// Hello, and closed where it says anything else; what is no message closes each. Without memory nothing changes.
     #[tactic(auto, using(crate::proofs::Slots::none_beyond))]
     pub fn next(&mut self, right: &V::Right, key: usize) -> Result<(), AllocError>
-        ensures comes { OnOk result
-            (Comes V.told V.registry_of G.passes V.alone
-            (coming_next self.old.standing key (peer_at self.old.standing key)) self.old.work.world
-            self.new.standing self.new.work.world) }
+        ensures comes { OnOk result (RunsTo V.BusView G.Gate
+            (coming_next self.old.standing key (peer_at self.old.standing key))
+            self.old.work.world self.new.standing self.new.work.world) }
         ensures err { OnErr result (self.new.standing ≡ self.old.standing) }
         ensures world { OnErr result (self.new.work.world ≡ self.old.work.world) }
     {

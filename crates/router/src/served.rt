@@ -3,7 +3,7 @@
 ghost use Rattle.std.specs.Prelude.{◌≡◌, ◌↔◌, IsTrue, [], is_some, is_none, position, IfOk, OnOk, OnErr};
 ghost use Rattle.std.specs.List.{position_or_len};
 ghost use Rattle.router_core.specs.Events.{hear, for_peer, free_key, IsFree};
-ghost use Rattle.router_core.specs.Scripts.{Comes};
+ghost use Rattle.router_core.specs.Scripts.{RunsTo};
 ghost use Rattle.router_core.specs.Standing.{first_stage, fresh, opened, peer_at};
 ghost use Rattle.router_steps.specs.Stages.{stage_of, IsFirst};
 
@@ -184,11 +184,10 @@ impl<V: BusView, G: Gate> Served<V, G> {
     /// Bytes of a connection came. Without memory nothing changes, and they stay where they were.
     #[tactic(auto, using(crate::proofs::Slots::set_beyond, crate::proofs::Slots::set_same, crate::proofs::Slots::none_beyond))]
     pub fn feed(&mut self, key: usize, piece: &mut Vec<u8>) -> Result<(), AllocError>
-        ensures comes { OnOk result
-            (Comes V.told V.registry_of G.passes V.alone
+        ensures comes { OnOk result (RunsTo V.BusView G.Gate
             (for_peer self.old.standing key (peer_at self.old.standing key)
-            (λ p. hear key piece.old.items p p.stage)) self.old.work.world self.new.standing
-            self.new.work.world) }
+            (λ p. hear key piece.old.items p p.stage))
+            self.old.work.world self.new.standing self.new.work.world) }
         ensures err { OnErr result (self.new.standing ≡ self.old.standing) }
         ensures world { OnErr result (self.new.work.world ≡ self.old.work.world) }
         ensures kept { OnErr result (piece.new ≡ piece.old) }

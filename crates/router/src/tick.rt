@@ -2,7 +2,7 @@
 
 ghost use Rattle.std.specs.Prelude.{◌≡◌, OnOk, OnErr};
 ghost use Rattle.router_core.specs.Events.{tick as ticking};
-ghost use Rattle.router_core.specs.Scripts.{Comes};
+ghost use Rattle.router_core.specs.Scripts.{RunsTo};
 
 use crate::served::Served;
 use bus_view::BusView;
@@ -13,8 +13,7 @@ impl<V: BusView, G: Gate> Served<V, G> {
     /// Time has passed: the Leaves that were refused are made, in order, and then each connection with a name that has
     /// left is closed. A Leave that is refused again is kept. Without memory nothing changes.
     pub fn tick(&mut self, right: &V::Right) -> Result<(), AllocError>
-        ensures comes { OnOk result
-            (Comes V.told V.registry_of G.passes V.alone (ticking self.old.standing)
+        ensures comes { OnOk result (RunsTo V.BusView G.Gate (ticking self.old.standing)
             self.old.work.world self.new.standing self.new.work.world) }
         ensures err { OnErr result (self.new.standing ≡ self.old.standing) }
         ensures world { OnErr result (self.new.work.world ≡ self.old.work.world) }

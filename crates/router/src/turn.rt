@@ -6,7 +6,7 @@ ghost use Rattle.seq_bus_core.specs.Batches.{IsBatch, max_batch};
 ghost use Rattle.message_core.specs.Said.{said};
 ghost use Rattle.router_core.specs.Answers.{Says};
 ghost use Rattle.router_core.specs.Events.{answer_each as answering_each, apart, done_for, gather as gathering, joined, make_all as making_all, make_each as making_each, make_if as making_if, turn as turning};
-ghost use Rattle.router_core.specs.Scripts.{Changing, Comes, World, and_then};
+ghost use Rattle.router_core.specs.Scripts.{Changing, RunsTo, World, and_then};
 ghost use Rattle.router_core.specs.Serving.{Fated, made};
 ghost use Rattle.router_core.specs.Standing.{peer_at};
 ghost use Rattle.router_core.specs.Together.{change_of_joint, join as joining, rule_call};
@@ -73,8 +73,8 @@ fn settle<V: BusView, G: Gate>(
 )
     requires named { is_named slot.old ≡ true }
     requires room { 0 < context.old.room }
-    ensures settled { IsSettled V.told V.registry_of G.passes V.alone key fate slot.old
-        context.old.world slot.new context.new.world }
+    ensures settled { IsSettled V.BusView G.Gate key fate slot.old context.old.world slot.new
+        context.new.world }
     ensures room { context.old.room ≤ context.new.room + 1 }
     ensures crowds { context.new.crowds ≡ context.old.crowds }
 {
@@ -173,9 +173,9 @@ impl<V: BusView, G: Gate> Served<V, G> {
         requires named { is_named (peer_at self.old.standing key) ≡ true }
         requires room { 0 < self.old.work.room }
         ensures comes { (work : Fated) (w : World V.Note G) →
-            Comes V.told V.registry_of G.passes V.alone work w fate self.old.work.world →
-            Comes V.told V.registry_of G.passes V.alone (done_for self.old.standing key work) w
-            self.new.standing self.new.work.world }
+            RunsTo V.BusView G.Gate work w fate self.old.work.world →
+            RunsTo V.BusView G.Gate (done_for self.old.standing key work)
+            w self.new.standing self.new.work.world }
         ensures room { self.old.work.room ≤ self.new.work.room + 1 }
         ensures crowds { self.new.work.crowds ≡ self.old.work.crowds }
     {
@@ -186,7 +186,7 @@ impl<V: BusView, G: Gate> Served<V, G> {
     fn make_one(&mut self, right: &V::Right, joint: &Joint)
         requires room { 2 < self.old.work.room }
         requires crowds { 0 < self.old.work.crowds }
-        ensures comes { Comes V.told V.registry_of G.passes V.alone
+        ensures comes { RunsTo V.BusView G.Gate
             (done_for self.old.standing joint.now.key
             (Changing (change_of_joint joint.now)
             (λ heard. made (said joint.now.message) joint.now.caller heard)))
@@ -206,7 +206,7 @@ impl<V: BusView, G: Gate> Served<V, G> {
         requires room { 2 < self.old.work.room }
         requires crowds { 0 < self.old.work.crowds }
         requires alone { outcome.tickets ≡ [] }
-        ensures comes { Comes V.told V.registry_of G.passes V.alone
+        ensures comes { RunsTo V.BusView G.Gate
             (done_for self.old.standing joint.now.key
             (made (said joint.now.message) joint.now.caller (Says outcome)))
             self.old.work.world self.new.standing self.new.work.world }
@@ -224,8 +224,7 @@ impl<V: BusView, G: Gate> Served<V, G> {
     fn make_each(&mut self, right: &V::Right, joints: &[Joint])
         requires room { 3 * length joints.now ≤ self.old.work.room }
         requires crowds { length joints.now ≤ self.old.work.crowds }
-        ensures comes { Comes V.told V.registry_of G.passes V.alone
-            (making_each joints.now self.old.standing)
+        ensures comes { RunsTo V.BusView G.Gate (making_each joints.now self.old.standing)
             self.old.work.world self.new.standing self.new.work.world }
         ensures room { self.old.work.room ≤ self.new.work.room + 3 * length joints.now }
         ensures crowds { self.old.work.crowds ≤ self.new.work.crowds + length joints.now }
@@ -240,7 +239,7 @@ impl<V: BusView, G: Gate> Served<V, G> {
         requires room { 3 * length joints.now ≤ self.old.work.room }
         requires crowds { length joints.now ≤ self.old.work.crowds }
         requires alone { AllByRecursion (λ o. o.tickets ≡ []) outcomes.items }
-        ensures comes { Comes V.told V.registry_of G.passes V.alone
+        ensures comes { RunsTo V.BusView G.Gate
             (answering_each joints.now outcomes.items self.old.standing)
             self.old.work.world self.new.standing self.new.work.world }
         ensures room { self.old.work.room ≤ self.new.work.room + 3 * length joints.now }
@@ -261,8 +260,7 @@ impl<V: BusView, G: Gate> Served<V, G> {
         requires crowds { length joints.now ≤ self.old.work.crowds }
         requires changes { changes.items ≡ map change_of_joint joints.now }
         requires batch { IsBatch changes.items }
-        ensures comes { Comes V.told V.registry_of G.passes V.alone
-            (making_if joints.now self.old.standing true)
+        ensures comes { RunsTo V.BusView G.Gate (making_if joints.now self.old.standing true)
             self.old.work.world self.new.standing self.new.work.world }
         ensures room { self.old.work.room ≤ self.new.work.room + 3 * length joints.now }
         ensures crowds { self.old.work.crowds ≤ self.new.work.crowds + length joints.now }
@@ -278,8 +276,7 @@ impl<V: BusView, G: Gate> Served<V, G> {
         requires few { length joints.now ≤ max_batch }
         requires room { 3 * length joints.now ≤ self.old.work.room }
         requires crowds { length joints.now ≤ self.old.work.crowds }
-        ensures comes { Comes V.told V.registry_of G.passes V.alone
-            (making_all joints.now self.old.standing)
+        ensures comes { RunsTo V.BusView G.Gate (making_all joints.now self.old.standing)
             self.old.work.world self.new.standing self.new.work.world }
         ensures room { self.old.work.room ≤ self.new.work.room + 3 * length joints.now }
         ensures crowds { self.old.work.crowds ≤ self.new.work.crowds + length joints.now }
@@ -300,8 +297,7 @@ impl<V: BusView, G: Gate> Served<V, G> {
         requires few { length joints.old.items ≤ max_batch }
         requires room { 3 * length joints.old.items ≤ self.old.work.room }
         requires crowds { length joints.old.items ≤ self.old.work.crowds }
-        ensures comes { Comes V.told V.registry_of G.passes V.alone
-            (making_all joints.old.items self.old.standing)
+        ensures comes { RunsTo V.BusView G.Gate (making_all joints.old.items self.old.standing)
             self.old.work.world self.new.standing self.new.work.world }
         ensures none { joints.new.items ≡ [] }
         ensures capacity { vec_capacity joints.old ≤ vec_capacity joints.new }
@@ -323,7 +319,7 @@ impl<V: BusView, G: Gate> Served<V, G> {
     )
         requires room { MAX_TICKETS + 3 < self.old.work.room }
         requires crowds { 0 < self.old.work.crowds }
-        ensures comes { Comes V.told V.registry_of G.passes V.alone
+        ensures comes { RunsTo V.BusView G.Gate
             (done_for self.old.standing key (parting_of (said message.now) caller parting))
             self.old.work.world self.new.standing self.new.work.world }
     {
@@ -351,14 +347,14 @@ impl<V: BusView, G: Gate> Served<V, G> {
         requires few { length joints.old.items ≤ max_batch }
         requires room { 3 * length joints.old.items ≤ self.old.work.room }
         requires crowds { length joints.old.items ≤ self.old.work.crowds }
-        ensures comes { OnOk result
-            (Comes V.told V.registry_of G.passes V.alone
+        ensures comes { OnOk result (RunsTo V.BusView G.Gate
             (apart joints.old.items self.old.standing key)
-            self.old.work.world
-            (record { joints = joints.new.items; standing = self.new.standing; served = true })
-            self.new.work.world) }
-        ensures refused { OnErr result
-            (Comes V.told V.registry_of G.passes V.alone
+            self.old.work.world (record {
+              joints = joints.new.items;
+              standing = self.new.standing;
+              served = true;
+            }) self.new.work.world) }
+        ensures refused { OnErr result (RunsTo V.BusView G.Gate
             (making_all joints.old.items self.old.standing)
             self.old.work.world self.new.standing self.new.work.world) }
         ensures none { joints.new.items ≡ [] }
@@ -384,13 +380,14 @@ impl<V: BusView, G: Gate> Served<V, G> {
         requires crowds { length joints.old.items + 1 < self.old.work.crowds }
         requires rule { is_some (rule_call (Ok call)) ≡ true }
         ensures comes { (c : Rule_call) → rule_call (Ok call) ≡ Some c →
-            Comes V.told V.registry_of G.passes V.alone
-            (and_then (joining (said message) conn c)
+            RunsTo V.BusView G.Gate (and_then (joining (said message) conn c)
             (λ it. joined joints.old.items self.old.standing
             (record { key = key; message = message; caller = conn; call = c }) it))
-            self.old.work.world
-            (record { joints = joints.new.items; standing = self.new.standing; served = true })
-            self.new.work.world }
+            self.old.work.world (record {
+              joints = joints.new.items;
+              standing = self.new.standing;
+              served = true;
+            }) self.new.work.world }
         ensures more { length joints.new.items ≤ length joints.old.items + 1 }
         ensures capacity { vec_capacity joints.old ≤ vec_capacity joints.new }
         ensures room { 3 * length joints.new.items ≤ self.new.work.room }
@@ -418,7 +415,8 @@ impl<V: BusView, G: Gate> Served<V, G> {
         ensures standing { self.new.standing ≡ self.old.standing }
         ensures world { self.new.work.world ≡ self.old.work.world }
         ensures room { OnOk result (actions ≤ self.new.work.room) }
-        ensures kept { OnErr result (self.new.work.room ≡ self.old.work.room ⊎ actions ≤ self.new.work.room) }
+        ensures kept { OnErr result
+            (self.new.work.room ≡ self.old.work.room ⊎ actions ≤ self.new.work.room) }
         ensures crowds { OnOk result (crowds ≤ self.new.work.crowds) }
         ensures crowds_kept { self.old.work.crowds ≤ self.new.work.crowds }
     {
@@ -438,20 +436,20 @@ impl<V: BusView, G: Gate> Served<V, G> {
         requires few { length joints.old.items ≤ max_batch }
         requires room { 3 * length joints.old.items ≤ self.old.work.room }
         requires crowds { length joints.old.items ≤ self.old.work.crowds }
-        ensures comes { IfOk result (λ served.
-            Comes V.told V.registry_of G.passes V.alone
+        ensures comes { IfOk result (λ served. RunsTo V.BusView G.Gate
             (gathering joints.old.items self.old.standing key (peer_at self.old.standing key))
-            self.old.work.world
-            (record { joints = joints.new.items; standing = self.new.standing; served = served })
-            self.new.work.world) }
+            self.old.work.world (record {
+              joints = joints.new.items;
+              standing = self.new.standing;
+              served = served;
+            }) self.new.work.world) }
         ensures joints { IfOk result (λ served. served ≡ false →
             joints.new.items ≡ joints.old.items) }
         ensures standing { IfOk result (λ served. served ≡ false →
             self.new.standing ≡ self.old.standing) }
         ensures world { IfOk result (λ served. served ≡ false →
             self.new.work.world ≡ self.old.work.world) }
-        ensures refused { OnErr result
-            (Comes V.told V.registry_of G.passes V.alone
+        ensures refused { OnErr result (RunsTo V.BusView G.Gate
             (making_all joints.old.items self.old.standing)
             self.old.work.world self.new.standing self.new.work.world) }
         ensures more { length joints.new.items ≤ length joints.old.items + 1 }
@@ -491,8 +489,7 @@ impl<V: BusView, G: Gate> Served<V, G> {
     /// for the first, nothing changes; without memory for a later one it and those behind it stay unserved.
     pub fn turn(&mut self, right: &V::Right, keys: &[usize]) -> Result<(), AllocError>
         requires { length keys.now ≤ max_batch }
-        ensures comes { OnOk result
-            (Comes V.told V.registry_of G.passes V.alone
+        ensures comes { OnOk result (RunsTo V.BusView G.Gate
             (turning [] keys.now false self.old.standing)
             self.old.work.world self.new.standing self.new.work.world) }
         ensures err { OnErr result (self.new.standing ≡ self.old.standing) }

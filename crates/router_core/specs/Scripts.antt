@@ -13,6 +13,8 @@ use Rattle.message_core.specs.Messages.{Message}
 use Rattle.driver.specs.declared.call.Call.{Call}
 use Rattle.driver.specs.Calls.{Reading, IsCall}
 use Rattle.bus_view.specs.Views.{Knowledge, IsNoted}
+use Rattle.bus_view.specs.declared.view.BusView.{Ghosts as BusView}
+use Rattle.router_core.specs.declared.gate.Gate.{Ghosts as Gate}
 use Rattle.router_core.specs.Answers.{Heard, HearsChange, HearsChanges, HearsAnswer, HearsVerdict, HearsPresent}
 use Rattle.outbox_core.specs.Contents.{Said}
 use Rattle.router_core.specs.declared.action.Action.{Action}
@@ -145,3 +147,15 @@ Comes told registry_of passes alone (Wanting goes_on) w x v = (granted : Bool) �
 Comes told registry_of passes alone (Requiring holds s) w x v = (holds ≡ true) × Comes told registry_of passes alone s w x v
 Comes {N = N} {G = G} told registry_of passes alone (Doing deed s) w x v = (m : World N G) × Does told registry_of alone deed w m × Comes told registry_of passes alone s m x v
 Comes {N = N} {G = G} told registry_of passes alone (Announcing signals s) w x v = (m : World N G) × Announces told registry_of alone signals w m × Comes told registry_of passes alone s m x v
+
+-- ## The same by a view and a gate
+
+-- The script, begun in one world, runs to this result in another.
+abbrev pub RunsTo : {V N R G X : Type 0} → BusView V N R → Gate G → Script X → World N G → X → World N G → Type 0
+RunsTo view gate s w x v = Comes view.told view.registry_of gate.passes view.alone s w x v
+
+abbrev pub Performs : {V N R G : Type 0} → BusView V N R → Deed → World N G → World N G → Type 0
+Performs view deed w m = Does view.told view.registry_of view.alone deed w m
+
+abbrev pub Emits : {V N R G : Type 0} → BusView V N R → List AddressedSignal → World N G → World N G → Type 0
+Emits view signals w m = Announces view.told view.registry_of view.alone signals w m

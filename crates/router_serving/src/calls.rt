@@ -7,7 +7,7 @@ ghost use Rattle.seq_bus_core.specs.declared.limits.TheConstants.{MAX_TICKETS};
 ghost use Rattle.driver.specs.declared.call.Call.TheVariants.{RequestName, ReleaseName, AddMatch, RemoveMatch};
 ghost use Rattle.outbox_core.specs.Answers.{IsAnswerTo};
 ghost use Rattle.router_core.specs.Answers.{Says, error_for as error_for_refusal, refusal_of, unanswered_for};
-ghost use Rattle.router_core.specs.Scripts.{Comes};
+ghost use Rattle.router_core.specs.Scripts.{RunsTo};
 ghost use Rattle.router_core.specs.Serving.{Asks, Makes, and_stays, answered, answer_told as answer_told_in, err_with as erring, made as made_in, request_of as request_in, serve_bus as serving_bus, serve_call as serving_call, serve_reading as serving_reading, serve_request as serving_request, tell_change as telling_change};
 ghost use Rattle.router_steps.specs.Carrying.{answer_of};
 ghost use Rattle.router_steps.specs.Hearing.{heard_change};
@@ -79,8 +79,7 @@ pub(crate) fn refuse<V: BusView, G: Gate>(
 ) -> PeerFate
     requires room { 0 < context.old.room }
     requires crowds { 0 < context.old.crowds }
-    ensures comes { Comes V.told V.registry_of G.passes V.alone
-        (and_stays (erring (said call.now) caller error))
+    ensures comes { RunsTo V.BusView G.Gate (and_stays (erring (said call.now) caller error))
         context.old.world result context.new.world }
     ensures room { context.old.room ≤ context.new.room + 1 }
 {
@@ -98,8 +97,8 @@ pub(crate) fn tell_change<V: BusView, G: Gate>(
 )
     requires room { length outcome.tickets + 1 < context.old.room }
     requires crowds { 0 < context.old.crowds }
-    ensures comes { Comes V.told V.registry_of G.passes V.alone
-        (telling_change (said call.now) caller outcome) context.old.world tt context.new.world }
+    ensures comes { RunsTo V.BusView G.Gate (telling_change (said call.now) caller outcome)
+        context.old.world tt context.new.world }
     ensures room { context.old.room ≤ context.new.room + length outcome.tickets + 2 }
 {
     context.announce(outcome.signals);
@@ -116,8 +115,8 @@ fn made_by<V: BusView, G: Gate>(
 ) -> PeerFate
     requires room { length outcome.tickets + 1 < context.old.room }
     requires crowds { 0 < context.old.crowds }
-    ensures comes { Comes V.told V.registry_of G.passes V.alone
-        (made_in (said call.now) caller (Says outcome)) context.old.world result context.new.world }
+    ensures comes { RunsTo V.BusView G.Gate (made_in (said call.now) caller (Says outcome))
+        context.old.world result context.new.world }
     ensures room { context.old.room ≤ context.new.room + length outcome.tickets + 2 }
 {
     match outcome.reply {
@@ -139,9 +138,8 @@ fn made<V: BusView, G: Gate>(
     requires room { MAX_TICKETS + 1 < context.old.room }
     requires crowds { 0 < context.old.crowds }
     requires few { IfOk told (λ outcome. length outcome.tickets ≤ MAX_TICKETS) }
-    ensures comes { Comes V.told V.registry_of G.passes V.alone
-        (made_in (said call.now) caller (heard_change told)) context.old.world result
-        context.new.world }
+    ensures comes { RunsTo V.BusView G.Gate (made_in (said call.now) caller (heard_change told))
+        context.old.world result context.new.world }
     ensures room { context.old.room ≤ context.new.room + MAX_TICKETS + 2 }
 {
     match told {
@@ -162,9 +160,8 @@ fn reply_body<V: BusView, G: Gate>(
     requires room { 0 < context.old.room }
     requires crowds { 0 < context.old.crowds }
     requires answered { (told : Answer) × IsAnswerTo query.now body.items told }
-    ensures comes { (told : Answer) → IsAnswerTo query.now body.items told
-        → Comes V.told V.registry_of G.passes V.alone
-        (answered (said call.now) caller (Says (Some told)))
+    ensures comes { (told : Answer) → IsAnswerTo query.now body.items told →
+        RunsTo V.BusView G.Gate (answered (said call.now) caller (Says (Some told)))
         context.old.world tt context.new.world }
     ensures room { context.old.room ≤ context.new.room + 1 }
 {
@@ -188,9 +185,9 @@ fn answer_query<V: BusView, G: Gate>(
 ) -> PeerFate
     requires room { 0 < context.old.room }
     requires crowds { 0 < context.old.crowds }
-    ensures comes { Comes V.told V.registry_of G.passes V.alone
-        (serving_request (said call.now) caller (Ok (Asks query.now))) context.old.world result
-        context.new.world }
+    ensures comes { RunsTo V.BusView G.Gate
+        (serving_request (said call.now) caller (Ok (Asks query.now)))
+        context.old.world result context.new.world }
     ensures room { context.old.room ≤ context.new.room + 1 }
 {
     let mut body = Vec::new(alloc);
@@ -214,9 +211,9 @@ fn make<V: BusView, G: Gate>(
 ) -> PeerFate
     requires room { MAX_TICKETS + 1 < context.old.room }
     requires crowds { 0 < context.old.crowds }
-    ensures comes { Comes V.told V.registry_of G.passes V.alone
-        (serving_request (said call.now) caller (Ok (Makes change))) context.old.world result
-        context.new.world }
+    ensures comes { RunsTo V.BusView G.Gate
+        (serving_request (said call.now) caller (Ok (Makes change)))
+        context.old.world result context.new.world }
     ensures room { context.old.room ≤ context.new.room + MAX_TICKETS + 2 }
 {
     let told = context.change(right, change);
@@ -237,10 +234,10 @@ fn request_name<V: BusView, G: Gate>(
 ) -> PeerFate
     requires room { MAX_TICKETS + 1 < context.old.room }
     requires crowds { 0 < context.old.crowds }
-    ensures comes { Comes V.told V.registry_of G.passes V.alone
+    ensures comes { RunsTo V.BusView G.Gate
         (serving_request (said call.now) caller
-        (request_in caller.number (RequestName name.now flags))) context.old.world result
-        context.new.world }
+        (request_in caller.number (RequestName name.now flags)))
+        context.old.world result context.new.world }
     ensures room { context.old.room ≤ context.new.room + MAX_TICKETS + 2 }
 {
     let change = Change::Request {
@@ -261,7 +258,7 @@ fn release_name<V: BusView, G: Gate>(
 ) -> PeerFate
     requires room { MAX_TICKETS + 1 < context.old.room }
     requires crowds { 0 < context.old.crowds }
-    ensures comes { Comes V.told V.registry_of G.passes V.alone
+    ensures comes { RunsTo V.BusView G.Gate
         (serving_request (said call.now) caller (request_in caller.number (ReleaseName name.now)))
         context.old.world result context.new.world }
     ensures room { context.old.room ≤ context.new.room + MAX_TICKETS + 2 }
@@ -283,7 +280,7 @@ fn add_match<V: BusView, G: Gate>(
 ) -> PeerFate
     requires room { MAX_TICKETS + 1 < context.old.room }
     requires crowds { 0 < context.old.crowds }
-    ensures comes { Comes V.told V.registry_of G.passes V.alone
+    ensures comes { RunsTo V.BusView G.Gate
         (serving_request (said call.now) caller (request_in caller.number (AddMatch rule.now)))
         context.old.world result context.new.world }
     ensures room { context.old.room ≤ context.new.room + MAX_TICKETS + 2 }
@@ -305,7 +302,7 @@ fn remove_match<V: BusView, G: Gate>(
 ) -> PeerFate
     requires room { MAX_TICKETS + 1 < context.old.room }
     requires crowds { 0 < context.old.crowds }
-    ensures comes { Comes V.told V.registry_of G.passes V.alone
+    ensures comes { RunsTo V.BusView G.Gate
         (serving_request (said call.now) caller (request_in caller.number (RemoveMatch rule.now)))
         context.old.world result context.new.world }
     ensures room { context.old.room ≤ context.new.room + MAX_TICKETS + 2 }
@@ -328,7 +325,7 @@ fn serve_request<V: BusView, G: Gate>(
 ) -> PeerFate
     requires room { MAX_TICKETS + 1 < context.old.room }
     requires crowds { 0 < context.old.crowds }
-    ensures comes { Comes V.told V.registry_of G.passes V.alone
+    ensures comes { RunsTo V.BusView G.Gate
         (serving_request (said message.now) caller (request_in caller.number call.now))
         context.old.world result context.new.world }
     ensures room { context.old.room ≤ context.new.room + MAX_TICKETS + 2 }
@@ -386,9 +383,8 @@ fn serve_reading<V: BusView, G: Gate>(
 ) -> PeerFate
     requires room { MAX_TICKETS + 1 < context.old.room }
     requires crowds { 0 < context.old.crowds }
-    ensures comes { Comes V.told V.registry_of G.passes V.alone
-        (serving_reading (said message.now) caller reading.now) context.old.world result
-        context.new.world }
+    ensures comes { RunsTo V.BusView G.Gate (serving_reading (said message.now) caller reading.now)
+        context.old.world result context.new.world }
     ensures room { context.old.room ≤ context.new.room + MAX_TICKETS + 2 }
 {
     match reading {
@@ -410,8 +406,8 @@ fn serve_call<V: BusView, G: Gate>(
 ) -> PeerFate
     requires room { MAX_TICKETS + 1 < context.old.room }
     requires crowds { 0 < context.old.crowds }
-    ensures comes { Comes V.told V.registry_of G.passes V.alone
-        (serving_call (said message.now) caller) context.old.world result context.new.world }
+    ensures comes { RunsTo V.BusView G.Gate (serving_call (said message.now) caller)
+        context.old.world result context.new.world }
     ensures room { context.old.room ≤ context.new.room + MAX_TICKETS + 2 }
 {
     let reading = read_call(alloc, message);
@@ -430,8 +426,8 @@ pub fn serve_bus<V: BusView, G: Gate>(
 ) -> PeerFate
     requires room { MAX_TICKETS + 1 < context.old.room }
     requires crowds { 0 < context.old.crowds }
-    ensures comes { Comes V.told V.registry_of G.passes V.alone
-        (serving_bus (said message.now) sender) context.old.world result context.new.world }
+    ensures comes { RunsTo V.BusView G.Gate (serving_bus (said message.now) sender)
+        context.old.world result context.new.world }
     ensures room { context.old.room ≤ context.new.room + MAX_TICKETS + 2 }
 {
     if is_method_call(message) {

@@ -6,7 +6,7 @@ ghost use Rattle.message_core.specs.HeaderFields.{text_field};
 ghost use Rattle.message_core.specs.declared.header_field.HeaderField.TheVariants.{Destination};
 ghost use Rattle.message.specs.MessageBytes.{message_bytes};
 ghost use Rattle.router_core.specs.Answers.{Says};
-ghost use Rattle.router_core.specs.Scripts.{Comes};
+ghost use Rattle.router_core.specs.Scripts.{RunsTo};
 ghost use Rattle.router_core.specs.Serving.{held as held_in, hold as holding, hold_if, signed, waiting_call as waiting_call_in};
 
 use crate::calls::{error_for, refuse};
@@ -77,9 +77,9 @@ fn held<V: BusView, G: Gate>(
     requires room { 0 < context.old.room }
     requires crowds { 0 < context.old.crowds }
     requires bytes { passed ≡ message_bytes (signed (said message.now) sender) }
-    ensures comes { Comes V.told V.registry_of G.passes V.alone
-        (held_in (said message.now) sender name.value (Says outcome)) context.old.world result
-        context.new.world }
+    ensures comes { RunsTo V.BusView G.Gate
+        (held_in (said message.now) sender name.value (Says outcome))
+        context.old.world result context.new.world }
     ensures room { context.old.room ≤ context.new.room + 1 }
 {
     match outcome.reply {
@@ -117,9 +117,9 @@ fn wait<V: BusView, G: Gate>(
     requires crowds { 0 < context.old.crowds }
     requires held { parcel.held ≡ message_bytes (signed (said message.now) sender) }
     requires passed { parcel.passed ≡ message_bytes (signed (said message.now) sender) }
-    ensures comes { Comes V.told V.registry_of G.passes V.alone
-        (hold_if (said message.now) sender parcel.name.value true) context.old.world result
-        context.new.world }
+    ensures comes { RunsTo V.BusView G.Gate
+        (hold_if (said message.now) sender parcel.name.value true)
+        context.old.world result context.new.world }
     ensures room { context.old.room ≤ context.new.room + 1 }
 {
     let change = Change::Hold {
@@ -152,7 +152,7 @@ pub(crate) fn hold<V: BusView, G: Gate>(
 ) -> PeerFate
     requires room { 0 < context.old.room }
     requires crowds { 0 < context.old.crowds }
-    ensures comes { Comes V.told V.registry_of G.passes V.alone
+    ensures comes { RunsTo V.BusView G.Gate
         (holding (said message.now) sender (text_field Destination (said message.now).fields))
         context.old.world result context.new.world }
     ensures room { context.old.room ≤ context.new.room + 1 }

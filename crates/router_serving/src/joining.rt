@@ -4,7 +4,7 @@ ghost use Rattle.std.specs.Prelude.{◌≡◌, ◌<◌, ◌≤◌, ◌+◌, [], 
 ghost use Rattle.message_core.specs.Said.{said};
 ghost use Rattle.seq_bus_core.specs.declared.limits.TheConstants.{MAX_TICKETS};
 ghost use Rattle.router_core.specs.Answers.{Says};
-ghost use Rattle.router_core.specs.Scripts.{Changing, Comes};
+ghost use Rattle.router_core.specs.Scripts.{Changing, RunsTo};
 ghost use Rattle.router_core.specs.Serving.{made as made_in};
 ghost use Rattle.router_core.specs.Together.{change_of_joint, join as joining, join_shown as joining_shown, join_to as joining_to, rule_call};
 ghost use Rattle.router_core.specs.declared.joint.RuleCall.{RuleCall as Rule_call};
@@ -77,8 +77,7 @@ fn join_shown<V: BusView, G: Gate>(
 ) -> Joining
     requires { 0 < context.old.room }
     ensures comes { (c : Rule_call) → rule_call (Ok call.now) ≡ Some c →
-        Comes V.told V.registry_of G.passes V.alone
-        (joining_shown (said message.now) caller verdict.value.monitors c)
+        RunsTo V.BusView G.Gate (joining_shown (said message.now) caller verdict.value.monitors c)
         context.old.world (joining_of (said message.now) caller result) context.new.world }
     ensures room { context.old.room ≤ context.new.room + 1 }
     ensures crowds { context.old.crowds ≤ context.new.crowds }
@@ -102,7 +101,7 @@ fn join_to<V: BusView, G: Gate>(
 ) -> Joining
     requires { 0 < context.old.room }
     ensures comes { (c : Rule_call) → rule_call (Ok call.now) ≡ Some c →
-        Comes V.told V.registry_of G.passes V.alone
+        RunsTo V.BusView G.Gate
         (joining_to (said message.now) caller verdict.value c verdict.value.kind)
         context.old.world (joining_of (said message.now) caller result) context.new.world }
     ensures room { context.old.room ≤ context.new.room + 1 }
@@ -127,7 +126,7 @@ pub fn join<V: BusView, G: Gate>(
     requires room { 0 < context.old.room }
     requires crowds { 0 < context.old.crowds }
     ensures comes { (c : Rule_call) → rule_call (Ok call.now) ≡ Some c →
-        Comes V.told V.registry_of G.passes V.alone (joining (said message.now) caller c)
+        RunsTo V.BusView G.Gate (joining (said message.now) caller c)
         context.old.world (joining_of (said message.now) caller result) context.new.world }
     ensures room { context.old.room ≤ context.new.room + 1 }
     ensures crowds { context.old.crowds ≤ context.new.crowds + 1 }
@@ -150,9 +149,8 @@ pub fn part<V: BusView, G: Gate>(
 ) -> PeerFate
     requires room { MAX_TICKETS + 2 < context.old.room }
     requires crowds { 0 < context.old.crowds }
-    ensures comes { Comes V.told V.registry_of G.passes V.alone
-        (parting_of (said message.now) caller parting) context.old.world result
-        context.new.world }
+    ensures comes { RunsTo V.BusView G.Gate (parting_of (said message.now) caller parting)
+        context.old.world result context.new.world }
     ensures room { context.old.room ≤ context.new.room + MAX_TICKETS + 3 }
 {
     match parting {
@@ -172,9 +170,9 @@ pub fn answer<V: BusView, G: Gate>(
     requires room { 1 < context.old.room }
     requires crowds { 0 < context.old.crowds }
     requires alone { outcome.tickets ≡ [] }
-    ensures comes { Comes V.told V.registry_of G.passes V.alone
-        (made_in (said joint.now.message) joint.now.caller (Says outcome)) context.old.world
-        result context.new.world }
+    ensures comes { RunsTo V.BusView G.Gate
+        (made_in (said joint.now.message) joint.now.caller (Says outcome))
+        context.old.world result context.new.world }
     ensures room { context.old.room ≤ context.new.room + 2 }
     ensures crowds { context.old.crowds ≤ context.new.crowds + 1 }
 {
@@ -196,10 +194,10 @@ pub fn make<V: BusView, G: Gate>(
 ) -> PeerFate
     requires room { 1 < context.old.room }
     requires crowds { 0 < context.old.crowds }
-    ensures comes { Comes V.told V.registry_of G.passes V.alone
+    ensures comes { RunsTo V.BusView G.Gate
         (Changing (change_of_joint joint.now)
-        (λ heard. made_in (said joint.now.message) joint.now.caller heard)) context.old.world
-        result context.new.world }
+        (λ heard. made_in (said joint.now.message) joint.now.caller heard))
+        context.old.world result context.new.world }
     ensures room { context.old.room ≤ context.new.room + 2 }
     ensures crowds { context.old.crowds ≤ context.new.crowds + 1 }
 {

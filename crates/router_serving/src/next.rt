@@ -3,7 +3,7 @@
 ghost use Rattle.std.specs.Prelude.{◌≡◌, ◌<◌, ◌≤◌, ◌+◌, Some, IfOk, IfSome, OnOk, OnErr};
 ghost use Rattle.seq_bus_core.specs.declared.limits.TheConstants.{MAX_TICKETS};
 ghost use Rattle.router_core.specs.Events.{next_at};
-ghost use Rattle.router_core.specs.Scripts.{Comes};
+ghost use Rattle.router_core.specs.Scripts.{RunsTo};
 ghost use Rattle.router_core.specs.Standing.{Standing, Named, peer_at, with_peer};
 ghost use Rattle.router_steps.specs.Reading.{ComesOfNext};
 
@@ -27,8 +27,9 @@ fn serve_next<V: BusView, G: Gate>(
     requires room { MAX_TICKETS + 3 < context.old.room }
     requires crowds { 1 < context.old.crowds }
     requires named { peer.old.stage ≡ Named conn }
-    ensures comes { OnOk result ((s : Standing) → peer_at s key ≡ Some peer.old →
-        Comes V.told V.registry_of G.passes V.alone (next_at s key peer.old (Named conn))
+    ensures comes { OnOk result (
+        (s : Standing) → peer_at s key ≡ Some peer.old →
+        RunsTo V.BusView G.Gate (next_at s key peer.old (Named conn))
         context.old.world (with_peer s key (Some peer.new)) context.new.world) }
     ensures err { OnErr result (peer.new ≡ peer.old) }
     ensures world { OnErr result (context.new.world ≡ context.old.world) }

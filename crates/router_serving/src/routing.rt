@@ -6,7 +6,7 @@ ghost use Rattle.match_rules.specs.Kinds.{kind_of};
 ghost use Rattle.message_core.specs.Said.{said};
 ghost use Rattle.seq_bus_core.specs.declared.limits.TheConstants.{MAX_TICKETS};
 ghost use Rattle.message.specs.FactsOf.{facts_of, first_arguments};
-ghost use Rattle.router_core.specs.Scripts.{Routes, Comes};
+ghost use Rattle.router_core.specs.Scripts.{Routes, RunsTo};
 ghost use Rattle.router_core.specs.Serving.{and_stays, err_if_call, is_unknown, relay as relaying, routed as routing, serve as serving};
 ghost use Rattle.router_steps.specs.Hearing.{heard_verdict};
 ghost use Rattle.router_steps.specs.OncePut.{not_put as unput};
@@ -32,9 +32,9 @@ fn err_and_stay<V: BusView, G: Gate>(
 ) -> PeerFate
     requires room { 0 < context.old.room }
     requires crowds { 0 < context.old.crowds }
-    ensures comes { Comes V.told V.registry_of G.passes V.alone
-        (and_stays (err_if_call (said message.now) sender error)) context.old.world result
-        context.new.world }
+    ensures comes { RunsTo V.BusView G.Gate
+        (and_stays (err_if_call (said message.now) sender error))
+        context.old.world result context.new.world }
     ensures room { context.old.room ≤ context.new.room + 1 }
 {
     context.err_if_call(message, sender, error);
@@ -50,8 +50,8 @@ pub(crate) fn not_put<V: BusView, G: Gate>(
 ) -> PeerFate
     requires room { 0 < context.old.room }
     requires crowds { 0 < context.old.crowds }
-    ensures comes { Comes V.told V.registry_of G.passes V.alone
-        (unput fault (said message.now) sender) context.old.world result context.new.world }
+    ensures comes { RunsTo V.BusView G.Gate (unput fault (said message.now) sender)
+        context.old.world result context.new.world }
     ensures room { context.old.room ≤ context.new.room + 1 }
 {
     match fault {
@@ -70,7 +70,7 @@ fn relay_plainly<V: BusView, G: Gate>(
     requires room { 1 < context.old.room }
     requires crowds { 0 < context.old.crowds }
     requires plain { verdict.value.kind ≡ VerdictKind.Plain }
-    ensures comes { Comes V.told V.registry_of G.passes V.alone
+    ensures comes { RunsTo V.BusView G.Gate
         (relaying (said message.now) sender verdict.value verdict.value.kind)
         context.old.world result context.new.world }
     ensures room { context.old.room ≤ context.new.room + 2 }
@@ -91,7 +91,7 @@ fn relay_to_nobody<V: BusView, G: Gate>(
     requires room { 1 < context.old.room }
     requires crowds { 0 < context.old.crowds }
     requires nobody { verdict.value.kind ≡ VerdictKind.Nobody }
-    ensures comes { Comes V.told V.registry_of G.passes V.alone
+    ensures comes { RunsTo V.BusView G.Gate
         (relaying (said message.now) sender verdict.value verdict.value.kind)
         context.old.world result context.new.world }
     ensures room { context.old.room ≤ context.new.room + 2 }
@@ -114,7 +114,7 @@ fn relay_to_bus<V: BusView, G: Gate>(
     requires room { MAX_TICKETS + 2 < context.old.room }
     requires crowds { 0 < context.old.crowds }
     requires bus { verdict.value.kind ≡ VerdictKind.Bus }
-    ensures comes { Comes V.told V.registry_of G.passes V.alone
+    ensures comes { RunsTo V.BusView G.Gate
         (relaying (said message.now) sender verdict.value verdict.value.kind)
         context.old.world result context.new.world }
     ensures room { context.old.room ≤ context.new.room + MAX_TICKETS + 3 }
@@ -137,7 +137,7 @@ fn relay_to_service<V: BusView, G: Gate>(
     requires room { 1 < context.old.room }
     requires crowds { 0 < context.old.crowds }
     requires start { verdict.value.kind ≡ VerdictKind.Start }
-    ensures comes { Comes V.told V.registry_of G.passes V.alone
+    ensures comes { RunsTo V.BusView G.Gate
         (relaying (said message.now) sender verdict.value verdict.value.kind)
         context.old.world result context.new.world }
     ensures room { context.old.room ≤ context.new.room + 2 }
@@ -159,7 +159,7 @@ fn relay<V: BusView, G: Gate>(
 ) -> PeerFate
     requires room { MAX_TICKETS + 2 < context.old.room }
     requires crowds { 0 < context.old.crowds }
-    ensures comes { Comes V.told V.registry_of G.passes V.alone
+    ensures comes { RunsTo V.BusView G.Gate
         (relaying (said message.now) sender verdict.value verdict.value.kind)
         context.old.world result context.new.world }
     ensures room { context.old.room ≤ context.new.room + MAX_TICKETS + 3 }
@@ -185,9 +185,9 @@ pub(crate) fn routed<V: BusView, G: Gate>(
 ) -> PeerFate
     requires room { MAX_TICKETS + 2 < context.old.room }
     requires crowds { 0 < context.old.crowds }
-    ensures comes { Comes V.told V.registry_of G.passes V.alone
-        (routing (said message.now) sender (heard_verdict heard verdict.value)) context.old.world
-        result context.new.world }
+    ensures comes { RunsTo V.BusView G.Gate
+        (routing (said message.now) sender (heard_verdict heard verdict.value))
+        context.old.world result context.new.world }
     ensures room { context.old.room ≤ context.new.room + MAX_TICKETS + 3 }
 {
     match heard {
@@ -265,7 +265,7 @@ fn route_message<V: BusView, G: Gate>(
     requires room { MAX_TICKETS + 2 < context.old.room }
     requires crowds { 1 < context.old.crowds }
     requires known { is_unknown (kind_of (said message.now).kind) ≡ false }
-    ensures comes { Comes V.told V.registry_of G.passes V.alone (serving (said message.now) sender)
+    ensures comes { RunsTo V.BusView G.Gate (serving (said message.now) sender)
         context.old.world result context.new.world }
     ensures room { context.old.room ≤ context.new.room + MAX_TICKETS + 3 }
 {
@@ -287,7 +287,7 @@ pub fn serve<V: BusView, G: Gate>(
 ) -> PeerFate
     requires room { MAX_TICKETS + 2 < context.old.room }
     requires crowds { 1 < context.old.crowds }
-    ensures comes { Comes V.told V.registry_of G.passes V.alone (serving (said message.now) sender)
+    ensures comes { RunsTo V.BusView G.Gate (serving (said message.now) sender)
         context.old.world result context.new.world }
     ensures room { context.old.room ≤ context.new.room + MAX_TICKETS + 3 }
 {

@@ -3,7 +3,7 @@
 ghost use Rattle.std.specs.Prelude.{◌≡◌, ◌<◌, ◌≤◌, ◌+◌, Ok};
 ghost use Rattle.message_core.specs.Said.{said};
 ghost use Rattle.router_core.specs.Answers.{Says};
-ghost use Rattle.router_core.specs.Scripts.{Comes};
+ghost use Rattle.router_core.specs.Scripts.{RunsTo};
 ghost use Rattle.router_core.specs.Serving.{Starts, serve_request as serving_request, start_told};
 
 use crate::calls::{answer_told, error_for, refuse};
@@ -26,9 +26,9 @@ fn started<V: BusView, G: Gate>(
 ) -> PeerFate
     requires room { 0 < context.old.room }
     requires crowds { 0 < context.old.crowds }
-    ensures comes { Comes V.told V.registry_of G.passes V.alone
-        (start_told (said call.now) caller name.value (Says outcome)) context.old.world result
-        context.new.world }
+    ensures comes { RunsTo V.BusView G.Gate
+        (start_told (said call.now) caller name.value (Says outcome))
+        context.old.world result context.new.world }
     ensures room { context.old.room ≤ context.new.room + 1 }
 {
     match outcome.reply {
@@ -57,9 +57,9 @@ pub(crate) fn start_service<V: BusView, G: Gate>(
 ) -> PeerFate
     requires room { 0 < context.old.room }
     requires crowds { 0 < context.old.crowds }
-    ensures comes { Comes V.told V.registry_of G.passes V.alone
-        (serving_request (said call.now) caller (Ok (Starts name.now))) context.old.world result
-        context.new.world }
+    ensures comes { RunsTo V.BusView G.Gate
+        (serving_request (said call.now) caller (Ok (Starts name.now)))
+        context.old.world result context.new.world }
     ensures room { context.old.room ≤ context.new.room + 1 }
 {
     let Ok(service) = Box::new(alloc, *name) else {

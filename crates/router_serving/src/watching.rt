@@ -4,7 +4,7 @@ ghost use Rattle.std.specs.Prelude.{◌≡◌, ◌<◌, ◌≤◌, ◌+◌, Ok, 
 ghost use Rattle.message_core.specs.Said.{said};
 ghost use Rattle.seq_bus_core.specs.declared.limits.TheConstants.{MAX_TICKETS};
 ghost use Rattle.router_core.specs.Answers.{Says};
-ghost use Rattle.router_core.specs.Scripts.{Comes};
+ghost use Rattle.router_core.specs.Scripts.{RunsTo};
 ghost use Rattle.router_core.specs.Serving.{Watches, serve_request as serving_request, watch_told};
 
 use crate::calls::{error_for, refuse, tell_change};
@@ -24,9 +24,8 @@ fn watched<V: BusView, G: Gate>(
 ) -> PeerFate
     requires room { length outcome.tickets + 1 < context.old.room }
     requires crowds { 0 < context.old.crowds }
-    ensures comes { Comes V.told V.registry_of G.passes V.alone
-        (watch_told (said call.now) caller (Says outcome)) context.old.world result
-        context.new.world }
+    ensures comes { RunsTo V.BusView G.Gate (watch_told (said call.now) caller (Says outcome))
+        context.old.world result context.new.world }
     ensures room { context.old.room ≤ context.new.room + length outcome.tickets + 2 }
 {
     match outcome.reply {
@@ -54,9 +53,9 @@ pub(crate) fn become_monitor<V: BusView, G: Gate>(
 ) -> PeerFate
     requires room { MAX_TICKETS + 1 < context.old.room }
     requires crowds { 0 < context.old.crowds }
-    ensures comes { Comes V.told V.registry_of G.passes V.alone
-        (serving_request (said call.now) caller (Ok (Watches rules.now))) context.old.world result
-        context.new.world }
+    ensures comes { RunsTo V.BusView G.Gate
+        (serving_request (said call.now) caller (Ok (Watches rules.now)))
+        context.old.world result context.new.world }
     ensures room { context.old.room ≤ context.new.room + MAX_TICKETS + 2 }
 {
     let Ok(rules) = rules.copy(alloc) else {

@@ -1,6 +1,5 @@
 -- What comes of a piece of the bytes of a connection that says who it is.
-use Rattle.std.specs.Prelude.{◌≡◌, ◌≢◌, ◌⊎◌, ℕ, Bool, List, [], ◌∷◌, ◌++◌, Option, Some, None}
-use Rattle.seq_bus_core.specs.Histories.{History}
+use Rattle.std.specs.Prelude.{◌≡◌, ◌≢◌, ◌⊎◌, ℕ, List, [], ◌∷◌, ◌++◌, Option, Some, None}
 use Rattle.sasl.specs.declared.fault.AuthenticationFault.{AuthenticationFault}
 use Rattle.sasl.specs.declared.fault.AuthenticationFault.TheVariants.{NoMemory}
 use Rattle.sasl.specs.declared.phase.Phase.{Phase}
@@ -8,9 +7,10 @@ use Rattle.sasl.specs.declared.phase.Phase.TheVariants as phase
 use Rattle.sasl.specs.Settings.{Setting}
 use Rattle.sasl.specs.Conversations.{State as AuthState}
 use Rattle.sasl.specs.Hearing.{Conversed, conversed}
+use Rattle.bus_view.specs.declared.view.BusView.{Ghosts as BusView}
 use Rattle.router_core.specs.Deeds.{Writes}
 use Rattle.router_core.specs.Events.{is_user}
-use Rattle.router_core.specs.Scripts.{World, Does}
+use Rattle.router_core.specs.Scripts.{World, Performs}
 use Rattle.router_core.specs.Standing.{Stage, Authenticating, Unnamed, Peer}
 
 -- the connection once this was said, unless the conversation has failed
@@ -37,6 +37,6 @@ IsConversed old (Authenticating setting state) piece sent fault new =
 IsConversed old other piece sent fault new = Unit {0}
 
 -- It is written to the connection of this key, if it is anything.
-abbrev pub IsSent : {N G : Type 0} → (N → History) → (N → ℕ) → Bool → ℕ → (sent : List ℕ) → World N G → World N G → Type 0
-IsSent told registry_of alone key [] before after = after ≡ before
-IsSent told registry_of alone key (b ∷ bytes) before after = Does told registry_of alone (Writes key (b ∷ bytes)) before after
+abbrev pub IsSent : {V N R G : Type 0} → BusView V N R → ℕ → (sent : List ℕ) → World N G → World N G → Type 0
+IsSent view key [] before after = after ≡ before
+IsSent view key (b ∷ bytes) before after = Performs view (Writes key (b ∷ bytes)) before after

@@ -2,7 +2,7 @@
 
 ghost use Rattle.std.specs.Prelude.{◌≡◌, ◌<◌, ◌≤◌, ◌+◌, true};
 ghost use Rattle.router_core.specs.Events.{fated};
-ghost use Rattle.router_core.specs.Scripts.{Comes};
+ghost use Rattle.router_core.specs.Scripts.{RunsTo};
 
 use crate::context::Context;
 use crate::peer::Peer;
@@ -22,7 +22,7 @@ impl<V: BusView, G: Gate> Context<V, G> {
     /// Leaves a connection as it stays, makes it a monitor, or closes it.
     pub fn settle(&mut self, key: usize, peer: &mut Peer, fate: PeerFate)
         requires { 0 < self.old.room }
-        ensures comes { Comes V.told V.registry_of G.passes V.alone (fated key fate peer.old)
+        ensures comes { RunsTo V.BusView G.Gate (fated key fate peer.old)
             self.old.world peer.new self.new.world }
         ensures room { self.old.room ≤ self.new.room + 1 }
         ensures crowds { self.new.crowds ≡ self.old.crowds }

@@ -11,7 +11,7 @@ ghost use Rattle.bus_view.specs.Views.{bus_seen, IsRead};
 ghost use Rattle.outbox_core.specs.Contents.{said_of};
 ghost use Rattle.router_core.specs.Answers.{Heard};
 ghost use Rattle.router_core.specs.Deeds.{Writes, Sends, Puts, Closes, all_of};
-ghost use Rattle.router_core.specs.Scripts.{putting, having_done, Changes, ChangesAll, Asks, Routes, Looks, Takes, Passes, Does, Announces, Comes};
+ghost use Rattle.router_core.specs.Scripts.{putting, having_done, Changes, ChangesAll, Asks, Routes, Looks, Takes, Passes, Performs, Emits, RunsTo};
 ghost use Rattle.router_core.specs.Serving.{nothing, run as running};
 ghost use Rattle.router_steps.specs.Hearing.{heard_change, heard_changes, heard_verdict, heard_present, IsTold};
 
@@ -169,8 +169,7 @@ impl<V: BusView, G: Gate> Context<V, G> {
     /// Writes a message of another connection to the connection of this key.
     pub fn write(&mut self, key: usize, bytes: WrittenBytes)
         requires { 0 < self.old.room }
-        ensures does { Does V.told V.registry_of V.alone (Writes key bytes) self.old.world
-            self.new.world }
+        ensures does { Performs V.BusView (Writes key bytes) self.old.world self.new.world }
         ensures room { self.new.room + 1 ≡ self.old.room }
     {
         self.act(Action::Write { key, bytes });
@@ -180,7 +179,7 @@ impl<V: BusView, G: Gate> Context<V, G> {
     pub fn send(&mut self, key: usize, message: WrittenBytes)
         requires { 0 < self.old.room }
         ensures does { (m : Message) → IsWritten message m →
-            Does V.told V.registry_of V.alone (Sends key m) self.old.world self.new.world }
+            Performs V.BusView (Sends key m) self.old.world self.new.world }
         ensures room { self.new.room + 1 ≡ self.old.room }
         ensures crowds { self.new.crowds ≡ self.old.crowds }
     {
@@ -193,8 +192,7 @@ impl<V: BusView, G: Gate> Context<V, G> {
     /// Closes the connection of this key.
     pub fn close(&mut self, key: usize, cause: CloseCause)
         requires { 0 < self.old.room }
-        ensures does { Does V.told V.registry_of V.alone (Closes key cause) self.old.world
-            self.new.world }
+        ensures does { Performs V.BusView (Closes key cause) self.old.world self.new.world }
         ensures room { self.new.room + 1 ≡ self.old.room }
         ensures crowds { self.new.crowds ≡ self.old.crowds }
     {
@@ -204,8 +202,8 @@ impl<V: BusView, G: Gate> Context<V, G> {
     /// Puts a message to these connections, with the furthest note.
     pub fn put(&mut self, to: Addressees, content: Content)
         requires { 0 < self.old.room }
-        ensures does { Does V.told V.registry_of V.alone
-            (Puts (all_of to.to to.monitors) (said_of content)) self.old.world self.new.world }
+        ensures does { Performs V.BusView (Puts (all_of to.to to.monitors) (said_of content))
+            self.old.world self.new.world }
         ensures room { self.new.room + 1 ≡ self.old.room }
         ensures crowds { self.new.crowds ≡ self.old.crowds }
     {
@@ -217,7 +215,7 @@ impl<V: BusView, G: Gate> Context<V, G> {
     /// verdict goes out with it.
     pub fn put_to(&mut self, verdict: Box<Verdict>, content: Content)
         requires { 0 < self.old.room }
-        ensures comes { Comes V.told V.registry_of G.passes V.alone
+        ensures comes { RunsTo V.BusView G.Gate
             (putting (all_of verdict.value.to verdict.value.monitors) (said_of content) nothing)
             self.old.world tt self.new.world }
         ensures room { self.old.room ≤ self.new.room + 1 }
@@ -238,8 +236,7 @@ impl<V: BusView, G: Gate> Context<V, G> {
     /// Puts the signals of a change, in order.
     pub fn announce(&mut self, signals: Signals)
         requires { 0 < self.old.room }
-        ensures announces { Announces V.told V.registry_of V.alone signals self.old.world
-            self.new.world }
+        ensures announces { Emits V.BusView signals self.old.world self.new.world }
         ensures room { self.old.room ≤ self.new.room + 1 }
         ensures crowds { self.new.crowds ≡ self.old.crowds }
     {
@@ -252,8 +249,8 @@ impl<V: BusView, G: Gate> Context<V, G> {
     /// Asks for the program of a service to be run, where the bus asks for a start.
     pub fn run(&mut self, name: Box<BusName>, start: Option<u64>)
         requires { 0 < self.old.room }
-        ensures comes { Comes V.told V.registry_of G.passes V.alone (running name.value start)
-            self.old.world tt self.new.world }
+        ensures comes { RunsTo V.BusView G.Gate (running name.value start) self.old.world tt
+            self.new.world }
         ensures room { self.old.room ≤ self.new.room + 1 }
     {
         if let Some(start) = start {

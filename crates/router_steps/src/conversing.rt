@@ -2,7 +2,7 @@
 
 ghost use Rattle.std.specs.Prelude.{◌≡◌, ◌<◌, ◌≤◌, ◌+◌, OnOk, OnErr};
 ghost use Rattle.router_core.specs.Events.{hear as hearing, is_user};
-ghost use Rattle.router_core.specs.Scripts.{Comes};
+ghost use Rattle.router_core.specs.Scripts.{RunsTo};
 ghost use Rattle.router_core.specs.Standing.{conn_of};
 ghost use Rattle.router_steps.specs.Turns.{IsConversed, IsSent};
 
@@ -84,8 +84,7 @@ impl<V: BusView, G: Gate> Context<V, G> {
     /// Writes what a connection is answered while it says who it is, if it is anything.
     fn answer(&mut self, key: usize, sent: Vec<u8>)
         requires { 0 < self.old.room }
-        ensures sent { IsSent V.told V.registry_of V.alone key sent.items self.old.world
-            self.new.world }
+        ensures sent { IsSent V.BusView key sent.items self.old.world self.new.world }
         ensures room { self.old.room ≤ self.new.room + 1 }
     {
         if !sent.is_empty() {
@@ -102,10 +101,9 @@ impl<V: BusView, G: Gate> Context<V, G> {
         piece: &mut Vec<u8>,
     ) -> Result<(), AllocError>
         requires { 1 < self.old.room }
-        ensures comes { OnOk result
-            (Comes V.told V.registry_of G.passes V.alone
-            (hearing key piece.old.items peer.old peer.old.stage) self.old.world peer.new
-            self.new.world) }
+        ensures comes { OnOk result (RunsTo V.BusView G.Gate
+            (hearing key piece.old.items peer.old peer.old.stage)
+            self.old.world peer.new self.new.world) }
         ensures err { OnErr result (peer.new ≡ peer.old) }
         ensures world { OnErr result (self.new.world ≡ self.old.world) }
         ensures kept { OnErr result (piece.new ≡ piece.old) }

@@ -4,7 +4,7 @@ ghost use Rattle.std.specs.Prelude.{◌≡◌, ◌<◌, ◌≤◌, ◌+◌, Some
 ghost use Rattle.seq_bus_core.specs.declared.limits.TheConstants.{MAX_TICKETS};
 ghost use Rattle.router_core.specs.Answers.{is_final as is_final_in, refusal_of};
 ghost use Rattle.router_core.specs.Events.{change_of as change_in, child as ending_child, error_of_end as error_in};
-ghost use Rattle.router_core.specs.Scripts.{Wanting, Comes};
+ghost use Rattle.router_core.specs.Scripts.{Wanting, RunsTo};
 ghost use Rattle.router_core.specs.Serving.{fail as failing, fail_all as failing_all, failed_if};
 ghost use Rattle.router_core.specs.Standing.{Standing};
 
@@ -57,10 +57,10 @@ impl<V: BusView, G: Gate> Context<V, G> {
     /// Answers the call of this serial an error, and shows the monitors the error. Without memory nobody is told.
     fn tell_failed(&mut self, error: ErrorKind, caller: Conn, serial: u32)
         requires { 0 < self.old.room }
-        ensures comes { Comes V.told V.registry_of G.passes V.alone
-            (Wanting (λ granted.
-            failed_if error caller (record { caller = Some caller.number; call = serial })
-            granted)) self.old.world tt self.new.world }
+        ensures comes { RunsTo V.BusView G.Gate
+            (Wanting (λ granted. failed_if error caller
+            (record { caller = Some caller.number; call = serial }) granted))
+            self.old.world tt self.new.world }
         ensures room { self.old.room ≤ self.new.room + 1 }
     {
         // No message has the serial 0.
@@ -80,7 +80,7 @@ impl<V: BusView, G: Gate> Context<V, G> {
     /// Answers a call that waited why its service did not come.
     fn fail(&mut self, error: ErrorKind, ticket: &Ticket)
         requires { 0 < self.old.room }
-        ensures comes { Comes V.told V.registry_of G.passes V.alone (failing error ticket.now)
+        ensures comes { RunsTo V.BusView G.Gate (failing error ticket.now)
             self.old.world tt self.new.world }
         ensures room { self.old.room ≤ self.new.room + 1 }
     {
@@ -92,7 +92,7 @@ impl<V: BusView, G: Gate> Context<V, G> {
     /// Answers the calls that waited, in order.
     fn fail_all(&mut self, error: ErrorKind, tickets: Tickets)
         requires { length tickets ≤ self.old.room }
-        ensures comes { Comes V.told V.registry_of G.passes V.alone (failing_all error tickets)
+        ensures comes { RunsTo V.BusView G.Gate (failing_all error tickets)
             self.old.world tt self.new.world }
         ensures room { self.old.room ≤ self.new.room + length tickets }
     {
@@ -106,8 +106,7 @@ impl<V: BusView, G: Gate> Context<V, G> {
     pub fn end_start(&mut self, right: &V::Right, ended: &StartEnd) -> Result<(), AllocError>
         requires { MAX_TICKETS < self.old.room }
         ensures comes { OnOk result ((s : Standing) →
-            Comes V.told V.registry_of G.passes V.alone (ending_child s ended.now) self.old.world s
-            self.new.world) }
+            RunsTo V.BusView G.Gate (ending_child s ended.now) self.old.world s self.new.world) }
         ensures world { OnErr result (self.new.world ≡ self.old.world) }
     {
         match self.change(right, change_of(ended)) {

@@ -7,7 +7,7 @@ ghost use Rattle.message.specs.FactsOf.{facts_of};
 ghost use Rattle.outbox_core.specs.Contents.{Errs, own_of, own_message};
 ghost use Rattle.router_core.specs.Answers.{error_for, refusal_of};
 ghost use Rattle.router_core.specs.Events.{refuse, refuse_with, turn_away};
-ghost use Rattle.router_core.specs.Scripts.{Routing, Comes};
+ghost use Rattle.router_core.specs.Scripts.{Routing, RunsTo};
 ghost use Rattle.router_core.specs.Standing.{next_serial};
 ghost use Rattle.router_steps.specs.Refusing.{IsRefusal, AreRefusals, hello_of};
 
@@ -96,10 +96,10 @@ impl<V: BusView, G: Gate> Context<V, G> {
         requires crowds { 0 < self.old.crowds }
         requires written { IsWritten bytes
             (own_message (next_serial peer.old.serial) (own_of own)) }
-        ensures comes { Comes V.told V.registry_of G.passes V.alone
+        ensures comes { RunsTo V.BusView G.Gate
             (Routing 0 (facts_of (own_message 1 (own_of own)))
-            (λ heard. refuse key (own_of own) peer.old heard)) self.old.world peer.new
-            self.new.world }
+            (λ heard. refuse key (own_of own) peer.old heard))
+            self.old.world peer.new self.new.world }
         ensures room { self.old.room ≤ self.new.room + 2 }
     {
         let mut verdict = self.ask_monitors(&own);
@@ -121,9 +121,8 @@ impl<V: BusView, G: Gate> Context<V, G> {
         requires room { 1 < self.old.room }
         requires crowds { 0 < self.old.crowds }
         requires written { IsRefusal (said hello.now) error (next_serial peer.old.serial) bytes }
-        ensures comes { Comes V.told V.registry_of G.passes V.alone
-            (refuse_with key (said hello.now) error peer.old) self.old.world peer.new
-            self.new.world }
+        ensures comes { RunsTo V.BusView G.Gate (refuse_with key (said hello.now) error peer.old)
+            self.old.world peer.new self.new.world }
         ensures room { self.old.room ≤ self.new.room + 2 }
     {
         if expects_reply(hello) {
@@ -137,8 +136,8 @@ impl<V: BusView, G: Gate> Context<V, G> {
         requires crowds { 0 < self.old.crowds }
         requires written { IsRefusal (said hello.now) ErrorKind.LimitsExceeded
             (next_serial peer.old.serial) bytes }
-        ensures { Comes V.told V.registry_of G.passes V.alone
-            (turn_away key (said hello.now) peer.old) self.old.world peer.new self.new.world }
+        ensures { RunsTo V.BusView G.Gate (turn_away key (said hello.now) peer.old)
+            self.old.world peer.new self.new.world }
     {
         self.refuse_with(key, hello, peer, ErrorKind::LimitsExceeded, bytes);
         self.close_peer(key, peer, CloseCause::LimitsExceeded);
@@ -156,9 +155,9 @@ impl<V: BusView, G: Gate> Context<V, G> {
         requires room { 1 < self.old.room }
         requires crowds { 0 < self.old.crowds }
         requires written { AreRefusals (said hello.now) (next_serial peer.old.serial) errors }
-        ensures { Comes V.told V.registry_of G.passes V.alone
-            (refuse_with key (said hello.now) (error_for (refusal_of why)) peer.old) self.old.world
-            peer.new self.new.world }
+        ensures { RunsTo V.BusView G.Gate
+            (refuse_with key (said hello.now) (error_for (refusal_of why)) peer.old)
+            self.old.world peer.new self.new.world }
     {
         match why {
             Cause::NoMemory => {

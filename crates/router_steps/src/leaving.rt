@@ -4,7 +4,7 @@ ghost use Rattle.std.specs.Prelude.{◌≡◌, ◌<◌, ◌≤◌, ◌+◌, leng
 ghost use Rattle.seq_bus_core.specs.Batches.{IsBatch, max_batch};
 ghost use Rattle.seq_bus_core.specs.declared.change.Change.TheVariants.{Leave};
 ghost use Rattle.router_core.specs.Events.{leave as leaving, leave_of as leaving_of, leave_each as leaving_each, leave_if as leaving_if, leave_together as leaving_together, leave_by as leaving_by, leave_all as leaving_all, announce_all as announcing_all};
-ghost use Rattle.router_core.specs.Scripts.{World, Comes};
+ghost use Rattle.router_core.specs.Scripts.{World, RunsTo};
 ghost use Rattle.router_core.specs.Standing.{Standing};
 ghost use Rattle.router_steps.specs.Parts.{part};
 
@@ -35,9 +35,8 @@ impl<V: BusView, G: Gate> Context<V, G> {
         requires room { 0 < self.old.room }
         requires spare { vec_len leaves.old < vec_capacity leaves.old }
         ensures comes { (s : Standing) →
-            Comes V.told V.registry_of G.passes V.alone
-            (leaving (record s { leaves = leaves.old.items }) number) self.old.world
-            (record s { leaves = leaves.new.items }) self.new.world }
+            RunsTo V.BusView G.Gate (leaving (record s { leaves = leaves.old.items }) number)
+            self.old.world (record s { leaves = leaves.new.items }) self.new.world }
         ensures room { self.old.room ≤ self.new.room + 1 }
         ensures len { vec_len leaves.new ≤ vec_len leaves.old + 1 }
         ensures capacity { vec_capacity leaves.old ≤ vec_capacity leaves.new }
@@ -53,9 +52,8 @@ impl<V: BusView, G: Gate> Context<V, G> {
         requires room { 0 < self.old.room }
         requires spare { vec_len leaves.old < vec_capacity leaves.old }
         ensures comes { (s : Standing) →
-            Comes V.told V.registry_of G.passes V.alone
-            (leaving_of (record s { leaves = leaves.old.items }) conn) self.old.world
-            (record s { leaves = leaves.new.items }) self.new.world }
+            RunsTo V.BusView G.Gate (leaving_of (record s { leaves = leaves.old.items }) conn)
+            self.old.world (record s { leaves = leaves.new.items }) self.new.world }
     {
         match conn {
             None => {}
@@ -68,9 +66,9 @@ impl<V: BusView, G: Gate> Context<V, G> {
         requires room { length numbers.now ≤ self.old.room }
         requires spare { vec_len leaves.old + length numbers.now ≤ vec_capacity leaves.old }
         ensures comes { (s : Standing) →
-            Comes V.told V.registry_of G.passes V.alone
-            (leaving_each numbers.now (record s { leaves = leaves.old.items })) self.old.world
-            (record s { leaves = leaves.new.items }) self.new.world }
+            RunsTo V.BusView G.Gate
+            (leaving_each numbers.now (record s { leaves = leaves.old.items }))
+            self.old.world (record s { leaves = leaves.new.items }) self.new.world }
         ensures room { self.old.room ≤ self.new.room + length numbers.now }
         ensures len { vec_len leaves.new ≤ vec_len leaves.old + length numbers.now }
         ensures capacity { vec_capacity leaves.old ≤ vec_capacity leaves.new }
@@ -83,8 +81,8 @@ impl<V: BusView, G: Gate> Context<V, G> {
     /// Announces several changes, in order.
     fn announce_all(&mut self, outcomes: Vec<Outcome>)
         requires { length outcomes.items ≤ self.old.room }
-        ensures comes { Comes V.told V.registry_of G.passes V.alone
-            (announcing_all outcomes.items) self.old.world tt self.new.world }
+        ensures comes { RunsTo V.BusView G.Gate (announcing_all outcomes.items)
+            self.old.world tt self.new.world }
         ensures room { self.old.room ≤ self.new.room + length outcomes.items }
     {
         for outcome in outcomes {
@@ -106,9 +104,9 @@ impl<V: BusView, G: Gate> Context<V, G> {
         requires room { length numbers.now ≤ self.old.room }
         requires spare { vec_len leaves.old + length numbers.now ≤ vec_capacity leaves.old }
         ensures comes { (s : Standing) →
-            Comes V.told V.registry_of G.passes V.alone
-            (leaving_if (record s { leaves = leaves.old.items }) numbers.now true) self.old.world
-            (record s { leaves = leaves.new.items }) self.new.world }
+            RunsTo V.BusView G.Gate
+            (leaving_if (record s { leaves = leaves.old.items }) numbers.now true)
+            self.old.world (record s { leaves = leaves.new.items }) self.new.world }
         ensures room { self.old.room ≤ self.new.room + length numbers.now }
         ensures len { vec_len leaves.new ≤ vec_len leaves.old + length numbers.now }
         ensures capacity { vec_capacity leaves.old ≤ vec_capacity leaves.new }
@@ -125,9 +123,9 @@ impl<V: BusView, G: Gate> Context<V, G> {
         requires room { length numbers.now ≤ self.old.room }
         requires spare { vec_len leaves.old + length numbers.now ≤ vec_capacity leaves.old }
         ensures comes { (s : Standing) →
-            Comes V.told V.registry_of G.passes V.alone
-            (leaving_together (record s { leaves = leaves.old.items }) numbers.now) self.old.world
-            (record s { leaves = leaves.new.items }) self.new.world }
+            RunsTo V.BusView G.Gate
+            (leaving_together (record s { leaves = leaves.old.items }) numbers.now)
+            self.old.world (record s { leaves = leaves.new.items }) self.new.world }
         ensures room { self.old.room ≤ self.new.room + length numbers.now }
         ensures len { vec_len leaves.new ≤ vec_len leaves.old + length numbers.now }
         ensures capacity { vec_capacity leaves.old ≤ vec_capacity leaves.new }
@@ -156,12 +154,14 @@ impl<V: BusView, G: Gate> Context<V, G> {
         requires room { length numbers.now ≤ self.old.room + start }
         requires spare { vec_len leaves.old + length numbers.now ≤ vec_capacity leaves.old + start }
         ensures comes { (s end : Standing) (v : World V.Note G) →
-            Comes V.told V.registry_of G.passes V.alone
+            RunsTo V.BusView G.Gate
             (leaving_by (part numbers.now result (place + 1)) (drop (place + 1) numbers.now)
-            (record s { leaves = leaves.new.items })) self.new.world end v →
-            Comes V.told V.registry_of G.passes V.alone
+            (record s { leaves = leaves.new.items }))
+            self.new.world end v →
+            RunsTo V.BusView G.Gate
             (leaving_by (part numbers.now start place) (drop place numbers.now)
-            (record s { leaves = leaves.old.items })) self.old.world end v }
+            (record s { leaves = leaves.old.items }))
+            self.old.world end v }
         ensures start { start ≤ result }
         ensures within { result ≤ place }
         ensures few { place + 1 ≤ result + max_batch }
@@ -181,9 +181,9 @@ impl<V: BusView, G: Gate> Context<V, G> {
         requires room { length numbers.now ≤ self.old.room }
         requires spare { vec_len leaves.old + length numbers.now ≤ vec_capacity leaves.old }
         ensures comes { (s : Standing) →
-            Comes V.told V.registry_of G.passes V.alone
-            (leaving_all numbers.now (record s { leaves = leaves.old.items })) self.old.world
-            (record s { leaves = leaves.new.items }) self.new.world }
+            RunsTo V.BusView G.Gate
+            (leaving_all numbers.now (record s { leaves = leaves.old.items }))
+            self.old.world (record s { leaves = leaves.new.items }) self.new.world }
         ensures room { self.old.room ≤ self.new.room + length numbers.now }
     {
         let mut start = 0;

@@ -4,7 +4,7 @@ ghost use Rattle.std.specs.Prelude.{◌≡◌, ◌<◌, ◌≤◌, ◌+◌, opti
 ghost use Rattle.outbox_core.specs.Contents.{said_of};
 ghost use Rattle.router_core.specs.Deeds.{IsOwnNote};
 ghost use Rattle.router_core.specs.Events.{write as writing};
-ghost use Rattle.router_core.specs.Scripts.{Comes};
+ghost use Rattle.router_core.specs.Scripts.{RunsTo};
 ghost use Rattle.router_core.specs.Standing.{next_serial};
 ghost use Rattle.router_steps.specs.Noting.{once_noted, IsHeeded};
 ghost use Rattle.router_steps.specs.Writing.{IsSpelled};
@@ -45,8 +45,8 @@ impl<V: BusView, G: Gate> Context<V, G> {
     pub fn deliver(&mut self, key: usize, peer: &mut Peer, content: &Content, bytes: WrittenBytes)
         requires room { 0 < self.old.room }
         requires spelled { IsSpelled (said_of content.now) (next_serial peer.old.serial) bytes }
-        ensures comes { Comes V.told V.registry_of G.passes V.alone
-            (writing key (said_of content.now) peer.old) self.old.world peer.new self.new.world }
+        ensures comes { RunsTo V.BusView G.Gate (writing key (said_of content.now) peer.old)
+            self.old.world peer.new self.new.world }
         ensures room { self.old.room ≤ self.new.room + 1 }
     {
         match content {
@@ -80,11 +80,10 @@ impl<V: BusView, G: Gate> Context<V, G> {
     ) -> Result<(), AllocError>
         requires room { 0 < self.old.room }
         requires own { IsOwnNote V.registry_of self.old.world.view.registry envelope.now.note }
-        ensures comes { OnOk result
-            (Comes V.told V.registry_of G.passes V.alone
+        ensures comes { OnOk result (RunsTo V.BusView G.Gate
             (once_noted (option_map V.told envelope.now.note)
-            (writing key (said_of envelope.now.content) peer.old)) self.old.world peer.new
-            self.new.world) }
+            (writing key (said_of envelope.now.content) peer.old))
+            self.old.world peer.new self.new.world) }
         ensures err { OnErr result (peer.new ≡ peer.old) }
         ensures world { OnErr result (self.new.world ≡ self.old.world) }
     {

@@ -3,7 +3,7 @@
 ghost use Rattle.std.specs.Prelude.{◌≡◌, ◌<◌, ◌≤◌, ◌+◌, [], true, false, OnOk, OnErr};
 ghost use Rattle.router_core.specs.Events.{closing, fed, look};
 ghost use Rattle.router_core.specs.Fronts.{Waits, IsFront};
-ghost use Rattle.router_core.specs.Scripts.{Comes};
+ghost use Rattle.router_core.specs.Scripts.{RunsTo};
 ghost use Rattle.router_core.specs.Standing.{Named, SpeaksDBus, newcomer, next_serial, conn_of, shut};
 ghost use Rattle.router_steps.specs.Hearing.{heard_present};
 ghost use Rattle.router_steps.specs.Quiet.{IsQuiet};
@@ -210,7 +210,7 @@ impl<V: BusView, G: Gate> Context<V, G> {
     /// Closes a connection.
     pub fn close_peer(&mut self, key: usize, peer: &mut Peer, cause: CloseCause)
         requires { 0 < self.old.room }
-        ensures comes { Comes V.told V.registry_of G.passes V.alone (closing key cause peer.old)
+        ensures comes { RunsTo V.BusView G.Gate (closing key cause peer.old)
             self.old.world peer.new self.new.world }
         ensures room { self.old.room ≤ self.new.room + 1 }
         ensures crowds { self.new.crowds ≡ self.old.crowds }
@@ -222,7 +222,7 @@ impl<V: BusView, G: Gate> Context<V, G> {
     /// Closes a connection that has a name, if it has left.
     fn look_at(&mut self, key: usize, peer: &mut Peer, conn: Conn)
         requires { 0 < self.old.room }
-        ensures comes { Comes V.told V.registry_of G.passes V.alone (look key peer.old (Named conn))
+        ensures comes { RunsTo V.BusView G.Gate (look key peer.old (Named conn))
             self.old.world peer.new self.new.world }
         ensures room { self.old.room ≤ self.new.room + 1 }
     {
@@ -236,8 +236,8 @@ impl<V: BusView, G: Gate> Context<V, G> {
     /// Closes a connection that has left.
     pub fn look_after(&mut self, key: usize, peer: &mut Peer)
         requires { 0 < self.old.room }
-        ensures comes { Comes V.told V.registry_of G.passes V.alone
-            (look key peer.old peer.old.stage) self.old.world peer.new self.new.world }
+        ensures comes { RunsTo V.BusView G.Gate (look key peer.old peer.old.stage)
+            self.old.world peer.new self.new.world }
         ensures room { self.old.room ≤ self.new.room + 1 }
     {
         if let Stage::Named(conn) = peer.stage() {

@@ -5,7 +5,7 @@ ghost use Rattle.message_core.specs.Said.{said};
 ghost use Rattle.message.specs.MessageBytes.{message_bytes, is_too_long};
 ghost use Rattle.outbox_core.specs.Contents.{Relays};
 ghost use Rattle.router_core.specs.Deeds.{all_of};
-ghost use Rattle.router_core.specs.Scripts.{World, Comes, putting};
+ghost use Rattle.router_core.specs.Scripts.{World, RunsTo, putting};
 ghost use Rattle.router_core.specs.Serving.{Fated, nothing, signed, relayed, shown};
 ghost use Rattle.router_core.specs.declared.fate.PeerFate.{PeerFate as Fate};
 ghost use Rattle.router_steps.specs.OncePut.{is_long, once_put};
@@ -53,15 +53,16 @@ impl<V: BusView, G: Gate> Context<V, G> {
     ) -> Result<(), RelayFault>
         requires { 0 < self.old.room }
         ensures comes { (goes_on : Fated) (fate : Fate) (end : World V.Note G) →
-            Comes V.told V.registry_of G.passes V.alone
+            RunsTo V.BusView G.Gate
             (once_put result (said message.now) sender goes_on) self.new.world fate end →
-            Comes V.told V.registry_of G.passes V.alone
-            (relayed (said message.now) sender (all_of verdict.value.to verdict.value.monitors)
-            goes_on) self.old.world fate end }
-        ensures put { OnOk result (Comes V.told V.registry_of G.passes V.alone
+            RunsTo V.BusView G.Gate
+            (relayed (said message.now) sender
+            (all_of verdict.value.to verdict.value.monitors) goes_on)
+            self.old.world fate end }
+        ensures put { OnOk result (RunsTo V.BusView G.Gate
             (putting (all_of verdict.value.to verdict.value.monitors)
-            (Relays (message_bytes (signed (said message.now) sender))) nothing) self.old.world tt
-            self.new.world) }
+            (Relays (message_bytes (signed (said message.now) sender))) nothing)
+            self.old.world tt self.new.world) }
         ensures unput { OnErr result (self.new.world ≡ self.old.world) }
         ensures too_long { is_too_long (signed (said message.now) sender) ≡ is_long result }
         ensures room { self.old.room ≤ self.new.room + 1 }
@@ -96,15 +97,15 @@ impl<V: BusView, G: Gate> Context<V, G> {
     ) -> Result<(), RelayFault>
         requires { 0 < self.old.room }
         ensures comes { (goes_on : Fated) (fate : Fate) (end : World V.Note G) →
-            Comes V.told V.registry_of G.passes V.alone
+            RunsTo V.BusView G.Gate
             (once_put result (said message.now) sender goes_on) self.new.world fate end →
-            Comes V.told V.registry_of G.passes V.alone
-            (relayed (said message.now) sender verdict.value.monitors goes_on) self.old.world fate
-            end }
-        ensures put { OnOk result (Comes V.told V.registry_of G.passes V.alone
+            RunsTo V.BusView G.Gate
+            (relayed (said message.now) sender verdict.value.monitors goes_on)
+            self.old.world fate end }
+        ensures put { OnOk result (RunsTo V.BusView G.Gate
             (putting verdict.value.monitors
-            (Relays (message_bytes (signed (said message.now) sender))) nothing) self.old.world tt
-            self.new.world) }
+            (Relays (message_bytes (signed (said message.now) sender))) nothing)
+            self.old.world tt self.new.world) }
         ensures unput { OnErr result (self.new.world ≡ self.old.world) }
         ensures too_long { is_too_long (signed (said message.now) sender) ≡ is_long result }
         ensures room { self.old.room ≤ self.new.room + 1 }
@@ -128,15 +129,14 @@ impl<V: BusView, G: Gate> Context<V, G> {
     ) -> Result<(), RelayFault>
         requires { 0 < self.old.room }
         ensures comes { (goes_on : Fated) (fate : Fate) (end : World V.Note G) →
-            Comes V.told V.registry_of G.passes V.alone
+            RunsTo V.BusView G.Gate
             (once_put result (said message.now) sender goes_on) self.new.world fate end →
-            Comes V.told V.registry_of G.passes V.alone
-            (shown (said message.now) sender verdict.value.monitors goes_on) self.old.world fate
-            end }
-        ensures put { OnOk result (Comes V.told V.registry_of G.passes V.alone
+            RunsTo V.BusView G.Gate (shown (said message.now) sender verdict.value.monitors goes_on)
+            self.old.world fate end }
+        ensures put { OnOk result (RunsTo V.BusView G.Gate
             (putting verdict.value.monitors
-            (Relays (message_bytes (signed (said message.now) sender))) nothing) self.old.world tt
-            self.new.world) }
+            (Relays (message_bytes (signed (said message.now) sender))) nothing)
+            self.old.world tt self.new.world) }
         ensures unput { OnErr result (self.new.world ≡ self.old.world) }
         ensures too_long { verdict.value.monitors ≢ [] →
             is_too_long (signed (said message.now) sender) ≡ is_long result }

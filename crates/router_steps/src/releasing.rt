@@ -1,7 +1,7 @@
 //! Calls that waited for a service. (D-Bus Specification: "Message Bus Starting Services (Activation)")
 
 ghost use Rattle.std.specs.Prelude.{◌≡◌, ◌<◌, ◌≤◌, ◌+◌, Some, length};
-ghost use Rattle.router_core.specs.Scripts.{Wanting, Comes};
+ghost use Rattle.router_core.specs.Scripts.{Wanting, RunsTo};
 ghost use Rattle.router_core.specs.Serving.{release as releasing, release_all as releasing_all, started_if, ticket_wants_reply as wants_reply_in};
 
 use crate::context::Context;
@@ -24,9 +24,9 @@ impl<V: BusView, G: Gate> Context<V, G> {
     /// is told.
     fn tell_started(&mut self, caller: Conn, serial: u32)
         requires { 0 < self.old.room }
-        ensures comes { Comes V.told V.registry_of G.passes V.alone
-            (Wanting (λ granted.
-            started_if caller (record { caller = Some caller.number; call = serial }) granted))
+        ensures comes { RunsTo V.BusView G.Gate
+            (Wanting (λ granted. started_if caller
+            (record { caller = Some caller.number; call = serial }) granted))
             self.old.world tt self.new.world }
         ensures room { self.old.room ≤ self.new.room + 1 }
     {
@@ -49,8 +49,8 @@ impl<V: BusView, G: Gate> Context<V, G> {
     /// are held; StartServiceByName is answered that the service was started.
     pub fn release(&mut self, owner: Conn, ticket: Ticket)
         requires { 0 < self.old.room }
-        ensures comes { Comes V.told V.registry_of G.passes V.alone
-            (releasing owner ticket ticket.message) self.old.world tt self.new.world }
+        ensures comes { RunsTo V.BusView G.Gate (releasing owner ticket ticket.message)
+            self.old.world tt self.new.world }
         ensures room { self.old.room ≤ self.new.room + 1 }
     {
         let wants_reply = wants_reply(&ticket);
@@ -67,7 +67,7 @@ impl<V: BusView, G: Gate> Context<V, G> {
     /// Releases the calls that waited for a name, in order, once the name has this owner.
     pub fn release_all(&mut self, owner: Conn, tickets: Tickets)
         requires { length tickets ≤ self.old.room }
-        ensures comes { Comes V.told V.registry_of G.passes V.alone (releasing_all owner tickets)
+        ensures comes { RunsTo V.BusView G.Gate (releasing_all owner tickets)
             self.old.world tt self.new.world }
         ensures room { self.old.room ≤ self.new.room + length tickets }
     {

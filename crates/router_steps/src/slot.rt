@@ -4,7 +4,7 @@ ghost use Rattle.std.specs.Prelude.{◌≡◌, ◌<◌, ◌≤◌, ◌+◌, [], 
 ghost use Rattle.outbox_core.specs.Contents.{said_of};
 ghost use Rattle.router_core.specs.Deeds.{IsOwnNote};
 ghost use Rattle.router_core.specs.Events.{closing, hear, for_slot, look, look_all as looking_at_all, write as writing};
-ghost use Rattle.router_core.specs.Scripts.{Comes};
+ghost use Rattle.router_core.specs.Scripts.{RunsTo};
 ghost use Rattle.router_steps.specs.Noting.{once_noted};
 
 use crate::context::Context;
@@ -23,10 +23,9 @@ impl<V: BusView, G: Gate> Context<V, G> {
         piece: &mut Vec<u8>,
     ) -> Result<(), AllocError>
         requires { 1 < self.old.room }
-        ensures comes { OnOk result
-            (Comes V.told V.registry_of G.passes V.alone
-            (for_slot slot.old (λ p. hear key piece.old.items p p.stage)) self.old.world slot.new
-            self.new.world) }
+        ensures comes { OnOk result (RunsTo V.BusView G.Gate
+            (for_slot slot.old (λ p. hear key piece.old.items p p.stage))
+            self.old.world slot.new self.new.world) }
         ensures err { OnErr result (slot.new ≡ slot.old) }
         ensures world { OnErr result (self.new.world ≡ self.old.world) }
         ensures kept { OnErr result (piece.new ≡ piece.old) }
@@ -48,11 +47,10 @@ impl<V: BusView, G: Gate> Context<V, G> {
     ) -> Result<(), AllocError>
         requires room { 0 < self.old.room }
         requires own { IsOwnNote V.registry_of self.old.world.view.registry envelope.now.note }
-        ensures comes { OnOk result
-            (Comes V.told V.registry_of G.passes V.alone
+        ensures comes { OnOk result (RunsTo V.BusView G.Gate
             (once_noted (option_map V.told envelope.now.note)
-            (for_slot slot.old (writing key (said_of envelope.now.content)))) self.old.world
-            slot.new self.new.world) }
+            (for_slot slot.old (writing key (said_of envelope.now.content))))
+            self.old.world slot.new self.new.world) }
         ensures err { OnErr result (slot.new ≡ slot.old) }
         ensures world { OnErr result (self.new.world ≡ self.old.world) }
     {
@@ -68,9 +66,9 @@ impl<V: BusView, G: Gate> Context<V, G> {
     /// Closes a connection that has left, if it is there.
     pub fn close_left(&mut self, key: usize, slot: &mut Option<Peer>)
         requires { 0 < self.old.room }
-        ensures comes { Comes V.told V.registry_of G.passes V.alone
-            (for_slot slot.old (λ p. closing key CloseCause.Left p)) self.old.world slot.new
-            self.new.world }
+        ensures comes { RunsTo V.BusView G.Gate
+            (for_slot slot.old (λ p. closing key CloseCause.Left p))
+            self.old.world slot.new self.new.world }
         ensures room { self.old.room ≤ self.new.room + 1 }
         ensures crowds { self.new.crowds ≡ self.old.crowds }
     {
@@ -82,8 +80,8 @@ impl<V: BusView, G: Gate> Context<V, G> {
     /// Closes the connection of a key, if it is there and has left.
     fn look_into(&mut self, key: usize, slot: &mut Option<Peer>)
         requires { 0 < self.old.room }
-        ensures comes { Comes V.told V.registry_of G.passes V.alone
-            (for_slot slot.old (λ p. look key p p.stage)) self.old.world slot.new self.new.world }
+        ensures comes { RunsTo V.BusView G.Gate (for_slot slot.old (λ p. look key p p.stage))
+            self.old.world slot.new self.new.world }
         ensures room { self.old.room ≤ self.new.room + 1 }
     {
         match slot {
@@ -95,7 +93,7 @@ impl<V: BusView, G: Gate> Context<V, G> {
     /// Closes those that have left, by rising key.
     pub fn look_at_all(&mut self, peers: &mut [Option<Peer>])
         requires { length peers.old ≤ self.old.room }
-        ensures { Comes V.told V.registry_of G.passes V.alone (looking_at_all [] peers.old)
+        ensures { RunsTo V.BusView G.Gate (looking_at_all [] peers.old)
             self.old.world peers.new self.new.world }
     {
         for key in 0..peers.len() {

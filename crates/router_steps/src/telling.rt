@@ -6,7 +6,7 @@ ghost use Rattle.message_core.specs.Said.{said};
 ghost use Rattle.message.specs.FactsOf.{facts_of};
 ghost use Rattle.outbox_core.specs.Contents.{carried_of, own_of, own_message};
 ghost use Rattle.router_core.specs.Answers.{Heard};
-ghost use Rattle.router_core.specs.Scripts.{Routes, Comes};
+ghost use Rattle.router_core.specs.Scripts.{Routes, RunsTo};
 ghost use Rattle.router_core.specs.Serving.{answer_with as answering, call_of as call_in, err_if_call as erring_if_call, err_with as erring, is_method_call as is_method_call_in, monitors_in, reply_with as replying, tell as telling};
 ghost use Rattle.router_steps.specs.Carrying.{answer_of};
 
@@ -68,7 +68,7 @@ impl<V: BusView, G: Gate> Context<V, G> {
     pub fn tell(&mut self, conn: Conn, own: OwnMessage)
         requires room { 0 < self.old.room }
         requires crowds { 0 < self.old.crowds }
-        ensures comes { Comes V.told V.registry_of G.passes V.alone (telling conn (own_of own))
+        ensures comes { RunsTo V.BusView G.Gate (telling conn (own_of own))
             self.old.world tt self.new.world }
         ensures room { self.old.room ≤ self.new.room + 1 }
         ensures crowds { self.old.crowds ≤ self.new.crowds + 1 }
@@ -82,9 +82,9 @@ impl<V: BusView, G: Gate> Context<V, G> {
     pub fn reply_with(&mut self, call: &Message, caller: Conn, content: ReplyContent)
         requires room { 0 < self.old.room }
         requires crowds { 0 < self.old.crowds }
-        ensures comes { Comes V.told V.registry_of G.passes V.alone
-            (replying (said call.now) caller (carried_of content)) self.old.world tt
-            self.new.world }
+        ensures comes { RunsTo V.BusView G.Gate
+            (replying (said call.now) caller (carried_of content))
+            self.old.world tt self.new.world }
         ensures room { self.old.room ≤ self.new.room + 1 }
         ensures crowds { self.old.crowds ≤ self.new.crowds + 1 }
     {
@@ -98,8 +98,8 @@ impl<V: BusView, G: Gate> Context<V, G> {
     pub fn err_with(&mut self, call: &Message, caller: Conn, error: ErrorKind)
         requires room { 0 < self.old.room }
         requires crowds { 0 < self.old.crowds }
-        ensures comes { Comes V.told V.registry_of G.passes V.alone
-            (erring (said call.now) caller error) self.old.world tt self.new.world }
+        ensures comes { RunsTo V.BusView G.Gate (erring (said call.now) caller error)
+            self.old.world tt self.new.world }
         ensures room { self.old.room ≤ self.new.room + 1 }
         ensures crowds { self.old.crowds ≤ self.new.crowds + 1 }
     {
@@ -113,8 +113,8 @@ impl<V: BusView, G: Gate> Context<V, G> {
     pub fn err_if_call(&mut self, message: &Message, sender: Conn, error: ErrorKind)
         requires room { 0 < self.old.room }
         requires crowds { 0 < self.old.crowds }
-        ensures comes { Comes V.told V.registry_of G.passes V.alone
-            (erring_if_call (said message.now) sender error) self.old.world tt self.new.world }
+        ensures comes { RunsTo V.BusView G.Gate (erring_if_call (said message.now) sender error)
+            self.old.world tt self.new.world }
         ensures room { self.old.room ≤ self.new.room + 1 }
         ensures crowds { self.old.crowds ≤ self.new.crowds + 1 }
     {
@@ -132,7 +132,7 @@ impl<V: BusView, G: Gate> Context<V, G> {
     )
         requires room { 0 < self.old.room }
         requires crowds { 0 < self.old.crowds }
-        ensures comes { Comes V.told V.registry_of G.passes V.alone
+        ensures comes { RunsTo V.BusView G.Gate
             (answering (said call.now) caller (answer_of answer)) self.old.world tt self.new.world }
         ensures room { self.old.room ≤ self.new.room + 1 }
         ensures crowds { self.old.crowds ≤ self.new.crowds + 1 }

@@ -17,7 +17,7 @@ returns-in-None-clause-comes g c =
     let turn : IsConversed p p.stage piece sent None q = subst (λ (f : Option AuthenticationFault). IsConversed p p.stage piece sent f q) c.in-None.is
     (subst (λ (l : List ℕ). IsConversed p p.stage l sent c.converse-sent.result.fault q) c.as_slice.ensures.value c.converse-sent.ensures.turn) in
     let came = conversed_at p q server.setting server.state piece sent None is turn in
-    goes_on g.V.BusView.told g.V.BusView.registry_of g.G.Gate.passes g.V.BusView.alone c.args.key server.setting server.state piece p is sent c.args.self.now.world c.answer.new.self.world q came.0 c.answer.ensures.sent
+    goes_on g.V.BusView g.G.Gate c.args.key server.setting server.state piece p is sent c.args.self.now.world c.answer.new.self.world q came.0 c.answer.ensures.sent
 
 pub returns-in-Some-clause-comes : goal.returns-in-Some-clause-comes
 returns-in-Some-clause-comes g c =
@@ -31,5 +31,5 @@ returns-in-Some-clause-comes g c =
     let turn : IsConversed p p.stage piece sent (Some fault) r = subst (λ (f : Option AuthenticationFault). IsConversed p p.stage piece sent f r) c.in-Some.is
     (subst (λ (l : List ℕ). IsConversed p p.stage l sent c.converse-sent.result.fault r) c.as_slice.ensures.value c.converse-sent.ensures.turn) in
     let came = conversed_at p r server.setting server.state piece sent (Some fault) is turn in
-    fails g.V.BusView.told g.V.BusView.registry_of g.G.Gate.passes g.V.BusView.alone c.args.key server.setting server.state piece p is sent fault c.args.self.now.world c.answer.new.self.world c.close_peer.new.self.world r c.close_peer.new.peer
+    fails g.V.BusView g.G.Gate c.args.key server.setting server.state piece p is sent fault c.args.self.now.world c.answer.new.self.world c.close_peer.new.self.world r c.close_peer.new.peer
     came.0 came.1 c.converse-sent.ensures.conn c.answer.ensures.sent c.close_peer.ensures.comes
