@@ -1,4 +1,4 @@
--- A connection is greeted while its place is empty.
+-- A connection is greeted once its Hello was taken off its bytes.
 use Rattle.std.proofs.Common.{◌≡◌, ◌≢◌, ℕ, Bool, false, true, Option, Some, None, List, length, position, cond, nat_lt, get_or, set, refl, sym, ap, ◌∙◌, subst, if◌then◌else◌}
 use Rattle.std.proofs.lemmas.List.{set-set, set_comm, get_or-set_other, length-set}
 use Rattle.std.specs.List.{position_or_len}
@@ -30,29 +30,29 @@ position_same test xs k y d same =
     ∙ ap (λ n. cond (nat_lt (position_or_len test xs) n) (Some (position_or_len test xs)) None) (length-set xs k y)
 
 -- a connection without a name has no slot
-no_slot : (slot : ℕ) (o : Option Peer) (p : Peer) (privileged : Bool) → o ≡ Some p → p.stage ≡ Unnamed privileged → has_slot slot o ≡ false
+pub no_slot : (slot : ℕ) (o : Option Peer) (p : Peer) (privileged : Bool) → o ≡ Some p → p.stage ≡ Unnamed privileged → has_slot slot o ≡ false
 no_slot slot o p privileged there unnamed =
     let q : Peer = record p { stage = Unnamed privileged } in
     let is : p ≡ q = λ i. record p { stage = unnamed i } in
     ap (has_slot slot) (there ∙ ap (λ r. Some r) is)
 
-module _ (s : Standing) (key : ℕ) where
-  abbrev emptied : Standing
-  emptied = with_peer s key None
+module _ (s : Standing) (key : ℕ) (left : Option Peer) where
+  abbrev taken : Standing
+  taken = with_peer s key left
 
-  filled : (q : Option Peer) → with_peer emptied key q ≡ with_peer s key q
-  filled q = λ i. record s { peers = set-set s.peers key None q i }
+  filled : (q : Option Peer) → with_peer taken key q ≡ with_peer s key q
+  filled q = λ i. record s { peers = set-set s.peers key left q i }
 
-  filled_after : (k : ℕ) → k ≢ key → (o q : Option Peer) → with_peer (with_peer emptied k o) key q ≡ with_peer (with_peer s k o) key q
+  filled_after : (k : ℕ) → k ≢ key → (o q : Option Peer) → with_peer (with_peer taken k o) key q ≡ with_peer (with_peer s k o) key q
   filled_after k other o q =
-      let e : set (set (set s.peers key None) k o) key q ≡ set (set s.peers k o) key q =
-      set_comm (set s.peers key None) k key o q other ∙ ap (λ xs. set xs k o) (set-set s.peers key None q) ∙ sym (set_comm s.peers k key o q other) in
+      let e : set (set (set s.peers key left) k o) key q ≡ set (set s.peers k o) key q =
+      set_comm (set s.peers key left) k key o q other ∙ ap (λ xs. set xs k o) (set-set s.peers key left q) ∙ sym (set_comm s.peers k key o q other) in
       λ i. record s { peers = e i }
 
-  there_too : (k : ℕ) → k ≢ key → peer_at emptied k ≡ peer_at s k
-  there_too k other = get_or-set_other s.peers key k None None other
+  there_too : (k : ℕ) → k ≢ key → peer_at taken k ≡ peer_at s k
+  there_too k other = get_or-set_other s.peers key k left None other
 
-  for_it : (p : Peer) (work : Peer → OfPeer) → for_peer emptied key (Some p) work ≡ for_peer s key (Some p) work
+  for_it : (p : Peer) (work : Peer → OfPeer) → for_peer taken key (Some p) work ≡ for_peer s key (Some p) work
   for_it p work = λ i. and_then (for_slot (Some p) work) (λ q. Gives (filled q i))
 
   module _ (m : Message) (p : Peer) (o : Outcome) where
@@ -62,18 +62,18 @@ module _ (s : Standing) (key : ℕ) where
       welcome_same t u same = λ i. and_then (reply_with m conn (UniqueName conn.number)) (λ done. Announcing o.signals (Gives (same (Some (record p { stage = Named conn })) i)))
 
       closed_then : (k : ℕ) → k ≢ key → (r : Option Peer) →
-          and_then (for_peer emptied k r (λ q. closing k cause.Left q)) (λ t. welcome key m p o conn t) ≡ and_then (for_peer s k r (λ q. closing k cause.Left q)) (λ t. welcome key m p o conn t)
-      closed_then k other None = welcome_same (with_peer emptied k None) (with_peer s k None) (λ q. filled_after k other None q)
+          and_then (for_peer taken k r (λ q. closing k cause.Left q)) (λ t. welcome key m p o conn t) ≡ and_then (for_peer s k r (λ q. closing k cause.Left q)) (λ t. welcome key m p o conn t)
+      closed_then k other None = welcome_same (with_peer taken k None) (with_peer s k None) (λ q. filled_after k other None q)
       closed_then k other (Some r) =
-          ap (λ (rest : Stands). Doing (Closes k cause.Left) rest) (welcome_same (with_peer emptied k (Some (shut r))) (with_peer s k (Some (shut r))) (λ q. filled_after k other (Some (shut r)) q))
+          ap (λ (rest : Stands). Doing (Closes k cause.Left) rest) (welcome_same (with_peer taken k (Some (shut r))) (with_peer s k (Some (shut r))) (λ q. filled_after k other (Some (shut r)) q))
 
       found_then : (found : Option ℕ) → ((k : ℕ) → found ≡ Some k → k ≢ key) →
-          and_then (close_found emptied found) (λ t. welcome key m p o conn t) ≡ and_then (close_found s found) (λ t. welcome key m p o conn t)
-      found_then None other = welcome_same emptied s filled
+          and_then (close_found taken found) (λ t. welcome key m p o conn t) ≡ and_then (close_found s found) (λ t. welcome key m p o conn t)
+      found_then None other = welcome_same taken s filled
       found_then (Some k) other =
-          ap (λ r. and_then (for_peer emptied k r (λ q. closing k cause.Left q)) (λ t. welcome key m p o conn t)) (there_too k (other k refl)) ∙ closed_then k (other k refl) (peer_at s k)
+          ap (λ r. and_then (for_peer taken k r (λ q. closing k cause.Left q)) (λ t. welcome key m p o conn t)) (there_too k (other k refl)) ∙ closed_then k (other k refl) (peer_at s k)
 
-    module _ (was : Peer) (privileged : Bool) (there : peer_at s key ≡ Some was) (unnamed : was.stage ≡ Unnamed privileged) where
+    module _ (was : Peer) (privileged : Bool) (there : peer_at s key ≡ Some was) (unnamed : was.stage ≡ Unnamed privileged) (slotless : (slot : ℕ) → has_slot slot left ≡ false) where
       without : (slot : ℕ) → has_slot slot (peer_at s key) ≡ false
       without slot = no_slot slot (peer_at s key) was privileged there unnamed
 
@@ -83,20 +83,20 @@ module _ (s : Standing) (key : ℕ) where
           let never : false ≡ true = sym (without slot) ∙ ap (λ n. has_slot slot (peer_at s n)) (sym same) ∙ has in
           cc
 
-      by_reply : (reply : Reply) → greeted_by emptied key m p o reply ≡ greeted_by s key m p o reply
+      by_reply : (reply : Reply) → greeted_by taken key m p o reply ≡ greeted_by s key m p o reply
       by_reply (Welcome conn) =
-          ap (λ found. and_then (close_found emptied found) (λ t. welcome key m p o conn t)) (position_same (has_slot conn.slot) s.peers key None None (sym (without conn.slot)))
+          ap (λ found. and_then (close_found taken found) (λ t. welcome key m p o conn t)) (position_same (has_slot conn.slot) s.peers key left None (slotless conn.slot ∙ sym (without conn.slot)))
           ∙ found_then conn (position (has_slot conn.slot) s.peers) (λ k found. other_key conn.slot k found)
       by_reply other = for_it p (turn_away key m)
 
-  module _ (m : Message) (p : Peer) (was : Peer) (privileged : Bool) (there : peer_at s key ≡ Some was) (unnamed : was.stage ≡ Unnamed privileged) where
-    greeted_same : (heard : Heard Outcome) → greeted emptied key m p heard ≡ greeted s key m p heard
+  module _ (m : Message) (p : Peer) (was : Peer) (privileged : Bool) (there : peer_at s key ≡ Some was) (unnamed : was.stage ≡ Unnamed privileged) (slotless : (slot : ℕ) → has_slot slot left ≡ false) where
+    greeted_same : (heard : Heard Outcome) → greeted taken key m p heard ≡ greeted s key m p heard
     greeted_same (Refuses refusal) = for_it p (refuse_with key m (error_for refusal))
-    greeted_same (Says o) = by_reply m p o was privileged there unnamed o.reply
+    greeted_same (Says o) = by_reply m p o was privileged there unnamed slotless o.reply
 
-    -- what comes of a Hello while the place is empty comes of it
+    -- what comes of the Hello then comes of it
     pub greets : {N G : Type 0} (told : N → History) (registry_of : N → ℕ) (passes : G → GatedCall → G → Type 0) (alone known : Bool) (w : World N G) (t : Standing) (v : World N G) →
-        Comes told registry_of passes alone (greet emptied key m p known) w t v → Comes told registry_of passes alone (greet s key m p known) w t v
+        Comes told registry_of passes alone (greet taken key m p known) w t v → Comes told registry_of passes alone (greet s key m p known) w t v
     greets told registry_of passes alone known w t v h =
         (h.0, h.1, (h.2.0, h.2.1, h.2.2, subst (λ script. Comes told registry_of passes alone script h.2.1 t v) (greeted_same h.2.0) h.2.3))
 

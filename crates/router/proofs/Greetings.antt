@@ -1,5 +1,5 @@
 -- What comes of a Hello.
-use Rattle.std.proofs.Common.{◌≡◌, ℕ, Bool, Option, Some, None, position, refl, sym, subst}
+use Rattle.std.proofs.Common.{◌≡◌, ℕ, Bool, false, Option, Some, None, position, refl, sym, subst}
 use Rattle.seq_bus_core.specs.Histories.{History}
 use Rattle.seq_bus_core.specs.declared.connection.Conn.{Conn}
 use Rattle.seq_bus_core.specs.declared.outcome.Outcome.{Outcome}
@@ -11,9 +11,8 @@ use Rattle.router_core.specs.Deeds.{GatedCall}
 use Rattle.router_core.specs.Events.{OfPeer, closing, for_slot, for_peer, close_found, close_former, welcome, turn_away, greeted_by}
 use Rattle.router_core.specs.Scripts.{Gives, World, Comes, and_then}
 use Rattle.router_core.specs.Standing.{Stage, Authenticating, Unnamed, Named, Shut, Peer, Standing, SpeaksDBus, peer_at, with_peer, has_slot}
-use Rattle.router_steps.proofs.Hellos.{for_there}
 use Rattle.router_steps.proofs.Sequels.{comes_then}
-use Rattle.router.specs.Indexed.{IsUnnamed}
+use Rattle.router.specs.Indexed.{IsNameless, IsUnnamed}
 use Rattle.router.specs.Welcomes.{welcomed}
 
 -- one without a name has begun its messages
@@ -23,12 +22,29 @@ speaks (Unnamed privileged) unnamed = tt
 speaks (Named conn) unnamed = absurd unnamed
 speaks (Shut conn) unnamed = absurd unnamed
 
+-- the connection that is there
+pub nameless_peer : (o : Option Peer) → IsNameless o → (p : Peer) × (o ≡ Some p)
+nameless_peer None nameless = absurd nameless
+nameless_peer (Some p) nameless = (p, refl)
+
+-- it has no slot
+pub nameless_slot : (slot : ℕ) (o : Option Peer) → IsNameless o → has_slot slot o ≡ false
+nameless_slot slot None nameless = refl
+nameless_slot slot (Some p) nameless = by_stage p.stage nameless
+  where
+    by_stage : (stage : Stage) → IsUnnamed stage → has_slot slot (Some (record p { stage = stage })) ≡ false
+    by_stage (Authenticating setting state) unnamed = absurd unnamed
+    by_stage (Unnamed privileged) unnamed = refl
+    by_stage (Named conn) unnamed = absurd unnamed
+    by_stage (Shut conn) unnamed = absurd unnamed
+
 module _ {N G : Type 0} (told : N → History) (registry_of : N → ℕ) (passes : G → GatedCall → G → Type 0) (alone : Bool) where
-  -- what is done for a connection that is there
-  pub for_some : (s : Standing) (key : ℕ) (p q : Peer) (work : Peer → OfPeer) (w n : World N G) → Comes told registry_of passes alone (work p) w q n → Comes told registry_of passes alone (for_peer s key (Some p) work) w (with_peer s key (Some q)) n
-  for_some s key p q work w n done =
-      comes_then told registry_of passes alone (λ (o : Option Peer). Gives (with_peer s key o)) (Some q) n (with_peer s key (Some q)) n (refl, refl) (for_slot (Some p) work) w
-      (for_there told registry_of passes alone p q work w n done)
+  -- what is done for a connection at its place
+  pub at_place : (s : Standing) (key : ℕ) (old new : Option Peer) (work : Peer → OfPeer) (w n : World N G) → old ≡ peer_at s key → Comes told registry_of passes alone (for_slot old work) w new n →
+      Comes told registry_of passes alone (for_peer s key (peer_at s key) work) w (with_peer s key new) n
+  at_place s key old new work w n there done =
+      comes_then told registry_of passes alone (λ (o : Option Peer). Gives (with_peer s key o)) new n (with_peer s key new) n (refl, refl) (for_slot (peer_at s key) work) w
+      (subst (λ (o : Option Peer). Comes told registry_of passes alone (for_slot o work) w new n) there done)
 
   -- whoever had the slot is closed
   pub closes_former : (s : Standing) (conn : Conn) (key : ℕ) (q : Option Peer) (w n : World N G) → position (has_slot conn.slot) s.peers ≡ Some key →

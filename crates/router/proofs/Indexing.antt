@@ -178,3 +178,7 @@ unnamed_keeps p q unnamed same = λ slot has. absurd (false≢true (sym (none sl
     none slot (Unnamed privileged) is = refl
     none slot (Named conn) is = absurd is
     none slot (Shut conn) is = absurd is
+
+-- one that is at the same stage has the same slot
+pub like_keeps : (p q : Peer) → q.stage ≡ p.stage → Keeps (Some p) (Some q)
+like_keeps p q like = λ slot has. subst (λ (stage : Stage). has_slot slot (Some (record q { stage = stage })) ≡ true) like has

@@ -34,7 +34,7 @@ use Rattle.router_core.specs.Standing.{Peer, Standing, Stage, Authenticating, Un
 use Rattle.router_steps.specs.Noting.{once_noted}
 use Rattle.router_steps.specs.Refusing.{hello_of}
 use Rattle.router.proofs.Endings.{AllGive, given, then_give, all_give, weaker_give, if_give, putting_give}
-use Rattle.router.proofs.Indexing.{Keeps, KeepsAll}
+use Rattle.router.proofs.Indexing.{Keeps, KeepsAll, like_keeps}
 
 -- ---- one connection
 
@@ -190,6 +190,16 @@ module _ (key : ℕ) (m : Message) (p : Peer) where
   turning_away =
       then_give IsLike (λ q. Keeps None (Some q)) (λ q. closing key cause.LimitsExceeded q) (λ q like. λ slot has. has) (refuse_with key m error.LimitsExceeded p) (refusing error.LimitsExceeded)
 
+refusing_in : (key : ℕ) (m : Message) (kind : ErrorKind) (old : Option Peer) → AllGive (λ new. Keeps old new) (for_slot old (refuse_with key m kind))
+refusing_in key m kind None = λ slot has. has
+refusing_in key m kind (Some p) =
+    then_give (IsLike key m p) (λ new. Keeps (Some p) new) (λ q. Gives (Some q)) (λ q like. like_keeps p q like) (refuse_with key m kind p) (refusing key m p kind)
+
+turning_away_in : (key : ℕ) (m : Message) (old : Option Peer) → AllGive (λ new. Keeps None new) (for_slot old (turn_away key m))
+turning_away_in key m None = λ slot has. has
+turning_away_in key m (Some p) =
+    then_give (λ q. Keeps None (Some q)) (λ new. Keeps None new) (λ q. Gives (Some q)) (λ q keeps. keeps) (turn_away key m p) (turning_away key m p)
+
 -- A connection without a name, or a slot that is another's.
 module _ (slot key : ℕ) where
   -- the connection and the one behind it have not both the slot
@@ -329,11 +339,11 @@ module _ {N G : Type 0} (told : N → History) (registry_of : N → ℕ) (passes
       let rest = given told registry_of passes alone (λ all. KeepsRest [] old all) new v (look_all [] old) w (looking [] old) came in
       subst (λ xs. KeepsAll old xs) (sym rest.1) rest.2
 
-  pub refused_is_like : (key : ℕ) (m : Message) (kind : ErrorKind) (p q : Peer) → Comes told registry_of passes alone (refuse_with key m kind p) w q v → q.stage ≡ p.stage
-  refused_is_like key m kind p q came = given told registry_of passes alone (λ r. r.stage ≡ p.stage) q v (refuse_with key m kind p) w (refusing key m p kind) came
+  pub refused_keeps : (key : ℕ) (m : Message) (kind : ErrorKind) (old new : Option Peer) → Comes told registry_of passes alone (for_slot old (refuse_with key m kind)) w new v → Keeps old new
+  refused_keeps key m kind old new came = given told registry_of passes alone (λ o. Keeps old o) new v (for_slot old (refuse_with key m kind)) w (refusing_in key m kind old) came
 
-  pub turned_away_has_none : (key : ℕ) (m : Message) (p q : Peer) → Comes told registry_of passes alone (turn_away key m p) w q v → Keeps None (Some q)
-  turned_away_has_none key m p q came = given told registry_of passes alone (λ r. Keeps None (Some r)) q v (turn_away key m p) w (turning_away key m p) came
+  pub turned_away_has_none : (key : ℕ) (m : Message) (old new : Option Peer) → Comes told registry_of passes alone (for_slot old (turn_away key m)) w new v → Keeps None new
+  turned_away_has_none key m old new came = given told registry_of passes alone (λ o. Keeps None o) new v (for_slot old (turn_away key m)) w (turning_away_in key m old) came
 
 -- A connection whose next message is served where it stands gets no slot, whoever else is there.
 pub next_keeps : {N G : Type 0} (told : N → History) (registry_of : N → ℕ) (passes : G → GatedCall → G → Type 0) (alone : Bool) (key : ℕ) (old new : Option Peer) (w v : World N G) →

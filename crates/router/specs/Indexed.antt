@@ -1,5 +1,5 @@
 -- Where a connection that has a slot is found.
-use Rattle.std.specs.Prelude.{◌≡◌, ℕ, ◌<◌, true, Option, None, List, slice_index, slice_index_or}
+use Rattle.std.specs.Prelude.{◌≡◌, ℕ, ◌<◌, true, Option, Some, None, List, slice_index, slice_index_or}
 use Rattle.router_core.specs.Standing.{Peer, Stage, Authenticating, Unnamed, Named, Shut, has_slot}
 
 -- the bus gives slots below this
@@ -20,3 +20,8 @@ IsUnnamed (Authenticating setting state) = ⊥
 IsUnnamed (Unnamed privileged) = Unit {0}
 IsUnnamed (Named conn) = ⊥
 IsUnnamed (Shut conn) = ⊥
+
+-- a connection is there that has no name yet
+abbrev pub IsNameless : Option Peer → Type 0
+IsNameless None = ⊥
+IsNameless (Some p) = IsUnnamed p.stage

@@ -1,14 +1,14 @@
 //! Connections that say Hello. (D-Bus Specification: "org.freedesktop.DBus.Hello")
 
-ghost use Rattle.std.specs.Prelude.{◌≡◌, ◌<◌, ◌≤◌, ◌+◌, length, position, slice_set, Some};
+ghost use Rattle.std.specs.Prelude.{◌≡◌, ◌<◌, ◌≤◌, ◌+◌, ℕ, false, length, position, slice_set, Some, IfSome};
 ghost use Rattle.message_core.specs.Said.{said};
 ghost use Rattle.router_core.specs.Answers.{error_for, refusal_of};
 ghost use Rattle.router_core.specs.Events.{refuse_with, turn_away, for_peer, close_former, welcome, greeted, greeted_by, greet};
 ghost use Rattle.router_core.specs.Scripts.{RunsTo};
-ghost use Rattle.router_core.specs.Standing.{next_serial, has_slot};
+ghost use Rattle.router_core.specs.Standing.{Peer as Standing_peer, Named, has_slot, next_serial, peer_at};
 ghost use Rattle.router_steps.specs.Hearing.{heard_change};
 ghost use Rattle.router_steps.specs.Refusing.{IsRefusal, AreRefusals};
-ghost use Rattle.router.specs.Indexed.{slot_count, IsIndexed, IsUnnamed, IsVacant};
+ghost use Rattle.router.specs.Indexed.{slot_count, IsIndexed, IsNameless, IsVacant};
 ghost use Rattle.router.specs.Welcomes.{welcomed};
 
 use crate::served::{SLOT_COUNT, Served};
@@ -75,6 +75,18 @@ fn keep_key(places: &mut [usize; SLOT_COUNT], slot: u16, key: usize)
     }
 }
 
+/// Gives a connection in a place of the table its name.
+fn name_in(slot: &mut Option<Peer>, conn: Conn)
+    requires { IsNameless slot.old }
+    ensures { (p : Standing_peer) → slot.old ≡ Some p →
+        slot.new ≡ Some (record p { stage = Named conn }) }
+{
+    match slot {
+        Some(peer) => peer.welcome(conn),
+        None => unreachable!(),
+    }
+}
+
 impl<V: BusView, G: Gate> Served<V, G> {
     /// The key of the connection that has a name, and this slot.
     pub fn key_of(&self, slot: u16) -> Option<usize>
@@ -92,6 +104,8 @@ impl<V: BusView, G: Gate> Served<V, G> {
         ensures crowds { self.new.work.crowds ≡ self.old.work.crowds }
         ensures keys { length self.new.standing.peers ≡ length self.old.standing.peers }
         ensures vacant { IsVacant conn.slot self.new.standing.peers }
+        ensures others { (key : ℕ) → has_slot conn.slot (peer_at self.old.standing key) ≡ false →
+            peer_at self.new.standing key ≡ peer_at self.old.standing key }
     {
         match find_slot(&self.peers, &self.places, conn.slot) {
             Some(key) => self.context.close_left(key, &mut self.peers[key]),
@@ -100,86 +114,75 @@ impl<V: BusView, G: Gate> Served<V, G> {
     }
 
     /// The connection has its name: the reply comes first, then the signals.
-    fn welcome(&mut self, key: usize, hello: &Message, mut peer: Peer, outcome: Outcome, conn: Conn)
+    fn welcome(&mut self, key: usize, hello: &Message, outcome: Outcome, conn: Conn)
         requires room { 1 < self.old.work.room }
         requires crowds { 0 < self.old.work.crowds }
-        requires unnamed { IsUnnamed peer.stage }
+        requires nameless { IsNameless (peer_at self.old.standing key) }
         requires key { key < length self.old.standing.peers }
         requires vacant { IsVacant conn.slot self.old.standing.peers }
-        ensures { RunsTo V.BusView G.Gate
-            (welcome key (said hello.now) peer outcome conn self.old.standing)
+        ensures { (p : Standing_peer) → peer_at self.old.standing key ≡ Some p →
+            RunsTo V.BusView G.Gate
+            (welcome key (said hello.now) p outcome conn self.old.standing)
             self.old.work.world self.new.standing self.new.work.world }
     {
         self.context
             .reply_with(hello, conn, ReplyContent::UniqueName(conn.number));
         self.context.announce(outcome.signals);
-        peer.welcome(conn);
-        self.peers[key] = Some(peer);
+        name_in(&mut self.peers[key], conn);
         keep_key(&mut self.places, conn.slot, key);
     }
 
     /// The bus refused the Hello: the connection stays without a name.
-    fn refuse_at(
-        &mut self,
-        key: usize,
-        hello: &Message,
-        mut peer: Peer,
-        why: Cause,
-        errors: HelloErrors,
-    )
+    fn refuse_at(&mut self, key: usize, hello: &Message, why: Cause, errors: HelloErrors)
         requires room { 1 < self.old.work.room }
         requires crowds { 0 < self.old.work.crowds }
-        requires unnamed { IsUnnamed peer.stage }
         requires key { key < length self.old.standing.peers }
-        requires written { AreRefusals (said hello.now) (next_serial peer.serial) errors }
+        requires written { IfSome (peer_at self.old.standing key)
+            (λ p. AreRefusals (said hello.now) (next_serial p.serial) errors) }
         ensures { RunsTo V.BusView G.Gate
-            (for_peer self.old.standing key (Some peer)
+            (for_peer self.old.standing key (peer_at self.old.standing key)
             (refuse_with key (said hello.now) (error_for (refusal_of why))))
             self.old.work.world self.new.standing self.new.work.world }
     {
-        self.context.refuse_for(key, hello, &mut peer, why, errors);
-        self.peers[key] = Some(peer);
+        self.context
+            .refuse_in(key, hello, &mut self.peers[key], why, errors);
     }
 
     /// The Hello would exceed a limit of the bus: the connection is closed.
-    fn turn_away_at(&mut self, key: usize, hello: &Message, mut peer: Peer, bytes: WrittenBytes)
+    fn turn_away_at(&mut self, key: usize, hello: &Message, bytes: WrittenBytes)
         requires room { 2 < self.old.work.room }
         requires crowds { 0 < self.old.work.crowds }
         requires key { key < length self.old.standing.peers }
-        requires written { IsRefusal (said hello.now) ErrorKind.LimitsExceeded
-            (next_serial peer.serial) bytes }
+        requires written { IfSome (peer_at self.old.standing key) (λ p. IsRefusal
+            (said hello.now) ErrorKind.LimitsExceeded (next_serial p.serial) bytes) }
         ensures { RunsTo V.BusView G.Gate
-            (for_peer self.old.standing key (Some peer) (turn_away key (said hello.now)))
+            (for_peer self.old.standing key (peer_at self.old.standing key)
+            (turn_away key (said hello.now)))
             self.old.work.world self.new.standing self.new.work.world }
     {
-        self.context.turn_away(key, hello, &mut peer, bytes);
-        self.peers[key] = Some(peer);
+        self.context
+            .turn_away_in(key, hello, &mut self.peers[key], bytes);
     }
 
     /// The bus made the Hello: the connection is welcome, or too many are there.
-    fn answer_hello(
-        &mut self,
-        key: usize,
-        hello: &Message,
-        peer: Peer,
-        outcome: Outcome,
-        errors: HelloErrors,
-    )
+    fn answer_hello(&mut self, key: usize, hello: &Message, outcome: Outcome, errors: HelloErrors)
         requires room { 2 < self.old.work.room }
         requires crowds { 0 < self.old.work.crowds }
-        requires unnamed { IsUnnamed peer.stage }
+        requires nameless { IsNameless (peer_at self.old.standing key) }
         requires key { key < length self.old.standing.peers }
-        requires written { AreRefusals (said hello.now) (next_serial peer.serial) errors }
-        ensures { RunsTo V.BusView G.Gate
-            (greeted_by self.old.standing key (said hello.now) peer outcome outcome.reply)
+        requires written { IfSome (peer_at self.old.standing key)
+            (λ p. AreRefusals (said hello.now) (next_serial p.serial) errors) }
+        ensures { (p : Standing_peer) → peer_at self.old.standing key ≡ Some p →
+            RunsTo V.BusView G.Gate
+            (greeted_by self.old.standing key (said hello.now) p outcome outcome.reply)
             self.old.work.world self.new.standing self.new.work.world }
     {
         match welcomed(outcome.reply) {
             Some(conn) => {
                 self.close_former(conn);
-                self.welcome(key, hello, peer, outcome, conn);
+                self.welcome(key, hello, outcome, conn);
             }
-            None => self.turn_away_at(key, hello, peer, errors.into_limits()),
+            None => self.turn_away_at(key, hello, errors.into_limits()),
         }
     }
 
@@ -188,26 +191,27 @@ impl<V: BusView, G: Gate> Served<V, G> {
         &mut self,
         key: usize,
         hello: &Message,
-        peer: Peer,
         heard: Result<Outcome, Cause>,
         errors: HelloErrors,
     )
         requires room { 2 < self.old.work.room }
         requires crowds { 0 < self.old.work.crowds }
-        requires unnamed { IsUnnamed peer.stage }
+        requires nameless { IsNameless (peer_at self.old.standing key) }
         requires key { key < length self.old.standing.peers }
-        requires written { AreRefusals (said hello.now) (next_serial peer.serial) errors }
-        ensures { RunsTo V.BusView G.Gate
-            (greeted self.old.standing key (said hello.now) peer (heard_change heard))
+        requires written { IfSome (peer_at self.old.standing key)
+            (λ p. AreRefusals (said hello.now) (next_serial p.serial) errors) }
+        ensures { (p : Standing_peer) → peer_at self.old.standing key ≡ Some p →
+            RunsTo V.BusView G.Gate
+            (greeted self.old.standing key (said hello.now) p (heard_change heard))
             self.old.work.world self.new.standing self.new.work.world }
     {
         match heard {
-            Ok(outcome) => self.answer_hello(key, hello, peer, outcome, errors),
-            Err(why) => self.refuse_at(key, hello, peer, why, errors),
+            Ok(outcome) => self.answer_hello(key, hello, outcome, errors),
+            Err(why) => self.refuse_at(key, hello, why, errors),
         }
     }
 
-    /// Serves the Hello of a connection that has no name yet, whose key it is. The gate is shown the call, the bus makes the
+    /// Serves the Hello of the connection of a key, which has no name yet. The gate is shown the call, the bus makes the
     /// change, and the connection has its name: the reply comes first, then the signals; whoever had the slot before and has left
     /// is closed. Where the bus refuses, the connection is answered an error; where a limit would be exceeded, it is closed too.
     ///
@@ -217,21 +221,22 @@ impl<V: BusView, G: Gate> Served<V, G> {
         right: &V::Right,
         key: usize,
         hello: &Message,
-        peer: Peer,
         privileged: bool,
         errors: HelloErrors,
     )
         requires room { 2 < self.old.work.room }
         requires crowds { 0 < self.old.work.crowds }
-        requires unnamed { IsUnnamed peer.stage }
+        requires nameless { IsNameless (peer_at self.old.standing key) }
         requires key { key < length self.old.standing.peers }
-        requires written { AreRefusals (said hello.now) (next_serial peer.serial) errors }
-        ensures { RunsTo V.BusView G.Gate
-            (greet self.old.standing key (said hello.now) peer privileged)
+        requires written { IfSome (peer_at self.old.standing key)
+            (λ p. AreRefusals (said hello.now) (next_serial p.serial) errors) }
+        ensures { (p : Standing_peer) → peer_at self.old.standing key ≡ Some p →
+            RunsTo V.BusView G.Gate
+            (greet self.old.standing key (said hello.now) p privileged)
             self.old.work.world self.new.standing self.new.work.world }
     {
         self.context.pass(&Call::Hello);
         let heard = self.context.change(right, Change::Hello { privileged });
-        self.greeted(key, hello, peer, heard, errors);
+        self.greeted(key, hello, heard, errors);
     }
 }

@@ -11,7 +11,7 @@ use crate::served::Served;
 use bus_view::BusView;
 use router_core::Gate;
 use router_serving::next_in;
-use router_steps::{Greeting, Peer};
+use router_steps::{HelloCall, Peer};
 use seq_bus_core::limits::MAX_TICKETS;
 use std::alloc::AllocError;
 
@@ -64,13 +64,12 @@ impl<V: BusView, G: Gate> Served<V, G> {
         )? {
             None => {}
             Some(
-                Greeting {
-                    peer,
+                HelloCall {
                     privileged,
                     hello,
                     errors,
                 },
-            ) => self.greet(right, key, &hello, peer, privileged, errors),
+            ) => self.greet(right, key, &hello, privileged, errors),
         }
         Ok(())
     }

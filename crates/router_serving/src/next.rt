@@ -10,7 +10,7 @@ ghost use Rattle.router_steps.specs.Reading.{ComesOfNext};
 use crate::routing::serve;
 use bus_view::BusView;
 use router_core::{CloseCause, Gate};
-use router_steps::{Context, Front, Greeting, Peer, Stage};
+use router_steps::{Context, Front, HelloCall, Peer, Stage};
 use seq_bus_core::Conn;
 use std::alloc::{AllocError, Global};
 
@@ -49,22 +49,21 @@ fn serve_next<V: BusView, G: Gate>(
     Ok(())
 }
 
-/// Serves the next whole message of the connection of a key, if it is there. A connection that says Hello is handed out
-/// of its place, as the bus has to give it a name; it leaves the room as it was. Without memory nothing changes.
+/// Serves the next whole message of the connection of a key, if it is there. The call of Hello is handed out, as the bus
+/// has to give its connection a name; it leaves the room as it was. Without memory nothing changes.
 pub fn next_in<V: BusView, G: Gate>(
     alloc: Global,
     context: &mut Context<V, G>,
     right: &V::Right,
     key: usize,
     slot: &mut Option<Peer>,
-) -> Result<Option<Greeting>, AllocError>
+) -> Result<Option<HelloCall>, AllocError>
     requires room { MAX_TICKETS + 3 < context.old.room }
     requires crowds { 1 < context.old.crowds }
-    ensures next { IfOk result
-        (λ greeting. ComesOfNext V.told V.registry_of G.passes V.alone key greeting slot.old
-        slot.new context.old.world context.new.world) }
+    ensures next { IfOk result (λ call. ComesOfNext V.BusView G.Gate key call slot.old slot.new
+        context.old.world context.new.world) }
     ensures kept { IfOk result
-        (λ greeting. IfSome greeting (λ _. (context.new.room ≡ context.old.room) ×
+        (λ call. IfSome call (λ _. (context.new.room ≡ context.old.room) ×
         (context.new.crowds ≡ context.old.crowds))) }
     ensures err { OnErr result (slot.new ≡ slot.old) }
     ensures world { OnErr result (context.new.world ≡ context.old.world) }
@@ -76,7 +75,7 @@ pub fn next_in<V: BusView, G: Gate>(
         Stage::Authenticating(_) | Stage::Shut(_) => Ok(None),
         Stage::Unnamed { privileged } => {
             let privileged = *privileged;
-            context.greet_or_close(key, slot, privileged)
+            context.hello_or_close(key, peer, privileged)
         }
         Stage::Named(conn) => {
             let conn = *conn;

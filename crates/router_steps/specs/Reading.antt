@@ -1,12 +1,12 @@
 -- What is read off the front of a connection's bytes.
-use Rattle.std.specs.Prelude.{◌≡◌, ◌<◌, ℕ, Bool, true, false, Option, Some, None, List, [], length}
-use Rattle.seq_bus_core.specs.Histories.{History}
+use Rattle.std.specs.Prelude.{◌≡◌, ◌<◌, ℕ, true, false, Option, Some, None, List, [], length}
 use Rattle.message_core.specs.Said.{said}
 use Rattle.driver.specs.Calls.{is_hello}
-use Rattle.router_core.specs.Deeds.{GatedCall}
+use Rattle.bus_view.specs.declared.view.BusView.{Ghosts as BusView}
+use Rattle.router_core.specs.declared.gate.Gate.{Ghosts as Gate}
 use Rattle.router_core.specs.Events.{next}
 use Rattle.router_core.specs.Fronts.{Waits, Whole, Faulty, IsFront}
-use Rattle.router_core.specs.Scripts.{World, Comes}
+use Rattle.router_core.specs.Scripts.{World, RunsTo}
 use Rattle.router_core.specs.Standing.{Unnamed, Peer, Standing, peer_at, with_peer, next_serial}
 use Rattle.router_steps.specs.declared.first.First.{First}
 use Rattle.router_steps.specs.declared.first.First.TheVariants as first
@@ -14,7 +14,7 @@ use Rattle.router_steps.specs.declared.front.Front.{Front}
 use Rattle.router_steps.specs.declared.front.Front.TheVariants as front
 use Rattle.router_steps.specs.declared.front.More.{More}
 use Rattle.router_steps.specs.declared.front.More.TheVariants as more
-use Rattle.router_steps.specs.declared.first.Greeting.{Greeting}
+use Rattle.router_steps.specs.declared.first.HelloCall.{HelloCall}
 use Rattle.router_steps.specs.Refusing.{AreRefusals}
 
 -- Bytes have this front. A message is taken off them, and at a fault they are let go.
@@ -46,17 +46,15 @@ HasFirst (first.Hello message errors) old new =
 HasFirst (first.Other message) old new = IsFront old.unread (Whole message new.unread) × IsRest old new × (is_hello (said message) ≡ false)
 HasFirst (first.Faulty fault) old new = IsFront old.unread (Faulty fault) × (new ≡ record old { unread = [] })
 
--- A connection without a name says Hello. It is handed out with what is behind its Hello.
-pub record SaysHello (greeting : Greeting) (old : Option Peer) : Type 0 where
-  pub peer : Peer
-  pub there : old ≡ Some peer
-  pub stage : peer.stage ≡ Unnamed greeting.privileged
-  pub front : IsFront peer.unread (Whole greeting.hello greeting.peer.unread)
-  pub rest : IsRest peer greeting.peer
-  pub is_hello : is_hello (said greeting.hello) ≡ true
-  pub errors : AreRefusals (said greeting.hello) (next_serial greeting.peer.serial) greeting.errors
+-- A connection without a name says Hello, which was taken off its bytes.
+pub record SaysHello (call : HelloCall) (old new : Peer) : Type 0 where
+  pub stage : old.stage ≡ Unnamed call.privileged
+  pub front : IsFront old.unread (Whole call.hello new.unread)
+  pub rest : IsRest old new
+  pub is_hello : is_hello (said call.hello) ≡ true
+  pub errors : AreRefusals (said call.hello) (next_serial new.serial) call.errors
 
 -- The next message was served, or it is a Hello that is to be served yet.
-abbrev pub ComesOfNext : {N G : Type 0} → (N → History) → (N → ℕ) → (G → GatedCall → G → Type 0) → Bool → ℕ → Option Greeting → Option Peer → Option Peer → World N G → World N G → Type 0
-ComesOfNext told registry_of passes alone key None old new w v = (s : Standing) → peer_at s key ≡ old → Comes told registry_of passes alone (next s key old) w (with_peer s key new) v
-ComesOfNext told registry_of passes alone key (Some greeting) old new w v = SaysHello greeting old × (new ≡ None) × (v ≡ w)
+abbrev pub ComesOfNext : {V N R G : Type 0} → BusView V N R → Gate G → ℕ → Option HelloCall → Option Peer → Option Peer → World N G → World N G → Type 0
+ComesOfNext view gate key None old new w v = (s : Standing) → peer_at s key ≡ old → RunsTo view gate (next s key old) w (with_peer s key new) v
+ComesOfNext view gate key (Some call) old new w v = (p q : Peer) × (old ≡ Some p) × (new ≡ Some q) × SaysHello call p q × (v ≡ w)

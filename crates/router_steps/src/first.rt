@@ -1,6 +1,6 @@
 //! The first message of a connection. (D-Bus Specification: "org.freedesktop.DBus.Hello")
 
-ghost use Rattle.std.specs.Prelude.{◌≡◌, ◌<◌, ◌≤◌, ◌+◌, Some, None, IfOk, IfSome, OnOk, OnErr};
+ghost use Rattle.std.specs.Prelude.{◌≡◌, ◌<◌, Some, None, IfOk, IfSome, OnOk, OnErr};
 ghost use Rattle.router_core.specs.Standing.{Unnamed, SpeaksDBus};
 ghost use Rattle.router_steps.specs.Reading.{HasFront, HasFirst, IsRest, ComesOfNext};
 
@@ -28,15 +28,13 @@ pub enum First {
     Faulty(FrameFault),
 }
 
-/// A connection that says Hello.
+/// The call of Hello, which was taken off the bytes of its connection.
 #[derive(Drop)]
-pub struct Greeting {
-    /// The connection, with its bytes behind the Hello.
-    pub peer: Peer,
-    /// Whether it proved to be its user's.
+pub struct HelloCall {
+    /// Whether the connection proved to be its user's.
     pub privileged: bool,
     pub hello: Message,
-    /// The errors that the Hello may be answered.
+    /// The errors that it may be answered.
     pub errors: HelloErrors,
 }
 
@@ -85,53 +83,38 @@ impl Peer {
 }
 
 impl<V: BusView, G: Gate> Context<V, G> {
-    /// Looks at the first message of a connection that has no name yet. One that says Hello is handed out of its place; one
-    /// that sends anything else is closed. Without memory nothing changes.
-    pub fn greet_or_close(
+    /// Takes the first message of a connection that has no name yet, if it is there. One that says Hello is to be served;
+    /// one that sends anything else is closed. Without memory nothing changes.
+    pub fn hello_or_close(
         &mut self,
         key: usize,
-        slot: &mut Option<Peer>,
+        peer: &mut Peer,
         privileged: bool,
-    ) -> Result<Option<Greeting>, AllocError>
+    ) -> Result<Option<HelloCall>, AllocError>
         requires room { 0 < self.old.room }
-        requires unnamed { IfSome slot.old (λ p. p.stage ≡ Unnamed privileged) }
-        ensures next { IfOk result
-            (λ greeting. ComesOfNext V.told V.registry_of G.passes V.alone key greeting slot.old
-            slot.new self.old.world self.new.world) }
-        ensures room { self.old.room ≤ self.new.room + 1 }
+        requires unnamed { peer.old.stage ≡ Unnamed privileged }
+        ensures next { IfOk result (λ call. ComesOfNext V.BusView G.Gate key call (Some peer.old)
+            (Some peer.new) self.old.world self.new.world) }
         ensures kept { IfOk result
-            (λ greeting. IfSome greeting (λ _. (self.new.room ≡ self.old.room) ×
+            (λ call. IfSome call (λ _. (self.new.room ≡ self.old.room) ×
             (self.new.crowds ≡ self.old.crowds))) }
-        ensures err { OnErr result (slot.new ≡ slot.old) }
+        ensures err { OnErr result (peer.new ≡ peer.old) }
         ensures world { OnErr result (self.new.world ≡ self.old.world) }
     {
-        let Some(mut peer) = slot.take() else {
-            return Ok(None);
-        };
-        match peer.take_first() {
-            Ok(First::Waits) => {
-                *slot = Some(peer);
-                Ok(None)
-            }
-            Ok(First::Hello(hello, errors)) => Ok(Some(Greeting {
-                peer,
+        match peer.take_first()? {
+            First::Waits => Ok(None),
+            First::Hello(hello, errors) => Ok(Some(HelloCall {
                 privileged,
                 hello,
                 errors,
             })),
-            Ok(First::Other(_message)) => {
-                self.close_peer(key, &mut peer, CloseCause::NotHello);
-                *slot = Some(peer);
+            First::Other(_message) => {
+                self.close_peer(key, peer, CloseCause::NotHello);
                 Ok(None)
             }
-            Ok(First::Faulty(fault)) => {
-                self.close_peer(key, &mut peer, CloseCause::Faulty(fault));
-                *slot = Some(peer);
+            First::Faulty(fault) => {
+                self.close_peer(key, peer, CloseCause::Faulty(fault));
                 Ok(None)
-            }
-            Err(error) => {
-                *slot = Some(peer);
-                Err(error)
             }
         }
     }

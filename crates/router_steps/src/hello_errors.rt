@@ -131,7 +131,13 @@ impl<V: BusView, G: Gate> Context<V, G> {
     }
 
     /// Answers a Hello that would exceed a limit of the bus, and closes its connection.
-    pub fn turn_away(&mut self, key: usize, hello: &Message, peer: &mut Peer, bytes: WrittenBytes)
+    pub(crate) fn turn_away(
+        &mut self,
+        key: usize,
+        hello: &Message,
+        peer: &mut Peer,
+        bytes: WrittenBytes,
+    )
         requires room { 2 < self.old.room }
         requires crowds { 0 < self.old.crowds }
         requires written { IsRefusal (said hello.now) ErrorKind.LimitsExceeded
@@ -144,7 +150,7 @@ impl<V: BusView, G: Gate> Context<V, G> {
     }
 
     /// Answers a Hello that the bus refused.
-    pub fn refuse_for(
+    pub(crate) fn refuse_for(
         &mut self,
         key: usize,
         hello: &Message,

@@ -46,7 +46,7 @@ mod upcoming;
 mod verdicts;
 
 pub use context::Context;
-pub use first::{First, Greeting};
+pub use first::{First, HelloCall};
 pub use front::Front;
 pub use hello_errors::HelloErrors;
 pub use mail::{bytes_of, serial_after};

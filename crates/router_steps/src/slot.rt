@@ -1,17 +1,24 @@
 //! Keys that a connection may have, or none.
 
-ghost use Rattle.std.specs.Prelude.{◌≡◌, ◌<◌, ◌≤◌, ◌+◌, [], length, option_map, OnOk, OnErr};
+ghost use Rattle.std.specs.Prelude.{◌≡◌, ◌<◌, ◌≤◌, ◌+◌, [], length, option_map, IfSome, OnOk, OnErr};
+ghost use Rattle.message_core.specs.Said.{said};
 ghost use Rattle.outbox_core.specs.Contents.{said_of};
+ghost use Rattle.router_core.specs.Answers.{error_for, refusal_of};
 ghost use Rattle.router_core.specs.Deeds.{IsOwnNote};
-ghost use Rattle.router_core.specs.Events.{closing, hear, for_slot, look, look_all as looking_at_all, write as writing};
+ghost use Rattle.router_core.specs.Events.{closing, hear, for_slot, look, look_all as looking_at_all, refuse_with, turn_away, write as writing};
 ghost use Rattle.router_core.specs.Scripts.{RunsTo};
+ghost use Rattle.router_core.specs.Standing.{next_serial};
 ghost use Rattle.router_steps.specs.Noting.{once_noted};
+ghost use Rattle.router_steps.specs.Refusing.{AreRefusals, IsRefusal};
 
 use crate::context::Context;
+use crate::hello_errors::HelloErrors;
 use crate::peer::Peer;
-use bus_view::BusView;
+use bus_view::{BusView, Cause};
+use message_core::Message;
 use outbox_core::Envelope;
-use router_core::{CloseCause, Gate};
+use router_core::{CloseCause, Gate, WrittenBytes};
+use seq_bus_core::ErrorKind;
 use std::alloc::{AllocError, Global};
 
 impl<V: BusView, G: Gate> Context<V, G> {
@@ -60,6 +67,50 @@ impl<V: BusView, G: Gate> Context<V, G> {
                 Ok(())
             }
             Some(peer) => self.bring(alloc, key, peer, envelope),
+        }
+    }
+
+    /// Answers a Hello that the bus refused, if its connection is there.
+    pub fn refuse_in(
+        &mut self,
+        key: usize,
+        hello: &Message,
+        slot: &mut Option<Peer>,
+        why: Cause,
+        errors: HelloErrors,
+    )
+        requires room { 1 < self.old.room }
+        requires crowds { 0 < self.old.crowds }
+        requires written { IfSome slot.old
+            (λ p. AreRefusals (said hello.now) (next_serial p.serial) errors) }
+        ensures { RunsTo V.BusView G.Gate
+            (for_slot slot.old (refuse_with key (said hello.now) (error_for (refusal_of why))))
+            self.old.world slot.new self.new.world }
+    {
+        match slot {
+            None => {}
+            Some(peer) => self.refuse_for(key, hello, peer, why, errors),
+        }
+    }
+
+    /// Answers a Hello that would exceed a limit of the bus, and closes its connection, if it is there.
+    pub fn turn_away_in(
+        &mut self,
+        key: usize,
+        hello: &Message,
+        slot: &mut Option<Peer>,
+        bytes: WrittenBytes,
+    )
+        requires room { 2 < self.old.room }
+        requires crowds { 0 < self.old.crowds }
+        requires written { IfSome slot.old (λ p. IsRefusal (said hello.now)
+            ErrorKind.LimitsExceeded (next_serial p.serial) bytes) }
+        ensures { RunsTo V.BusView G.Gate (for_slot slot.old (turn_away key (said hello.now)))
+            self.old.world slot.new self.new.world }
+    {
+        match slot {
+            None => {}
+            Some(peer) => self.turn_away(key, hello, peer, bytes),
         }
     }
 

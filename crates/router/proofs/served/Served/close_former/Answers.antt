@@ -1,5 +1,6 @@
-use Rattle.std.proofs.Common.{◌≡◌, Option, Some, None, position, sym, ap, ◌∙◌, subst}
-use Rattle.std.proofs.lemmas.List.{get_or_read}
+use Rattle.std.proofs.Common.{◌≡◌, ◌≢◌, Option, Some, None, true, false, position, sym, ap, ◌∙◌, subst}
+use Rattle.std.proofs.lemmas.Bool.{false≢true}
+use Rattle.std.proofs.lemmas.List.{get_or_read, get_or-set_other}
 use Rattle.std.proofs.lemmas.List.Quantifiers.{position-Some}
 use Rattle.router_core.specs.declared.cause.CloseCause.TheVariants.{Left}
 use Rattle.router_core.specs.Events.{closing, for_slot, close_former}
@@ -37,6 +38,19 @@ returns-in-Some-clause-vacant g c =
     let has = (position-Some test peers key None some).1 in
     let gone = closed_has_none g.V.BusView.told g.V.BusView.registry_of g.G.Gate.passes g.V.BusView.alone c.self.inside.context.world c.close_left.new.self.world key Left c.index_mut.result.now c.close_left.new.slot c.close_left.ensures.comes in
     vacant_closed conn.slot key c.close_left.new.slot peers c.self.inside.places c.self.invariant has gone
+
+pub returns-in-Some-clause-others : goal.returns-in-Some-clause-others
+returns-in-Some-clause-others g c key isnt =
+    let test = has_slot c.args.conn.slot in
+    let former = c.in-Some.key in
+    let s : Standing = record { peers = c.self.inside.peers.items; leaves = c.self.inside.leaves.items; login = c.self.inside.login } in
+    let q = c.close_left.new.slot in
+    let some : position test s.peers ≡ Some former = sym (c.in-Some.ensures ∙ ap (position test) c.deref.ensures.value) in
+    let has : test (peer_at s former) ≡ true = (position-Some test s.peers former None some).1 in
+    let isnt_here = subst (λ (k : Table g.row.V-Note.Denot g.row.G.Denot). test (peer_at k.standing key) ≡ false) (sym c.self.view_is) isnt in
+    let other : key ≢ former = λ e. false≢true (sym isnt_here ∙ ap (λ k. test (peer_at s k)) e ∙ has) in
+    subst (λ (k : Table g.row.V-Note.Denot g.row.G.Denot). peer_at (with_peer s former q) key ≡ peer_at k.standing key) c.self.view_is
+    (get_or-set_other s.peers former key q None other)
 
 pub returns-in-None-clause-vacant : goal.returns-in-None-clause-vacant
 returns-in-None-clause-vacant g c =

@@ -1,0 +1,51 @@
+use Rattle.std.proofs.Common.{◌≡◌, Some, refl, sym, subst}
+use Rattle.router_steps.specs.declared.first.First.{First}
+use Rattle.router_steps.specs.Reading.{HasFirst}
+use Rattle.router_steps.proofs.Nexts.{reads_waiting, reads_faulty, reads_other, next_unnamed}
+use Rattle.router_steps.proofs.context.Context.hello_or_close.Goals as goal
+
+pub returns-in-Waits-clause-next : goal.returns-in-Waits-clause-next
+returns-in-Waits-clause-next g c =
+    let told = g.V.BusView.told in
+    let registry_of = g.V.BusView.registry_of in
+    let passes = g.G.Gate.passes in
+    let alone = g.V.BusView.alone in
+    let p = c.args.peer.now in
+    let q = c.take_first.new.self in
+    let w = c.args.self.now.world in
+    let unnamed = c.requires.unnamed in
+    let front = subst (λ (f : First). HasFirst f p q) c.in-Waits.is c.in_ok-take_first.ensures.ok in
+    λ s is. next_unnamed told registry_of passes alone c.args.key p w w s q (Some p) c.args.privileged refl unnamed
+    (reads_waiting told registry_of passes alone c.args.key p w w s q front.1 is front.0 refl)
+
+pub returns-in-Other-clause-next : goal.returns-in-Other-clause-next
+returns-in-Other-clause-next g c =
+    let told = g.V.BusView.told in
+    let registry_of = g.V.BusView.registry_of in
+    let passes = g.G.Gate.passes in
+    let alone = g.V.BusView.alone in
+    let p = c.args.peer.now in
+    let r = c.take_first.new.self in
+    let q = c.close_peer.new.peer in
+    let w = c.args.self.now.world in
+    let v = c.close_peer.new.self.world in
+    let unnamed = c.requires.unnamed in
+    let front = subst (λ (f : First). HasFirst f p r) c.in-Other.is c.in_ok-take_first.ensures.ok in
+    λ s is. next_unnamed told registry_of passes alone c.args.key p w v s q (Some p) c.args.privileged refl unnamed
+    (reads_other told registry_of passes alone c.args.key p w v s c.in-Other._message r q c.args.privileged front.0 front.1 front.2 unnamed c.close_peer.ensures.comes)
+
+pub returns-in-Faulty-clause-next : goal.returns-in-Faulty-clause-next
+returns-in-Faulty-clause-next g c =
+    let told = g.V.BusView.told in
+    let registry_of = g.V.BusView.registry_of in
+    let passes = g.G.Gate.passes in
+    let alone = g.V.BusView.alone in
+    let p = c.args.peer.now in
+    let r = c.take_first.new.self in
+    let q = c.close_peer-in-Faulty.new.peer in
+    let w = c.args.self.now.world in
+    let v = c.close_peer-in-Faulty.new.self.world in
+    let unnamed = c.requires.unnamed in
+    let front = subst (λ (f : First). HasFirst f p r) c.in-Faulty.is c.in_ok-take_first.ensures.ok in
+    λ s is. next_unnamed told registry_of passes alone c.args.key p w v s q (Some p) c.args.privileged refl unnamed
+    (reads_faulty told registry_of passes alone c.args.key p w v s c.in-Faulty.fault r q front.0 front.1 c.close_peer-in-Faulty.ensures.comes)
