@@ -28,8 +28,8 @@
 //! ```
 #![tactic(auto)]
 
+mod activation;
 mod calls;
-mod holding;
 mod joining;
 mod next;
 mod routing;

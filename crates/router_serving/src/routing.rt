@@ -11,8 +11,8 @@ ghost use Rattle.router_core.specs.Serving.{and_stays, err_if_call, is_unknown, 
 ghost use Rattle.router_steps.specs.Hearing.{heard_verdict};
 ghost use Rattle.router_steps.specs.OncePut.{not_put as unput};
 
+use crate::activation::hold;
 use crate::calls::serve_bus;
-use crate::holding::hold;
 use arrayvec::ArrayVec;
 use bus_view::{BusView, Gone};
 use match_rules::{Argument, MessageKind};

@@ -6,8 +6,8 @@ ghost use Rattle.router_core.specs.Answers.{Says};
 ghost use Rattle.router_core.specs.Scripts.{RunsTo};
 ghost use Rattle.router_core.specs.Serving.{Starts, serve_request as serving_request, start_told};
 
+use crate::activation::waiting_call;
 use crate::calls::{answer_told, error_for, refuse};
-use crate::holding::waiting_call;
 use bus_view::BusView;
 use message_core::Message;
 use names::BusName;

@@ -7,7 +7,7 @@ use Rattle.seq_bus_core.specs.declared.error_kind.ErrorKind.{ErrorKind}
 use Rattle.router_core.specs.Answers.{Says, Refuses, refusal_of}
 use Rattle.router_core.specs.Scripts.{Changes, Comes}
 use Rattle.router_core.specs.Serving.{and_stays, err_with, waiting_call}
-use Rattle.router_serving.proofs.holding.wait.Goals as goal
+use Rattle.router_serving.proofs.activation.wait.Goals as goal
 
 pub returns-in-Ok-clause-comes : goal.returns-in-Ok-clause-comes
 returns-in-Ok-clause-comes g c =

@@ -6,7 +6,7 @@ use Rattle.message_core.specs.Said.{said}
 use Rattle.router_core.specs.Scripts.{Comes}
 use Rattle.router_core.specs.Serving.{hold_if}
 use Rattle.router_serving.proofs.Waits.{waits_for_name}
-use Rattle.router_serving.proofs.holding.hold.Goals as goal
+use Rattle.router_serving.proofs.activation.hold.Goals as goal
 
 pub returns-in-Ok-clause-comes : goal.returns-in-Ok-clause-comes
 returns-in-Ok-clause-comes g c =

@@ -8,7 +8,7 @@ use Rattle.router_core.specs.Deeds.{Puts, all_of}
 use Rattle.router_core.specs.Scripts.{Does, Comes}
 use Rattle.router_core.specs.Serving.{held_by, run}
 use Rattle.router_serving.proofs.Answering.{stays}
-use Rattle.router_serving.proofs.holding.held.Goals as goal
+use Rattle.router_serving.proofs.activation.held.Goals as goal
 
 pub returns-in-Pass-clause-comes : goal.returns-in-Pass-clause-comes
 returns-in-Pass-clause-comes g c =
