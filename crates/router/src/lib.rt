@@ -29,7 +29,7 @@
 #![tactic(auto)]
 
 mod engine;
-mod greeting;
+mod hello;
 mod inbox;
 mod leaving;
 mod login;

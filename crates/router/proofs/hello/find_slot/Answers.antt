@@ -3,7 +3,7 @@ use Rattle.std.proofs.lemmas.List.{get_or_read, get_or_past}
 use Rattle.router_core.specs.Standing.{has_slot}
 use Rattle.router.specs.Indexed.{slot_count}
 use Rattle.router.proofs.Indexing.{found_here, found_nowhere}
-use Rattle.router.proofs.greeting.find_slot.Goals as goal
+use Rattle.router.proofs.hello.find_slot.Goals as goal
 
 pub returns-then-key-peers : goal.returns-then-key-peers
 returns-then-key-peers c =
