@@ -30,9 +30,9 @@
 
 mod engine;
 mod hello;
-mod inbox;
 mod leaving;
 mod login;
+mod mail;
 mod naming;
 mod next;
 mod served;

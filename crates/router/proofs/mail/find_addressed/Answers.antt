@@ -3,7 +3,7 @@ use Rattle.std.proofs.lemmas.List.{get_or_read, get_or_past}
 use Rattle.router_core.specs.Standing.{is_conn}
 use Rattle.router.specs.Indexed.{slot_count}
 use Rattle.router.proofs.Indexing.{found_here, found_nowhere, slot_of_conn}
-use Rattle.router.proofs.inbox.find_addressed.Goals as goal
+use Rattle.router.proofs.mail.find_addressed.Goals as goal
 
 pub returns-then-key-peers : goal.returns-then-key-peers
 returns-then-key-peers c =
