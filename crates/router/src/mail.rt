@@ -73,7 +73,7 @@ impl<V: BusView, G: Gate> Served<V, G> {
         self.context.reserve(1)?;
         match find_addressed(&self.peers, &self.places, slot, envelope.number) {
             None => {
-                self.context.heed(&envelope.note);
+                self.context.take_note_of(&envelope.note);
                 Ok(())
             }
             Some(key) => {

@@ -59,7 +59,7 @@ impl<V: BusView, G: Gate> Context<V, G> {
     }
 
     /// Takes in the note that came with an envelope, if there is one.
-    pub fn heed(&mut self, note: &Option<V::Note>)
+    pub fn take_note_of(&mut self, note: &Option<V::Note>)
         requires { IsOwnNote V.registry_of self.old.world.view.registry note.now }
         ensures heeds { IsHeeded V.alone (option_map V.told note.now) self.old.world
             self.new.world }
@@ -88,7 +88,7 @@ impl<V: BusView, G: Gate> Context<V, G> {
         ensures world { OnErr result (self.new.world ≡ self.old.world) }
     {
         let bytes = bytes_of(alloc, &envelope.content, serial_after(peer.serial()))?;
-        self.heed(&envelope.note);
+        self.take_note_of(&envelope.note);
         self.deliver(key, peer, &envelope.content, bytes);
         Ok(())
     }

@@ -63,7 +63,7 @@ impl<V: BusView, G: Gate> Context<V, G> {
     {
         match slot {
             None => {
-                self.heed(&envelope.note);
+                self.take_note_of(&envelope.note);
                 Ok(())
             }
             Some(peer) => self.bring(alloc, key, peer, envelope),

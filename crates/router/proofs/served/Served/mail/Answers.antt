@@ -23,9 +23,9 @@ returns-in-None-clause-comes g c =
     let said = said_of c.args.envelope.now.content in
     let test = is_conn c.args.slot c.args.envelope.now.number in
     let s : Standing = record { peers = c.self.inside.peers.items; leaves = c.self.inside.leaves.items; login = c.self.inside.login } in
-    let m = c.heed.new.self.world in
+    let m = c.take_note_of.new.self.world in
     let none : position test s.peers ≡ None = sym (c.in-None.ensures ∙ ap (position test) c.deref.ensures.value) in
-    let heeds = subst (λ k. IsHeeded alone held k m) c.reserve.ensures.world c.heed.ensures.heeds in
+    let heeds = subst (λ k. IsHeeded alone held k m) c.reserve.ensures.world c.take_note_of.ensures.heeds in
     subst (λ (k : Table g.row.V-Note.Denot g.row.G.Denot). Comes told registry_of passes alone (noted held (mail_found k.standing said (position test k.standing.peers))) k.work.world s m) c.self.view_is
     (dropped told registry_of passes alone held c.self.inside.context.world m s s said (position test s.peers) none refl heeds)
 

@@ -6,4 +6,4 @@ use Rattle.router_steps.proofs.context.Context.bring.Goals as goal
 
 pub returns-clause-comes : goal.returns-clause-comes
 returns-clause-comes g c =
-    heeded g.V.BusView.told g.V.BusView.registry_of g.G.Gate.passes g.V.BusView.alone c.args.self.now.world c.heed.new.self.world c.deliver.new.self.world (option_map g.V.BusView.told c.args.envelope.now.note) (write c.args.key (said_of c.args.envelope.now.content) c.args.peer.now) c.deliver.new.peer c.heed.ensures.heeds c.deliver.ensures.comes
+    heeded g.V.BusView.told g.V.BusView.registry_of g.G.Gate.passes g.V.BusView.alone c.args.self.now.world c.take_note_of.new.self.world c.deliver.new.self.world (option_map g.V.BusView.told c.args.envelope.now.note) (write c.args.key (said_of c.args.envelope.now.content) c.args.peer.now) c.deliver.new.peer c.take_note_of.ensures.heeds c.deliver.ensures.comes
