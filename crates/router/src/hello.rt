@@ -235,7 +235,7 @@ impl<V: BusView, G: Gate> Served<V, G> {
             (greet self.old.standing key (said hello.now) p privileged)
             self.old.work.world self.new.standing self.new.work.world }
     {
-        self.context.pass(&Call::Hello);
+        self.context.show_gate(&Call::Hello);
         let heard = self.context.change(right, Change::Hello { privileged });
         self.greeted(key, hello, heard, errors);
     }

@@ -389,7 +389,7 @@ fn serve_reading<V: BusView, G: Gate>(
 {
     match reading {
         Ok(call) => {
-            context.pass(call);
+            context.show_gate(call);
             serve_request(alloc, context, right, message, caller, call)
         }
         Err(fault) => refuse(context, message, caller, fault.error()),

@@ -84,7 +84,7 @@ fn join_shown<V: BusView, G: Gate>(
 {
     match context.show(message, caller, verdict) {
         Ok(()) => {
-            context.pass(call);
+            context.show_gate(call);
             Joining::Joins
         }
         Err(fault) => Joining::Parts(Parting::NotPut(fault)),

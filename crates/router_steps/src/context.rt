@@ -340,7 +340,7 @@ impl<V: BusView, G: Gate> Context<V, G> {
     }
 
     /// Shows the gate a call.
-    pub fn pass(&mut self, call: &Call)
+    pub fn show_gate(&mut self, call: &Call)
         ensures passes { Passes G.passes call.now self.old.world self.new.world }
         ensures room { self.new.room ≡ self.old.room }
         ensures crowds { self.new.crowds ≡ self.old.crowds }

@@ -15,4 +15,4 @@ returns g c p is =
     let v = c.greeted.new.self.work.world in
     let here = subst (λ (k : Table g.row.V-Note.Denot g.row.G.Denot). peer_at k.standing key ≡ Some p) (sym c.self.view_is) is in
     subst (λ (k : Table g.row.V-Note.Denot g.row.G.Denot). RunsTo g.V.BusView g.G.Gate (greet k.standing key m p c.args.privileged) k.work.world t v) c.self.view_is
-    (c.pass.new.self.world, c.pass.ensures.passes, (heard_change c.change-heard.result, c.change-heard.new.self.world, c.change-heard.ensures.changes, c.greeted.ensures p here))
+    (c.show_gate.new.self.world, c.show_gate.ensures.passes, (heard_change c.change-heard.result, c.change-heard.new.self.world, c.change-heard.ensures.changes, c.greeted.ensures p here))
