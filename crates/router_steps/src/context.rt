@@ -311,7 +311,7 @@ impl<V: BusView, G: Gate> Context<V, G> {
     }
 
     /// Asks whether there is a connection of this number.
-    pub fn look(&mut self, number: u64) -> Result<bool, Gone>
+    pub fn is_present(&mut self, number: u64) -> Result<bool, Gone>
         ensures looks { Looks V.alone number self.old.world (heard_present result) self.new.world }
         ensures room { self.new.room ≡ self.old.room }
     {

@@ -226,7 +226,7 @@ impl<V: BusView, G: Gate> Context<V, G> {
             self.old.world peer.new self.new.world }
         ensures room { self.old.room ≤ self.new.room + 1 }
     {
-        match self.look(conn.number) {
+        match self.is_present(conn.number) {
             Ok(false) => self.close_peer(key, peer, CloseCause::Left),
             Ok(true) => {}
             Err(_) => {}

@@ -6,10 +6,10 @@ use Rattle.router_steps.proofs.context.Context.look_at.Goals as goal
 
 pub returns-in-Ok-true-clause-comes : goal.returns-in-Ok-true-clause-comes
 returns-in-Ok-true-clause-comes g c =
-    let heard : heard_present c.look.result ≡ Says true = search rules in
-    (Says true, c.look.new.self.world, subst (λ h. Looks g.V.BusView.alone c.args.conn.number c.args.self.now.world h c.look.new.self.world) heard c.look.ensures.looks, (refl, refl))
+    let heard : heard_present c.is_present.result ≡ Says true = search rules in
+    (Says true, c.is_present.new.self.world, subst (λ h. Looks g.V.BusView.alone c.args.conn.number c.args.self.now.world h c.is_present.new.self.world) heard c.is_present.ensures.looks, (refl, refl))
 
 pub returns-in-Ok-false-clause-comes : goal.returns-in-Ok-false-clause-comes
 returns-in-Ok-false-clause-comes g c =
-    let heard : heard_present c.look.result ≡ Says false = search rules in
-    (Says false, c.look.new.self.world, subst (λ h. Looks g.V.BusView.alone c.args.conn.number c.args.self.now.world h c.look.new.self.world) heard c.look.ensures.looks, c.close_peer.ensures.comes)
+    let heard : heard_present c.is_present.result ≡ Says false = search rules in
+    (Says false, c.is_present.new.self.world, subst (λ h. Looks g.V.BusView.alone c.args.conn.number c.args.self.now.world h c.is_present.new.self.world) heard c.is_present.ensures.looks, c.close_peer.ensures.comes)
