@@ -198,7 +198,7 @@ impl Peer {
     }
 
     /// Closes it: its bytes are let go.
-    pub fn shut(&mut self)
+    pub fn close(&mut self)
         ensures { self.new ≡ shut self.old }
     {
         self.stage = Stage::Shut(self.stage.conn());
@@ -215,7 +215,7 @@ impl<V: BusView, G: Gate> Context<V, G> {
         ensures room { self.old.room ≤ self.new.room + 1 }
         ensures crowds { self.new.crowds ≡ self.old.crowds }
     {
-        peer.shut();
+        peer.close();
         self.close(key, cause);
     }
 
