@@ -12,7 +12,7 @@ ghost use Rattle.router.specs.OneEvent.{IsServedWell};
 ghost use Rattle.router.specs.Upcoming.{HasNoNext};
 
 use crate::login::Login;
-use crate::served::Served;
+use crate::peers::Peers;
 use bus_view::BusView;
 use outbox_core::Envelope;
 use router_core::{Action, Event, Gate};
@@ -23,7 +23,7 @@ use std::marker::Model;
 /// memory for changes nothing.
 #[derive(Drop)]
 pub struct Engine<V: BusView, G: Gate> {
-    pub(crate) served: Served<V, G>,
+    pub(crate) peers: Peers<V, G>,
 }
 
 impl<V: BusView, G: Gate> Model for Engine<V, G> {
@@ -33,13 +33,13 @@ impl<V: BusView, G: Gate> Model for Engine<V, G> {
     ghost Value = { State G };
 
     ghost view = { λ e. record {
-      standing = e.served.standing;
-      view = e.served.work.world.view;
+      standing = e.peers.standing;
+      view = e.peers.work.world.view;
       gate =
-          e.served.work.world.gate;
+          e.peers.work.world.gate;
     } };
 
-    ghost invariant = { λ e. e.served.work.world.actions ≡ [] };
+    ghost invariant = { λ e. e.peers.work.world.actions ≡ [] };
 }
 
 impl<V: BusView + Drop, G: Gate + Drop> Engine<V, G> {
@@ -58,7 +58,7 @@ impl<V: BusView + Drop, G: Gate + Drop> Engine<V, G> {
             }) }
     {
         Ok(Engine {
-            served: Served::new(alloc, view, gate, login)?,
+            peers: Peers::new(alloc, view, gate, login)?,
         })
     }
 }
@@ -69,21 +69,21 @@ impl<V: BusView, G: Gate> Engine<V, G> {
     pub fn free_key(&self) -> usize
         ensures { IsFree self.now.standing result }
     {
-        self.served.free_key()
+        self.peers.free_key()
     }
 
     /// Whether a key is that of the next connection, as [`free_key`](Engine::free_key) tells it.
     pub fn is_free(&self, key: usize) -> bool
         ensures { IsTrue result ↔ IsFree self.now.standing key }
     {
-        self.served.is_free(key)
+        self.peers.is_free(key)
     }
 
     /// Whether connections can be asked who they are: with a login one may come with a challenge.
     pub fn has_login(&self) -> bool
         ensures { result ≡ is_some self.now.standing.login }
     {
-        self.served.has_login()
+        self.peers.has_login()
     }
 
     /// A connection came, and has this key.
@@ -99,8 +99,8 @@ impl<V: BusView, G: Gate> Engine<V, G> {
             actions.items self.new) }
         ensures err { OnErr result (self.new ≡ self.old) }
     {
-        self.served.open(key, challenge)?;
-        Ok(self.served.take_actions())
+        self.peers.open(key, challenge)?;
+        Ok(self.peers.take_actions())
     }
 
     /// Bytes of a connection came. Without memory they stay where they were.
@@ -111,36 +111,36 @@ impl<V: BusView, G: Gate> Engine<V, G> {
         ensures err { OnErr result (self.new ≡ self.old) }
         ensures kept { OnErr result (piece.new ≡ piece.old) }
     {
-        self.served.feed(key, piece)?;
-        Ok(self.served.take_actions())
+        self.peers.feed(key, piece)?;
+        Ok(self.peers.take_actions())
     }
 
     /// The key of the connection that has a name and this slot.
     pub fn key_of(&self, slot: u16) -> Option<usize>
         ensures { result ≡ position (has_slot slot) self.now.standing.peers }
     {
-        self.served.key_of(slot)
+        self.peers.key_of(slot)
     }
 
     /// How many connections have no name yet.
     pub fn unnamed(&self) -> usize
         ensures { result ≡ count_by is_unnamed self.now.standing.peers }
     {
-        self.served.unnamed()
+        self.peers.unnamed()
     }
 
     /// The number of the connection of a key, once its Hello gave it one. A closed one keeps it until it is gone.
     pub fn number_of(&self, key: usize) -> Option<u64>
         ensures { result ≡ number_at self.now.standing key }
     {
-        self.served.number_of(key)
+        self.peers.number_of(key)
     }
 
     /// Whether a Leave was refused, and is due at the next tick.
     pub fn ticks(&self) -> bool
         ensures { IsTrue result ↔ (self.now.standing.leaves ≢ []) }
     {
-        self.served.ticks()
+        self.peers.ticks()
     }
 
     /// Takes back the actions that an event brought, once they are done. Those of the next events stand where they stood; without this
@@ -148,7 +148,7 @@ impl<V: BusView, G: Gate> Engine<V, G> {
     pub fn give_back(&mut self, actions: Vec<Action<V::Note>>)
         ensures { self.new ≡ self.old }
     {
-        self.served.give_back(actions);
+        self.peers.give_back(actions);
     }
 
     /// Whether a connection has sent a whole message that was not served, or what is no message:
@@ -157,7 +157,7 @@ impl<V: BusView, G: Gate> Engine<V, G> {
         ensures quiet { result ≡ false → HasNoNext self.now.standing key }
         ensures ready { result ≡ true → HasNoNext self.now.standing key → ⊥ }
     {
-        self.served.has_next(key)
+        self.peers.has_next(key)
     }
 
     /// The next whole message of a connection is served. There are no actions where there is none.
@@ -167,8 +167,8 @@ impl<V: BusView, G: Gate> Engine<V, G> {
             actions.items self.new) }
         ensures err { OnErr result (self.new ≡ self.old) }
     {
-        self.served.next(right, key)?;
-        Ok(self.served.take_actions())
+        self.peers.next(right, key)?;
+        Ok(self.peers.take_actions())
     }
 
     /// The next whole messages of connections are served, one after the other, as many of each as its key stands there.
@@ -184,8 +184,8 @@ impl<V: BusView, G: Gate> Engine<V, G> {
             actions.items self.new) }
         ensures err { OnErr result (self.new ≡ self.old) }
     {
-        self.served.turn(right, keys)?;
-        Ok(self.served.take_actions())
+        self.peers.turn(right, keys)?;
+        Ok(self.peers.take_actions())
     }
 
     /// An envelope came for the connection in a slot.
@@ -201,8 +201,8 @@ impl<V: BusView, G: Gate> Engine<V, G> {
             (Mail slot envelope.now) actions.items self.new) }
         ensures err { OnErr result (self.new ≡ self.old) }
     {
-        self.served.mail(slot, envelope)?;
-        Ok(self.served.take_actions())
+        self.peers.mail(slot, envelope)?;
+        Ok(self.peers.take_actions())
     }
 
     /// A connection is gone, and its key is free.
@@ -212,8 +212,8 @@ impl<V: BusView, G: Gate> Engine<V, G> {
             actions.items self.new) }
         ensures err { OnErr result (self.new ≡ self.old) }
     {
-        self.served.close(right, key)?;
-        Ok(self.served.take_actions())
+        self.peers.close(right, key)?;
+        Ok(self.peers.take_actions())
     }
 
     /// The connection of a number takes no more mail.
@@ -223,8 +223,8 @@ impl<V: BusView, G: Gate> Engine<V, G> {
             actions.items self.new) }
         ensures err { OnErr result (self.new ≡ self.old) }
     {
-        self.served.leave(right, number)?;
-        Ok(self.served.take_actions())
+        self.peers.leave(right, number)?;
+        Ok(self.peers.take_actions())
     }
 
     /// Time has passed.
@@ -234,8 +234,8 @@ impl<V: BusView, G: Gate> Engine<V, G> {
             self.new) }
         ensures err { OnErr result (self.new ≡ self.old) }
     {
-        self.served.tick(right)?;
-        Ok(self.served.take_actions())
+        self.peers.tick(right)?;
+        Ok(self.peers.take_actions())
     }
 
     /// Serves an event. Without memory nothing changes, and the event neither.
@@ -260,8 +260,8 @@ impl<V: BusView, G: Gate> Engine<V, G> {
             Event::Closed { key } => self.closed(right, *key),
             Event::Full { number } => self.full(right, *number),
             Event::Child(ended) => {
-                self.served.end_start(right, ended)?;
-                Ok(self.served.take_actions())
+                self.peers.end_start(right, ended)?;
+                Ok(self.peers.take_actions())
             }
             Event::Tick => self.tick(right),
         }

@@ -11,7 +11,7 @@ ghost use Rattle.router_steps.specs.Refusing.{IsRefusal, AreRefusals};
 ghost use Rattle.router.specs.Indexed.{slot_count, IsIndexed, IsNameless, IsVacant};
 ghost use Rattle.router.specs.Welcomes.{welcomed};
 
-use crate::served::{SLOT_COUNT, Served};
+use crate::peers::{Peers, SLOT_COUNT};
 use bus_view::{BusView, Cause};
 use driver::Call;
 use message_core::Message;
@@ -87,7 +87,7 @@ fn name_in(slot: &mut Option<Peer>, conn: Conn)
     }
 }
 
-impl<V: BusView, G: Gate> Served<V, G> {
+impl<V: BusView, G: Gate> Peers<V, G> {
     /// The key of the connection that has a name, and this slot.
     pub fn key_of(&self, slot: u16) -> Option<usize>
         ensures { result ≡ position (has_slot slot) self.now.standing.peers }

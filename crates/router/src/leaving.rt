@@ -5,7 +5,7 @@ ghost use Rattle.router_core.specs.Events.{closed, leave};
 ghost use Rattle.router_core.specs.Scripts.{RunsTo};
 ghost use Rattle.router_core.specs.Standing.{peer_at};
 
-use crate::served::Served;
+use crate::peers::Peers;
 use bus_view::BusView;
 use router_core::Gate;
 use router_steps::Peer;
@@ -23,9 +23,9 @@ fn take_peer(peers: &mut Vec<Option<Peer>>, key: usize) -> Option<Peer>
     peers[key].take()
 }
 
-impl<V: BusView, G: Gate> Served<V, G> {
+impl<V: BusView, G: Gate> Peers<V, G> {
     /// A connection is gone: its key is free, and the Leave of its number is made. A Leave that is refused is kept, and
-    /// made at a [`tick`](Served::tick). Without memory nothing changes.
+    /// made at a [`tick`](Peers::tick). Without memory nothing changes.
     #[tactic(auto, using(crate::proofs::Slots::set_same))]
     pub fn close(&mut self, right: &V::Right, key: usize) -> Result<(), AllocError>
         ensures comes { OnOk result (RunsTo V.BusView G.Gate
@@ -44,7 +44,7 @@ impl<V: BusView, G: Gate> Served<V, G> {
         Ok(())
     }
 
-    /// The Leave of a number is made, whoever has it. One that is refused is kept, and made at a [`tick`](Served::tick). Without memory
+    /// The Leave of a number is made, whoever has it. One that is refused is kept, and made at a [`tick`](Peers::tick). Without memory
     /// nothing changes.
     pub fn leave(&mut self, right: &V::Right, number: u64) -> Result<(), AllocError>
         ensures comes { OnOk result (RunsTo V.BusView G.Gate (leave self.old.standing number)

@@ -1,6 +1,6 @@
 //! The engine of a router.
 //!
-//! An engine serves connections over any view of a bus. [`Served`] is the table of its connections, with the context in
+//! An engine serves connections over any view of a bus. [`Peers`] is the table of its connections, with the context in
 //! which one at a time is served. Each of its methods serves one event, as `router_core` defines its script. An engine over a
 //! [`Traced`] view hands out the lines of its trace.
 //!
@@ -35,7 +35,7 @@ mod login;
 mod mail;
 mod naming;
 mod next;
-mod served;
+mod peers;
 mod starts;
 mod tick;
 mod trace;
@@ -44,4 +44,4 @@ mod turn;
 pub use bus_trace::Traced;
 pub use engine::Engine;
 pub use login::Login;
-pub use served::Served;
+pub use peers::Peers;

@@ -8,7 +8,7 @@ ghost use Rattle.router_core.specs.Scripts.{RunsTo};
 ghost use Rattle.router_core.specs.Standing.{is_conn};
 ghost use Rattle.router.specs.Indexed.{IsIndexed};
 
-use crate::served::{SLOT_COUNT, Served};
+use crate::peers::{Peers, SLOT_COUNT};
 use bus_view::BusView;
 use outbox_core::Envelope;
 use router_core::Gate;
@@ -56,7 +56,7 @@ fn find_addressed(
     None
 }
 
-impl<V: BusView, G: Gate> Served<V, G> {
+impl<V: BusView, G: Gate> Peers<V, G> {
     /// Mail came for the connection in a slot: its note is taken, and what it brings is written, a relayed message as it
     /// is, one of the bus with the connection's next serial. Where the connection of its number is not there, it is
     /// dropped: its slot may be another's by now. Without memory nothing changes.

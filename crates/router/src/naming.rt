@@ -4,7 +4,7 @@ ghost use Rattle.std.specs.Prelude.{◌≡◌, count_by};
 ghost use Rattle.router_core.specs.Standing.{is_unnamed};
 ghost use Rattle.router.specs.Numbers.{number_in, number_at};
 
-use crate::served::Served;
+use crate::peers::Peers;
 use bus_view::BusView;
 use router_core::Gate;
 use router_steps::{Peer, Stage};
@@ -43,7 +43,7 @@ fn number_in(peer: &Option<Peer>) -> Option<u64>
     }
 }
 
-impl<V: BusView, G: Gate> Served<V, G> {
+impl<V: BusView, G: Gate> Peers<V, G> {
     /// How many connections have no name yet.
     pub fn unnamed(&self) -> usize
         ensures { result ≡ count_by is_unnamed self.now.standing.peers }

@@ -7,7 +7,7 @@ ghost use Rattle.router_core.specs.Standing.{peer_at};
 ghost use Rattle.router_steps.specs.Quiet.{IsQuiet};
 ghost use Rattle.router.specs.Upcoming.{HasNoNext};
 
-use crate::served::Served;
+use crate::peers::Peers;
 use bus_view::BusView;
 use router_core::Gate;
 use router_serving::next_in;
@@ -26,7 +26,7 @@ fn has_next(slot: &Option<Peer>) -> bool
     }
 }
 
-impl<V: BusView, G: Gate> Served<V, G> {
+impl<V: BusView, G: Gate> Peers<V, G> {
     /// Whether the connection of a key has sent a whole message that was not served, or what is no message.
     #[tactic(auto, using(crate::proofs::Slots::none_beyond))]
     pub fn has_next(&self, key: usize) -> bool

@@ -4,13 +4,13 @@ ghost use Rattle.std.specs.Prelude.{◌≡◌, OnOk, OnErr};
 ghost use Rattle.router_core.specs.Events.{child};
 ghost use Rattle.router_core.specs.Scripts.{RunsTo};
 
-use crate::served::Served;
+use crate::peers::Peers;
 use bus_view::BusView;
 use router_core::{Gate, StartEnd};
 use seq_bus_core::limits::MAX_TICKETS;
 use std::alloc::AllocError;
 
-impl<V: BusView, G: Gate> Served<V, G> {
+impl<V: BusView, G: Gate> Peers<V, G> {
     /// The bus is told of the end of a start, and the calls that waited for it are answered why their service did not come. Without
     /// memory nothing changes.
     pub fn end_start(&mut self, right: &V::Right, ended: &StartEnd) -> Result<(), AllocError>

@@ -4,12 +4,12 @@ ghost use Rattle.std.specs.Prelude.{◌≡◌, OnOk, OnErr};
 ghost use Rattle.router_core.specs.Events.{tick as ticking};
 ghost use Rattle.router_core.specs.Scripts.{RunsTo};
 
-use crate::served::Served;
+use crate::peers::Peers;
 use bus_view::BusView;
 use router_core::Gate;
 use std::alloc::AllocError;
 
-impl<V: BusView, G: Gate> Served<V, G> {
+impl<V: BusView, G: Gate> Peers<V, G> {
     /// Time has passed: the Leaves that were refused are made, in order, and then each connection with a name that has
     /// left is closed. A Leave that is refused again is kept. Without memory nothing changes.
     pub fn tick(&mut self, right: &V::Right) -> Result<(), AllocError>

@@ -3,12 +3,12 @@
 ghost use Rattle.std.specs.Prelude.{◌≡◌};
 
 use crate::engine::Engine;
-use crate::served::Served;
+use crate::peers::Peers;
 use bus_trace::Traced;
 use bus_view::BusView;
 use router_core::Gate;
 
-impl<V: BusView, G: Gate> Served<Traced<V>, G> {
+impl<V: BusView, G: Gate> Peers<Traced<V>, G> {
     fn take_lines(&mut self) -> Vec<u8>
         ensures { self.new ≡ self.old }
     {
@@ -26,11 +26,11 @@ impl<V: BusView, G: Gate> Engine<Traced<V>, G> {
     pub fn take_lines(&mut self) -> Vec<u8>
         ensures { self.new ≡ self.old }
     {
-        self.served.take_lines()
+        self.peers.take_lines()
     }
 
     /// Whether a line of the trace found no memory.
     pub fn lost(&self) -> bool {
-        self.served.lost()
+        self.peers.lost()
     }
 }

@@ -15,7 +15,7 @@ ghost use Rattle.router_serving.specs.Joinings.{parting_of};
 ghost use Rattle.router.specs.Dues.{IsDue};
 ghost use Rattle.router.specs.Named.{IsSettled, is_named};
 
-use crate::served::Served;
+use crate::peers::Peers;
 use bus_view::BusView;
 use driver::Call;
 use message_core::Message;
@@ -133,7 +133,7 @@ fn due_in(slot: &mut Option<Peer>) -> Result<Due, AllocError>
     }
 }
 
-impl<V: BusView, G: Gate> Served<V, G> {
+impl<V: BusView, G: Gate> Peers<V, G> {
     /// Takes the next messages of connections off their bytes, as many of each as its key stands there. Without memory those that were
     /// taken off stay its next ones.
     fn read_ahead(&mut self, keys: &[usize]) -> Result<(), AllocError>

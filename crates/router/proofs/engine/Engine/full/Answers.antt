@@ -4,5 +4,5 @@ use Rattle.router.proofs.engine.Engine.full.Goals as goal
 
 pub returns-clause-brings : goal.returns-clause-brings
 returns-clause-brings g c =
-    brings g.V.BusView.told g.V.BusView.registry_of g.G.Gate.passes g.V.BusView.alone (Full c.args.number) c.self.inside.served c.leave.new.self c.take_actions.new.self c.take_actions.result.items c.args.self.now c.self.view_is c.self.invariant
+    brings g.V.BusView.told g.V.BusView.registry_of g.G.Gate.passes g.V.BusView.alone (Full c.args.number) c.self.inside.peers c.leave.new.self c.take_actions.new.self c.take_actions.result.items c.args.self.now c.self.view_is c.self.invariant
     c.in_ok-leave.ensures.comes c.take_actions.ensures.standing c.take_actions.ensures.actions c.take_actions.ensures.world

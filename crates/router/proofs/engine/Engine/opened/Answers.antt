@@ -5,5 +5,5 @@ use Rattle.router.proofs.engine.Engine.opened.Goals as goal
 
 pub returns-clause-brings : goal.returns-clause-brings
 returns-clause-brings g c =
-    brings g.V.BusView.told g.V.BusView.registry_of g.G.Gate.passes g.V.BusView.alone (Opened c.args.key c.args.challenge) c.self.inside.served c.open.new.self c.take_actions.new.self c.take_actions.result.items c.args.self.now c.self.view_is c.self.invariant
+    brings g.V.BusView.told g.V.BusView.registry_of g.G.Gate.passes g.V.BusView.alone (Opened c.args.key c.args.challenge) c.self.inside.peers c.open.new.self c.take_actions.new.self c.take_actions.result.items c.args.self.now c.self.view_is c.self.invariant
     (c.in_ok-open.ensures.ok, ap (λ k. k.world) c.open.ensures.work) c.take_actions.ensures.standing c.take_actions.ensures.actions c.take_actions.ensures.world

@@ -1,0 +1,43 @@
+use Rattle.std.proofs.Common.{◌≡◌, Option, Some, sym, ◌∙◌, subst}
+use Rattle.message_core.specs.Said.{said}
+use Rattle.router_core.specs.Events.{close_former, for_peer, turn_away, welcome}
+use Rattle.router_core.specs.Scripts.{RunsTo}
+use Rattle.router_core.specs.Standing.{Peer, Standing, peer_at}
+use Rattle.router.specs.Indexed.{IsNameless}
+use Rattle.router.proofs.Greetings.{is_turned_away, is_welcome, nameless_slot}
+use Rattle.router_steps.proofs.Sequels.{comes_then}
+use Rattle.router.proofs.peers.Peers.answer_hello.Goals as goal
+
+-- it is where it was
+pub welcome-requires-nameless : goal.welcome-requires-nameless
+welcome-requires-nameless g c =
+    let key = c.args.key in
+    let old = peer_at c.args.self.now.standing key in
+    let same = c.close_former.ensures.others key (nameless_slot c.in-Some.conn.slot old c.requires.nameless) in
+    subst (λ (o : Option Peer). IsNameless o) (sym same) c.requires.nameless
+
+pub returns-in-Some : goal.returns-in-Some
+returns-in-Some g c p is =
+    let key = c.args.key in
+    let m = said c.args.hello.now in
+    let o = c.args.outcome in
+    let conn = c.in-Some.conn in
+    let s = c.args.self.now.standing in
+    let w = c.args.self.now.work.world in
+    let t = c.welcome.new.self.standing in
+    let v = c.welcome.new.self.work.world in
+    let same = c.close_former.ensures.others key (nameless_slot conn.slot (peer_at s key) c.requires.nameless) in
+    is_welcome g.V.BusView.told g.V.BusView.registry_of g.G.Gate.passes g.V.BusView.alone s key m p o w t v o.reply conn (sym c.in-Some.ensures)
+    (comes_then g.V.BusView.told g.V.BusView.registry_of g.G.Gate.passes g.V.BusView.alone (λ (u : Standing). welcome key m p o conn u) c.close_former.new.self.standing c.close_former.new.self.work.world t v (c.welcome.ensures p (same ∙ is)) (close_former s conn) w c.close_former.ensures.comes)
+
+pub returns-in-None : goal.returns-in-None
+returns-in-None g c p is =
+    let key = c.args.key in
+    let m = said c.args.hello.now in
+    let o = c.args.outcome in
+    let s = c.args.self.now.standing in
+    let w = c.args.self.now.work.world in
+    let t = c.turn_away_at.new.self.standing in
+    let v = c.turn_away_at.new.self.work.world in
+    is_turned_away g.V.BusView.told g.V.BusView.registry_of g.G.Gate.passes g.V.BusView.alone s key m p o w t v o.reply (sym c.in-None.ensures)
+    (subst (λ (q : Option Peer). RunsTo g.V.BusView g.G.Gate (for_peer s key q (turn_away key m)) w t v) is c.turn_away_at.ensures)

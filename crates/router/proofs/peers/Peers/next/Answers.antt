@@ -1,0 +1,58 @@
+use Rattle.std.proofs.Common.{◌≡◌, ◌<◌, ℕ, false, Option, Some, None, length, arith, sym, ap, ◌∙◌, subst}
+use Rattle.std.proofs.lemmas.List.{get_or_read, get_or-set_same}
+use Rattle.message_core.specs.Said.{said}
+use Rattle.router_core.specs.Events.{next, greet}
+use Rattle.router_core.specs.Scripts.{RunsTo}
+use Rattle.router_core.specs.Standing.{Peer, Standing, Unnamed, has_slot, next_serial, peer_at, with_peer}
+use Rattle.router_steps.specs.Reading.{ComesOfNext}
+use Rattle.router_steps.specs.declared.first.HelloCall.{HelloCall}
+use Rattle.router.specs.Tables.{Table}
+use Rattle.router.proofs.Greeted.{greets, hello_next, no_slot}
+use Rattle.router.proofs.Indexing.{index_at, same_keeps}
+use Rattle.router.proofs.Keeping.{next_keeps}
+use Rattle.router.proofs.peers.Peers.next.Goals as goal
+
+pub returns-in-Some-clause-comes : goal.returns-in-Some-clause-comes
+returns-in-Some-clause-comes g c =
+    let told = g.V.BusView.told in
+    let registry_of = g.V.BusView.registry_of in
+    let passes = g.G.Gate.passes in
+    let alone = g.V.BusView.alone in
+    let key = c.args.key in
+    let s : Standing = record { peers = c.self.inside.peers.items; leaves = c.self.inside.leaves.items; login = c.self.inside.login } in
+    let w = c.self.inside.context.world in
+    let new = c.next_in.new.slot in
+    let t = c.greet.new.self.standing in
+    let v = c.greet.new.self.work.world in
+    let hello = c.in-Some.field-0 in
+    let within : key < length s.peers = omega (arith, c.if-key-len.false, c.len.ensures, c.self.inside.peers.ok.0) in
+    let there : c.index_mut.result.now ≡ peer_at s key = get_or_read s.peers key c.index_mut.result.now within c.index_mut.ensures.value None in
+    let next_is = subst (λ (o : Option HelloCall). ComesOfNext g.V.BusView g.G.Gate key o c.index_mut.result.now new c.reserve_crowds.new.self.world c.next_in.new.context.world) (c.in-Some.is ∙ ap (λ x. Some x) c.in-Some.field-0-is) c.in_ok-next_in.ensures.next in
+    let p = next_is.0 in
+    let q = next_is.1 in
+    let says = next_is.4 in
+    let is_there : peer_at s key ≡ Some p = sym there ∙ next_is.2 in
+    let left : peer_at (with_peer s key new) key ≡ Some q = get_or-set_same s.peers key new None within ∙ next_is.3 in
+    let unnamed : q.stage ≡ Unnamed hello.privileged = ap (λ (x : Peer). x.stage) says.rest ∙ says.stage in
+    let slotless = λ (slot : ℕ). no_slot slot new q hello.privileged next_is.3 unnamed in
+    let m = said hello.hello in
+    let begun = subst (λ k. RunsTo g.V.BusView g.G.Gate (greet (with_peer s key new) key m q hello.privileged) k t v) (next_is.5 ∙ c.reserve_crowds.ensures.world ∙ c.reserve.ensures.world) (c.greet.ensures q left) in
+    let done = greets s key new m q p hello.privileged is_there says.stage slotless told registry_of passes alone hello.privileged w t v begun in
+    subst (λ (k : Table g.row.V-Note.Denot g.row.G.Denot). RunsTo g.V.BusView g.G.Gate (next k.standing key (peer_at k.standing key)) k.work.world t v) c.self.view_is
+    (hello_next told registry_of passes alone s key p q hello.privileged hello.hello w t v is_there says.stage says.front says.rest says.is_hello done)
+
+pub invariant_of-self-in-None : goal.invariant_of-self-in-None
+invariant_of-self-in-None g c =
+    let told = g.V.BusView.told in
+    let registry_of = g.V.BusView.registry_of in
+    let passes = g.G.Gate.passes in
+    let alone = g.V.BusView.alone in
+    let key = c.args.key in
+    let peers = c.self.inside.peers.items in
+    let old = c.index_mut.result.now in
+    let new = c.next_in.new.slot in
+    let inside : key < length peers = omega (arith, c.if-key-len.false, c.len.ensures, c.self.inside.peers.ok.0) in
+    let there = get_or_read peers key old inside c.index_mut.ensures.value None in
+    let comes = subst (λ (o : Option HelloCall). ComesOfNext g.V.BusView g.G.Gate key o old new c.reserve_crowds.new.self.world c.next_in.new.context.world) c.in-None.is c.in_ok-next_in.ensures.next in
+    let keeps = next_keeps told registry_of passes alone key old new c.reserve_crowds.new.self.world c.next_in.new.context.world comes in
+    index_at peers c.self.inside.places key old new there keeps c.self.invariant
