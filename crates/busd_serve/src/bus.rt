@@ -16,6 +16,7 @@ use names::WellKnown;
 use routers::Coordinator;
 use sasl::Cookie;
 use service_files::Service;
+use std::alloc::{AllocError, Global};
 use std::fmt;
 use std::net::Net;
 use std::rt::Files;
@@ -103,6 +104,16 @@ fn prepare<R: Files + AllocGlobal + Clone + Drop>(
     })
 }
 
+/// The size of a block that is let go of before any message is.
+const LARGE: usize = 4_194_304;
+
+/// Has the process keep what messages leave free. The system's allocator gives back what lies free behind all blocks in
+/// use, once it is more than twice the largest block that was let go of: a turn with large messages leaves megabytes,
+/// and the next would be given them anew, page by page.
+fn keep_free_memory(alloc: Global) {
+    let _block: Result<Vec<u8>, AllocError> = Vec::with_capacity(alloc, LARGE);
+}
+
 impl<'a> Bus<'a> {
     /// Reads what the options name, begins the trace where they want one, and makes the socket. From then on clients can connect;
     /// they are served once [`Bus::serve`] runs.
@@ -122,6 +133,7 @@ impl<'a> Bus<'a> {
             random,
             guid,
         } = prepare(rt, &options)?;
+        keep_free_memory(rt.alloc());
         let Ok(listener) = UnixListener::bind(rt, options.path.as_str()) else {
             return Err(ServeFault::Device(Device::Listen));
         };
