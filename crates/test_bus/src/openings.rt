@@ -2,6 +2,7 @@
 
 use crate::buses::{Plain, Seated};
 use crate::runs::is_welcomed;
+use crate::starts::{SERVICES, services};
 use bus_view::can_open;
 use names::{BusName, UniqueName, WellKnown};
 use owner_queues::Profile;
@@ -47,6 +48,15 @@ fn what_a_bus_can_be_opened_with(rt: HostRuntime) {
         if can_be {
             open(&rt, rt.alloc(), &services, routers);
         }
+    }
+}
+
+#[test]
+fn as_many_services_as_a_bus_can_have(rt: HostRuntime) {
+    for (count, opens) in [(SERVICES, true), (SERVICES + 1, false)] {
+        let services = services(&rt, rt.alloc(), count);
+        assert!(rt; can_open(&services, 1) == opens, "{count} services");
+        open(&rt, rt.alloc(), &services, 1);
     }
 }
 

@@ -285,7 +285,7 @@ fn calls_wait_for_starts(rt: HostRuntime) {
 }
 
 /// The most services of a bus.
-const SERVICES: u64 = 256;
+pub(crate) const SERVICES: u64 = 256;
 
 /// The name of a service by its number.
 fn service(rt: &impl Abort, number: u64) -> ArrayString<32> {
@@ -296,9 +296,10 @@ fn service(rt: &impl Abort, number: u64) -> ArrayString<32> {
     text
 }
 
-fn services(rt: &impl Abort, alloc: Global) -> Vec<WellKnown> {
-    let mut services = once_more!(rt; Vec::with_capacity(alloc, SERVICES as usize));
-    for number in 0..SERVICES {
+/// The first services, so many.
+pub(crate) fn services(rt: &impl Abort, alloc: Global, count: u64) -> Vec<WellKnown> {
+    let mut services = once_more!(rt; Vec::with_capacity(alloc, count as usize));
+    for number in 0..count {
         let name = WellKnown::parse(service(rt, number).as_str());
         services
             .push(name.ok().expect(rt, "a name"))
@@ -362,7 +363,7 @@ const FULL: &[Row] = &[
 #[test]
 fn as_many_tickets_as_can_wait(rt: HostRuntime) {
     let alloc = rt.alloc();
-    let mut registry = registry_of(&rt, alloc, &services(&rt, alloc));
+    let mut registry = registry_of(&rt, alloc, &services(&rt, alloc, SERVICES));
     fill(&rt, alloc, &mut registry);
     play(&rt, alloc, &mut registry, "a full table", FULL);
     drop(registry);
