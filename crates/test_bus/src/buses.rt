@@ -78,12 +78,17 @@ pub struct Plain {
 }
 
 impl Plain {
-    /// A bus for one router, without services.
+    /// A bus without services, whose queues are of the first profile.
     pub fn new(rt: &impl Abort, alloc: Global, routers: u8) -> Plain {
+        Plain::of(rt, alloc, routers, Profile::One)
+    }
+
+    /// A bus without services.
+    pub fn of(rt: &impl Abort, alloc: Global, routers: u8, profile: Profile) -> Plain {
         assert!(rt; can_open(&[], routers));
         Plain {
             alloc,
-            bus: once_more!(rt; SeqBus::new(alloc, &[], routers, Profile::One)),
+            bus: once_more!(rt; SeqBus::new(alloc, &[], routers, profile)),
         }
     }
 

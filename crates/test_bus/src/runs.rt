@@ -4,7 +4,7 @@ use crate::buses::{Bus, Deed, NO_MEMORY, Plain, Seated, Told, Viewed};
 use bus_view::{Again, BusView};
 use match_rules::{Facts, MessageKind};
 use names::{BusName, UniqueName};
-use owner_queues::Reply as QueueReply;
+use owner_queues::{Profile, Reply as QueueReply};
 use seq_bus::{SEAT, SeqBus};
 use seq_bus_core::{AddressedSignal, BusSignal, Conn, Reply, Signals, VerdictKind};
 use std::alloc::Global;
@@ -90,7 +90,7 @@ const TWO: &[u8] = b"\x04\0\0\0:1.2\0";
 
 const THREE: &[u8] = b"\x04\0\0\0:1.3\0";
 
-const RUNS: [Run; 11] = [
+const RUNS: [Run; 12] = [
     Run {
         name: "the first connection and its name",
         rows: &[
@@ -307,6 +307,35 @@ const RUNS: [Run; 11] = [
         ],
     },
     Run {
+        name: "a rule follows the owner of a name",
+        rows: &[
+            Row::Hello(FIRST, &[]),
+            Row::Hello(SECOND, &[]),
+            Row::Makes(Deed::Add(2, "sender='com.example.A'"), Reply::Done, &[]),
+            Row::Goes(1, "Ticked", None, VerdictKind::Plain, &[]),
+            Row::Makes(
+                Deed::Request(1, A, 1),
+                OWNED,
+                &[
+                    (Signal::Passed(A, None, Some(1)), NOBODY),
+                    (Signal::Acquired(A, 1), &[FIRST]),
+                ],
+            ),
+            Row::Goes(1, "Ticked", None, VerdictKind::Plain, &[SECOND]),
+            Row::Makes(
+                Deed::Request(2, A, 2),
+                OWNED,
+                &[
+                    (Signal::Lost(A, 1), &[FIRST]),
+                    (Signal::Passed(A, Some(1), Some(2)), NOBODY),
+                    (Signal::Acquired(A, 2), &[SECOND]),
+                ],
+            ),
+            Row::Goes(1, "Ticked", None, VerdictKind::Plain, &[]),
+            Row::Goes(2, "Ticked", None, VerdictKind::Plain, &[SECOND]),
+        ],
+    },
+    Run {
         name: "names that nobody requests",
         rows: &[
             Row::Hello(FIRST, &[]),
@@ -385,6 +414,66 @@ const RUNS: [Run; 11] = [
             Row::Owner("com.example.a", None, b""),
         ],
     },
+];
+
+/// Who would replace an owner that does not allow it: by the first profile it waits last, and keeps its place.
+const REPLACERS_WAIT_LAST: Run = Run {
+    name: "who would replace waits last",
+    rows: &[
+        Row::Hello(FIRST, &[]),
+        Row::Hello(SECOND, &[]),
+        Row::Hello(THIRD, &[]),
+        FIRST_OWNS,
+        Row::Makes(Deed::Request(2, A, 0), WAITS, &[]),
+        Row::Makes(Deed::Request(3, A, 2), WAITS, &[]),
+        IN_ORDER,
+        Row::Makes(Deed::Request(2, A, 2), WAITS, &[]),
+        IN_ORDER,
+    ],
+};
+
+/// By the second it waits behind the owner.
+const REPLACERS_WAIT_NEXT: Run = Run {
+    name: "who would replace waits next",
+    rows: &[
+        Row::Hello(FIRST, &[]),
+        Row::Hello(SECOND, &[]),
+        Row::Hello(THIRD, &[]),
+        FIRST_OWNS,
+        Row::Makes(Deed::Request(2, A, 0), WAITS, &[]),
+        Row::Makes(Deed::Request(3, A, 2), WAITS, &[]),
+        Row::Queue(
+            A,
+            &[1, 3, 2],
+            b"\x21\0\0\0\x04\0\0\0:1.1\0\0\0\0\x04\0\0\0:1.3\0\0\0\0\x04\0\0\0:1.2\0",
+        ),
+        Row::Makes(Deed::Request(2, A, 2), WAITS, &[]),
+        IN_ORDER,
+    ],
+};
+
+const FIRST_OWNS: Row = Row::Makes(
+    Deed::Request(1, A, 0),
+    OWNED,
+    &[
+        (Signal::Passed(A, None, Some(1)), NOBODY),
+        (Signal::Acquired(A, 1), &[FIRST]),
+    ],
+);
+
+/// The three stand in the queue as they came.
+const IN_ORDER: Row = Row::Queue(
+    A,
+    &[1, 2, 3],
+    b"\x21\0\0\0\x04\0\0\0:1.1\0\0\0\0\x04\0\0\0:1.2\0\0\0\0\x04\0\0\0:1.3\0",
+);
+
+/// The runs of each profile of queues.
+const BY_PROFILE: [(Profile, &[Run]); 4] = [
+    (Profile::One, &RUNS),
+    (Profile::One, &[REPLACERS_WAIT_LAST]),
+    (Profile::Two, &RUNS),
+    (Profile::Two, &[REPLACERS_WAIT_NEXT]),
 ];
 
 pub(crate) fn is_signal(found: &BusSignal, expected: Signal) -> bool {
@@ -529,17 +618,19 @@ fn has_made(bus: &SeqBus, run: &Run) -> bool {
 }
 
 /// Plays a run on a plain bus.
-fn play_plain(rt: &impl Abort, alloc: Global, run: &Run) {
-    let mut plain = Plain::new(rt, alloc, 1);
+fn play_plain(rt: &impl Abort, alloc: Global, profile: Profile, run: &Run) {
+    let mut plain = Plain::of(rt, alloc, 1, profile);
     plays(rt, &mut plain, run);
-    assert!(rt; has_made(&plain.bus, run), "{}", run.name);
+    assert!(rt; has_made(&plain.bus, run), "{profile:?}, {}", run.name);
     drop(plain);
 }
 
 #[test]
 fn over_a_plain_bus(rt: HostRuntime) {
-    for run in &RUNS {
-        play_plain(&rt, rt.alloc(), run);
+    for (profile, runs) in BY_PROFILE {
+        for run in runs {
+            play_plain(&rt, rt.alloc(), profile, run);
+        }
     }
 }
 
