@@ -1,14 +1,15 @@
 //! What calls answer where memory is refused.
 //!
 //! The program reads and writes bodies and messages, lets a client in, opens a plain bus and a registry of two routers with
-//! its outboxes, makes the same changes and a batch on both buses, starts services in a registry, lets calls wait for a
-//! service in an engine, serves messages in one turn of it, and serves clients as the host of a router. It says of each
-//! whether the calls answered as they should: with what was wanted; or that memory ran out, all as it was before, and with
-//! what was wanted once they are made again. It prints the same whichever one allocation is refused: `make memory` refuses
-//! each in turn.
+//! its outboxes, makes the same changes and a batch on both buses, and on a plain bus a batch of rules, calls that wait and
+//! monitors, starts services in a registry, lets calls wait for a service in an engine, serves messages in one turn of it,
+//! and serves clients as the host of a router. It says of each whether the calls answered as they should: with what was
+//! wanted; or that memory ran out, all as it was before, and with what was wanted once they are made again. It prints the
+//! same whichever one allocation is refused: `make memory` refuses each in turn.
 #![tactic(auto)]
 
 mod authentication;
+mod batches;
 mod changes;
 mod codec;
 mod engine;
@@ -84,6 +85,7 @@ fn main(rt: HostRuntime) -> io::Result<()> {
         ("relayed", messages::is_relayed(alloc).unwrap_or(false)),
         ("made", messages::is_made(alloc).unwrap_or(false)),
         ("plain bus", plain::is_answered(alloc).unwrap_or(false)),
+        ("batch", batches::is_made(alloc).unwrap_or(false)),
         ("starts", starts::are_made(alloc).unwrap_or(false)),
         ("seats", seats::are_answered(&rt, alloc).unwrap_or(false)),
         ("outboxes", ways::are_opened(&rt, alloc).unwrap_or(false)),

@@ -2,7 +2,7 @@
 
 use crate::changes::{CHANGES, are_replied, batch, change, clock, reply};
 use bus_view::{AskFault, Asked, BatchCause, Cause, can_open};
-use names::BusName;
+use names::{BusName, WellKnown};
 use owner_queues::Profile;
 use seq_bus::SeqBus;
 use seq_bus_core::{Change, Conn, Query, Reply};
@@ -28,7 +28,7 @@ const BEFORE: u8 = 255;
 /// Whether a plain bus is opened, changed and asked as it should be.
 pub fn is_answered(alloc: Global) -> Option<bool> {
     let clock = clock()?;
-    let mut bus = open(alloc)?;
+    let mut bus = open(alloc, &[])?;
     let answered = answers(alloc, &mut bus, clock);
     drop(bus);
     answered
@@ -66,13 +66,14 @@ fn answers(alloc: Global, bus: &mut SeqBus, clock: BusName) -> Option<bool> {
     Some(are_made(alloc, bus, clock)? && bus.history().len() == usize::from(CHANGES) + 3)
 }
 
-fn open(alloc: Global) -> Option<SeqBus> {
-    if !can_open(&[], 1) {
+/// A bus with these services. One that is refused is opened again.
+pub fn open(alloc: Global, services: &[WellKnown]) -> Option<SeqBus> {
+    if !can_open(services, 1) {
         return None;
     }
-    match SeqBus::new(alloc, &[], 1, Profile::One) {
+    match SeqBus::new(alloc, services, 1, Profile::One) {
         Ok(bus) => Some(bus),
-        Err(_) => SeqBus::new(alloc, &[], 1, Profile::One).ok(),
+        Err(_) => SeqBus::new(alloc, services, 1, Profile::One).ok(),
     }
 }
 
