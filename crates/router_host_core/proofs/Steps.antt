@@ -1,11 +1,7 @@
 -- Steps, one after the other.
-use Rattle.std.proofs.Common.{◌≡◌, ℕ, ◌+◌, ◌<◌, ◌≤◌, Bool, true, false, not, List, [], ◌∷◌, ◌++◌, length, get_or, take, filter, if◌then◌else◌, reverse, refl, sym, ap, ◌∙◌, subst, append-nil, append_assoc}
+use Rattle.std.proofs.Common.{◌≡◌, ℕ, ◌+◌, ◌<◌, ◌≤◌, List, [], ◌∷◌, ◌++◌, length, get_or, take, reverse, refl, sym, ap, ◌∙◌, subst, append_assoc}
 use Rattle.std.proofs.lemmas.List.{take_more, take_all, reverse-append}
-use Rattle.std.proofs.lemmas.List.Elements.{filter-append}
 use Rattle.std.specs.List.{AllByRecursion}
-use Rattle.seq_bus_core.specs.Steps.{is_among}
-use Rattle.seq_bus_core.specs.declared.connection.Conn.{Conn}
-use Rattle.router_core.specs.Deeds.{all_of}
 use Rattle.router_host_core.specs.Carrying.{Each}
 
 module _ {X S : Type 0} (step : X → S → S → Type 0) where
@@ -39,27 +35,3 @@ one_more step older rest all x is a b before f s =
 
 pub own_more : {X : Type 0} (Q : X → Type 0) (older rest : List X) (x : X) → older ≡ rest ++ x ∷ [] → AllByRecursion Q (reverse older) → Q x × AllByRecursion Q (reverse rest)
 own_more Q older rest x is own = subst (AllByRecursion Q) (last_first older rest x is) own
-
--- ## To the recipients, and then to the monitors that are none of them
-
-module _ {S : Type 0} (step : Conn → S → S → Type 0) (to monitors : List Conn) (i : ℕ) (x d : Conn) (inside : i < length monitors) (is : x ≡ get_or monitors i d) where
-  abbrev others : List Conn → List Conn
-  others conns = filter (λ (m : Conn). not (is_among to m)) conns
-
-  all_more : all_of to (take (i + 1) monitors) ≡ all_of to (take i monitors) ++ others (x ∷ [])
-  all_more =
-      ap (all_of to) (take_more monitors i d inside)
-      ∙ ap (λ (l : List Conn). to ++ l) (filter-append (λ (m : Conn). not (is_among to m)) (take i monitors) (get_or monitors i d ∷ []))
-      ∙ sym (append_assoc to (others (take i monitors)) (others (get_or monitors i d ∷ [])))
-      ∙ ap (λ (y : Conn). all_of to (take i monitors) ++ others (y ∷ [])) (sym is)
-
-  pub shown_more : is_among to x ≡ false → (a b c : S) → Each step (all_of to (take i monitors)) a b → step x b c → Each step (all_of to (take (i + 1) monitors)) a c
-  shown_more other a b c f g =
-      let one : others (x ∷ []) ≡ x ∷ [] = ap (λ (k : Bool). if not k then x ∷ [] else []) other in
-      subst (λ (l : List Conn). Each step l a c) (sym (all_more ∙ ap (λ (l : List Conn). all_of to (take i monitors) ++ l) one))
-      (each_then step (all_of to (take i monitors)) (x ∷ []) a b c f (c, g, refl))
-
-  pub shown_to_recipient : is_among to x ≡ true → (a b : S) → Each step (all_of to (take i monitors)) a b → Each step (all_of to (take (i + 1) monitors)) a b
-  shown_to_recipient recipient a b f =
-      let none : others (x ∷ []) ≡ [] = ap (λ (k : Bool). if not k then x ∷ [] else []) recipient in
-      subst (λ (l : List Conn). Each step l a b) (sym (all_more ∙ ap (λ (l : List Conn). all_of to (take i monitors) ++ l) none ∙ append-nil (all_of to (take i monitors)))) f

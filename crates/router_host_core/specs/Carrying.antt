@@ -2,13 +2,13 @@
 use Rattle.std.specs.Prelude.{◌≡◌, ◌⊎◌, ℕ, Bool, true, false, Option, Some, None, List, [], ◌∷◌, ◌++◌, slice_index_or, slice_set}
 use Rattle.seq_bus_core.specs.declared.connection.Conn.{Conn}
 use Rattle.seq_bus_core.specs.declared.signal.AddressedSignal.{AddressedSignal}
+use Rattle.outbox_core.specs.Deliveries.{deliveries_of}
 use Rattle.outbox_core.specs.declared.content.Content.{Content}
 use Rattle.outbox_core.specs.declared.content.Content.TheVariants.{Own}
 use Rattle.outbox_core.specs.declared.envelope.Envelope.{Envelope}
 use Rattle.outbox_core.specs.declared.own_message.OwnMessage.TheVariants.{Signal}
 use Rattle.router_core.specs.declared.action.Action.{Action}
 use Rattle.router_core.specs.declared.action.Action.TheVariants.{Write, Put, Announce, Close, Run}
-use Rattle.router_core.specs.Deeds.{all_of}
 use Rattle.router_host_core.specs.declared.ending.EndCause.{EndCause}
 use Rattle.router_host_core.specs.declared.post.StartRequest.{StartRequest}
 use Rattle.router_host_core.specs.declared.ending.EndCause.TheVariants.{Closed, NoMemory}
@@ -78,7 +78,7 @@ module _ {P N : Type 0} (puts : P → Conn → Envelope N → P → Type 0) wher
   abbrev pub ArePut : Option N → Option Content → List Conn → List Conn → Carried P → Carried P →
       Type 0
   ArePut note content to monitors before after =
-      Each (IsPut note content) (all_of to monitors) before after
+      Each (IsPut note content) (deliveries_of to monitors) before after
 
   -- a signal; there may be no memory for it
   abbrev pub IsAnnounced : Option N → AddressedSignal → Carried P → Carried P → Type 0

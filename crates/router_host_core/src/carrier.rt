@@ -4,7 +4,6 @@ ghost use Rattle.std.specs.Prelude.{◌≡◌, ◌<◌, ◌++◌, ◌∷◌, [],
 ghost use Rattle.outbox_core.specs.declared.content.Content.TheVariants.{Own};
 ghost use Rattle.outbox_core.specs.declared.own_message.OwnMessage.TheVariants.{Signal};
 ghost use Rattle.std.specs.List.{AllByRecursion};
-ghost use Rattle.seq_bus_core.specs.Steps.{is_among};
 ghost use Rattle.router_core.specs.declared.action.Action.TheVariants.{Run};
 ghost use Rattle.router_core.specs.Deeds.{CarriesOwn, IsOwnNote};
 ghost use Rattle.router_host_core.specs.Carrying.{GoesOn, IsCarriedOut, IsStart, ArePut, IsPut, IsAnnounced, Each};
@@ -17,7 +16,7 @@ use crate::slots::Slots;
 use crate::socket::Socket;
 use bus_view::{Again, BusView};
 use names::BusName;
-use outbox_core::{Content, Envelope, OwnMessage};
+use outbox_core::{Content, Deliveries, Envelope, OwnMessage};
 use router_core::Action;
 use seq_bus_core::{AddressedSignal, Conn, SharedSignal};
 use std::alloc::Global;
@@ -39,12 +38,6 @@ impl<V: BusView, P: Post<V>, S: Socket> Model for Carrier<V, P, S> {
     ghost Value = { Carried P };
 
     ghost view = { λ c. record { lines = c.lines; post = c.post; full = c.put_out } };
-}
-
-fn is_among(conns: &[Conn], conn: Conn) -> bool
-    ensures { result ≡ is_among conns.now conn }
-{
-    conns.iter().any(|other| other.number == conn.number)
 }
 
 /// An element that was taken from the end stands there again.
@@ -173,13 +166,8 @@ impl<V: BusView, P: Post<V>, S: Socket> Carrier<V, P, S> {
         ensures done { ArePut P.puts note.now content.now to.now monitors.now self.old self.new }
         ensures registry { P.registry self.new.post ≡ P.registry self.old.post }
     {
-        for conn in to {
-            self.put_to(right, *conn, note, content);
-        }
-        for conn in monitors {
-            if !is_among(to, *conn) {
-                self.put_to(right, *conn, note, content);
-            }
+        for conn in Deliveries::new(to, monitors) {
+            self.put_to(right, conn, note, content);
         }
     }
 

@@ -28,7 +28,7 @@ use crate::words::Words;
 use anyhow::{Context, Result, bail, ensure};
 use bus_view::can_open;
 use names::WellKnown;
-use outbox_core::{Content, OwnMessage};
+use outbox_core::{Content, Deliveries, OwnMessage};
 use owner_queues::Profile;
 use router::Engine;
 use router_core::{Action, Addressees, Event, OpenGate};
@@ -122,17 +122,6 @@ fn put_numbers(conns: &[Conn], text: &mut String) -> Result<()> {
         write!(text, " {}", conn.number)?;
     }
     Ok(())
-}
-
-/// The monitors that are no recipients: the others get the message already.
-fn others(alloc: Global, to: &[Conn], monitors: &[Conn]) -> Result<Vec<Conn>, AllocError> {
-    let mut others = Vec::new(alloc);
-    for monitor in monitors {
-        if !to.contains(monitor) {
-            others.push(*monitor)?;
-        }
-    }
-    Ok(others)
 }
 
 /// Those that a message is put to.
@@ -340,12 +329,14 @@ impl EngineScene {
         content: &Content,
         journal: &mut Journal,
     ) -> Result<()> {
-        let monitors = others(self.alloc, to, monitors)?;
-        if to.is_empty() && monitors.is_empty() {
+        let others: Vec<Conn> = Deliveries::new(to, monitors)
+            .skip(to.len())
+            .collect(self.alloc)?;
+        if to.is_empty() && others.is_empty() {
             return Ok(());
         }
         journal.begin("put ")?;
-        put_addressees(to, &monitors, &mut journal.text)?;
+        put_addressees(to, &others, &mut journal.text)?;
         write!(journal.text, ": ")?;
         match content {
             Content::Relayed(bytes) => {
@@ -353,9 +344,9 @@ impl EngineScene {
             }
             Content::Own(message) => put_own(message, &mut journal.text)?,
         }
-        for conn in to.iter().chain(&monitors) {
+        for conn in Deliveries::new(to, monitors) {
             self.letters.push_back(Letter {
-                to: *conn,
+                to: conn,
                 content: content.again()?,
             })?;
         }
