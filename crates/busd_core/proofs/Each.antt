@@ -1,6 +1,7 @@
 -- What each of several brings, one after the other.
 use Rattle.std.proofs.Common.{◌≡◌, ℕ, ◌+◌, ◌<◌, ◌≤◌, Option, List, [], ◌∷◌, ◌++◌, length, get_or, take, drop, sym, ap, ◌∙◌, subst, append_assoc, append-nil, take-append-drop}
 use Rattle.std.specs.Io.KnownBytes.{Appends}
+use Rattle.std.specs.Iterator.{Yields, YieldsFirst}
 use Rattle.std.specs.List.{flat_map}
 use Rattle.std.proofs.KnownBytes.{Appends-trans}
 use Rattle.std.proofs.lemmas.Grind.{flat_map-append}
@@ -41,3 +42,8 @@ module _ {X : Type 0} (f : X → List ℕ) (xs : List X) (i : ℕ) (o p q : Opti
 
   pub writes_all : length xs ≤ i → Appends o p (flat_map f xs)
   writes_all over = subst (λ (l : List X). Appends o p (flat_map f l)) (take_all i xs over) begun
+
+-- what an iterator gave, and what it has left
+pub given_first : {X : Type 0} (given before left : List X) → Yields (YieldsFirst (λ (xs : List X). xs)) before given left → before ≡ given ++ left
+given_first [] before left y = y
+given_first (x ∷ given) before left y = y.1 ∙ ap (λ xs. x ∷ xs) (given_first given y.0 left y.2)

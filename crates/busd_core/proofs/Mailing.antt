@@ -1,18 +1,14 @@
 -- Deliveries, one after the other.
-use Rattle.std.proofs.Common.{◌≡◌, ℕ, ◌+◌, ◌<◌, ◌≤◌, Bool, true, false, not, Option, List, [], ◌∷◌, ◌++◌, length, get_or, take, drop, filter, if◌then◌else◌, Result, Ok, Err, refl, sym, ap, ◌∙◌, subst, append_assoc}
+use Rattle.std.proofs.Common.{◌≡◌, ℕ, ◌+◌, ◌<◌, Bool, Option, List, [], ◌∷◌, ◌++◌, length, get_or, take, drop, Result, Ok, Err, sym, ap, ◌∙◌, subst, append_assoc, append-nil}
 use Rattle.std.specs.List.{flat_map}
-use Rattle.std.proofs.KnownBytes.{Appends-nil, Appends-trans}
+use Rattle.std.proofs.KnownBytes.{Appends-trans}
 use Rattle.std.proofs.lemmas.Grind.{flat_map-append}
-use Rattle.std.proofs.lemmas.List.{take_all}
 use Rattle.seq_bus_core.specs.Histories.{History}
-use Rattle.seq_bus_core.specs.Steps.{is_among}
-use Rattle.seq_bus_core.specs.declared.connection.Conn.{Conn}
-use Rattle.outbox_core.specs.Contents.{Said}
 use Rattle.router_core.specs.Acts.{State}
 use Rattle.router_core.specs.Deeds.{GatedCall}
 use Rattle.busd_core.specs.declared.fault.RunFault.{RunFault}
 use Rattle.busd_core.specs.declared.fault.RunFault.TheVariants as fault
-use Rattle.busd_core.specs.Happenings.{Delivery, mail_to, mail_to_all, AreMailed}
+use Rattle.busd_core.specs.Happenings.{Delivery, AreMailed}
 use Rattle.busd_core.specs.Parts.{AreMailedInPart, AreMailedSo, Delivers}
 use Rattle.busd_core.proofs.Each.{one_more, split_at}
 
@@ -57,9 +53,6 @@ module _ {N G : Type 0} (told : N → History) (passes : G → GatedCall → G �
 
   -- ## With a writer
 
-  pub delivers_nothing : (a : State G) (o : Option (List ℕ)) → Delivers told passes alone seat key a [] o o a (Ok tt)
-  delivers_nothing a o = ([], Appends-nil o, (refl, refl))
-
   pub delivers_then : (a b c : State G) (ds es : List Delivery) (o p q : Option (List ℕ)) (result : Result (Unit {0}) RunFault) → Delivers told passes alone seat key a ds o p b (Ok tt) →
       Delivers told passes alone seat key b es p q c result → Delivers told passes alone seat key a (ds ++ es) o q c result
   delivers_then a b c ds es o p q result f g =
@@ -86,43 +79,19 @@ module _ {N G : Type 0} (told : N → History) (passes : G → GatedCall → G �
         subst (λ (ds : List Delivery). Delivers told passes alone seat key a ds o q c (Err e)) (sym (split_at f xs i x d inside is))
         (delivers_front a c (front ++ f x) (flat_map f (drop (i + 1) xs)) o q e (delivers_then a b c front (f x) o p q (Err e) g h))
 
-    pub each_ends : length xs ≤ i → (a b : State G) (o p : Option (List ℕ)) → Delivers told passes alone seat key a front o p b (Ok tt) → Delivers told passes alone seat key a (flat_map f xs) o p b (Ok tt)
-    each_ends over a b o p g =
-        subst (λ (l : List X). Delivers told passes alone seat key a (flat_map f l) o p b (Ok tt)) (take_all i xs over) g
+  -- ## For each that an iterator gives
 
--- ## Those that are no recipients
+  module _ {X : Type 0} (f : X → List Delivery) (given : List X) (x : X) where
+    pub given_more : (a b c : State G) (o p q : Option (List ℕ)) → Delivers told passes alone seat key a (flat_map f given) o p b (Ok tt) → Delivers told passes alone seat key b (f x) p q c (Ok tt) →
+        Delivers told passes alone seat key a (flat_map f (given ++ x ∷ [])) o q c (Ok tt)
+    given_more a b c o p q g h =
+        subst (λ (ds : List Delivery). Delivers told passes alone seat key a ds o q c (Ok tt))
+        (sym (flat_map-append f given (x ∷ []) ∙ ap (λ (ds : List Delivery). flat_map f given ++ ds) (append-nil (f x))))
+        (delivers_then a b c (flat_map f given) (f x) o p q (Ok tt) g h)
 
-abbrev pub mail_to_other : List Conn → ℕ → Said → Conn → List Delivery
-mail_to_other to seat said conn = if not (is_among to conn) then mail_to seat said conn else []
-
-with_first : (seat : ℕ) (said : Said) (conn : Conn) (others : List Conn) (kept : Bool) → mail_to_all seat said (if kept then conn ∷ others else others) ≡ (if kept then mail_to seat said conn else []) ++ mail_to_all seat said others
-with_first seat said conn others true = refl
-with_first seat said conn others false = refl
-
-pub mail_to_others : (to : List Conn) (seat : ℕ) (said : Said) (conns : List Conn) → mail_to_all seat said (filter (λ m. not (is_among to m)) conns) ≡ flat_map (mail_to_other to seat said) conns
-mail_to_others to seat said [] = refl
-mail_to_others to seat said (conn ∷ conns) =
-    with_first seat said conn (filter (λ m. not (is_among to m)) conns) (not (is_among to conn)) ∙ ap (λ (l : List Delivery). mail_to_other to seat said conn ++ l) (mail_to_others to seat said conns)
-
--- ## The recipients, then the monitors
-
-module _ {N G : Type 0} (told : N → History) (passes : G → GatedCall → G → Type 0) (alone : Bool) (seat key : ℕ) (a b c : State G) (o p q : Option (List ℕ)) (said : Said) (to others : List Conn) where
-  joined : mail_to_all seat said (to ++ others) ≡ mail_to_all seat said to ++ mail_to_all seat said others
-  joined = flat_map-append (mail_to seat said) to others
-
-  pub both : (result : Result (Unit {0}) RunFault) → Delivers told passes alone seat key a (mail_to_all seat said to) o p b (Ok tt) → Delivers told passes alone seat key b (mail_to_all seat said others) p q c result →
-      Delivers told passes alone seat key a (mail_to_all seat said (to ++ others)) o q c result
-  both result f g =
-      subst (λ (ds : List Delivery). Delivers told passes alone seat key a ds o q c result) (sym joined)
-      (delivers_then told passes alone seat key a b c (mail_to_all seat said to) (mail_to_all seat said others) o p q result f g)
-
-  pub first_fails : (e : RunFault) → Delivers told passes alone seat key a (mail_to_all seat said to) o p b (Err e) → Delivers told passes alone seat key a (mail_to_all seat said (to ++ others)) o p b (Err e)
-  first_fails e f =
-      subst (λ (ds : List Delivery). Delivers told passes alone seat key a ds o p b (Err e)) (sym joined)
-      (delivers_front told passes alone seat key a b (mail_to_all seat said to) (mail_to_all seat said others) o p e f)
-
-pub is_other : (to : List Conn) (seat : ℕ) (said : Said) (conn : Conn) → is_among to conn ≡ false → mail_to_other to seat said conn ≡ mail_to seat said conn
-is_other to seat said conn e = ap (λ (b : Bool). if not b then mail_to seat said conn else []) e
-
-pub is_recipient : (to : List Conn) (seat : ℕ) (said : Said) (conn : Conn) → is_among to conn ≡ true → mail_to_other to seat said conn ≡ []
-is_recipient to seat said conn e = ap (λ (b : Bool). if not b then mail_to seat said conn else []) e
+    pub given_stops : (left all : List X) → all ≡ given ++ x ∷ left → (a b c : State G) (o p q : Option (List ℕ)) (e : RunFault) → Delivers told passes alone seat key a (flat_map f given) o p b (Ok tt) →
+        Delivers told passes alone seat key b (f x) p q c (Err e) → Delivers told passes alone seat key a (flat_map f all) o q c (Err e)
+    given_stops left all is a b c o p q e g h =
+        subst (λ (ds : List Delivery). Delivers told passes alone seat key a ds o q c (Err e))
+        (sym (ap (λ (xs : List X). flat_map f xs) is ∙ flat_map-append f given (x ∷ left)))
+        (delivers_then a b c (flat_map f given) (f x ++ flat_map f left) o p q (Err e) g (delivers_front b c (f x) (flat_map f left) p q e h))

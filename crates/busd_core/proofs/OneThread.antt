@@ -7,13 +7,14 @@ use Rattle.seq_bus_core.specs.declared.connection.Conn.{Conn}
 use Rattle.seq_bus_core.specs.declared.signal.AddressedSignal.{AddressedSignal}
 use Rattle.message.specs.MessageBytes.{message_bytes}
 use Rattle.outbox_core.specs.Contents.{Said, Tells, Signals, said_of}
+use Rattle.outbox_core.specs.Deliveries.{deliveries_of}
 use Rattle.outbox_core.specs.declared.envelope.Envelope.{Envelope}
 use Rattle.router_core.specs.declared.action.Action.{Action}
 use Rattle.router_core.specs.declared.action.Action.TheVariants.{Write, Put, Announce, Close, Run}
 use Rattle.router_core.specs.declared.event.Event.{Event}
 use Rattle.router_core.specs.declared.event.Event.TheVariants as event
 use Rattle.router_core.specs.Acts.{IsGranted, State}
-use Rattle.router_core.specs.Deeds.{Deed, Writes, Sends, Puts, Closes, Runs, GatedCall, all_of, put_to, announced, IsWriting, AreDeedsOf, AreDoneBy}
+use Rattle.router_core.specs.Deeds.{Deed, Writes, Sends, Puts, Closes, Runs, GatedCall, put_to, announced, IsWriting, AreDeedsOf, AreDoneBy}
 use Rattle.router_core.specs.Events.{Occasion, Mail, occasion_of}
 use Rattle.router_core.specs.OneThread.{AreReadBy, Readers, Rest, given}
 use Rattle.router.specs.OneEvent.{rest_in}
@@ -31,7 +32,7 @@ module _ (key : ℕ) where
 
   nothing_announced : (signals : List AddressedSignal) → bytes_done key (announced signals) ≡ []
   nothing_announced [] = refl
-  nothing_announced (s ∷ signals) = nothing_put (all_of s.to s.monitors) (Tells (Signals s.signal)) (announced signals) ∙ nothing_announced signals
+  nothing_announced (s ∷ signals) = nothing_put (deliveries_of s.to s.monitors) (Tells (Signals s.signal)) (announced signals) ∙ nothing_announced signals
 
   append_bytes : (first later : List Deed) → bytes_done key (first ++ later) ≡ bytes_done key first ++ bytes_done key later
   append_bytes [] later = refl
@@ -93,7 +94,7 @@ module _ (seat : ℕ) where
   mail_announced : (signals : List AddressedSignal) → mail_done seat (announced signals) ≡ flat_map (mail_of_signal seat) signals
   mail_announced [] = refl
   mail_announced (s ∷ signals) =
-      let all : List Conn = all_of s.to s.monitors in
+      let all : List Conn = deliveries_of s.to s.monitors in
       let said : Said = Tells (Signals s.signal) in
       append_mail (put_to all said) (announced signals)
       ∙ ap (λ (ds : List Delivery). ds ++ mail_done seat (announced signals)) (mail_put all said)
@@ -111,7 +112,7 @@ module _ (seat : ℕ) where
   action_mail (Write to bytes) deeds d = ap (λ (ds : List Deed). mail_done seat ds) d.2 ∙ no_mail to bytes d.0 d.1
   action_mail (Put to carried content) deeds d =
       ap (λ (ds : List Deed). mail_done seat ds) (d.2 ∙ ap (λ (one : Deed). one ∷ []) d.1)
-      ∙ append-nil (mail_to_all seat (said_of content) (all_of to.to to.monitors))
+      ∙ append-nil (mail_to_all seat (said_of content) (deliveries_of to.to to.monitors))
   action_mail (Announce signals carried) deeds d = ap (λ (ds : List Deed). mail_done seat ds) d ∙ mail_announced signals
   action_mail (Close to cause) deeds d = ap (λ (ds : List Deed). mail_done seat ds) (d.2 ∙ ap (λ (one : Deed). one ∷ []) d.1)
   action_mail (Run name start) deeds d = ap (λ (ds : List Deed). mail_done seat ds) (d.2 ∙ ap (λ (one : Deed). one ∷ []) d.1)

@@ -1,17 +1,16 @@
 //! Messages that are put, as they come back as mail.
 
-ghost use Rattle.std.specs.Prelude.{◌≡◌, not, filter};
+ghost use Rattle.std.specs.Prelude.{◌≡◌};
 ghost use Rattle.std.specs.List.{flat_map};
-ghost use Rattle.seq_bus_core.specs.Steps.{is_among};
 ghost use Rattle.outbox_core.specs.Contents.{said_of};
-ghost use Rattle.router_core.specs.Deeds.{all_of};
+ghost use Rattle.outbox_core.specs.Deliveries.{deliveries_of};
 ghost use Rattle.busd_core.specs.Happenings.{mail_to, mail_to_all, mail_of_signal, mail_of, mails_of};
 ghost use Rattle.busd_core.specs.Parts.{Delivers};
 
 use crate::carrying::{Place, bring};
 use crate::fault::RunFault;
 use bus_view::BusView;
-use outbox_core::{Content, Envelope, OwnMessage};
+use outbox_core::{Content, Deliveries, Envelope, OwnMessage};
 use router::Engine;
 use router_core::{Action, Event, Gate};
 use seq_bus_core::{AddressedSignal, Conn};
@@ -50,55 +49,7 @@ fn deliver_to<V: BusView, G: Gate, W: Write>(
     Ok(())
 }
 
-/// Brings a message to its recipients, one after the other.
-fn deliver_to_all<V: BusView, G: Gate, W: Write>(
-    engine: &mut Engine<V, G>,
-    right: &V::Right,
-    place: Place,
-    to: &[Conn],
-    content: &Content,
-    writer: &mut W,
-) -> Result<(), RunFault>
-    ensures { Delivers V.told G.passes V.alone place.seat place.key engine.old
-        (mail_to_all place.seat (said_of content.now) to.now) (W.contents writer.old)
-        (W.contents writer.new) engine.new result }
-{
-    for conn in to {
-        deliver_to(engine, right, place, *conn, content, writer)?;
-    }
-    Ok(())
-}
-
-fn is_among(conns: &[Conn], conn: Conn) -> bool
-    ensures { result ≡ is_among conns.now conn }
-{
-    conns.iter().any(|other| other.number == conn.number)
-}
-
-/// Brings a message to the monitors that are shown it and are no recipients.
-fn show_to_others<V: BusView, G: Gate, W: Write>(
-    engine: &mut Engine<V, G>,
-    right: &V::Right,
-    place: Place,
-    to: &[Conn],
-    monitors: &[Conn],
-    content: &Content,
-    writer: &mut W,
-) -> Result<(), RunFault>
-    ensures { Delivers V.told G.passes V.alone place.seat place.key engine.old
-        (mail_to_all place.seat (said_of content.now)
-        (filter (λ m. not (is_among to.now m)) monitors.now)) (W.contents writer.old)
-        (W.contents writer.new) engine.new result }
-{
-    for conn in monitors {
-        if !is_among(to, *conn) {
-            deliver_to(engine, right, place, *conn, content, writer)?;
-        }
-    }
-    Ok(())
-}
-
-/// Brings a message to its recipients, and then to the monitors.
+/// Brings a message to its recipients, and then to the monitors that are none of them.
 fn deliver<V: BusView, G: Gate, W: Write>(
     engine: &mut Engine<V, G>,
     right: &V::Right,
@@ -109,11 +60,13 @@ fn deliver<V: BusView, G: Gate, W: Write>(
     writer: &mut W,
 ) -> Result<(), RunFault>
     ensures { Delivers V.told G.passes V.alone place.seat place.key engine.old
-        (mail_to_all place.seat (said_of content.now) (all_of to.now monitors.now))
+        (mail_to_all place.seat (said_of content.now) (deliveries_of to.now monitors.now))
         (W.contents writer.old) (W.contents writer.new) engine.new result }
 {
-    deliver_to_all(engine, right, place, to, content, writer)?;
-    show_to_others(engine, right, place, to, monitors, content, writer)
+    for conn in Deliveries::new(to, monitors) {
+        deliver_to(engine, right, place, conn, content, writer)?;
+    }
+    Ok(())
 }
 
 /// Brings a signal to its recipients, who share it, and then to the monitors.
