@@ -1,7 +1,23 @@
 //! Laws of streams that one connection sends.
 //!
 //! Where no call of the bus and no memory is refused, what [`busd_core::run`] writes for a stream depends on the bytes of
-//! the stream alone: not on how they were cut, and not on when the messages in them were served.
+//! the stream alone: not on how they were cut, and not on when the messages in them were served. The law is what
+//! [`streams_agree`] ensures, for the proof of whoever calls it.
+//!
+//! ```
+//! ghost use Rattle.busd_laws.specs.Streams.{StreamsAgree};
+//!
+//! use bus_view::BusView;
+//! use busd_laws::streams_agree;
+//! use router_core::Gate;
+//!
+//! /// Behind the same gate it makes no difference how the bytes came.
+//! fn may_be_cut_otherwise<V: BusView, G: Gate>()
+//!     ensures { StreamsAgree V.told G.passes G.passes V.alone }
+//! {
+//!     streams_agree::<V, G, G>();
+//! }
+//! ```
 #![tactic(auto)]
 
 ghost use Rattle.busd_laws.specs.Streams.{StreamsAgree};
