@@ -110,14 +110,14 @@ impl<S: Socket> Line<S> {
     }
 
     /// It is to be served. Tells whether it was not noted among those yet.
-    pub(crate) fn list(&mut self) -> bool
+    pub(crate) fn mark_listed(&mut self) -> bool
         ensures { self.new ≡ self.old }
     {
         !std::mem::replace(&mut self.listed, true)
     }
 
     /// It is to be flushed. Tells whether it was not noted among those yet.
-    pub(crate) fn soil(&mut self) -> bool
+    pub(crate) fn mark_dirty(&mut self) -> bool
         ensures { self.new ≡ self.old }
     {
         !std::mem::replace(&mut self.dirty, true)

@@ -91,7 +91,7 @@ impl<S: Socket> Lines<S> {
         }
         if let Some(line) = &mut self.table[key] {
             line.note_readable(closing);
-            if line.list() {
+            if line.mark_listed() {
                 self.ready.add(key);
             }
         }
@@ -109,7 +109,7 @@ impl<S: Socket> Lines<S> {
             return None;
         }
         line.unblock();
-        if line.soil() {
+        if line.mark_dirty() {
             self.dirty.add(key);
         }
         line.slot()
@@ -173,7 +173,7 @@ impl<S: Socket> Lines<S> {
         }
         if let Some(line) = &mut self.table[key] {
             let goes_on = has_more || line.is_readable();
-            if goes_on && line.list() {
+            if goes_on && line.mark_listed() {
                 self.ready.add(key);
             }
         }
@@ -192,7 +192,7 @@ impl<S: Socket> Lines<S> {
         let was_over = line.ended().is_some();
         line.write(bytes);
         let is_over = line.ended().is_some();
-        let is_new = line.soil();
+        let is_new = line.mark_dirty();
         if is_over && !was_over {
             self.over.add(key);
         }
@@ -276,7 +276,7 @@ impl<S: Socket> Lines<S> {
         if line.ended().is_some() && !was_over {
             self.over.add(key);
         }
-        if line.is_released() && line.list() {
+        if line.is_released() && line.mark_listed() {
             self.ready.add(key);
         }
     }
