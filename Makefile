@@ -1,9 +1,9 @@
-# Bizsorke: a D-Bus message bus whose every function is proved. Each line here is for a person; CONTRIBUTING.md says more.
+# Bizsorke: a D-Bus message bus whose every function is proved. Each target is for a person; CONTRIBUTING.md says more.
 
 SAMPLE = examples/hello-get-name-owner.stream
 PREFIX = /usr/local
 
-.PHONY: run serve prove install dist test check try bench load memory edits sizes
+.PHONY: run serve prove install dist test check try named bench load memory edits sizes
 
 # The main job: the sample stream through `busd run`, the replies shown as bytes and text.
 run:
@@ -13,8 +13,8 @@ run:
 serve:
 	@tools/serve.sh
 
-# Proves and builds crates/busd/out/busd with all that it stands on; with CRATE=trace_check the program that is installed
-# as bus-check.
+# Proves and builds crates/busd/out/busd with all that it stands on; with CRATE=trace_check the program that is
+# installed as bus-check.
 prove:
 	@tools/prove.sh $(CRATE)
 
@@ -32,12 +32,15 @@ test:
 	@tools/gate.sh
 
 # One crate, as in `make check CRATE=names`: its proof, over what earlier checks kept.
-check:
+check: named
 	@cd crates/$(CRATE) && rt check
 
 # The tests of one crate, as in `make try CRATE=test_bytes`, without any proof.
-try:
+try: named
 	@tools/try.sh $(CRATE)
+
+named:
+	@[ -n "$(CRATE)" ] && [ -d "crates/$(CRATE)/src" ] || { echo "name a crate, as in CRATE=names" >&2; exit 1; }
 
 # Each allocation of three programs refused in turn, once the gate has built them. Needs cc and glibc.
 memory:

@@ -1,5 +1,5 @@
 #!/usr/bin/env bash
-# Packs busd for machines without the toolchain: an archive with the stripped program and all that `make install` puts
+# Packs busd for machines without the toolchain: an archive with the stripped programs and all that `make install` puts
 # beside it, and tells which libraries of the system the program needs.
 set -euo pipefail
 cd "$(dirname "$0")/.."
@@ -11,6 +11,7 @@ version=$(sed -n 's/.*"busd \([0-9.]*\)".*/\1/p' docs/man/busd.1)
 name=busd-$version-$(uname -s | tr '[:upper:]' '[:lower:]')-$(uname -m)
 tools/install.sh "$room/$name"
 strip "$room/$name/bin/busd"
+[ ! -e "$room/$name/bin/bus-check" ] || strip "$room/$name/bin/bus-check"
 packed=crates/busd/out/$name.tar.gz
 mkdir -p "$(dirname "$packed")"
 time=${SOURCE_DATE_EPOCH:-$(git log -1 --format=%ct 2> /dev/null || date +%s)}

@@ -1,6 +1,6 @@
 #!/usr/bin/env bash
-# Puts busd and busd-run-session with their pages, completions and licences under the folder that is named: the program
-# that `make prove` has built, or the one that BUSD names. Puts bus-check there too where it is built.
+# Puts busd and busd-run-session with their pages, completions, documents and licences under the folder that is named:
+# the program that `make prove` has built, or the one that BUSD names. Puts bus-check there too where it is built.
 set -euo pipefail
 cd "$(dirname "$0")/.."
 place=$1
@@ -10,14 +10,16 @@ if [ ! -x "$program" ]; then
     echo "there is no $program yet: \`make prove\` proves and builds it" >&2
     exit 1
 fi
-install -d "$place/bin" "$place/share/man/man1" "$place/share/bash-completion/completions" "$place/share/doc/busd"
+install -d "$place/bin" "$place/share/man/man1" "$place/share/bash-completion/completions" "$place/share/doc/busd/docs"
 install -m 755 "$program" "$place/bin/busd"
 install -m 755 tools/busd-run-session "$place/bin/busd-run-session"
 install -m 644 docs/man/busd.1 docs/man/busd-run-session.1 "$place/share/man/man1"
 install -m 644 completions/busd "$place/share/bash-completion/completions/busd"
 ln -sf busd "$place/share/bash-completion/completions/busd-run-session"
+ln -sf busd "$place/share/bash-completion/completions/bus-check"
 if [ -x crates/trace_check/out/trace_check ]; then
     install -m 755 crates/trace_check/out/trace_check "$place/bin/bus-check"
     install -m 644 docs/man/bus-check.1 "$place/share/man/man1"
 fi
-install -m 644 README.md LICENSE-MIT LICENSE-APACHE "$place/share/doc/busd"
+install -m 644 README.md CONTRIBUTING.md LICENSE-MIT LICENSE-APACHE "$place/share/doc/busd"
+install -m 644 docs/*.md "$place/share/doc/busd/docs"

@@ -5,6 +5,10 @@
 set -euo pipefail
 cd "$(dirname "$0")/.."
 program=${1:-busd}
+if [ ! -e "crates/$program/src/main.rt" ]; then
+    echo "there is no program $program" >&2
+    exit 1
+fi
 
 room=$(mktemp -d)
 trap 'rm -rf "$room"' EXIT
@@ -35,7 +39,7 @@ while read -r name _; do
 done < "$room/crates.txt"
 
 all=$(wc -l < "$room/crates.txt")
-echo "proving $program and what it stands on: $all crates, of busd the first time half an hour on four processors"
+echo "proving $program and what it stands on: $all crates; of busd that takes an hour the first time"
 proved=0
 log=crates/$program/out/prove.log
 mkdir -p "crates/$program/out"

@@ -10,7 +10,7 @@ mkdir -p crates/busd/out
 replies=$PWD/crates/busd/out/replies
 log=$PWD/crates/busd/out/run.log
 if [ -x "$program" ] && [ -z "$(find crates crates.txt \( -name '*.rt' -o -name '*.antt' -o -name crates.txt \) \
-    -not -path '*/out/*' -newer "$program" -print -quit)" ]; then
+    -not -path '*/out/*' -not -path 'crates/test_*' -not -path 'crates/bench_*' -newer "$program" -print -quit)" ]; then
     "$program" run < "$stream" > "$replies"
 else
     echo "busd is not proved here yet, so it runs without proof; \`make prove\` proves and builds it"

@@ -1,5 +1,6 @@
 #!/usr/bin/env bash
-# Runs the tests of one crate without any proof: its test functions, or the program over its rows, whose answers are compared.
+# Runs the tests of one crate without any proof: its test functions, or the program over its rows, whose answers are
+# compared.
 set -euo pipefail
 cd "$(dirname "$0")/../crates/$1"
 
