@@ -16,6 +16,8 @@ use Rattle.router_core.specs.declared.fate.PeerFate.{PeerFate}
 use Rattle.router_core.specs.declared.fate.PeerFate.TheVariants as fate
 use Rattle.router_core.specs.declared.joint.Joint.{Joint}
 use Rattle.router_core.specs.declared.joint.RuleCall.{RuleCall}
+use Rattle.bus_view.specs.declared.view.BusView.{Ghosts as BusView}
+use Rattle.router_core.specs.declared.gate.Gate.{Ghosts as Gate}
 use Rattle.router_core.specs.Answers.{Says}
 use Rattle.router_core.specs.Deeds.{GatedCall}
 use Rattle.router_core.specs.Events.{Gathered, Stands, answer_each, apart, done_at, done_for, done_in, fated, gather, gather_at, apart_front, gather_front, gather_message, gathered, join_call, join_if, join_read, make_all, make_each, make_if, next, parted, turn}
@@ -50,34 +52,6 @@ module _ {N G : Type 0} (told : N → History) (registry_of : N → ℕ) (passes
       in_slot : (o : Option Peer) → is_named o ≡ false → Comes told registry_of passes alone (done_at s key o work) w s w
       in_slot None isnt = (refl, refl)
       in_slot (Some p) isnt = in_stage p p.stage isnt
-
-  -- what is done for one that has a name
-  pub settles : (s : Standing) (key : ℕ) (work : Fated) (becomes : PeerFate) (old new : Option Peer) (w m v : World N G) → is_named old ≡ true → peer_at s key ≡ old → Comes told registry_of passes alone work w becomes m →
-      IsSettled told registry_of passes alone key becomes old m new v → Comes told registry_of passes alone (done_for s key work) w (with_peer s key new) v
-  settles s key work becomes None new w m v named there served settled = absurd settled
-  settles s key work becomes (Some p) new w m v named there served settled =
-      subst (λ (o : Option Peer). Comes told registry_of passes alone (done_at s key o work) w (with_peer s key new) v) (sym there)
-      (subst (λ (o : Option Peer). Comes told registry_of passes alone (done_in s key p p.stage work) w (with_peer s key o) v) (sym settled.1) (in_stage p.stage named))
-    where
-      done : Comes told registry_of passes alone (and_then work (λ (f : PeerFate). fated key f p)) w settled.0 v
-      done = comes_then told registry_of passes alone (λ (f : PeerFate). fated key f p) becomes m settled.0 v settled.2 work w served
-
-      in_stage : (stage : Stage) → is_named (Some (record p { stage = stage })) ≡ true → Comes told registry_of passes alone (done_in s key p stage work) w (with_peer s key (Some settled.0)) v
-      in_stage (Named conn) is = for_some told registry_of passes alone s key p settled.0 (λ (x : Peer). and_then work (λ (f : PeerFate). fated key f x)) w v done
-      in_stage (Authenticating setting state) is = absurd (false≢true is)
-      in_stage (Unnamed privileged) is = absurd (false≢true is)
-      in_stage (Shut conn) is = absurd (false≢true is)
-
-  -- it gets no slot by that
-  pub settled_keeps : (key : ℕ) (becomes : PeerFate) (old new : Option Peer) (w v : World N G) → IsSettled told registry_of passes alone key becomes old w new v → Keeps old new
-  settled_keeps key becomes None new w v settled = absurd settled
-  settled_keeps key becomes (Some p) new w v settled =
-      subst (λ (o : Option Peer). Keeps (Some p) o) (sym settled.1) (given told registry_of passes alone (λ (q : Peer). Keeps (Some p) (Some q)) settled.0 v (fated key becomes p) w (by_fate becomes) settled.2)
-    where
-      by_fate : (f : PeerFate) → AllGive (λ (q : Peer). Keeps (Some p) (Some q)) (fated key f p)
-      by_fate fate.Stays = λ slot has. has
-      by_fate fate.Watches = λ slot has. has
-      by_fate (fate.Closes why) = λ slot has. absurd (false≢true has)
 
   -- ---- the calls that joined
 
@@ -242,3 +216,32 @@ named_within peers key is =
           let never : false ≡ true = ap is_named (sym (get_or_past peers key None past)) ∙ is in
           absurd (false≢true never)
     ]
+
+module _ {V N R G : Type 0} (view : BusView V N R) (gate : Gate G) where
+  -- what is done for one that has a name
+  pub settles : (s : Standing) (key : ℕ) (work : Fated) (becomes : PeerFate) (old new : Option Peer) (w m v : World N G) → is_named old ≡ true → peer_at s key ≡ old → Comes view.told view.registry_of gate.passes view.alone work w becomes m →
+      IsSettled view gate key becomes old m new v → Comes view.told view.registry_of gate.passes view.alone (done_for s key work) w (with_peer s key new) v
+  settles s key work becomes None new w m v named there served settled = absurd settled
+  settles s key work becomes (Some p) new w m v named there served settled =
+      subst (λ (o : Option Peer). Comes view.told view.registry_of gate.passes view.alone (done_at s key o work) w (with_peer s key new) v) (sym there)
+      (subst (λ (o : Option Peer). Comes view.told view.registry_of gate.passes view.alone (done_in s key p p.stage work) w (with_peer s key o) v) (sym settled.1) (in_stage p.stage named))
+    where
+      done : Comes view.told view.registry_of gate.passes view.alone (and_then work (λ (f : PeerFate). fated key f p)) w settled.0 v
+      done = comes_then view.told view.registry_of gate.passes view.alone (λ (f : PeerFate). fated key f p) becomes m settled.0 v settled.2 work w served
+
+      in_stage : (stage : Stage) → is_named (Some (record p { stage = stage })) ≡ true → Comes view.told view.registry_of gate.passes view.alone (done_in s key p stage work) w (with_peer s key (Some settled.0)) v
+      in_stage (Named conn) is = for_some view.told view.registry_of gate.passes view.alone s key p settled.0 (λ (x : Peer). and_then work (λ (f : PeerFate). fated key f x)) w v done
+      in_stage (Authenticating setting state) is = absurd (false≢true is)
+      in_stage (Unnamed privileged) is = absurd (false≢true is)
+      in_stage (Shut conn) is = absurd (false≢true is)
+
+  -- it gets no slot by that
+  pub settled_keeps : (key : ℕ) (becomes : PeerFate) (old new : Option Peer) (w v : World N G) → IsSettled view gate key becomes old w new v → Keeps old new
+  settled_keeps key becomes None new w v settled = absurd settled
+  settled_keeps key becomes (Some p) new w v settled =
+      subst (λ (o : Option Peer). Keeps (Some p) o) (sym settled.1) (given view.told view.registry_of gate.passes view.alone (λ (q : Peer). Keeps (Some p) (Some q)) settled.0 v (fated key becomes p) w (by_fate becomes) settled.2)
+    where
+      by_fate : (f : PeerFate) → AllGive (λ (q : Peer). Keeps (Some p) (Some q)) (fated key f p)
+      by_fate fate.Stays = λ slot has. has
+      by_fate fate.Watches = λ slot has. has
+      by_fate (fate.Closes why) = λ slot has. absurd (false≢true has)

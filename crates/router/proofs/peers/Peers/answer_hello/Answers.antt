@@ -1,4 +1,4 @@
-use Rattle.std.proofs.Common.{◌≡◌, Option, Some, sym, ◌∙◌, subst}
+use Rattle.std.proofs.Common.{Option, sym, ◌∙◌, subst}
 use Rattle.message_core.specs.Said.{said}
 use Rattle.router_core.specs.Events.{close_former, for_peer, turn_away, welcome}
 use Rattle.router_core.specs.Scripts.{RunsTo}
@@ -9,8 +9,8 @@ use Rattle.router_steps.proofs.Sequels.{comes_then}
 use Rattle.router.proofs.peers.Peers.answer_hello.Goals as goal
 
 -- it is where it was
-pub welcome-requires-nameless : goal.welcome-requires-nameless
-welcome-requires-nameless g c =
+pub welcome-requires-clause-nameless : goal.welcome-requires-clause-nameless
+welcome-requires-clause-nameless g c =
     let key = c.args.key in
     let old = peer_at c.args.self.now.standing key in
     let same = c.close_former.ensures.others key (nameless_slot c.in-Some.conn.slot old c.requires.nameless) in

@@ -1,7 +1,7 @@
-use Rattle.std.proofs.Common.{Option, Some, sym, subst}
+use Rattle.std.proofs.Common.{Option, sym, subst}
 use Rattle.seq_bus_core.specs.declared.outcome.Outcome.{Outcome}
 use Rattle.bus_view.specs.declared.refusal.Cause.{Cause}
-use Rattle.std.specs.Prelude.{Result, Err}
+use Rattle.std.specs.Prelude.{Result}
 use Rattle.message_core.specs.Said.{said}
 use Rattle.router_core.specs.Answers.{error_for, refusal_of}
 use Rattle.router_core.specs.Events.{for_peer, greeted, refuse_with}

@@ -1,14 +1,16 @@
-use Rattle.std.proofs.Common.{◌≡◌, ◌<◌, ℕ, false, Option, Some, None, length, arith, sym, ap, ◌∙◌, subst}
+use Rattle.std.proofs.Common.{◌≡◌, ◌<◌, ℕ, Option, Some, None, IfSome, get_or, set, length, arith, sym, ap, ◌∙◌, subst}
 use Rattle.std.proofs.lemmas.List.{get_or_read, get_or-set_same}
 use Rattle.message_core.specs.Said.{said}
 use Rattle.router_core.specs.Events.{next, greet}
 use Rattle.router_core.specs.Scripts.{RunsTo}
-use Rattle.router_core.specs.Standing.{Peer, Standing, Unnamed, has_slot, next_serial, peer_at, with_peer}
+use Rattle.router_core.specs.Standing.{Peer, Stage, Standing, Unnamed, next_serial, peer_at, with_peer}
 use Rattle.router_steps.specs.Reading.{ComesOfNext}
 use Rattle.router_steps.specs.declared.first.HelloCall.{HelloCall}
+use Rattle.router_steps.specs.Refusing.{AreRefusals}
+use Rattle.router.specs.Indexed.{IsNameless, IsUnnamed}
 use Rattle.router.specs.Tables.{Table}
 use Rattle.router.proofs.Greeted.{greets, hello_next, no_slot}
-use Rattle.router.proofs.Indexing.{index_at, same_keeps}
+use Rattle.router.proofs.Indexing.{Keeps, index_at, like_keeps}
 use Rattle.router.proofs.Keeping.{next_keeps}
 use Rattle.router.proofs.peers.Peers.next.Goals as goal
 
@@ -55,4 +57,43 @@ invariant_of-self-in-None g c =
     let there = get_or_read peers key old inside c.index_mut.ensures.value None in
     let comes = subst (λ (o : Option HelloCall). ComesOfNext g.V.BusView g.G.Gate key o old new c.reserve_crowds.new.self.world c.next_in.new.context.world) c.in-None.is c.in_ok-next_in.ensures.next in
     let keeps = next_keeps told registry_of passes alone key old new c.reserve_crowds.new.self.world c.next_in.new.context.world comes in
+    index_at peers c.self.inside.places key old new there keeps c.self.invariant
+
+pub greet-requires-clause-nameless : goal.greet-requires-clause-nameless
+greet-requires-clause-nameless g c =
+    let key = c.args.key in
+    let peers = c.self.inside.peers.items in
+    let new = c.next_in.new.slot in
+    let within : key < length peers = omega (arith, c.if-key-len.false, c.len.ensures, c.self.inside.peers.ok.0) in
+    let next_is = subst (λ (o : Option HelloCall). ComesOfNext g.V.BusView g.G.Gate key o c.index_mut.result.now new c.reserve_crowds.new.self.world c.next_in.new.context.world) (c.in-Some.is ∙ ap (λ x. Some x) c.in-Some.field-0-is) c.in_ok-next_in.ensures.next in
+    let q = next_is.1 in
+    let says = next_is.4 in
+    let left : get_or (set peers key new) key None ≡ Some q = get_or-set_same peers key new None within ∙ next_is.3 in
+    let unnamed : q.stage ≡ Unnamed c.in-Some.field-0.privileged = ap (λ (x : Peer). x.stage) says.rest ∙ says.stage in
+    subst (λ (o : Option Peer). IsNameless o) (sym left) (subst (λ (stage : Stage). IsUnnamed stage) (sym unnamed) tt)
+
+pub greet-requires-clause-written : goal.greet-requires-clause-written
+greet-requires-clause-written g c =
+    let key = c.args.key in
+    let peers = c.self.inside.peers.items in
+    let new = c.next_in.new.slot in
+    let within : key < length peers = omega (arith, c.if-key-len.false, c.len.ensures, c.self.inside.peers.ok.0) in
+    let next_is = subst (λ (o : Option HelloCall). ComesOfNext g.V.BusView g.G.Gate key o c.index_mut.result.now new c.reserve_crowds.new.self.world c.next_in.new.context.world) (c.in-Some.is ∙ ap (λ x. Some x) c.in-Some.field-0-is) c.in_ok-next_in.ensures.next in
+    let left : get_or (set peers key new) key None ≡ Some next_is.1 = get_or-set_same peers key new None within ∙ next_is.3 in
+    subst (λ (o : Option Peer). IfSome o (λ x. AreRefusals (said c.in-Some.field-0.hello) (next_serial x.serial) c.in-Some.field-0.errors)) (sym left) next_is.4.errors
+
+-- its stage is as it was
+pub invariant_of-self-in-Some : goal.invariant_of-self-in-Some
+invariant_of-self-in-Some g c =
+    let key = c.args.key in
+    let peers = c.self.inside.peers.items in
+    let new = c.next_in.new.slot in
+    let within : key < length peers = omega (arith, c.if-key-len.false, c.len.ensures, c.self.inside.peers.ok.0) in
+    let next_is = subst (λ (o : Option HelloCall). ComesOfNext g.V.BusView g.G.Gate key o c.index_mut.result.now new c.reserve_crowds.new.self.world c.next_in.new.context.world) (c.in-Some.is ∙ ap (λ x. Some x) c.in-Some.field-0-is) c.in_ok-next_in.ensures.next in
+    let p = next_is.0 in
+    let q = next_is.1 in
+    let old = c.index_mut.result.now in
+    let there = get_or_read peers key old within c.index_mut.ensures.value None in
+    let like : q.stage ≡ p.stage = ap (λ (x : Peer). x.stage) next_is.4.rest in
+    let keeps = subst (λ (o : Option Peer). Keeps o new) (sym next_is.2) (subst (λ (o : Option Peer). Keeps (Some p) o) (sym next_is.3) (like_keeps p q like)) in
     index_at peers c.self.inside.places key old new there keeps c.self.invariant

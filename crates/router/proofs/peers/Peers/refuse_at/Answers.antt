@@ -1,6 +1,5 @@
-use Rattle.std.proofs.Common.{◌≡◌, ◌<◌, length, ap, ◌∙◌, subst, sym, arith}
+use Rattle.std.proofs.Common.{◌≡◌, ◌<◌, None, length, subst, sym}
 use Rattle.std.proofs.lemmas.List.{get_or_read}
-use Rattle.std.specs.Prelude.{None}
 use Rattle.message_core.specs.Said.{said}
 use Rattle.router_core.specs.Answers.{error_for, refusal_of}
 use Rattle.router_core.specs.Events.{for_peer, refuse_with}

@@ -38,7 +38,7 @@ returns-clause-comes g c work w served =
     let there : old ≡ peer_at s key = get_or_read s.peers key old (named_within s.peers key named) c.index_mut.ensures.value None in
     let begun = subst (λ (k : Table g.row.V-Note.Denot g.row.G.Denot). Comes told registry_of passes alone work w c.args.fate k.work.world) (sym c.self.view_is) served in
     subst (λ (k : Table g.row.V-Note.Denot g.row.G.Denot). Comes told registry_of passes alone (done_for k.standing key work) w (with_peer s key new) v) c.self.view_is
-    (settles told registry_of passes alone s key work c.args.fate old new w m v (ap is_named there ∙ named) (sym there) begun c.settle.ensures.settled)
+    (settles g.V.BusView g.G.Gate s key work c.args.fate old new w m v (ap is_named there ∙ named) (sym there) begun c.settle.ensures.settled)
 
 pub invariant_of-self : goal.invariant_of-self
 invariant_of-self g c =
@@ -48,4 +48,4 @@ invariant_of-self g c =
     let new = c.settle.new.slot in
     let named = subst (λ (k : Table g.row.V-Note.Denot g.row.G.Denot). is_named (peer_at k.standing key) ≡ true) (sym c.self.view_is) c.requires.named in
     let there = get_or_read peers key old (named_within peers key named) c.index_mut.ensures.value None in
-    index_at peers c.self.inside.places key old new there (settled_keeps g.V.BusView.told g.V.BusView.registry_of g.G.Gate.passes g.V.BusView.alone key c.args.fate old new c.self.inside.context.world c.settle.new.context.world c.settle.ensures.settled) c.self.invariant
+    index_at peers c.self.inside.places key old new there (settled_keeps g.V.BusView g.G.Gate key c.args.fate old new c.self.inside.context.world c.settle.new.context.world c.settle.ensures.settled) c.self.invariant
