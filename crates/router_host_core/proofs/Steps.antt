@@ -18,6 +18,21 @@ module _ {X S : Type 0} (step : X → S → S → Type 0) where
   pub each_ends : (xs : List X) (i : ℕ) → length xs ≤ i → (a b : S) → Each step (take i xs) a b → Each step xs a b
   each_ends xs i over a b f = subst (λ (l : List X). Each step l a b) (take_all i xs over) f
 
+-- ## Steps whatever they are
+
+module _ {X S : Type 0} (step : X → S → S → Type 0) where
+  abbrev pub Runs : S → S → Type 0
+  Runs a b = (xs : List X) × Each step xs a b
+
+  pub runs_one : (x : X) (a b : S) → step x a b → Runs a b
+  runs_one x a b f = (x ∷ [], (b, f, refl))
+
+  pub runs_then : (a b c : S) → Runs a b → Runs b c → Runs a c
+  runs_then a b c f g = (f.0 ++ g.0, each_then step f.0 g.0 a b c f.1 g.1)
+
+  pub runs_more : (x : X) (a b c : S) → Runs a b → step x b c → Runs a c
+  runs_more x a b c f g = runs_then a b c f (runs_one x b c g)
+
 -- ## From the last to the first, which lies at the end
 
 -- the first of all are done, and the rest is left

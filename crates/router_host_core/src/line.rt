@@ -1,7 +1,8 @@
 //! A connection.
 
-ghost use Rattle.std.specs.Prelude.{◌≡◌, ◌++◌, List, ℕ, false};
+ghost use Rattle.std.specs.Prelude.{◌≡◌, false};
 ghost use Rattle.router_host_core.specs.Carrying.{IsWritten};
+ghost use Rattle.router_host_core.specs.Sockets.{IsFlushed};
 ghost use Rattle.router_host_core.specs.States.{new_line, ended_by};
 
 use crate::ending::EndCause;
@@ -231,7 +232,7 @@ impl<S: Socket> Line<S> {
 
     /// Gives the socket as much as it takes.
     pub(crate) fn flush(&mut self)
-        ensures { (reached : List ℕ) × (self.old.waits ≡ reached ++ self.new.waits) }
+        ensures { IsFlushed self.old self.new }
     {
         self.dirty = false;
         match self.out.flush(&mut self.socket) {

@@ -1,7 +1,9 @@
 //! The connections of a router.
 
-ghost use Rattle.std.specs.Prelude.{◌≡◌, [], true};
-ghost use Rattle.router_host_core.specs.Carrying.{line_at, IsWrittenAt, ended_at, IsBlockedAt};
+ghost use Rattle.std.specs.Prelude.{◌≡◌, ◌++◌, ◌<◌, [], ℕ, List, None, true, OnOk, length, replicate};
+ghost use Rattle.router_host_core.specs.Carrying.{Each, line_at, with_line, IsWrittenAt, ended_at, IsBlockedAt};
+ghost use Rattle.router_host_core.specs.Sockets.{IsFlushedAt, cause_of, let_go, unblocked_at};
+ghost use Rattle.router_host_core.specs.States.{new_line};
 
 use crate::ending::EndCause;
 use crate::hints::{Hints, Todo};
@@ -66,7 +68,10 @@ impl<S: Socket> Lines<S> {
     }
 
     /// Makes room for the connection of a key.
-    pub fn make_room(&mut self, key: usize) -> Result<(), AllocError> {
+    pub fn make_room(&mut self, key: usize) -> Result<(), AllocError>
+        ensures places { (count : ℕ) × (self.new ≡ self.old ++ replicate count None) }
+        ensures ok { OnOk result (key < length self.new) }
+    {
         for _key in self.table.len()..key.saturating_add(1) {
             self.table.push(None)?;
         }
@@ -74,7 +79,9 @@ impl<S: Socket> Lines<S> {
     }
 
     /// A connection came, which there is room for.
-    pub fn open(&mut self, key: usize, socket: S) {
+    pub fn open(&mut self, key: usize, socket: S)
+        ensures { self.new ≡ with_line self.old key new_line }
+    {
         let alloc = self.alloc;
         if key < self.table.len() {
             self.table[key] = Some(Line::new(alloc, socket));
@@ -98,7 +105,9 @@ impl<S: Socket> Lines<S> {
     }
 
     /// The socket of a connection takes bytes again. Tells its slot, which mail may wait for.
-    pub fn note_writable(&mut self, key: usize) -> Option<u16> {
+    pub fn note_writable(&mut self, key: usize) -> Option<u16>
+        ensures { self.new ≡ unblocked_at self.old key (line_at self.old key) }
+    {
         if key >= self.table.len() {
             return None;
         }
@@ -248,7 +257,9 @@ impl<S: Socket> Lines<S> {
     }
 
     /// Gives the sockets what waits for them.
-    pub fn flush_all(&mut self) {
+    pub fn flush_all(&mut self)
+        ensures { (keys : List ℕ) × Each IsFlushedAt keys self.old self.new }
+    {
         match self.dirty.take() {
             Todo::All => {
                 for key in 0..self.table.len() {
@@ -264,7 +275,9 @@ impl<S: Socket> Lines<S> {
         }
     }
 
-    fn flush(&mut self, key: usize) {
+    fn flush(&mut self, key: usize)
+        ensures { IsFlushedAt key self.old self.new }
+    {
         if key >= self.table.len() {
             return;
         }
@@ -296,7 +309,10 @@ impl<S: Socket> Lines<S> {
     }
 
     /// Lets go of the connection of a key, where it is over. Tells why.
-    pub fn let_go(&mut self, key: usize) -> Option<EndCause> {
+    pub fn let_go(&mut self, key: usize) -> Option<EndCause>
+        ensures cause { result ≡ cause_of (line_at self.old key) }
+        ensures gone { self.new ≡ let_go self.old key result }
+    {
         if key >= self.table.len() {
             return None;
         }

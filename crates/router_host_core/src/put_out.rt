@@ -1,6 +1,7 @@
 //! Who is to be put out.
 
-ghost use Rattle.std.specs.Prelude.{◌≡◌, slice_set, Some};
+ghost use Rattle.std.specs.Prelude.{◌≡◌, slice_set, Some, IfSome, IfNone};
+ghost use Rattle.router_host_core.specs.Sockets.{IsTakenOut};
 
 use seq_bus_core::Conn;
 use std::marker::Model;
@@ -52,7 +53,10 @@ impl PutOut {
     }
 
     /// One of them, who is then no longer among them.
-    pub fn take(&mut self) -> Option<Conn> {
+    pub fn take(&mut self) -> Option<Conn>
+        ensures taken { IfSome result (λ conn. IsTakenOut conn self.old self.new) }
+        ensures none { IfNone result (self.new ≡ self.old) }
+    {
         if !self.any {
             return None;
         }

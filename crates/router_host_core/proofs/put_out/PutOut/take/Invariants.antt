@@ -2,4 +2,4 @@ use Rattle.std.proofs.Common.{◌≡◌, length}
 use Rattle.router_host_core.proofs.put_out.PutOut.take.Given as goal
 
 abbrev pub invariant-loop-slot : goal.invariant-loop-slot
-invariant-loop-slot l = length l.self-inside.conns ≡ 256
+invariant-loop-slot l = (length l.self-inside.conns ≡ 256) × (l.self-inside.conns ≡ l.fn.self)
