@@ -1,3 +1,4 @@
 pub mod Happening
 pub mod Keeping
+pub mod LocalMail
 pub mod States

@@ -1,6 +1,7 @@
 //! Mail in memory.
 
-ghost use Rattle.std.specs.Prelude.{◌≡◌, ◌∷◌, ◌++◌, [], IfErr, OnErr, OnOk};
+ghost use Rattle.std.specs.Prelude.{◌≡◌, ◌∷◌, ◌++◌, [], IfErr, IfNone, IfSome, OnErr, OnOk};
+ghost use Rattle.router_host.specs.LocalMail.{Puts, Takes};
 
 use outbox_core::Envelope;
 use router_host_core::{Full, Post, SLOTS, StartRequest, TooManyStarts};
@@ -43,7 +44,10 @@ impl Mail {
         }
     }
 
-    fn take(&mut self) -> Option<Envelope<()>> {
+    fn take(&mut self) -> Option<Envelope<()>>
+        ensures taken { IfSome result (λ envelope. self.old ≡ envelope ∷ self.new) }
+        ensures none { IfNone result (self.new ≡ self.old) }
+    {
         self.envelopes.pop_front()
     }
 }
@@ -86,13 +90,19 @@ impl LocalPost {
 }
 
 impl Post<SeqBus> for LocalPost {
+    ghost use Rattle.std.specs.Prelude.{◌≡◌};
+    ghost use Rattle.router_host.specs.LocalMail.{Puts, Takes};
+
     ghost registry = { λ _. 0 };
 
-    ghost puts = { λ _ _ _ _. Unit {0} };
+    ghost puts = { λ before to envelope after. Puts before to.slot envelope after };
 
-    ghost starts = { λ _ _ _. Unit {0} };
+    ghost starts = { λ before _ after. after ≡ before };
+
+    ghost takes = { λ before slot envelope after. Takes before slot envelope after };
 
     fn put(&mut self, _right: &(), to: Conn, envelope: Envelope<()>) -> Result<(), Full<()>>
+        ensures put { OnOk result (Puts self.old to.slot envelope self.new) }
         ensures refused { OnErr result (self.new ≡ self.old) }
         ensures back { IfErr result (λ full. full.0 ≡ envelope) }
     {
@@ -104,6 +114,7 @@ impl Post<SeqBus> for LocalPost {
     }
 
     fn start(&mut self, _right: &(), request: StartRequest) -> Result<(), TooManyStarts>
+        ensures asked { OnOk result (self.new ≡ self.old) }
         ensures refused { OnErr result (self.new ≡ self.old) }
     {
         match self.starts.push_back(request) {
@@ -112,7 +123,10 @@ impl Post<SeqBus> for LocalPost {
         }
     }
 
-    fn take(&mut self, _right: &(), slot: u16) -> Option<Envelope<()>> {
+    fn take(&mut self, _right: &(), slot: u16) -> Option<Envelope<()>>
+        ensures taken { IfSome result (λ envelope. Takes self.old slot envelope self.new) }
+        ensures none { IfNone result (self.new ≡ self.old) }
+    {
         let slot = usize::from(slot);
         if slot >= self.mails.len() {
             return None;

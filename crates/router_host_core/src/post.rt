@@ -1,6 +1,6 @@
 //! The ways between routers.
 
-ghost use Rattle.std.specs.Prelude.{◌≡◌, IfErr, IfSome, OnOk, OnErr};
+ghost use Rattle.std.specs.Prelude.{◌≡◌, IfErr, IfSome, IfNone, OnOk, OnErr};
 ghost use Rattle.router_core.specs.Deeds.{IsOwnNote};
 
 use bus_view::BusView;
@@ -42,6 +42,9 @@ pub trait Post<V: BusView>: Drop {
     /// What it may be once it was asked to have the program of a service run.
     ghost starts: { Self → StartRequest → Self → Type 0 };
 
+    /// What it may be once an envelope for a slot of this router was taken.
+    ghost takes: { Self → ℕ → Envelope V.Note → Self → Type 0 };
+
     /// Puts an envelope for a connection of whatever router. Where there is no room for it, it comes back.
     fn put(
         &mut self,
@@ -65,13 +68,15 @@ pub trait Post<V: BusView>: Drop {
     fn take(&mut self, right: &V::Right, slot: u16) -> Option<Envelope<V::Note>>
         ensures registry { registry self.new ≡ registry self.old }
         ensures own { IfSome result (λ envelope.
-            IsOwnNote V.registry_of (registry self.old) envelope.note) };
+            IsOwnNote V.registry_of (registry self.old) envelope.note) }
+        ensures taken { IfSome result (λ envelope. takes self.old slot envelope self.new) }
+        ensures none { IfNone result (self.new ≡ self.old) };
 
     /// Tells the router of a connection that it took no more mail, and has left the bus.
     fn look(&mut self, right: &V::Right, at: Conn)
-        ensures { registry self.new ≡ registry self.old };
+        ensures { self.new ≡ self.old };
 
     /// A turn ends: whoever something was put for may be woken.
     fn turn_ends(&mut self, right: &V::Right)
-        ensures { registry self.new ≡ registry self.old };
+        ensures { self.new ≡ self.old };
 }

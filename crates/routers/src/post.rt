@@ -63,6 +63,8 @@ impl<'a, 'b, J: Naming, W: Wake + Drop, R: Wait> Post<Traced<Desk<'b, J, R>>>
 
     ghost starts = { λ before _ after. after ≡ before };
 
+    ghost takes = { λ before _ _ after. after ≡ before };
+
     fn put(&mut self, right: &R, to: Conn, envelope: EnvelopeOf<J>) -> Result<(), Full<Note<J>>>
         ensures put { OnOk result (Puts self.old to.slot envelope self.new) }
         ensures refused { OnErr result (self.new ≡ self.old) }
