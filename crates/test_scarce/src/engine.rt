@@ -2,7 +2,7 @@
 
 ghost use Rattle.router_core.specs.Events.{CanHappen};
 
-use crate::{turns, waiting};
+use crate::{leaving, turns, waiting};
 use bus_view::can_open;
 use names::WellKnown;
 use owner_queues::Profile;
@@ -15,20 +15,21 @@ use test_support::messages::HELLO;
 /// An engine of a plain bus.
 pub type Plain = Engine<SeqBus, OpenGate>;
 
-/// Whether calls wait as they should, and whether several messages are served so in one turn.
-pub fn serves(alloc: Global) -> (bool, bool) {
+/// Whether calls wait as they should, whether several messages are served so in one turn, and whether connections leave so.
+pub fn serves(alloc: Global) -> (bool, bool, bool) {
     let Some(mut engine) = opened(alloc) else {
-        return (false, false);
+        return (false, false, false);
     };
     let come = greet(&mut engine, alloc).is_some();
     let waiting = come && waiting::are_answered(&mut engine, alloc) == Some(true);
     let in_turn = come && turns::are_served(&mut engine, alloc) == Some(true);
+    let leaving = come && leaving::are_gone(&mut engine, alloc) == Some(true);
     drop(engine);
-    (waiting, in_turn)
+    (waiting, in_turn, leaving)
 }
 
 /// A connection comes, and has its name.
-fn greet(engine: &mut Plain, alloc: Global) -> Option<()> {
+pub fn greet(engine: &mut Plain, alloc: Global) -> Option<()> {
     if !engine.is_free(0) {
         return None;
     }

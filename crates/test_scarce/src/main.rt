@@ -3,7 +3,7 @@
 //! The program reads and writes bodies and messages, lets a client in, opens a plain bus and a registry of two routers with
 //! its outboxes, makes the same changes and a batch on both buses, and on a plain bus a batch of rules, calls that wait and
 //! monitors, starts services in a registry, lets calls wait for a service in an engine, serves messages in one turn of it,
-//! and serves clients as the host of a router. It says of each whether the calls answered as they should: with what was
+//! lets its clients go, and serves clients as the host of a router. It says of each whether the calls answered as they should: with what was
 //! wanted; or that memory ran out, all as it was before, and with what was wanted once they are made again. It prints the
 //! same whichever one allocation is refused: `make memory` refuses each in turn.
 #![tactic(auto)]
@@ -14,6 +14,7 @@ mod changes;
 mod codec;
 mod engine;
 mod hosts;
+mod leaving;
 mod messages;
 mod plain;
 mod seats;
@@ -79,7 +80,7 @@ fn main(rt: HostRuntime) -> io::Result<()> {
         let answer = told(codec::is_answered(alloc, order, signature, body));
         println!(rt; "{signature}: {answer}")?;
     }
-    let (waiting, in_turn) = engine::serves(alloc);
+    let (waiting, in_turn, leaving) = engine::serves(alloc);
     for (what, is_answered) in [
         ("framed", messages::are_framed(alloc)),
         ("relayed", messages::is_relayed(alloc).unwrap_or(false)),
@@ -92,6 +93,7 @@ fn main(rt: HostRuntime) -> io::Result<()> {
         ("authentication", authentication::is_let_in(alloc)),
         ("calls that wait", waiting),
         ("messages in turn", in_turn),
+        ("connections that leave", leaving),
         ("host", hosts::are_served(alloc)),
     ] {
         println!(rt; "{what}: {}", told(is_answered))?;
