@@ -17,6 +17,7 @@ module _ {P N G : Type 0} (puts : P → Conn → Envelope N → P → Type 0)
   -- Of the actions that are not carried out yet the first ones are, and nothing else is done.
   pub record CatchesUp (before after : Hosted P G N) : Type 0 where
     pub engine : after.engine ≡ before.engine
+    pub kept : after.kept ≡ before.kept
     pub goes_on : GoesOn puts starts before.undone before.carried after.undone after.carried
 
 -- What events before brought is carried out; then the engine serves the event, and the actions that it brings are carried out, up to a
@@ -31,6 +32,7 @@ pub record Happens {P N G : Type 0} (told : N → History) (passes : G → Gated
   pub actions : List (Action N)
   pub serves : IsServedWell told passes alone between.engine event actions after.engine
   pub carried : GoesOn puts starts actions between.carried after.undone after.carried
+  pub kept : after.kept ≡ between.kept
 
 -- The socket of the connection that has the slot took no more bytes.
 abbrev pub IsSlotBlocked : {P G N : Type 0} → Hosted P G N → ℕ → Type 0

@@ -15,6 +15,12 @@ CanWait registry_of registry (event.Mail slot envelope) =
     IsOwnNote registry_of registry envelope.note
 CanWait registry_of registry other = Unit {0}
 
+-- the event that waits, if there is one: bytes may wait that are none yet
+abbrev pub event_of : {N : Type 0} → Option (Kept N) → Option (Event N)
+event_of None = None
+event_of (Some (Happening event)) = Some event
+event_of (Some (Piece key count)) = None
+
 abbrev pub KeepsOwn : {N : Type 0} → (N → ℕ) → ℕ → Option (Kept N) → Type 0
 KeepsOwn registry_of registry None = Unit {0}
 KeepsOwn registry_of registry (Some (Happening event)) = CanWait registry_of registry event

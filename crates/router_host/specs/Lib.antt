@@ -1,4 +1,6 @@
+pub mod Doing
 pub mod Happening
 pub mod Keeping
 pub mod LocalMail
+pub mod Opening
 pub mod States

@@ -1,8 +1,12 @@
 //! The host of an engine.
 
 ghost use Rattle.std.specs.Prelude.{◌≡◌, IfOk, OnOk, OnErr};
+ghost use Rattle.router_host_core.specs.Carrying.{line_at};
+ghost use Rattle.router_host_core.specs.Sockets.{unblocked_at};
 ghost use Rattle.router_core.specs.declared.event.Event.TheVariants.{Child};
+ghost use Rattle.router_host.specs.Doing.{with_lines};
 ghost use Rattle.router_host.specs.Happening.{CatchesUp, Happens};
+ghost use Rattle.router_host.specs.Opening.{MakesRoom, Opens};
 
 use crate::kept::Kept;
 use crate::opening::{MOST_UNNAMED, OpenFault, Opened, open};
@@ -46,12 +50,13 @@ impl<V: BusView, G: Gate, P: Post<V>, S: Socket> Model for Host<V, G, P, S> {
 
     ghost Value = { Hosted P G V.Note };
 
-    ghost use Rattle.router_host.specs.Keeping.{KeepsOwn};
+    ghost use Rattle.router_host.specs.Keeping.{KeepsOwn, event_of};
 
     ghost view = { λ h. record {
       engine = h.engine;
       carried = h.carrier;
       undone = reverse h.undone.items;
+      kept = event_of h.kept;
     } };
 
     ghost invariant = { λ h. (P.registry h.carrier.post ≡ h.engine.view.registry)
@@ -122,14 +127,18 @@ impl<V: BusView, G: Gate, P: Post<V>, S: Socket> Host<V, G, P, S> {
         right: &V::Right,
         socket: S,
         challenge: Option<[u8; 16]>,
-    ) -> Result<usize, OpenFault> {
+    ) -> Result<usize, OpenFault>
+        ensures opens { IfOk result (λ key.
+            Opens V.told G.passes V.alone P.puts P.starts self.old key challenge self.new) }
+        ensures err { OnErr result (MakesRoom P.puts P.starts self.old self.new) }
+    {
+        let Ok(()) = self.catch_up(right) else {
+            return Err(OpenFault::TooManyStarts);
+        };
         let key = self.engine.free_key();
         let Ok(()) = self.carrier.lines.make_room(key) else {
             return Err(OpenFault::NoMemory);
         };
-        if self.catch_up(right).is_err() {
-            return Err(OpenFault::TooManyStarts);
-        }
         match open(&mut self.engine, right, challenge) {
             Ok(Opened { key, actions }) => {
                 self.carrier.lines.open(key, socket);
@@ -162,8 +171,8 @@ impl<V: BusView, G: Gate, P: Post<V>, S: Socket> Host<V, G, P, S> {
 
     /// The socket of a connection takes bytes again.
     pub fn writable(&mut self, key: usize)
-        ensures engine { self.new.engine ≡ self.old.engine }
-        ensures post { self.new.carried.post ≡ self.old.carried.post }
+        ensures { self.new ≡ with_lines self.old
+            (unblocked_at self.old.carried.lines key (line_at self.old.carried.lines key)) }
     {
         if let Some(slot) = self.carrier.lines.note_writable(key) {
             self.carrier.slots.note(slot);

@@ -3,6 +3,9 @@
 ghost use Rattle.std.specs.Prelude.{◌≡◌, IfOk, OnErr};
 ghost use Rattle.std.specs.List.{AllByRecursion};
 ghost use Rattle.router_core.specs.Deeds.{CarriesOwn};
+ghost use Rattle.router_core.specs.Events.{IsFree};
+ghost use Rattle.router_core.specs.declared.event.Event.TheVariants as event;
+ghost use Rattle.router.specs.OneEvent.{IsServedWell};
 
 use bus_view::BusView;
 use router::Engine;
@@ -41,6 +44,9 @@ pub(crate) fn open<V: BusView, G: Gate>(
 ) -> Result<Opened<V::Note>, OpenFault>
     ensures notes { IfOk result (λ opened.
         AllByRecursion (CarriesOwn V.registry_of engine.old.view.registry) opened.actions.items) }
+    ensures key { IfOk result (λ opened. IsFree engine.old.standing opened.key) }
+    ensures served { IfOk result (λ opened. IsServedWell V.told G.passes V.alone engine.old
+        (event.Opened opened.key challenge) opened.actions.items engine.new) }
     ensures registry { engine.new.view.registry ≡ engine.old.view.registry }
     ensures err { OnErr result (engine.new ≡ engine.old) }
 {

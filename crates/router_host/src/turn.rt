@@ -1,10 +1,12 @@
 //! A turn.
 
-ghost use Rattle.std.specs.Prelude.{◌≡◌, [], false, OnOk, OnErr};
+ghost use Rattle.std.specs.Prelude.{◌≡◌, [], None, false, OnOk, OnErr};
 ghost use Rattle.std.specs.List.{AllByRecursion};
 ghost use Rattle.router_core.specs.Deeds.{CarriesOwn};
 ghost use Rattle.router_core.specs.Events.{CanHappen};
+ghost use Rattle.router_core.specs.declared.event.Event.TheVariants.{Full, Tick};
 ghost use Rattle.router_host_core.specs.Carrying.{GoesOn};
+ghost use Rattle.router_host.specs.Doing.{Does, IsBrought};
 ghost use Rattle.router_host.specs.Happening.{CatchesUp, Happens, IsSlotBlocked};
 ghost use Rattle.router_host.specs.Keeping.{CanWait};
 
@@ -13,7 +15,8 @@ use crate::kept::Kept;
 use bus_view::BusView;
 use outbox_core::{Content, OwnMessage, ReplyContent};
 use router_core::{Action, Event, Gate};
-use router_host_core::{Ended, Post, Pulled, SLOTS, Socket, Todo};
+use router_host_core::{EndCause, Ended, Post, Pulled, SLOTS, Socket, Todo};
+use seq_bus_core::Conn;
 use seq_bus_core::limits::MAX_BATCH;
 use std::alloc::AllocError;
 
@@ -32,19 +35,42 @@ impl<V: BusView, G: Gate, P: Post<V>, S: Socket> Host<V, G, P, S> {
     /// # Errors
     ///
     /// There was no memory for something, or no room for a start. It is done first in the next turn, which is to come some time later.
-    pub fn turn(&mut self, right: &V::Right) -> Result<(), AllocError> {
+    pub fn turn(&mut self, right: &V::Right) -> Result<(), AllocError>
+        ensures does { Does V.told G.passes V.alone P.puts P.starts P.takes self.old self.new }
+        ensures ok { OnOk result (self.new.kept ≡ None) }
+    {
+        let done = self.do_all(right);
+        self.end_turn(right, done.is_err());
+        done
+    }
+
+    fn do_all(&mut self, right: &V::Right) -> Result<(), AllocError>
+        ensures does { Does V.told G.passes V.alone P.puts P.starts P.takes self.old self.new }
+        ensures ok { OnOk result (self.new.kept ≡ None) }
+    {
         let served = self.serve_all(right);
+        self.flush_all();
+        served?;
+        self.let_go_all(right)
+    }
+
+    /// Gives each socket what waits for it.
+    fn flush_all(&mut self)
+        ensures does { Does V.told G.passes V.alone P.puts P.starts P.takes self.old self.new }
+        ensures same { self.new.kept ≡ self.old.kept }
+    {
         self.carrier.lines.flush_all();
-        let done = match served {
-            Ok(()) => self.let_go_all(right),
-            Err(AllocError) => Err(AllocError),
-        };
-        if done.is_err() {
+    }
+
+    /// What failed is done first in the next turn.
+    fn end_turn(&mut self, right: &V::Right, failed: bool)
+        ensures { self.new ≡ self.old }
+    {
+        if failed {
             self.carrier.lines.note_all();
             self.carrier.slots.note_all();
         }
         self.carrier.post.turn_ends(right);
-        done
     }
 
     /// Time has passed.
@@ -52,21 +78,32 @@ impl<V: BusView, G: Gate, P: Post<V>, S: Socket> Host<V, G, P, S> {
     /// # Errors
     ///
     /// There was no memory for it. A tick is wanted still.
-    pub fn tick(&mut self, right: &V::Right) -> Result<(), AllocError> {
+    pub fn tick(&mut self, right: &V::Right) -> Result<(), AllocError>
+        ensures happens { OnOk result
+            (Happens V.told G.passes V.alone P.puts P.starts self.old Tick self.new) }
+        ensures err { OnErr result (CatchesUp P.puts P.starts self.old self.new) }
+    {
         self.bring(right, &mut Event::Tick)?;
         self.looks = false;
         self.carrier.post.turn_ends(right);
         Ok(())
     }
 
-    fn serve_all(&mut self, right: &V::Right) -> Result<(), AllocError> {
+    fn serve_all(&mut self, right: &V::Right) -> Result<(), AllocError>
+        ensures does { Does V.told G.passes V.alone P.puts P.starts P.takes self.old self.new }
+        ensures ok { OnOk result (self.new.kept ≡ None) }
+    {
         self.catch_up(right)?;
         self.serve_kept(right)?;
         self.serve_ready(right)?;
         self.take_mail(right)
     }
 
-    fn let_go_all(&mut self, right: &V::Right) -> Result<(), AllocError> {
+    fn let_go_all(&mut self, right: &V::Right) -> Result<(), AllocError>
+        requires none { self.old.kept ≡ None }
+        ensures does { Does V.told G.passes V.alone P.puts P.starts P.takes self.old self.new }
+        ensures ok { OnOk result (self.new.kept ≡ None) }
+    {
         self.close_over(right)?;
         self.put_out_all(right)
     }
@@ -94,6 +131,7 @@ impl<V: BusView, G: Gate, P: Post<V>, S: Socket> Host<V, G, P, S> {
         ensures goes_on { GoesOn P.puts P.starts actions.items self.old.carried self.new.undone
             self.new.carried }
         ensures engine { self.new.engine ≡ self.old.engine }
+        ensures kept { self.new.kept ≡ self.old.kept }
     {
         self.changes_rules = seem_of_rules(&actions);
         let mut actions = actions;
@@ -128,9 +166,9 @@ impl<V: BusView, G: Gate, P: Post<V>, S: Socket> Host<V, G, P, S> {
     /// Serves an event. Where there is no memory for it, or no room for what events before it brought, it is kept for the next turn.
     fn serve(&mut self, right: &V::Right, event: Event<V::Note>) -> Result<(), AllocError>
         requires { CanWait V.registry_of self.old.engine.view.registry event }
-        ensures happens { OnOk result
-            (Happens V.told G.passes V.alone P.puts P.starts self.old event self.new) }
-        ensures err { OnErr result (CatchesUp P.puts P.starts self.old self.new) }
+        ensures brought { IsBrought V.told G.passes V.alone P.puts P.starts self.old event
+            self.new }
+        ensures ok { OnOk result (self.new.kept ≡ self.old.kept) }
     {
         let mut event = event;
         match self.bring(right, &mut event) {
@@ -143,7 +181,10 @@ impl<V: BusView, G: Gate, P: Post<V>, S: Socket> Host<V, G, P, S> {
     }
 
     /// Serves what was kept.
-    fn serve_kept(&mut self, right: &V::Right) -> Result<(), AllocError> {
+    fn serve_kept(&mut self, right: &V::Right) -> Result<(), AllocError>
+        ensures does { Does V.told G.passes V.alone P.puts P.starts P.takes self.old self.new }
+        ensures ok { OnOk result (self.new.kept ≡ None) }
+    {
         match self.kept.take() {
             None => Ok(()),
             Some(Kept::Happening(event)) => self.serve(right, event),
@@ -152,7 +193,11 @@ impl<V: BusView, G: Gate, P: Post<V>, S: Socket> Host<V, G, P, S> {
     }
 
     /// Serves each connection that is ready.
-    fn serve_ready(&mut self, right: &V::Right) -> Result<(), AllocError> {
+    fn serve_ready(&mut self, right: &V::Right) -> Result<(), AllocError>
+        requires none { self.old.kept ≡ None }
+        ensures does { Does V.told G.passes V.alone P.puts P.starts P.takes self.old self.new }
+        ensures ok { OnOk result (self.new.kept ≡ None) }
+    {
         match self.carrier.lines.take_ready() {
             Todo::All => {
                 for key in 0..self.carrier.lines.len() {
@@ -170,7 +215,11 @@ impl<V: BusView, G: Gate, P: Post<V>, S: Socket> Host<V, G, P, S> {
     }
 
     /// Serves a connection: its whole messages, up to its share of a turn. Where there is none, it is read first.
-    fn serve_line(&mut self, right: &V::Right, key: usize) -> Result<(), AllocError> {
+    fn serve_line(&mut self, right: &V::Right, key: usize) -> Result<(), AllocError>
+        requires none { self.old.kept ≡ None }
+        ensures does { Does V.told G.passes V.alone P.puts P.starts P.takes self.old self.new }
+        ensures ok { OnOk result (self.new.kept ≡ None) }
+    {
         let named = self.engine.number_of(key).is_some();
         if !self.carrier.lines.begin(key, named) {
             return Ok(());
@@ -186,7 +235,11 @@ impl<V: BusView, G: Gate, P: Post<V>, S: Socket> Host<V, G, P, S> {
 
     /// Serves whole messages of a connection, up to its share of a turn: one by one, but twice as many at once each time that those
     /// before seem to have changed rules.
-    fn serve_share(&mut self, right: &V::Right, key: usize) -> Result<(), AllocError> {
+    fn serve_share(&mut self, right: &V::Right, key: usize) -> Result<(), AllocError>
+        requires none { self.old.kept ≡ None }
+        ensures does { Does V.told G.passes V.alone P.puts P.starts P.takes self.old self.new }
+        ensures ok { OnOk result (self.new.kept ≡ None) }
+    {
         let mut left = SHARE;
         let mut count = 1;
         for _ in 0..SHARE {
@@ -205,12 +258,11 @@ impl<V: BusView, G: Gate, P: Post<V>, S: Socket> Host<V, G, P, S> {
     }
 
     /// Serves the next messages of a connection, so many at most.
-    fn serve_up_to(
-        &mut self,
-        right: &V::Right,
-        key: usize,
-        count: usize,
-    ) -> Result<(), AllocError> {
+    fn serve_up_to(&mut self, right: &V::Right, key: usize, count: usize) -> Result<(), AllocError>
+        requires none { self.old.kept ≡ None }
+        ensures does { Does V.told G.passes V.alone P.puts P.starts P.takes self.old self.new }
+        ensures ok { OnOk result (self.new.kept ≡ None) }
+    {
         if count < 2 {
             return self.serve(right, Event::Next { key });
         }
@@ -219,7 +271,11 @@ impl<V: BusView, G: Gate, P: Post<V>, S: Socket> Host<V, G, P, S> {
     }
 
     /// Reads from a connection, once.
-    fn read(&mut self, right: &V::Right, key: usize) -> Result<(), AllocError> {
+    fn read(&mut self, right: &V::Right, key: usize) -> Result<(), AllocError>
+        requires none { self.old.kept ≡ None }
+        ensures does { Does V.told G.passes V.alone P.puts P.starts P.takes self.old self.new }
+        ensures ok { OnOk result (self.new.kept ≡ None) }
+    {
         match self.carrier.lines.pull(key, &mut self.room) {
             Pulled::Bytes(count) => self.feed(right, key, count),
             Pulled::Nothing => Ok(()),
@@ -231,7 +287,11 @@ impl<V: BusView, G: Gate, P: Post<V>, S: Socket> Host<V, G, P, S> {
     }
 
     /// The engine is given the first bytes of the room.
-    fn feed(&mut self, right: &V::Right, key: usize, count: usize) -> Result<(), AllocError> {
+    fn feed(&mut self, right: &V::Right, key: usize, count: usize) -> Result<(), AllocError>
+        requires none { self.old.kept ≡ None }
+        ensures does { Does V.told G.passes V.alone P.puts P.starts P.takes self.old self.new }
+        ensures ok { OnOk result (self.new.kept ≡ None) }
+    {
         let bytes = self.room.get(..count).unwrap_or(b"");
         match Vec::from_slice(self.alloc, bytes) {
             Ok(piece) => self.serve(right, Event::Bytes { key, piece }),
@@ -243,7 +303,11 @@ impl<V: BusView, G: Gate, P: Post<V>, S: Socket> Host<V, G, P, S> {
     }
 
     /// Takes the mail that came for the slots of this router.
-    fn take_mail(&mut self, right: &V::Right) -> Result<(), AllocError> {
+    fn take_mail(&mut self, right: &V::Right) -> Result<(), AllocError>
+        requires none { self.old.kept ≡ None }
+        ensures does { Does V.told G.passes V.alone P.puts P.starts P.takes self.old self.new }
+        ensures ok { OnOk result (self.new.kept ≡ None) }
+    {
         match self.carrier.slots.take() {
             Todo::All => {
                 let first = self.carrier.slots.first();
@@ -265,6 +329,9 @@ impl<V: BusView, G: Gate, P: Post<V>, S: Socket> Host<V, G, P, S> {
 
     /// Takes the mail of a slot, until there is no more, or its connection has enough. Where its socket takes no more bytes, none is taken.
     fn take_mail_of(&mut self, right: &V::Right, slot: u16) -> Result<(), AllocError>
+        requires none { self.old.kept ≡ None }
+        ensures does { Does V.told G.passes V.alone P.puts P.starts P.takes self.old self.new }
+        ensures ok { OnOk result (self.new.kept ≡ None) }
         ensures blocked { IsSlotBlocked self.old slot → self.new ≡ self.old }
     {
         self.carrier.slots.look_at(slot);
@@ -298,6 +365,9 @@ impl<V: BusView, G: Gate, P: Post<V>, S: Socket> Host<V, G, P, S> {
 
     /// Takes an envelope of a slot. Tells whether there may be more to be taken now.
     fn take_one(&mut self, right: &V::Right, slot: u16) -> Result<bool, AllocError>
+        requires none { self.old.kept ≡ None }
+        ensures does { Does V.told G.passes V.alone P.puts P.starts P.takes self.old self.new }
+        ensures ok { OnOk result (self.new.kept ≡ None) }
         ensures blocked { IsSlotBlocked self.old slot → self.new ≡ self.old }
     {
         if !self.may_take(slot) {
@@ -311,7 +381,11 @@ impl<V: BusView, G: Gate, P: Post<V>, S: Socket> Host<V, G, P, S> {
     }
 
     /// Lets go of the connections that are over.
-    fn close_over(&mut self, right: &V::Right) -> Result<(), AllocError> {
+    fn close_over(&mut self, right: &V::Right) -> Result<(), AllocError>
+        requires none { self.old.kept ≡ None }
+        ensures does { Does V.told G.passes V.alone P.puts P.starts P.takes self.old self.new }
+        ensures ok { OnOk result (self.new.kept ≡ None) }
+    {
         match self.carrier.lines.take_over() {
             Todo::All => {
                 for key in 0..self.carrier.lines.len() {
@@ -329,19 +403,33 @@ impl<V: BusView, G: Gate, P: Post<V>, S: Socket> Host<V, G, P, S> {
     }
 
     /// Lets go of a connection, where it is over.
-    fn close(&mut self, right: &V::Right, key: usize) -> Result<(), AllocError> {
+    fn close(&mut self, right: &V::Right, key: usize) -> Result<(), AllocError>
+        requires none { self.old.kept ≡ None }
+        ensures does { Does V.told G.passes V.alone P.puts P.starts P.takes self.old self.new }
+        ensures ok { OnOk result (self.new.kept ≡ None) }
+    {
         let Some(cause) = self.carrier.lines.let_go(key) else {
             return Ok(());
         };
+        self.note_ended(key, cause);
+        self.serve(right, Event::Closed { key })
+    }
+
+    /// Notes that a connection is over.
+    fn note_ended(&mut self, key: usize, cause: EndCause)
+        ensures { self.new ≡ self.old }
+    {
         if self.ended.len() < MOST_ENDED {
             let number = self.engine.number_of(key);
             let _unnoted = self.ended.push(Ended { key, number, cause });
         }
-        self.serve(right, Event::Closed { key })
     }
 
     /// Puts out whoever took no more mail. What that announces may put out more.
-    fn put_out_all(&mut self, right: &V::Right) -> Result<(), AllocError> {
+    fn put_out_all(&mut self, right: &V::Right) -> Result<(), AllocError>
+        ensures does { Does V.told G.passes V.alone P.puts P.starts P.takes self.old self.new }
+        ensures same { self.new.kept ≡ self.old.kept }
+    {
         for _ in 0..SLOTS {
             if !self.put_out_one(right)? {
                 return Ok(());
@@ -351,23 +439,48 @@ impl<V: BusView, G: Gate, P: Post<V>, S: Socket> Host<V, G, P, S> {
     }
 
     /// Puts out one who took no more mail. Tells whether there was one.
-    fn put_out_one(&mut self, right: &V::Right) -> Result<bool, AllocError> {
+    fn put_out_one(&mut self, right: &V::Right) -> Result<bool, AllocError>
+        ensures does { Does V.told G.passes V.alone P.puts P.starts P.takes self.old self.new }
+        ensures same { self.new.kept ≡ self.old.kept }
+    {
         let Some(conn) = self.carrier.put_out.take() else {
             return Ok(false);
         };
-        let full = &mut Event::Full {
-            number: conn.number,
-        };
-        if self.bring(right, full).is_err() {
-            self.carrier.put_out.add(conn);
-            return Err(AllocError);
+        match self.tell_full(right, conn) {
+            Ok(()) => {
+                self.look_again(right, conn);
+                Ok(true)
+            }
+            Err(AllocError) => {
+                self.carrier.put_out.add(conn);
+                Err(AllocError)
+            }
         }
+    }
+
+    /// The engine is told that a connection took no more mail.
+    fn tell_full(&mut self, right: &V::Right, conn: Conn) -> Result<(), AllocError>
+        ensures happens { OnOk result
+            (Happens V.told G.passes V.alone P.puts P.starts self.old (Full conn.number) self.new) }
+        ensures err { OnErr result (CatchesUp P.puts P.starts self.old self.new) }
+    {
+        self.bring(
+            right,
+            &mut Event::Full {
+                number: conn.number,
+            },
+        )
+    }
+
+    /// The router of a connection looks at it again.
+    fn look_again(&mut self, right: &V::Right, conn: Conn)
+        ensures { self.new ≡ self.old }
+    {
         if self.carrier.slots.contains(conn.slot) {
             self.looks = true;
         } else {
             self.carrier.post.look(right, conn);
         }
-        Ok(true)
     }
 }
 

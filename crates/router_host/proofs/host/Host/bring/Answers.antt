@@ -8,4 +8,5 @@ returns-clause-happens g c = record {
   actions = c.in_ok-actions.actions.items;
   serves = rw (c.carry_out.ensures.engine, ← c.self.view_is) c.in_ok-actions.ensures.served;
   carried = rw (← c.self.view_is) c.carry_out.ensures.goes_on;
+  kept = rw (← c.self.view_is) c.carry_out.ensures.kept;
 }

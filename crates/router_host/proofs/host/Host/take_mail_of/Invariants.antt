@@ -1,7 +1,11 @@
--- Where the socket takes no more bytes, nothing was done.
-use Rattle.std.proofs.Common.{◌≡◌}
+-- What was done so far.
+use Rattle.std.proofs.Common.{◌≡◌, None}
+use Rattle.router_host.specs.Doing.{Does}
 use Rattle.router_host.specs.Happening.{IsSlotBlocked}
 use Rattle.router_host.proofs.host.Host.take_mail_of.Given as goal
 
 abbrev pub invariant-loop : goal.invariant-loop
-invariant-loop g l = IsSlotBlocked l.fn.self l.slot → l.self ≡ l.fn.self
+invariant-loop g l =
+    (Does g.V.BusView.told g.G.Gate.passes g.V.BusView.alone g.P.Post.puts g.P.Post.starts g.P.Post.takes l.fn.self l.self)
+    × (l.self.kept ≡ None)
+    × (IsSlotBlocked l.fn.self l.slot → l.self ≡ l.fn.self)

@@ -1,0 +1,12 @@
+use Rattle.std.proofs.Common.{refl}
+use Rattle.router_host.specs.Doing.{Resumes}
+use Rattle.router_host.proofs.Doings.{does_one}
+use Rattle.router_host.proofs.host.Host.serve_kept.Goals as goal
+
+pub returns-in-Some-Happening-clause-does : goal.returns-in-Some-Happening-clause-does
+returns-in-Some-Happening-clause-does g c =
+    does_one Resumes (
+      c.in-Some-Happening.event,
+      rw (← c.self.view_is, ← c.take.ensures.value, c.in-Some-Happening.is, c.in-Some-Happening.field-0-is) refl,
+      rw (← c.self.view_is) (rw (c.take.ensures.after) at c.serve.ensures.brought),
+    )

@@ -1,0 +1,105 @@
+-- All that a host does.
+use Rattle.std.specs.Prelude.{◌≡◌, ◌⊎◌, ℕ, Bool, Some, None, Option, List, slice_set}
+use Rattle.seq_bus_core.specs.Histories.{History}
+use Rattle.seq_bus_core.specs.declared.connection.Conn.{Conn}
+use Rattle.outbox_core.specs.declared.envelope.Envelope.{Envelope}
+use Rattle.router_core.specs.declared.event.Event.{Event}
+use Rattle.router_core.specs.declared.event.Event.TheVariants as event
+use Rattle.router_core.specs.Deeds.{GatedCall}
+use Rattle.router_host_core.specs.declared.ending.EndCause.{EndCause}
+use Rattle.router_host_core.specs.declared.post.StartRequest.{StartRequest}
+use Rattle.router_host_core.specs.Carrying.{Each, line_at, ended_at}
+use Rattle.router_host_core.specs.Sockets.{IsFlushedAt, IsTakenOut, cause_of, let_go}
+use Rattle.router_host_core.specs.States.{LineState}
+use Rattle.router_host.specs.Happening.{CatchesUp, Happens, IsSlotBlocked}
+use Rattle.router_host.specs.States.{Hosted}
+
+-- What a host does by itself.
+pub data Deed (N : Type 0) : Type 0 where
+  -- What events before brought goes on.
+  Catches : Deed N
+  -- The event that was kept happens, or is kept still.
+  Resumes : Deed N
+  -- Bytes of a connection, or whole messages of it, are an event.
+  Hears : Event N → Deed N
+  -- An envelope of this slot is taken from the post, and is an event.
+  Takes : ℕ → Envelope N → Deed N
+  -- The socket of the connection of this key can be read no more.
+  Ends : ℕ → EndCause → Deed N
+  -- The socket of the connection of this key is given what waits for it.
+  Flushes : ℕ → Deed N
+  -- The connection of this key is over, and let go of, which is an event.
+  LetsGo : ℕ → Deed N
+  -- This connection took no more mail, which is an event.
+  PutsOut : Conn → Deed N
+
+-- an event of bytes or messages of connections
+abbrev pub IsHeard : {N : Type 0} → Event N → Type 0
+IsHeard (event.Bytes key piece) = Unit {0}
+IsHeard (event.Next key) = Unit {0}
+IsHeard (event.Turn keys) = Unit {0}
+IsHeard other = ⊥
+
+module _ {P N G : Type 0} where
+  abbrev pub with_lines : Hosted P G N → List (Option LineState) → Hosted P G N
+  with_lines s lines = record s { carried = record s.carried { lines = lines } }
+
+  abbrev pub with_post : Hosted P G N → P → Hosted P G N
+  with_post s post = record s { carried = record s.carried { post = post } }
+
+  abbrev pub with_full : Hosted P G N → List (Option Conn) → Hosted P G N
+  with_full s full = record s { carried = record s.carried { full = full } }
+
+module _ {P N G : Type 0} (told : N → History) (passes : G → GatedCall → G → Type 0)
+    (alone : Bool) (puts : P → Conn → Envelope N → P → Type 0)
+    (starts : P → StartRequest → P → Type 0) where
+  -- The event happens; or what events before brought goes on, and the event is kept.
+  abbrev pub IsBrought : Hosted P G N → Event N → Hosted P G N → Type 0
+  IsBrought before e after =
+      Happens told passes alone puts starts before e after
+      ⊎ ((between : Hosted P G N) × CatchesUp puts starts before between
+      × (after ≡ record between { kept = Some e }))
+
+  -- It happens that the connection took no more mail; or what events before brought goes on, and it is noted once more.
+  abbrev pub IsPutOut : Hosted P G N → Conn → Hosted P G N → Type 0
+  IsPutOut before conn after =
+      Happens told passes alone puts starts before (event.Full conn.number) after
+      ⊎ ((between : Hosted P G N) × CatchesUp puts starts before between
+      × (after ≡ with_full between (slice_set between.carried.full conn.slot (Some conn))))
+
+module _ {P N G : Type 0} (told : N → History) (passes : G → GatedCall → G → Type 0)
+    (alone : Bool) (puts : P → Conn → Envelope N → P → Type 0)
+    (starts : P → StartRequest → P → Type 0)
+    (takes : P → ℕ → Envelope N → P → Type 0) where
+  -- Nothing else is done. While an event is kept, none of these but itself is served, and no envelope is taken.
+  abbrev pub IsDone : Deed N → Hosted P G N → Hosted P G N → Type 0
+  IsDone Catches before after = CatchesUp puts starts before after
+  IsDone Resumes before after =
+      (e : Event N) × (before.kept ≡ Some e)
+      × IsBrought told passes alone puts starts (record before { kept = None }) e after
+  IsDone (Hears e) before after =
+      (before.kept ≡ None) × IsHeard e × IsBrought told passes alone puts starts before e after
+  IsDone (Takes slot envelope) before after =
+      (before.kept ≡ None) × (IsSlotBlocked before slot → ⊥)
+      × ((post : P) × takes before.carried.post slot envelope post
+      × IsBrought told passes alone puts starts (with_post before post)
+      (event.Mail slot envelope) after)
+  IsDone (Ends key cause) before after =
+      after ≡ with_lines before
+      (ended_at before.carried.lines key cause (line_at before.carried.lines key))
+  IsDone (Flushes key) before after =
+      (lines : List (Option LineState)) × IsFlushedAt key before.carried.lines lines
+      × (after ≡ with_lines before lines)
+  IsDone (LetsGo key) before after =
+      (before.kept ≡ None)
+      × ((cause : EndCause) × (cause_of (line_at before.carried.lines key) ≡ Some cause)
+      × IsBrought told passes alone puts starts
+      (with_lines before (let_go before.carried.lines key (Some cause))) (event.Closed key) after)
+  IsDone (PutsOut conn) before after =
+      (full : List (Option Conn)) × IsTakenOut conn before.carried.full full
+      × IsPutOut told passes alone puts starts (with_full before full) conn after
+
+  -- Such deeds are done, one after the other, and nothing else.
+  pub record Does (before after : Hosted P G N) : Type 0 where
+    pub deeds : List (Deed N)
+    pub done : Each IsDone deeds before after

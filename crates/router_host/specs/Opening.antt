@@ -1,0 +1,41 @@
+-- A connection comes to a host.
+use Rattle.std.specs.Prelude.{◌≡◌, ◌<◌, ℕ, Bool, Option, None, List, [], ◌++◌, length, replicate}
+use Rattle.seq_bus_core.specs.Histories.{History}
+use Rattle.seq_bus_core.specs.declared.connection.Conn.{Conn}
+use Rattle.outbox_core.specs.declared.envelope.Envelope.{Envelope}
+use Rattle.router_core.specs.declared.action.Action.{Action}
+use Rattle.router_core.specs.declared.event.Event.TheVariants.{Opened}
+use Rattle.router_core.specs.Deeds.{GatedCall}
+use Rattle.router.specs.OneEvent.{IsServedWell}
+use Rattle.router_host_core.specs.declared.post.StartRequest.{StartRequest}
+use Rattle.router_host_core.specs.Carrying.{GoesOn, with_line}
+use Rattle.router_host_core.specs.States.{new_line}
+use Rattle.router_host.specs.Doing.{with_lines}
+use Rattle.router_host.specs.Happening.{CatchesUp}
+use Rattle.router_host.specs.States.{Hosted}
+
+module _ {P N G : Type 0} (puts : P → Conn → Envelope N → P → Type 0)
+    (starts : P → StartRequest → P → Type 0) where
+  -- What events before brought goes on, and there may be places for more connections. Nothing else is done.
+  pub record MakesRoom (before after : Hosted P G N) : Type 0 where
+    pub between : Hosted P G N
+    pub catches_up : CatchesUp puts starts before between
+    pub places : ℕ
+    pub is : after ≡ with_lines between (between.carried.lines ++ replicate places None)
+
+-- Once all that events before brought is carried out and there is a place for it, a connection stands at its key that came just now, the
+-- engine is told, and the actions that this brings are carried out, up to a start that there is no room for now. Nothing else is done.
+pub record Opens {P N G : Type 0} (told : N → History) (passes : G → GatedCall → G → Type 0)
+    (alone : Bool) (puts : P → Conn → Envelope N → P → Type 0)
+    (starts : P → StartRequest → P → Type 0)
+    (before : Hosted P G N) (key : ℕ) (challenge : Option (List ℕ)) (after : Hosted P G N) : Type 0 where
+  pub between : Hosted P G N
+  pub makes_room : MakesRoom puts starts before between
+  pub none_left : between.undone ≡ []
+  pub has_place : key < length between.carried.lines
+  pub actions : List (Action N)
+  pub serves : IsServedWell told passes alone between.engine (Opened key challenge) actions after.engine
+  pub carried : GoesOn puts starts actions
+      (record between.carried { lines = with_line between.carried.lines key new_line })
+      after.undone after.carried
+  pub kept : after.kept ≡ between.kept
