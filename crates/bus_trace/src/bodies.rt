@@ -8,6 +8,7 @@ ghost use Rattle.seq_bus_core.specs.Answers.{OneName, HasOwner, NameList};
 ghost use Rattle.bus_view.specs.Bodies.{IsBody};
 ghost use Rattle.trace_lines.specs.TextViews.{lent_text};
 
+use byteorder::{ByteOrder, LittleEndian};
 use std::alloc::{AllocError, Global};
 
 /// The string that stands at a place of a body, behind its padding, and the place after it.
@@ -26,7 +27,7 @@ fn read_string(body: &[u8], at: usize) -> Result<(&str, usize), AllocError>
     let Some((length, rest)) = rest.split_first_chunk::<4>() else {
         return Err(AllocError);
     };
-    let length = u32::from_le_bytes(*length) as usize;
+    let length = LittleEndian::read_u32(length) as usize;
     if rest.len() <= length {
         return Err(AllocError);
     }

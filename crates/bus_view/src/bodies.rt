@@ -2,7 +2,7 @@
 
 ghost use Rattle.std.specs.Prelude.{◌≡◌, ◌+◌, ◌-◌, ◌<◌, ◌≤◌, ◌^◌, ◌++◌, ◌∷◌, [], ℕ, List, length, take, drop};
 ghost use Rattle.std.specs.Prelude.{option_map, Some, IfOk, IfErr, OnOk, OnErr};
-ghost use Rattle.std.specs.Int.{w32};
+ghost use Rattle.std.specs.Int.{w32, to_le_bytes};
 ghost use Rattle.names.specs.Texts.{Text};
 ghost use Rattle.marshal_core.specs.Spelling.{pads, text_spelling, number_spelling};
 ghost use Rattle.marshal_core.specs.Spelling.{boolean_number};
@@ -12,6 +12,7 @@ ghost use Rattle.bus_view.specs.Bodies.{Answers, AreListed, HasGrown};
 ghost use Rattle.bus_view.specs.declared.answer.AskFault.TheVariants.{NoMemory};
 
 use crate::answer::{AskFault, Asked};
+use byteorder::{ByteOrder, LittleEndian};
 use names::{BusName, ConnectionName};
 use std::alloc::AllocError;
 
@@ -23,7 +24,8 @@ fn append_string(body: &mut Vec<u8>, text: &str) -> Result<(), AllocError>
 {
     let bytes = text.as_bytes();
     body.reserve(bytes.len() + 5)?;
-    let length = (bytes.len() as u32).to_le_bytes();
+    let mut length = [0; 4];
+    LittleEndian::write_u32(&mut length, bytes.len() as u32);
     body.extend_from_slice(&length).unwrap();
     body.extend_from_slice(bytes).unwrap();
     body.push(0).unwrap();
@@ -36,8 +38,9 @@ fn append_boolean(body: &mut Vec<u8>, value: bool) -> Result<(), AllocError>
         body.old.items ++ number_spelling Little w32 0 (boolean_number value)) }
     ensures err { OnErr result (body.new.items ≡ body.old.items) }
 {
-    let number = u32::from(value);
-    body.extend_from_slice(&number.to_le_bytes())?;
+    let mut number = [0; 4];
+    LittleEndian::write_u32(&mut number, u32::from(value));
+    body.extend_from_slice(&number)?;
     Ok(())
 }
 
@@ -93,7 +96,7 @@ pub fn end_names(body: &mut Vec<u8>, start: usize) -> Asked
         Answers result (Some (NameList names)) before body.new.items }
 {
     let count = body.len() - start - 4;
-    write_count(body.as_mut_slice(), start, &(count as u32).to_le_bytes());
+    write_count(body.as_mut_slice(), start, count as u32);
     Asked::Body
 }
 
@@ -107,11 +110,11 @@ pub fn undo_names(body: &mut Vec<u8>, start: usize) -> AskFault
 }
 
 /// Writes the length of an array that begins at this place.
-fn write_count(body: &mut [u8], start: usize, count: &[u8; 4])
+fn write_count(body: &mut [u8], start: usize, count: u32)
     requires { start + 4 ≤ length body.old }
-    ensures { body.new ≡ take start body.old ++ count.now ++ drop (start + 4) body.old }
+    ensures { body.new ≡ take start body.old ++ to_le_bytes w32 count ++ drop (start + 4) body.old }
 {
-    body[start..start + 4].copy_from_slice(count);
+    LittleEndian::write_u32(&mut body[start..start + 4], count);
 }
 
 /// Appends a string to those of an array that begins at this place of the body.

@@ -15,6 +15,7 @@ use crate::fields::{ROOM, put_end, put_reply_serial, put_string};
 use crate::layout::lay_out;
 use crate::strings;
 use arrayvec::ArrayVec;
+use byteorder::{ByteOrder, LittleEndian};
 use match_rules::MessageKind;
 use message_core::HeaderField;
 use seq_bus_core::ErrorKind;
@@ -75,7 +76,9 @@ fn put_number(serial: u32, to: ReplyTo, number: u32, out: &mut Vec<u8>) -> Resul
         (message_of (reply_header serial to) number_types (number_values number))) }
     ensures err { OnErr result (out.new.items ≡ out.old.items) }
 {
-    put_reply(serial, to, "u", &number.to_le_bytes(), out)
+    let mut body = [0; 4];
+    LittleEndian::write_u32(&mut body, number);
+    put_reply(serial, to, "u", &body, out)
 }
 
 /// Appends a reply with the unique name of a connection.

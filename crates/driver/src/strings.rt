@@ -6,6 +6,7 @@ ghost use Rattle.marshal_core.specs.Spelling.{IsString, text_spelling};
 ghost use Rattle.driver.specs.OwnMessages.{owner_text};
 
 use arrayvec::ArrayVec;
+use byteorder::{ByteOrder, LittleEndian};
 use names::{BusName, ConnectionName};
 
 /// The most bytes of the strings of a message of the bus.
@@ -22,7 +23,9 @@ pub fn put_string(body: &mut ArrayVec<u8, ROOM>, text: &str)
     let zeros = [0u8; 4];
     let gap = (4 - body.len() % 4) % 4;
     let _ = body.try_extend_from_slice(&zeros[..gap]);
-    let _ = body.try_extend_from_slice(&(text.len() as u32).to_le_bytes());
+    let mut length = [0; 4];
+    LittleEndian::write_u32(&mut length, text.len() as u32);
+    let _ = body.try_extend_from_slice(&length);
     let _ = body.try_extend_from_slice(text.as_bytes());
     body.push(0);
 }

@@ -5,6 +5,7 @@ ghost use Rattle.message_core.specs.declared.fault.FrameFault.TheVariants.{NoMem
 ghost use Rattle.message_core.specs.Announcements.{announced, announced_in, number as number_at, whole_length as length_of};
 
 use crate::fault::FrameFault;
+use byteorder::{BigEndian, ByteOrder, LittleEndian};
 use marshal_core::Order;
 
 /// The bytes before the elements of the field array.
@@ -22,15 +23,10 @@ pub fn number(order: Order, place: usize, bytes: &[u8]) -> u32
     ensures value { result ≡ number_at order place bytes.now }
     ensures fits { result < 2 ^ 32 }
 {
-    let four = [
-        bytes[place],
-        bytes[place + 1],
-        bytes[place + 2],
-        bytes[place + 3],
-    ];
+    let four = &bytes[place..place + 4];
     match order {
-        Order::Little => u32::from_le_bytes(four),
-        Order::Big => u32::from_be_bytes(four),
+        Order::Little => LittleEndian::read_u32(four),
+        Order::Big => BigEndian::read_u32(four),
     }
 }
 

@@ -6,6 +6,7 @@ ghost use Rattle.marshal_core.specs.Spelling.{ended, pad_len, pads, number_bytes
 ghost use Rattle.message_core.specs.Kinds.{code_of};
 
 use crate::header_field::HeaderField;
+use byteorder::{BigEndian, ByteOrder, LittleEndian};
 use marshal_core::Order;
 
 /// How many bytes there are from a place to the next multiple of eight.
@@ -30,10 +31,12 @@ pub fn put_number(output: &mut Vec<u8>, order: Order, number: u32)
     ensures items { output.new.items ≡ output.old.items ++ number_bytes order w32 number }
     ensures capacity { vec_capacity output.old ≤ vec_capacity output.new }
 {
+    let mut four = [0; 4];
     match order {
-        Order::Little => put(output, &number.to_le_bytes()),
-        Order::Big => put(output, &number.to_be_bytes()),
+        Order::Little => LittleEndian::write_u32(&mut four, number),
+        Order::Big => BigEndian::write_u32(&mut four, number),
     }
+    put(output, &four);
 }
 
 /// Puts the padding from a place of the message to the next multiple of eight.
