@@ -5,7 +5,7 @@ use match_rules::{Facts, Rule};
 use names::BusName;
 use owner_queues::Reply as QueueReply;
 use registry_snapshots::{Naming, Seat, Shared};
-use seq_bus_core::{Call, Change, MonitorRules, Outcome, Reply};
+use seq_bus_core::{CallHead, Change, MonitorRules, Outcome, Reply};
 use std::alloc::Global;
 use std::sync::Wait;
 
@@ -102,7 +102,7 @@ impl<J: Naming, R: Wait> Bus<'_, J, R> {
     pub fn start(&mut self, name: BusName) -> Option<u64> {
         let (connection, call) = (
             1,
-            Call {
+            CallHead {
                 serial: 1,
                 flags: 0,
             },

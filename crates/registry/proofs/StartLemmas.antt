@@ -8,7 +8,7 @@ use Rattle.names.specs.BusName.{is_bus}
 use Rattle.seq_bus_core.specs.BusState.{BusState, Connection, RunningStart, conn_of, connection_of, head_of, is_client, is_service, start_of}
 use Rattle.seq_bus_core.specs.Consistency.{IsConsistent, Pairwise}
 use Rattle.seq_bus_core.specs.Steps.{Stepped, fail, fail_with_start, has_room_for_ticket, hold, is_run, pass_or_wait, replied, settled, start, step, unchanged, wait_for, wait_with_start}
-use Rattle.seq_bus_core.specs.declared.change.Call.{Call}
+use Rattle.seq_bus_core.specs.declared.change.CallHead.{CallHead}
 use Rattle.seq_bus_core.specs.declared.change.Change.TheVariants.{Start, Hold}
 use Rattle.seq_bus_core.specs.declared.outcome.Reply.{Reply}
 use Rattle.seq_bus_core.specs.declared.outcome.Reply.TheVariants.{Gone, LimitsExceeded, Done, AlreadyRunning, Held, ServiceUnknown, Ignored}
@@ -41,7 +41,7 @@ wait_by s name = by_tests (is_service s name) (has_room_for_ticket s name)
     by_tests true false = refl
     by_tests true true = started (start_of s name)
 
-pub start_by : (s : BusState) (seat number : ℕ) (name : Text) (call : Call) → step s seat (Start number name call) ≡ (state_told s name (reply_to_start s number name), told_to_wait s name (reply_to_start s number name))
+pub start_by : (s : BusState) (seat number : ℕ) (name : Text) (call : CallHead) → step s seat (Start number name call) ≡ (state_told s name (reply_to_start s number name), told_to_wait s name (reply_to_start s number name))
 start_by s seat number name call = of_client s number (start s name) ∙ by_client (is_client s.connections number)
   where
     by_owner : (b : Bool) → (if b then unchanged s AlreadyRunning else wait_for s name) ≡ by_reply s name (if b then AlreadyRunning else reply_to_wait s name)
@@ -52,7 +52,7 @@ start_by s seat number name call = of_client s number (start s name) ∙ by_clie
     by_client true = by_owner (is_bus name || is_some (head_of s name))
     by_client false = refl
 
-pub hold_by : (s : BusState) (seat number : ℕ) (name : Text) (call : Call) (message : List ℕ) →
+pub hold_by : (s : BusState) (seat number : ℕ) (name : Text) (call : CallHead) (message : List ℕ) →
     step s seat (Hold number name call message) ≡ (state_told s name (reply_to_hold s number name), told_to_wait s name (reply_to_hold s number name))
 hold_by s seat number name call message = of_client s number (hold s name) ∙ by_client (is_client s.connections number)
   where

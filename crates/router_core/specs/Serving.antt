@@ -12,7 +12,7 @@ use Rattle.seq_bus_core.specs.Answers.{Answer}
 use Rattle.seq_bus_core.specs.Recipients.{is_call}
 use Rattle.seq_bus_core.specs.declared.change.Change.{Change}
 use Rattle.seq_bus_core.specs.declared.change.Change.TheVariants as change
-use Rattle.seq_bus_core.specs.declared.change.Call.{Call as WaitingCall}
+use Rattle.seq_bus_core.specs.declared.change.CallHead.{CallHead}
 use Rattle.seq_bus_core.specs.declared.connection.Conn.{Conn}
 use Rattle.seq_bus_core.specs.declared.error_kind.ErrorKind.{ErrorKind}
 use Rattle.seq_bus_core.specs.declared.error_kind.ErrorKind.TheVariants as error
@@ -212,7 +212,7 @@ run name None = nothing
 run name (Some start) = Doing (Runs name start) nothing
 
 -- what is needed to reply to a call that waits
-abbrev pub waiting_call : Message → WaitingCall
+abbrev pub waiting_call : Message → CallHead
 waiting_call m = record { serial = m.serial; flags = m.flags }
 
 -- A call that waits is answered once its service runs, or does not.

@@ -16,15 +16,15 @@ use names::BusName;
 use outbox_core::Content;
 use router_core::{Addressees, CloseCause, Gate, PeerFate};
 use router_steps::Context;
-use seq_bus_core::{Call, Change, Conn, ErrorKind, Outcome, Reply, SharedBytes};
+use seq_bus_core::{CallHead, Change, Conn, ErrorKind, Outcome, Reply, SharedBytes};
 use std::alloc::{AllocError, Global};
 
 /// What is needed to reply to a call that waits.
-pub(crate) fn waiting_call(message: &Message) -> Call
+pub(crate) fn waiting_call(message: &Message) -> CallHead
     ensures { result ≡ waiting_call_in (said message.now) }
 {
     let _bytes = message.as_bytes();
-    Call {
+    CallHead {
         serial: message.serial(),
         flags: message.flags(),
     }

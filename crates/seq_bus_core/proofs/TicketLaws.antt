@@ -10,7 +10,7 @@ use Rattle.seq_bus_core.specs.Histories.{History}
 use Rattle.seq_bus_core.specs.Tickets.{WholeBus, opening_bus, ticket_from, new_ticket, settled_tickets, still_waiting, bus_step, bus_after}
 use Rattle.seq_bus_core.specs.Consistency.{Pairwise, ShareNoTicket, IsConsistent}
 use Rattle.seq_bus_core.specs.Laws.{is_waiting, IsWhole, BusesAreWhole, SettledTicketsAreTold}
-use Rattle.seq_bus_core.specs.declared.change.Call.{Call}
+use Rattle.seq_bus_core.specs.declared.change.CallHead.{CallHead}
 use Rattle.seq_bus_core.specs.declared.change.Change.{Change}
 use Rattle.seq_bus_core.specs.declared.change.Change.TheVariants.{Hello, Leave, Request, Release, AddMatch, RemoveMatch, BecomeMonitor, Start, Hold, ChildEnded, StartTimedOut}
 use Rattle.seq_bus_core.specs.declared.outcome.Reply.TheVariants.{Held}
@@ -90,7 +90,7 @@ settled_carried waiting starts carried fate test (Some r) e =
 
 -- ## New tickets
 
-made_ticket : (number : ℕ) (call : Call) (message : Option (List ℕ)) (o : Option Connection) (caller : Connection) → o ≡ Some caller → is_waiting (ticket_from number call message o) number ≡ true
+made_ticket : (number : ℕ) (call : CallHead) (message : Option (List ℕ)) (o : Option Connection) (caller : Connection) → o ≡ Some caller → is_waiting (ticket_from number call message o) number ≡ true
 made_ticket number call message None caller e = cc
 made_ticket number call message (Some c) caller e = or_left (nat_eq number number) false (eq-eqb number number refl)
 

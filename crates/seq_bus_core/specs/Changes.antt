@@ -2,12 +2,12 @@
 use Rattle.std.specs.Prelude.{◌≡◌, ℕ, []}
 use Rattle.seq_bus_core.specs.BusState.{BusState}
 use Rattle.seq_bus_core.specs.Steps.{step}
-use Rattle.seq_bus_core.specs.declared.change.Call.{Call}
+use Rattle.seq_bus_core.specs.declared.change.CallHead.{CallHead}
 use Rattle.seq_bus_core.specs.declared.change.Change.{Change}
 use Rattle.seq_bus_core.specs.declared.change.Change.TheVariants.{Hello, Leave, Request, Release, AddMatch, RemoveMatch, BecomeMonitor, Start, Hold, ChildEnded, StartTimedOut}
 
 -- what a ticket carries is not looked at
-abbrev pub no_call : Call
+abbrev pub no_call : CallHead
 no_call = record { serial = 0; flags = 0 }
 
 -- the change by what its step looks at: not what a ticket carries

@@ -8,7 +8,7 @@ use Rattle.seq_bus_core.specs.Steps.{Stepped, step}
 use Rattle.seq_bus_core.specs.Histories.{History, opening}
 use Rattle.seq_bus_core.specs.declared.change.Change.{Change}
 use Rattle.seq_bus_core.specs.declared.change.Change.TheVariants.{Start, Hold}
-use Rattle.seq_bus_core.specs.declared.change.Call.{Call}
+use Rattle.seq_bus_core.specs.declared.change.CallHead.{CallHead}
 use Rattle.seq_bus_core.specs.declared.outcome.NumberedOutcome.{NumberedOutcome}
 use Rattle.seq_bus_core.specs.declared.outcome.Outcome.{Outcome}
 use Rattle.seq_bus_core.specs.declared.outcome.Reply.{Reply}
@@ -25,7 +25,7 @@ pub record WholeBus : Type 0 where
 abbrev pub opening_bus : Profile → ℕ → List Text → WholeBus
 opening_bus profile routers services = record { state = opening profile routers services; waiting = [] }
 
-abbrev pub ticket_from : ℕ → Call → Option (List ℕ) → Option Connection → List Ticket
+abbrev pub ticket_from : ℕ → CallHead → Option (List ℕ) → Option Connection → List Ticket
 ticket_from number call message None = []
 ticket_from number call message (Some caller) = record { number = number; caller = conn_of caller; call = call; message = message } ∷ []
 

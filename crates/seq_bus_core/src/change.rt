@@ -7,7 +7,7 @@ use owner_queues::RequestFlags;
 
 /// What is needed to reply to a call that waits.
 #[derive(Clone, Copy, Debug, PartialEq, Eq)]
-pub struct Call {
+pub struct CallHead {
     /// The serial of the call.
     pub serial: u32,
     /// The flags of its header.
@@ -66,13 +66,13 @@ pub enum Change {
     Start {
         connection: u64,
         name: BusName,
-        call: Call,
+        call: CallHead,
     },
     /// A call to a name without an owner, which is to wait until the name's service runs.
     Hold {
         connection: u64,
         name: BusName,
-        call: Call,
+        call: CallHead,
         message: SharedBytes,
     },
     /// The program of a start ended.

@@ -43,7 +43,7 @@ mod ticket;
 mod verdict;
 
 pub use addressees::Addressees;
-pub use change::{Call, Change, Ending};
+pub use change::{CallHead, Change, Ending};
 pub use connection::Conn;
 pub use entry::Entry;
 pub use error_kind::ErrorKind;

@@ -2,7 +2,7 @@
 
 ghost use Rattle.std.specs.Prelude.{◌≡◌, ◌<◌, ◌≤◌, [], ◌∷◌, ◌++◌, length, IfOk, OnOk, OnErr};
 
-use crate::{Call, Conn, SharedBytes};
+use crate::{CallHead, Conn, SharedBytes};
 use std::alloc::{AllocError, Global};
 use std::marker::Model;
 use std::vec;
@@ -14,7 +14,7 @@ pub struct Ticket {
     pub number: u64,
     /// The connection that called.
     pub caller: Conn,
-    pub call: Call,
+    pub call: CallHead,
     /// The call itself, where it is to be delivered to the name; none where it is StartServiceByName.
     pub message: Option<SharedBytes>,
 }

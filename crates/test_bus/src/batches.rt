@@ -5,7 +5,7 @@ use bus_view::{BatchCause, BusView, Cause, can_open};
 use names::{BusName, WellKnown};
 use owner_queues::{Profile, RequestFlags};
 use seq_bus::SeqBus;
-use seq_bus_core::{Call, Change, Conn, Entry, Outcome, Reply, SharedBytes};
+use seq_bus_core::{CallHead, Change, Conn, Entry, Outcome, Reply, SharedBytes};
 use std::alloc::{AllocError, Global};
 use std::process::Abort;
 use std::sync::Arc;
@@ -193,7 +193,7 @@ fn hold(alloc: Global, name: BusName, bytes: &[u8]) -> Result<Change, AllocError
     Ok(Change::Hold {
         connection: 1,
         name,
-        call: Call {
+        call: CallHead {
             serial: 7,
             flags: 0,
         },

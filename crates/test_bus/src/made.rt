@@ -8,7 +8,7 @@ use names::{BusName, WellKnown};
 use owner_queues::{Profile, Queue, Reply as QueueReply, RequestFlags};
 use registry::Registry;
 use seq_bus_core::{
-    Call, Change, Conn, Ending, Fate, MonitorRules, NumberedOutcome, Reply, SettledNumber,
+    CallHead, Change, Conn, Ending, Fate, MonitorRules, NumberedOutcome, Reply, SettledNumber,
     SharedBytes,
 };
 use std::alloc::{AllocError, Global};
@@ -16,7 +16,7 @@ use std::process::Abort;
 use std::sync::Arc;
 use test_support::once_more;
 
-const CALL: Call = Call {
+const CALL: CallHead = CallHead {
     serial: 7,
     flags: 0,
 };

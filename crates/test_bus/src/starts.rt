@@ -5,14 +5,14 @@ use bus_view::can_open;
 use names::{BusName, WellKnown};
 use owner_queues::{Profile, Reply as QueueReply, RequestFlags};
 use registry::Registry;
-use seq_bus_core::{Call, Change, Conn, Ending, Fate, Reply, SettledNumber, SharedBytes};
+use seq_bus_core::{CallHead, Change, Conn, Ending, Fate, Reply, SettledNumber, SharedBytes};
 use std::alloc::{AllocError, Global};
 use std::fmt::Write;
 use std::process::Abort;
 use std::sync::Arc;
 use test_support::once_more;
 
-const CALL: Call = Call {
+const CALL: CallHead = CallHead {
     serial: 7,
     flags: 0,
 };

@@ -6,7 +6,7 @@ use owner_queues::{Profile, Reply as QueueReply, RequestFlags};
 use seq_bus::SeqBus;
 use seq_bus_core::limits::MAX_TICKETS;
 use seq_bus_core::{
-    Call, Change, Conn, Ending, Fate, MonitorRules, Outcome, Reply, SettledTicket, SharedBytes,
+    CallHead, Change, Conn, Ending, Fate, MonitorRules, Outcome, Reply, SettledTicket, SharedBytes,
 };
 use std::alloc::Global;
 use std::process::Abort;
@@ -254,8 +254,8 @@ pub(crate) fn message(alloc: Global, bytes: &[u8]) -> Option<SharedBytes> {
     Some(SharedBytes::new(Arc::new(alloc, bytes).ok()?))
 }
 
-fn call(serial: u32) -> Call {
-    Call {
+fn call(serial: u32) -> CallHead {
+    CallHead {
         serial,
         flags: FLAGS,
     }

@@ -11,7 +11,7 @@ use Rattle.seq_bus_core.specs.Answers.{Answer, answer}
 use Rattle.seq_bus_core.specs.Recipients.{recipients}
 use Rattle.seq_bus_core.specs.Histories.{opening}
 use Rattle.seq_bus_core.specs.declared.change.Change.{Change}
-use Rattle.seq_bus_core.specs.declared.change.Call.{Call}
+use Rattle.seq_bus_core.specs.declared.change.CallHead.{CallHead}
 use Rattle.seq_bus_core.specs.declared.connection.Conn.{Conn}
 use Rattle.seq_bus_core.specs.declared.outcome.NumberedOutcome.{NumberedOutcome}
 use Rattle.seq_bus_core.specs.declared.outcome.Reply.{Reply}
@@ -99,7 +99,7 @@ flags allow replace no_queue = record { allow_replacement = allow; replace_exist
 abbrev pub plain_request : RequestFlags
 plain_request = flags false false false
 
-abbrev pub a_call : Call
+abbrev pub a_call : CallHead
 a_call = record { serial = 7; flags = 0 }
 
 abbrev pub name_a : Text

@@ -2,7 +2,7 @@
 
 use names::{BusName, UniqueName};
 use seq_bus_core::{
-    AddressedSignal, BusSignal, Call, Conn, Fate, Outcome, Recipients, Reply, SettledNumber,
+    AddressedSignal, BusSignal, CallHead, Conn, Fate, Outcome, Recipients, Reply, SettledNumber,
     SettledTicket, SharedBytes, Signals, Ticket, TicketNumbers, TicketRoom,
 };
 use std::alloc::{AllocError, Global};
@@ -62,7 +62,7 @@ pub fn tickets(alloc: Global) -> Result<(usize, usize, usize), AllocError> {
         ticket: Ticket {
             number: 1,
             caller: Conn::default(),
-            call: Call {
+            call: CallHead {
                 serial: 7,
                 flags: 0,
             },

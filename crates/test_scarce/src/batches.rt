@@ -7,7 +7,7 @@ use names::{BusName, WellKnown};
 use owner_queues::{Reply as QueueReply, RequestFlags};
 use seq_bus::SeqBus;
 use seq_bus_core::{
-    Call, Change, Conn, MonitorRules, Outcome, Query, Recipients, Reply, SettledTicket,
+    CallHead, Change, Conn, MonitorRules, Outcome, Query, Recipients, Reply, SettledTicket,
     SharedBytes, VerdictKind,
 };
 use std::alloc::{AllocError, Global};
@@ -226,7 +226,7 @@ fn change_of(alloc: Global, deed: Deed) -> Option<Change> {
     })
 }
 
-const CALL: Call = Call {
+const CALL: CallHead = CallHead {
     serial: 1,
     flags: 0,
 };

@@ -5,11 +5,11 @@ use bus_view::can_open;
 use names::{BusName, WellKnown};
 use owner_queues::{Profile, Reply as QueueReply, RequestFlags};
 use registry::Registry;
-use seq_bus_core::{Call, Change, Conn, Reply, SharedBytes};
+use seq_bus_core::{CallHead, Change, Conn, Reply, SharedBytes};
 use std::alloc::{AllocError, Global};
 use std::sync::Arc;
 
-const CALL: Call = Call {
+const CALL: CallHead = CallHead {
     serial: 1,
     flags: 0,
 };

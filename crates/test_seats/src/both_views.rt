@@ -7,7 +7,7 @@ use names::{BusName, WellKnown};
 use owner_queues::{Profile, RequestFlags};
 use registry_snapshots::{Desk, Naming, Seat, Serve, Shared, start};
 use seq_bus::SeqBus;
-use seq_bus_core::{Call, Change, Ending, MonitorRules, Query};
+use seq_bus_core::{CallHead, Change, Ending, MonitorRules, Query};
 use std::alloc::Global;
 use std::sync::Wait;
 
@@ -39,7 +39,7 @@ q 11 1 names => org.freedesktop.DBus,:1.2,:1.4,com.example.Clock
 /// The change of a place, counted from 0.
 fn change(alloc: Global, place: u8) -> Option<Change> {
     let name = BusName::parse(SERVICE).ok()?;
-    let call = Call {
+    let call = CallHead {
         serial: 7,
         flags: 0,
     };

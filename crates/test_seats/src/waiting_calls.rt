@@ -6,7 +6,7 @@ use names::{BusName, WellKnown};
 use owner_queues::{Reply as QueueReply, RequestFlags};
 use registry_snapshots::{Naming, Seat, Serve, Shared, StartFault, start};
 use seq_bus_core::{
-    Call, Change, Conn, Ending, Fate, MonitorRules, Outcome, Reply, SettledTicket, SharedBytes,
+    CallHead, Change, Conn, Ending, Fate, MonitorRules, Outcome, Reply, SettledTicket, SharedBytes,
 };
 use std::alloc::Global;
 use std::process::Abort;
@@ -244,8 +244,8 @@ const RUNS: [Run; 4] = [
     },
 ];
 
-fn call(serial: u32) -> Call {
-    Call { serial, flags: 0 }
+fn call(serial: u32) -> CallHead {
+    CallHead { serial, flags: 0 }
 }
 
 fn message(alloc: Global, bytes: &[u8]) -> Option<SharedBytes> {

@@ -5,12 +5,12 @@ use interleave::{Answer, LogLine, Question, Step, World};
 use match_rules::{Facts, MessageKind, Rule};
 use names::{BusName, WellKnown};
 use owner_queues::RequestFlags;
-use seq_bus_core::{Call, Change, Conn, Ending, Fate, MonitorRules, Query, SharedBytes};
+use seq_bus_core::{CallHead, Change, Conn, Ending, Fate, MonitorRules, Query, SharedBytes};
 use std::alloc::{AllocError, Global};
 use std::sync::Arc;
 
 /// The reply that calls of the samples ask for.
-const CALL: Call = Call {
+const CALL: CallHead = CallHead {
     serial: 7,
     flags: 0,
 };

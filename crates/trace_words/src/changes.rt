@@ -10,10 +10,10 @@ ghost use Rattle.trace_words.specs.Cutting.{parts_left};
 use crate::parts::Parts;
 use crate::words::{bit, name, number};
 use owner_queues::RequestFlags;
-use seq_bus_core::{Call, Change, Ending};
+use seq_bus_core::{CallHead, Change, Ending};
 
 /// What a ticket carries, which is not in a trace.
-pub(crate) const NO_CALL: Call = Call {
+pub(crate) const NO_CALL: CallHead = CallHead {
     serial: 0,
     flags: 0,
 };

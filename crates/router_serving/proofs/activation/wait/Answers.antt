@@ -1,7 +1,7 @@
 use Rattle.std.proofs.Common.{List, ℕ, subst}
 use Rattle.names.specs.Texts.{Text}
 use Rattle.message_core.specs.Said.{said}
-use Rattle.seq_bus_core.specs.declared.change.Call.{Call}
+use Rattle.seq_bus_core.specs.declared.change.CallHead.{CallHead}
 use Rattle.seq_bus_core.specs.declared.change.Change.TheVariants.{Hold}
 use Rattle.seq_bus_core.specs.declared.error_kind.ErrorKind.{ErrorKind}
 use Rattle.router_core.specs.Answers.{Says, Refuses, refusal_of}
@@ -17,7 +17,7 @@ returns-in-Ok-clause-comes g c =
     let w = c.args.context.now.world in
     let n = c.change.new.self.world in
     let named = subst (λ (name : Text). Changes alone (Hold c.args.sender.number name c.waiting_call.result c.args.parcel.held) w (Says o) n) c.deref.ensures c.in-Ok.ensures.changes in
-    let called = subst (λ (call : Call). Changes alone (Hold c.args.sender.number c.args.parcel.name.value call c.args.parcel.held) w (Says o) n) c.waiting_call.ensures named in
+    let called = subst (λ (call : CallHead). Changes alone (Hold c.args.sender.number c.args.parcel.name.value call c.args.parcel.held) w (Says o) n) c.waiting_call.ensures named in
     let changes = subst (λ (bytes : List ℕ). Changes alone (Hold c.args.sender.number c.args.parcel.name.value (waiting_call m) bytes) w (Says o) n) c.requires.held called in
     (Says o, n, changes, c.held.ensures.comes)
 
@@ -33,7 +33,7 @@ returns-in-Err-clause-comes g c =
     let n = c.change.new.self.world in
     let v = c.refuse.new.context.world in
     let named = subst (λ (name : Text). Changes alone (Hold c.args.sender.number name c.waiting_call.result c.args.parcel.held) w (Refuses why) n) c.deref.ensures c.in-Err.ensures.changes in
-    let called = subst (λ (call : Call). Changes alone (Hold c.args.sender.number c.args.parcel.name.value call c.args.parcel.held) w (Refuses why) n) c.waiting_call.ensures named in
+    let called = subst (λ (call : CallHead). Changes alone (Hold c.args.sender.number c.args.parcel.name.value call c.args.parcel.held) w (Refuses why) n) c.waiting_call.ensures named in
     let changes = subst (λ (bytes : List ℕ). Changes alone (Hold c.args.sender.number c.args.parcel.name.value (waiting_call m) bytes) w (Refuses why) n) c.requires.held called in
     let errs = subst (λ (e : ErrorKind). Comes told registry_of passes alone (and_stays (err_with m c.args.sender e)) n c.refuse.result v) c.error_for.ensures c.refuse.ensures.comes in
     (Refuses why, n, changes, errs)

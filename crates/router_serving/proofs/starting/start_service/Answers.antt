@@ -1,7 +1,7 @@
 use Rattle.std.proofs.Common.{true, subst}
 use Rattle.names.specs.Texts.{Text}
 use Rattle.message_core.specs.Said.{said}
-use Rattle.seq_bus_core.specs.declared.change.Call.{Call}
+use Rattle.seq_bus_core.specs.declared.change.CallHead.{CallHead}
 use Rattle.seq_bus_core.specs.declared.change.Change.TheVariants.{Start}
 use Rattle.seq_bus_core.specs.declared.error_kind.ErrorKind.{ErrorKind}
 use Rattle.router_core.specs.Answers.{Says, Refuses, refusal_of}
@@ -20,7 +20,7 @@ returns-in-Ok-change-clause-comes g c =
     let w = c.args.context.now.world in
     let n = c.change.new.self.world in
     let v = c.started.new.context.world in
-    let changes = subst (λ (call : Call). Changes alone (Start c.args.caller.number c.args.name.now call) w (Says o) n) c.waiting_call.ensures c.in-Ok-change.ensures.changes in
+    let changes = subst (λ (call : CallHead). Changes alone (Start c.args.caller.number c.args.name.now call) w (Says o) n) c.waiting_call.ensures c.in-Ok-change.ensures.changes in
     let goes_on = subst (λ (name : Text). Comes told registry_of passes alone (start_told m c.args.caller name (Says o)) n c.started.result v) c.in-Ok.ensures.ok c.started.ensures.comes in
     (true, (Says o, n, changes, goes_on))
 
@@ -35,6 +35,6 @@ returns-in-Err-clause-comes g c =
     let w = c.args.context.now.world in
     let n = c.change.new.self.world in
     let v = c.refuse-in-Err.new.context.world in
-    let changes = subst (λ (call : Call). Changes alone (Start c.args.caller.number c.args.name.now call) w (Refuses why) n) c.waiting_call.ensures c.in-Err.ensures.changes in
+    let changes = subst (λ (call : CallHead). Changes alone (Start c.args.caller.number c.args.name.now call) w (Refuses why) n) c.waiting_call.ensures c.in-Err.ensures.changes in
     let errs = subst (λ (e : ErrorKind). Comes told registry_of passes alone (and_stays (err_with m c.args.caller e)) n c.refuse-in-Err.result v) c.error_for.ensures c.refuse-in-Err.ensures.comes in
     (true, (Refuses why, n, changes, errs))
