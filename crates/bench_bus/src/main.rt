@@ -20,7 +20,7 @@ use crate::works::Doing;
 use anyhow::{Context, Result};
 use bench_core::{Opening, Report, close, open};
 use names::WellKnown;
-use registry_snapshots::{Naming, Opened, Seat, Shared};
+use registry_snapshots::{Naming, NewHistory, Seat, Shared};
 use seq_bus_core::Change;
 use std::alloc::Global;
 use std::marker::Brand;
@@ -49,7 +49,7 @@ fn measure<R: Print + Clock + Threads + Wait + Sync>(
         ("threads", Part::Threads),
     ] {
         if report.covers(name) {
-            measure_opened::<Brand, R>(alloc, report, Opened::new(), service, part)?;
+            measure_opened::<Brand, R>(alloc, report, NewHistory::new(), service, part)?;
         }
     }
     Ok(())
@@ -58,7 +58,7 @@ fn measure<R: Print + Clock + Threads + Wait + Sync>(
 fn measure_opened<J: Naming + Send + Sync, R: Print + Clock + Threads + Wait + Sync>(
     alloc: Global,
     report: &Report<'_, R>,
-    opened: Opened,
+    opened: NewHistory,
     service: WellKnown,
     part: Part,
 ) -> Result<()>

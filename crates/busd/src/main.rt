@@ -19,7 +19,7 @@ use busd_core::{RunFault, run};
 use busd_start::serve_command;
 use clap::error::ErrorKind;
 use clap::{Command, Error};
-use registry_snapshots::{Desk, Naming, Opened, Seat, Shared};
+use registry_snapshots::{Desk, Naming, NewHistory, Seat, Shared};
 use router::Engine;
 use router_core::OpenGate;
 use std::alloc::{AllocError, Global};
@@ -117,7 +117,7 @@ fn serve_at<J: Naming, R: Input + Print + AllocGlobal + Wait>(
 /// Opens a registry with one router and no services, and serves the stream over it.
 fn serve_over<J: Naming, R: Input + Print + AllocGlobal + Wait>(
     rt: &R,
-    opened: Opened,
+    opened: NewHistory,
 ) -> Result<(), RunFault>
     requires { (opened ≡ J.book) × (J.opening ≡ opening_bus Two 1 []) }
 {
@@ -133,7 +133,7 @@ fn serve_over<J: Naming, R: Input + Print + AllocGlobal + Wait>(
 }
 
 fn serve<R: Input + Print + Eprint + AllocGlobal + Wait>(rt: &R) -> ExitCode {
-    match serve_over::<Brand, R>(rt, Opened::new()) {
+    match serve_over::<Brand, R>(rt, NewHistory::new()) {
         Ok(()) => ExitCode::SUCCESS,
         Err(fault) => fail(rt, fault),
     }

@@ -17,7 +17,7 @@ use busd_start::ServeFault;
 use mio::Poll;
 use names::WellKnown;
 use outbox::{EnvelopeOf, Lane, Outboxes, Tap};
-use registry_snapshots::{Naming, Opened, Seat, Shared};
+use registry_snapshots::{Naming, NewHistory, Seat, Shared};
 use router_core::OpenGate;
 use routers::{Coordinator, RouterSetup, serve};
 use starter::{MainSeat, Programs};
@@ -67,7 +67,7 @@ pub(crate) fn begin<F: Read + Write + Send + Drop, R: DaemonRuntime>(
     mut listening: Listening<F>,
 ) -> Result<(), ServeFault> {
     let names = mem::replace(&mut listening.names, Vec::new(rt.alloc()));
-    open_registry::<Brand, F, R>(rt, Opened::new(), bus, names.as_slice(), listening)
+    open_registry::<Brand, F, R>(rt, NewHistory::new(), bus, names.as_slice(), listening)
 }
 
 /// Opens a registry with these services, and serves over it.
@@ -77,7 +77,7 @@ fn open_registry<
     R: DaemonRuntime,
 >(
     rt: &R,
-    opened: Opened,
+    opened: NewHistory,
     bus: &Bus<'_>,
     services: &[WellKnown],
     listening: Listening<F>,

@@ -19,7 +19,7 @@ use Rattle.seq_bus_core.proofs.ConsistencyLaws.{buses_are_consistent}
 use Rattle.seq_bus_core.proofs.Extending.{after_more, just_more, legal_more}
 use Rattle.seq_bus_core.proofs.LimitLaws.{buses_are_within_limits, steps_keep_limits}
 use Rattle.registry.specs.PreparedChanges.{PreparedChange, ArePreparedFor}
-use Rattle.registry_snapshots_core.specs.Copies.{FrontView, SnapView, IsSnapOf, absorbed, absorbed_all, front_of}
+use Rattle.registry_snapshots_core.specs.Copies.{PrefixView, SnapView, IsSnapOf, absorbed, absorbed_all, prefix_of}
 use Rattle.registry_snapshots_core.proofs.Steps.{next_legal, snap_next, snap_next_all}
 use Rattle.registry_snapshots.specs.Seats.{AreChanged, IsChanged}
 use Rattle.registry_snapshots.specs.Settlings.{AreCallsAfter}
@@ -27,20 +27,20 @@ use Rattle.settling.specs.Batches.{SettleAlong, bus_along}
 use Rattle.settling.specs.Settlings.{Settling, SettlesAt}
 use Rattle.settling.proofs.Along.{along_entries, few_along, limits_along}
 
--- The copy that is shown once an entry is published, where `front` was all of the history and `next` goes on with the entry.
-pub shown_next : (book : Book) (opening : WholeBus) (s : SnapView) (front : FrontView) (e : Entry) (p : PreparedChange) (next copy : FrontView) → IsSnapOf book opening s → front ≡ s.front → e.left ≡ 0
-    → e.number ≡ length (numbers_of e.seat front.log) + 1 → p.seat ≡ e.seat → p.change ≡ as_seen e.change → next ≡ front_of front.book (front.log ++ e ∷ []) → copy ≡ next → IsSnapOf book opening (absorbed s e.seat e.number p copy)
-shown_next book opening s front e p next copy kept same alone number seat change next_is copy_is =
-    snap_next book opening s e p copy kept alone (number ∙ ap (λ (f : FrontView). length (numbers_of e.seat f.log) + 1) same) seat change
-    (copy_is ∙ next_is ∙ ap (λ (f : FrontView). front_of f.book (f.log ++ e ∷ [])) same ∙ ap (λ (b : Book). front_of b (s.front.log ++ e ∷ [])) kept.book_is)
+-- The copy that is shown once an entry is published, where `prefix` was all of the history and `next` goes on with the entry.
+pub shown_next : (book : Book) (opening : WholeBus) (s : SnapView) (prefix : PrefixView) (e : Entry) (p : PreparedChange) (next copy : PrefixView) → IsSnapOf book opening s → prefix ≡ s.prefix → e.left ≡ 0
+    → e.number ≡ length (numbers_of e.seat prefix.log) + 1 → p.seat ≡ e.seat → p.change ≡ as_seen e.change → next ≡ prefix_of prefix.book (prefix.log ++ e ∷ []) → copy ≡ next → IsSnapOf book opening (absorbed s e.seat e.number p copy)
+shown_next book opening s prefix e p next copy kept same alone number seat change next_is copy_is =
+    snap_next book opening s e p copy kept alone (number ∙ ap (λ (f : PrefixView). length (numbers_of e.seat f.log) + 1) same) seat change
+    (copy_is ∙ next_is ∙ ap (λ (f : PrefixView). prefix_of f.book (f.log ++ e ∷ [])) same ∙ ap (λ (b : Book). prefix_of b (s.prefix.log ++ e ∷ [])) kept.book_is)
 
 -- The same once the entries of a batch are published.
-pub shown_next_all : (book : Book) (opening : WholeBus) (s : SnapView) (front : FrontView) (seat first number : ℕ) (changes : List Change) (prepared : List PreparedChange) (next copy : FrontView) → IsSnapOf book opening s
-    → front ≡ s.front → number ≡ length (numbers_of seat front.log) + length changes → ArePreparedFor seat changes prepared → next ≡ front_of front.book (front.log ++ entries_of seat first changes) → copy ≡ next
+pub shown_next_all : (book : Book) (opening : WholeBus) (s : SnapView) (prefix : PrefixView) (seat first number : ℕ) (changes : List Change) (prepared : List PreparedChange) (next copy : PrefixView) → IsSnapOf book opening s
+    → prefix ≡ s.prefix → number ≡ length (numbers_of seat prefix.log) + length changes → ArePreparedFor seat changes prepared → next ≡ prefix_of prefix.book (prefix.log ++ entries_of seat first changes) → copy ≡ next
     → IsSnapOf book opening (absorbed_all s seat number prepared copy)
-shown_next_all book opening s front seat first number changes prepared next copy kept same count all next_is copy_is =
-    snap_next_all book opening s seat first number changes prepared copy kept (count ∙ ap (λ (f : FrontView). length (numbers_of seat f.log) + length changes) same) all
-    (copy_is ∙ next_is ∙ ap (λ (f : FrontView). front_of f.book (f.log ++ entries_of seat first changes)) same ∙ ap (λ (b : Book). front_of b (s.front.log ++ entries_of seat first changes)) kept.book_is)
+shown_next_all book opening s prefix seat first number changes prepared next copy kept same count all next_is copy_is =
+    snap_next_all book opening s seat first number changes prepared copy kept (count ∙ ap (λ (f : PrefixView). length (numbers_of seat f.log) + length changes) same) all
+    (copy_is ∙ next_is ∙ ap (λ (f : PrefixView). prefix_of f.book (f.log ++ entries_of seat first changes)) same ∙ ap (λ (b : Book). prefix_of b (s.prefix.log ++ entries_of seat first changes)) kept.book_is)
 
 -- what the seat has seen after its change
 pub changed : (opening : WholeBus) (known log next : History) (seat made : ℕ) (change : Change) (outcome : Outcome) → Begins known log → IsLegal log → made ≡ length (numbers_of seat log)
@@ -75,12 +75,12 @@ no_calls profile routers services = record {
 
 -- what settles a change on a copy settles it after the copy's history
 pub settles_after : (book : Book) (opening : WholeBus) (s : SnapView) (t : BusState) (seat : ℕ) (change : Change) (settling : Settling) → IsSnapOf book opening s → t ≡ s.bus → SettlesAt t seat change settling
-    → SettlesAt (bus_after opening s.front.log).state seat change settling
+    → SettlesAt (bus_after opening s.prefix.log).state seat change settling
 settles_after book opening s t seat change settling kept same settles = subst (λ (b : BusState). SettlesAt b seat change settling) (same ∙ kept.bus_is) settles
 
 -- and what settles a batch there
 pub settle_after : (book : Book) (opening : WholeBus) (s : SnapView) (t : BusState) (seat : ℕ) (changes : List Change) (settlings : List Settling) → IsSnapOf book opening s → t ≡ s.bus → SettleAlong t seat changes settlings
-    → SettleAlong (bus_after opening s.front.log).state seat changes settlings
+    → SettleAlong (bus_after opening s.prefix.log).state seat changes settlings
 settle_after book opening s t seat changes settlings kept same settle = subst (λ (b : BusState). SettleAlong b seat changes settlings) (same ∙ kept.bus_is) settle
 
 -- the calls that wait after one change more

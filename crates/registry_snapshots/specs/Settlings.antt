@@ -15,5 +15,5 @@ pub record AreCallsAfter (opening : WholeBus) (history : History) (calls : Calls
 -- With these copies, of which one is shown: the calls that wait are those of the bus that is shown, and the third copy is that bus
 -- too, unless the copies are spent.
 pub record KeepsUp (opening : WholeBus) (copies : SnapView × Bool) (third : BusState) (calls : Calls) : Type 0 where
-  pub waiting : AreCallsAfter opening copies.0.front.log calls
+  pub waiting : AreCallsAfter opening copies.0.prefix.log calls
   pub same : copies.1 ≡ false → third ≡ copies.0.bus

@@ -7,24 +7,24 @@ ghost use Rattle.seq_bus_core.specs.Batches.{entries_of};
 ghost use Rattle.seq_bus_core.specs.Histories.{CanOpen, IsLegal, numbers_of};
 ghost use Rattle.seq_bus_core.specs.Steps.{step};
 ghost use Rattle.seq_bus_core.specs.Tickets.{opening_bus};
-ghost use Rattle.registry_snapshots_core.specs.Copies.{IsSnapOf, front_of};
+ghost use Rattle.registry_snapshots_core.specs.Copies.{IsSnapOf, prefix_of};
 ghost use Rattle.registry_snapshots_core.specs.Pending.{IsReady, Shows, brought_up};
 
-use crate::rule::{Finds, Kept};
+use crate::rule::{CopyKeepsRule, CopyRule};
 use bus_view::Gone;
 use core::mem::replace_with;
 use left_right::reader::Reader;
 use left_right::writer::Writer;
 use names::WellKnown;
 use registry::Prepared;
-use registry_snapshots_core::{Batch, Front, Head, Naming, NextEntry, Op, Snap};
+use registry_snapshots_core::{Batch, Head, Naming, NextEntry, Op, Prefix, Snap};
 use std::alloc::{AllocError, Global};
 use std::marker::Model;
 use std::sync::Wait;
 
-pub type SnapReader<J> = Reader<Snap, (), Kept<J>>;
+pub type SnapReader<J> = Reader<Snap, (), CopyRule<J>>;
 
-type SnapWriter<J> = Writer<Snap, Op, (), Kept<J>>;
+type SnapWriter<J> = Writer<Snap, Op, (), CopyRule<J>>;
 
 /// The two copies of the registry, and the word of its history.
 ///
@@ -57,7 +57,7 @@ fn publish<J: Naming, R: Wait>(rt: &R, writer: SnapWriter<J>) -> (SnapWriter<J>,
     ensures shown { Shows writer.desk.shown.value
         (drop writer.behind writer.log.items) result.0.desk.shown.value }
 {
-    let (writer, shown) = writer.publish_as::<Finds<J>, R>(rt);
+    let (writer, shown) = writer.publish_as::<CopyKeepsRule<J>, R>(rt);
     (writer, shown.is_ok())
 }
 
@@ -67,19 +67,19 @@ fn new_writer<J: Naming>(
     services: &[WellKnown],
     routers: u8,
     seats: usize,
-    front: &Front,
+    prefix: &Prefix,
 ) -> Result<SnapWriter<J>, AllocError>
     requires bus { CanOpen routers services.now
         × (J.opening ≡ opening_bus Two routers services.now) }
     requires seats { (0 < seats) × (seats < 2 ^ 32) }
-    requires front { (front.now.book ≡ J.book) × (front.now.log ≡ []) }
+    requires prefix { (prefix.now.book ≡ J.book) × (prefix.now.log ≡ []) }
     ensures kept { IfOk result (λ w. IsSnapOf J.book J.opening w.desk.shown.value) }
-    ensures opened { IfOk result (λ w. (w.desk.shown.value.front.log ≡ [])
+    ensures opened { IfOk result (λ w. (w.desk.shown.value.prefix.log ≡ [])
         × (w.desk.shown.value.bus ≡ J.opening.state)) }
     ensures settled { IfOk result (λ w. drop w.behind w.log.items ≡ []) }
 {
-    let first = Snap::new(alloc, services, routers, seats, front.again())?;
-    let second = Snap::new(alloc, services, routers, seats, front.again())?;
+    let first = Snap::new(alloc, services, routers, seats, prefix.again())?;
+    let second = Snap::new(alloc, services, routers, seats, prefix.again())?;
     Writer::new(alloc, first, second, seats)
 }
 
@@ -129,16 +129,16 @@ impl<J: Naming> Copies<J> {
         routers: u8,
         seats: usize,
         head: Head,
-        front: &Front,
+        prefix: &Prefix,
     ) -> Result<Copies<J>, AllocError>
         requires bus { CanOpen routers services.now
             × (J.opening ≡ opening_bus Two routers services.now) }
         requires seats { (0 < seats) × (seats < 2 ^ 32) }
-        requires front { (head ≡ J.book) × (front.now.book ≡ J.book) × (front.now.log ≡ []) }
-        ensures { IfOk result (λ c. (c.0.front.log ≡ []) × (c.1 ≡ false)
+        requires prefix { (head ≡ J.book) × (prefix.now.book ≡ J.book) × (prefix.now.log ≡ []) }
+        ensures { IfOk result (λ c. (c.0.prefix.log ≡ []) × (c.1 ≡ false)
             × (c.0.bus ≡ J.opening.state)) }
     {
-        let writer = new_writer(alloc, services, routers, seats, front)?;
+        let writer = new_writer(alloc, services, routers, seats, prefix)?;
         // An operation that one copy has and the other has not stays in the queue beside the next one, so there are two.
         let writer = warm(rt, warm(rt, writer)?)?;
         Ok(Copies {
@@ -175,27 +175,27 @@ impl<J: Naming> Copies<J> {
     pub fn publish<R: Wait>(
         &mut self,
         rt: &R,
-        front: &Front,
+        prefix: &Prefix,
         entry: &NextEntry<'_>,
         prepared: Prepared,
-    ) -> Result<Front, Gone>
+    ) -> Result<Prefix, Gone>
         requires settled { self.old.1 ≡ false }
-        requires front { front.now ≡ self.old.0.front }
-        requires room { length front.now.log < 2 ^ 63 }
-        requires legal { IsLegal front.now.log }
+        requires prefix { prefix.now ≡ self.old.0.prefix }
+        requires room { length prefix.now.log < 2 ^ 63 }
+        requires legal { IsLegal prefix.now.log }
         requires alone { entry.now.left ≡ 0 }
-        requires number { entry.now.number ≡ length (numbers_of entry.now.seat front.now.log) + 1 }
+        requires number { entry.now.number ≡ length (numbers_of entry.now.seat prefix.now.log) + 1 }
         requires prepared { IsPreparedFor entry.now.seat entry.now.change prepared }
         ensures next { IfOk result (λ next.
-            next ≡ front_of J.book (front.now.log ++ entry.now ∷ [])) }
-        ensures published { IfOk result (λ next. self.new.0.front ≡ next) }
+            next ≡ prefix_of J.book (prefix.now.log ++ entry.now ∷ [])) }
+        ensures published { IfOk result (λ next. self.new.0.prefix ≡ next) }
         ensures bus { OnOk result
             (self.new.0.bus ≡ (step self.old.0.bus prepared.seat prepared.change).0) }
         ensures unspent { OnOk result (self.new.1 ≡ false) }
         ensures same { OnErr result (self.new.0 ≡ self.old.0) }
         ensures spent { OnErr result (self.new.1 ≡ true) }
     {
-        let Some(next) = front.add(&self.head, entry) else {
+        let Some(next) = prefix.add(&self.head, entry) else {
             self.spent = true;
             return Err(Gone);
         };
@@ -203,7 +203,7 @@ impl<J: Naming> Copies<J> {
             seat: entry.seat,
             number: entry.number,
             prepared,
-            front: next.again(),
+            prefix: next.again(),
         };
         self.show(rt, op)?;
         Ok(next)
@@ -217,27 +217,27 @@ impl<J: Naming> Copies<J> {
     pub fn publish_all<R: Wait>(
         &mut self,
         rt: &R,
-        front: &Front,
+        prefix: &Prefix,
         batch: &Batch,
         prepared: Vec<Prepared>,
-    ) -> Result<Front, Gone>
+    ) -> Result<Prefix, Gone>
         requires settled { self.old.1 ≡ false }
-        requires front { front.now ≡ self.old.0.front }
-        requires room { length front.now.log + length batch.now.changes.items ≤ 2 ^ 63 }
-        requires legal { IsLegal front.now.log }
+        requires prefix { prefix.now ≡ self.old.0.prefix }
+        requires room { length prefix.now.log + length batch.now.changes.items ≤ 2 ^ 63 }
+        requires legal { IsLegal prefix.now.log }
         requires first { batch.now.first
-            ≡ length (numbers_of batch.now.seat front.now.log) + 1 }
+            ≡ length (numbers_of batch.now.seat prefix.now.log) + 1 }
         requires prepared { ArePreparedFor batch.now.seat batch.now.changes.items prepared.items }
-        ensures next { IfOk result (λ next. next ≡ front_of J.book (front.now.log
+        ensures next { IfOk result (λ next. next ≡ prefix_of J.book (prefix.now.log
             ++ entries_of batch.now.seat batch.now.first batch.now.changes.items)) }
-        ensures published { IfOk result (λ next. self.new.0.front ≡ next) }
+        ensures published { IfOk result (λ next. self.new.0.prefix ≡ next) }
         ensures bus { OnOk result
             (self.new.0.bus ≡ absorbed_along self.old.0.bus prepared.items) }
         ensures unspent { OnOk result (self.new.1 ≡ false) }
         ensures same { OnErr result (self.new.0 ≡ self.old.0) }
         ensures spent { OnErr result (self.new.1 ≡ true) }
     {
-        let Some(next) = front.add_all(&self.head, batch) else {
+        let Some(next) = prefix.add_all(&self.head, batch) else {
             self.spent = true;
             return Err(Gone);
         };
@@ -245,7 +245,7 @@ impl<J: Naming> Copies<J> {
             seat: batch.seat,
             number: batch.first - 1 + batch.changes.len() as u64,
             prepared,
-            front: next.again(),
+            prefix: next.again(),
         };
         self.show(rt, op)?;
         Ok(next)

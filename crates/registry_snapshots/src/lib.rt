@@ -44,6 +44,6 @@ mod shared;
 pub use desk::Desk;
 pub use opening::{Serve, start};
 pub use refusal::StartFault;
-pub use registry_snapshots_core::{Naming, Note, Opened, Snap};
+pub use registry_snapshots_core::{Naming, NewHistory, Note, Snap};
 pub use seat::Seat;
 pub use shared::Shared;

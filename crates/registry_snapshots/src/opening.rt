@@ -11,7 +11,7 @@ use crate::refusal::StartFault;
 use crate::seat::Seat;
 use crate::shared::Shared;
 use names::WellKnown;
-use registry_snapshots_core::{Naming, Opened};
+use registry_snapshots_core::{Naming, NewHistory};
 use std::alloc::Global;
 use std::marker::Brand;
 use std::sync::Wait;
@@ -39,7 +39,7 @@ pub trait Serve: Drop {
 fn begin<J: Naming + Send + Sync, S: Serve, R: Wait>(
     rt: &R,
     alloc: Global,
-    opened: Opened,
+    opened: NewHistory,
     services: &[WellKnown],
     routers: u8,
     server: S,
@@ -78,5 +78,5 @@ pub fn start<S: Serve, R: Wait>(
     ensures services { IfErr result (λ e. e ≡ Services →
         (1 ≤ routers) × (routers ≤ max_routers) × (CanOpen routers services.now → ⊥)) }
 {
-    begin::<Brand, S, R>(rt, alloc, Opened::new(), services, routers, server)
+    begin::<Brand, S, R>(rt, alloc, NewHistory::new(), services, routers, server)
 }

@@ -18,7 +18,7 @@ use held_calls::HeldCalls;
 use names::WellKnown;
 use owner_queues::{Profile, Queue};
 use registry::Registry;
-use registry_snapshots_core::{Batch, Front, Head, Naming, NextEntry, Snap};
+use registry_snapshots_core::{Batch, Head, Naming, NextEntry, Prefix, Snap};
 use seq_bus_core::{Change, Outcome};
 use settling::{prepare, prepare_all};
 use std::alloc::{AllocError, Global};
@@ -54,28 +54,28 @@ impl<J: Naming> Model for Registrar<J> {
 
 /// Whether a seat that knows this much and made so many changes may make so many more now. It gives all of the history.
 #[tactic(auto, using(seq_bus_core::proofs::Extending::numbers_length))]
-pub fn judge(shown: &Snap, seat: u8, made: u64, known: &Front, more: u64) -> Result<Front, Cause>
+pub fn judge(shown: &Snap, seat: u8, made: u64, known: &Prefix, more: u64) -> Result<Prefix, Cause>
     requires shown { (opening : _) × IsSnapOf known.now.book opening shown.now }
     requires more { (1 ≤ more) × (more ≤ MAX_BATCH) }
-    ensures front { IfOk result (λ f. (f ≡ shown.now.front) × IsLegal f.log) }
+    ensures prefix { IfOk result (λ f. (f ≡ shown.now.prefix) × IsLegal f.log) }
     ensures known { IfOk result (λ f. Begins known.now.log f.log) }
     ensures made { IfOk result (λ f. (made ≡ length (numbers_of seat f.log))
         × (made + more ≤ 2 ^ 63) × (length f.log + more ≤ 2 ^ 63)) }
     ensures cause { IfErr result (λ e. (e ≡ ForeignSeat) ⊎ (e ≡ HistoryFull)) }
     ensures foreign { IfErr result (λ e. e ≡ ForeignSeat →
         (slice_get shown.now.last seat ≢ Some made)
-        ⊎ (length shown.now.front.log < length known.now.log)) }
+        ⊎ (length shown.now.prefix.log < length known.now.log)) }
     ensures full { IfErr result (λ e. e ≡ HistoryFull →
-        2 ^ 63 < length shown.now.front.log + more) }
+        2 ^ 63 < length shown.now.prefix.log + more) }
 {
-    let front = shown.front().again();
-    if shown.made(seat) != Some(made) || !known.begins(&front) {
+    let prefix = shown.prefix().again();
+    if shown.made(seat) != Some(made) || !known.begins(&prefix) {
         return Err(Cause::ForeignSeat);
     }
-    if front.len() > FULL - more {
+    if prefix.len() > FULL - more {
         return Err(Cause::HistoryFull);
     }
-    Ok(front)
+    Ok(prefix)
 }
 
 /// A batch that is handed back.
@@ -97,17 +97,17 @@ impl<J: Naming> Registrar<J> {
         routers: u8,
         seats: usize,
         head: Head,
-        front: &Front,
+        prefix: &Prefix,
     ) -> Result<Registrar<J>, AllocError>
         requires bus { CanOpen routers services.now
             × (J.opening ≡ opening_bus Two routers services.now) }
         requires seats { (0 < seats) × (seats < 2 ^ 32) }
-        requires front { (head ≡ J.book) × (front.now.book ≡ J.book) × (front.now.log ≡ []) }
-        ensures { IfOk result (λ r. (r.0.front.log ≡ []) × (r.1 ≡ false)) }
+        requires prefix { (head ≡ J.book) × (prefix.now.book ≡ J.book) × (prefix.now.log ≡ []) }
+        ensures { IfOk result (λ r. (r.0.prefix.log ≡ []) × (r.1 ≡ false)) }
     {
         let calls = HeldCalls::new(alloc)?;
         let third = Registry::new(alloc, services, routers, Profile::Two)?;
-        let copies = Copies::new(rt, alloc, services, routers, seats, head, front)?;
+        let copies = Copies::new(rt, alloc, services, routers, seats, head, prefix)?;
         Ok(Registrar {
             copies,
             third,
@@ -123,35 +123,35 @@ impl<J: Naming> Registrar<J> {
 
     /// Makes a change of a seat that knows this much and made so many, or refuses it. A change is large, and is not moved.
     ///
-    /// What it gives of the history is what is published, and nothing that is refused: no front lies beyond it.
+    /// What it gives of the history is what is published, and nothing that is refused: no prefix lies beyond it.
     pub fn change<R: Wait>(
         &mut self,
         rt: &R,
         alloc: Global,
         seat: u8,
         made: u64,
-        known: &Front,
+        known: &Prefix,
         change: &Change,
-    ) -> Result<(Outcome, Front), Cause>
+    ) -> Result<(Outcome, Prefix), Cause>
         requires book { known.now.book ≡ J.book }
         ensures made { IfOk result (λ r.
             IsChanged J.opening known.now.log seat made change.now r.0 r.1.log) }
         ensures few { IfOk result (λ r. length r.0.tickets ≤ MAX_TICKETS) }
         ensures next { IfOk result (λ r. (r.1.book ≡ J.book) × (made < 2 ^ 63)) }
-        ensures published { IfOk result (λ r. (r.1 ≡ self.new.0.front) × (self.new.1 ≡ false)) }
+        ensures published { IfOk result (λ r. (r.1 ≡ self.new.0.prefix) × (self.new.1 ≡ false)) }
         ensures same { OnErr result (self.new.0 ≡ self.old.0) }
         ensures judged { IfErr result (λ e. e ≢ Gone → self.new ≡ self.old) }
         ensures foreign { IfErr result (λ e. e ≡ ForeignSeat →
             (slice_get self.old.0.last seat ≢ Some made)
-            ⊎ (length self.old.0.front.log < length known.now.log)) }
+            ⊎ (length self.old.0.prefix.log < length known.now.log)) }
         ensures full { IfErr result (λ e. e ≡ HistoryFull →
-            2 ^ 63 ≤ length self.old.0.front.log) }
+            2 ^ 63 ≤ length self.old.0.prefix.log) }
     {
         if self.copies.is_spent() {
             return Err(Cause::Gone);
         }
         let shown = self.copies.published();
-        let front = judge(shown, seat, made, known, 1)?;
+        let prefix = judge(shown, seat, made, known, 1)?;
         let queue = &mut self.queue;
         let Ok((prepared, settling)) = prepare(alloc, &mut self.third, queue, seat, change) else {
             self.third.copy_from(self.copies.published().registry());
@@ -162,7 +162,7 @@ impl<J: Naming> Registrar<J> {
             number: made + 1,
             change,
         };
-        let Ok(next) = self.copies.publish(rt, &front, &entry, prepared) else {
+        let Ok(next) = self.copies.publish(rt, &prefix, &entry, prepared) else {
             return Err(Cause::Gone);
         };
         let outcome = settling.settle(&mut self.calls, change);
@@ -171,16 +171,16 @@ impl<J: Naming> Registrar<J> {
 
     /// Makes a batch of changes of a seat that knows this much and made so many, all in one publication, or refuses it.
     ///
-    /// What it gives of the history is what is published, and nothing that is refused: no front lies beyond it.
+    /// What it gives of the history is what is published, and nothing that is refused: no prefix lies beyond it.
     pub fn change_all<R: Wait>(
         &mut self,
         rt: &R,
         alloc: Global,
         seat: u8,
         made: u64,
-        known: &Front,
+        known: &Prefix,
         changes: Vec<Change>,
-    ) -> Result<(Vec<Outcome>, Front), RefusedAll>
+    ) -> Result<(Vec<Outcome>, Prefix), RefusedAll>
         requires book { known.now.book ≡ J.book }
         requires batch { IsBatch changes.items }
         ensures made { IfOk result (λ r.
@@ -189,7 +189,7 @@ impl<J: Naming> Registrar<J> {
             AllByRecursion (λ o. length o.tickets ≤ MAX_TICKETS) r.0.items) }
         ensures next { IfOk result (λ r. (r.1.book ≡ J.book)
             × (made + length changes.items ≤ 2 ^ 63)) }
-        ensures published { IfOk result (λ r. (r.1 ≡ self.new.0.front) × (self.new.1 ≡ false)) }
+        ensures published { IfOk result (λ r. (r.1 ≡ self.new.0.prefix) × (self.new.1 ≡ false)) }
         ensures refused { IfErr result (λ e. e.changes ≡ changes) }
         ensures cause { IfErr result (λ e. (cause : Cause) × (e.cause ≡ BatchCause.Refused cause)) }
         ensures same { OnErr result (self.new.0 ≡ self.old.0) }
@@ -197,16 +197,16 @@ impl<J: Naming> Registrar<J> {
             self.new ≡ self.old) }
         ensures foreign { IfErr result (λ e. e.cause ≡ BatchCause.Refused ForeignSeat →
             (slice_get self.old.0.last seat ≢ Some made)
-            ⊎ (length self.old.0.front.log < length known.now.log)) }
+            ⊎ (length self.old.0.prefix.log < length known.now.log)) }
         ensures full { IfErr result (λ e. e.cause ≡ BatchCause.Refused HistoryFull →
-            2 ^ 63 < length self.old.0.front.log + length changes.items) }
+            2 ^ 63 < length self.old.0.prefix.log + length changes.items) }
     {
         if self.copies.is_spent() {
             return Err(refused_all(changes, Cause::Gone));
         }
         let shown = self.copies.published();
-        let front = match judge(shown, seat, made, known, changes.len() as u64) {
-            Ok(front) => front,
+        let prefix = match judge(shown, seat, made, known, changes.len() as u64) {
+            Ok(prefix) => prefix,
             Err(cause) => return Err(refused_all(changes, cause)),
         };
         let Ok((prepared, settlings)) = prepare_all(alloc, &mut self.third, seat, &changes) else {
@@ -218,7 +218,7 @@ impl<J: Naming> Registrar<J> {
             first: made + 1,
             changes,
         };
-        let Ok(next) = self.copies.publish_all(rt, &front, &batch, prepared) else {
+        let Ok(next) = self.copies.publish_all(rt, &prefix, &batch, prepared) else {
             return Err(refused_all(batch.changes, Cause::Gone));
         };
         let outcomes = settlings.settle(&mut self.calls, &batch.changes);

@@ -16,13 +16,13 @@ ghost use Rattle.registry_snapshots_core.specs.Copies.{SnapView};
 ghost use Rattle.registry_snapshots.specs.Seats.{fresh, AreChanged, IsChanged, IsRead, IsUnwatched};
 
 use crate::copies::SnapReader;
-use crate::rule::{Finds, Kept};
+use crate::rule::{CopyKeepsRule, CopyRule};
 use crate::shared::Shared;
 use bus_view::{Again, AskFault, Asked, BatchCause, Gone, Refused, RefusedAll};
 use left_right::reader::Reading;
 use match_index::Steps;
 use match_rules::Facts;
-use registry_snapshots_core::{Front, Naming, Note, Snap};
+use registry_snapshots_core::{Naming, Note, Prefix, Snap};
 use seq_bus_core::{Change, Outcome, Query, Verdict};
 use std::marker::{Brand, Model};
 use std::sync::Wait;
@@ -39,7 +39,7 @@ pub struct Seat<J: Naming> {
     last: u64,
     // Gone while it reads.
     reader: Option<SnapReader<J>>,
-    front: Front,
+    prefix: Prefix,
     // Whether there may be a monitor at the end of what was seen.
     watched: bool,
     held: Option<Note<J>>,
@@ -54,39 +54,39 @@ impl<J: Naming> Model for Seat<J> {
 
     ghost view = { λ s. record {
       number = s.number;
-      seen = s.front.log;
+      seen = s.prefix.log;
       made = s.made;
       last = s.last;
       held = s.held;
     } };
 
-    ghost invariant = { λ s. (s.front.book ≡ J.book)
-        × ((held : History) → s.held ≡ Some held → Begins held s.front.log)
-        × (s.watched ≡ false → IsUnwatched J.opening s.front.log s.number s.made) };
+    ghost invariant = { λ s. (s.prefix.book ≡ J.book)
+        × ((held : History) → s.held ≡ Some held → Begins held s.prefix.log)
+        × (s.watched ≡ false → IsUnwatched J.opening s.prefix.log s.number s.made) };
 }
 
-type SnapReading<J> = Reading<Snap, (), Kept<J>>;
+type SnapReading<J> = Reading<Snap, (), CopyRule<J>>;
 
 // Enters the published copy, where it is no less than was seen and has the seat's changes.
 fn enter<J: Naming>(
     reader: SnapReader<J>,
     number: u8,
     made: u64,
-    seen: &Front,
-) -> Result<(SnapReading<J>, Front), SnapReader<J>>
+    seen: &Prefix,
+) -> Result<(SnapReading<J>, Prefix), SnapReader<J>>
     requires { seen.now.book ≡ J.book }
-    ensures front { IfOk result (λ r. (r.1.book ≡ J.book)
+    ensures prefix { IfOk result (λ r. (r.1.book ≡ J.book)
         × IsRead seen.now.log number made r.1.log) }
     ensures copy { IfOk result (λ r. r.0.part.value.bus ≡ (bus_after J.opening r.1.log).state) }
 {
-    let reading = reader.enter_as::<Finds<J>>()?;
+    let reading = reader.enter_as::<CopyKeepsRule<J>>()?;
     let snap = reading.get();
-    let front = snap.front().again();
-    if snap.made(number) != Some(made) || !seen.begins(&front) {
+    let prefix = snap.prefix().again();
+    if snap.made(number) != Some(made) || !seen.begins(&prefix) {
         return Err(reading.leave());
     }
-    let _legal = front.len();
-    Ok((reading, front))
+    let _legal = prefix.len();
+    Ok((reading, prefix))
 }
 
 // Where a message goes, with a counter of its own for the rules that are tested.
@@ -107,8 +107,8 @@ fn route_with<L: Ledger>(
 
 impl<J: Naming> Seat<J> {
     /// The seat of this number, which has seen nothing.
-    pub(crate) fn new(number: u8, reader: SnapReader<J>, front: Front) -> Seat<J>
-        requires { (front.book ≡ J.book) × (front.log ≡ []) }
+    pub(crate) fn new(number: u8, reader: SnapReader<J>, prefix: Prefix) -> Seat<J>
+        requires { (prefix.book ≡ J.book) × (prefix.log ≡ []) }
         ensures { result ≡ fresh number }
     {
         Seat {
@@ -116,7 +116,7 @@ impl<J: Naming> Seat<J> {
             made: 0,
             last: 0,
             reader: Some(reader),
-            front,
+            prefix,
             watched: true,
             held: None,
         }
@@ -133,7 +133,7 @@ impl<J: Naming> Seat<J> {
     pub fn place(&self) -> u64
         ensures { result ≡ length self.now.seen }
     {
-        self.front.len()
+        self.prefix.len()
     }
 
     /// How many of them it made.
@@ -151,8 +151,8 @@ impl<J: Naming> Seat<J> {
     }
 
     // Enters the published copy.
-    fn begin_reading(&mut self) -> Result<(SnapReading<J>, Front), Gone>
-        ensures front { IfOk result (λ r. (r.1.book ≡ J.book)
+    fn begin_reading(&mut self) -> Result<(SnapReading<J>, Prefix), Gone>
+        ensures prefix { IfOk result (λ r. (r.1.book ≡ J.book)
             × IsRead self.old.seen self.old.number self.old.made r.1.log) }
         ensures begun { IfOk result (λ r. Begins self.new.seen r.1.log) }
         ensures copy { IfOk result (λ r. r.0.part.value.bus ≡ (bus_after J.opening r.1.log).state) }
@@ -161,7 +161,7 @@ impl<J: Naming> Seat<J> {
         let Some(reader) = self.reader.take() else {
             return Err(Gone);
         };
-        match enter(reader, self.number, self.made, &self.front) {
+        match enter(reader, self.number, self.made, &self.prefix) {
             Ok(entered) => Ok(entered),
             Err(reader) => {
                 self.reader = Some(reader);
@@ -170,18 +170,18 @@ impl<J: Naming> Seat<J> {
         }
     }
 
-    // Leaves the copy, which stood for this front.
-    fn end_reading(&mut self, reading: SnapReading<J>, front: Front)
-        requires book { front.book ≡ J.book }
-        requires read { IsRead self.old.seen self.old.number self.old.made front.log }
-        requires copy { reading.part.value.bus ≡ (bus_after J.opening front.log).state }
-        ensures seen { self.new.seen ≡ front.log }
+    // Leaves the copy, which stood for this prefix.
+    fn end_reading(&mut self, reading: SnapReading<J>, prefix: Prefix)
+        requires book { prefix.book ≡ J.book }
+        requires read { IsRead self.old.seen self.old.number self.old.made prefix.log }
+        requires copy { reading.part.value.bus ≡ (bus_after J.opening prefix.log).state }
+        ensures seen { self.new.seen ≡ prefix.log }
         ensures kept { (self.new.number ≡ self.old.number) × (self.new.made ≡ self.old.made)
             × (self.new.last ≡ self.old.last) × (self.new.held ≡ self.old.held) }
     {
         self.watched = reading.get().has_monitors();
         self.reader = Some(reading.leave());
-        self.front = front;
+        self.prefix = prefix;
     }
 
     /// Calls `f` once on the published copy and gives its answer. It waits for no lock and takes no memory.
@@ -198,9 +198,9 @@ impl<J: Naming> Seat<J> {
             × (self.new.last ≡ self.old.last) × (self.new.held ≡ self.old.held) }
         ensures gone { OnErr result (self.new.seen ≡ self.old.seen) }
     {
-        let (reading, front) = self.begin_reading()?;
+        let (reading, prefix) = self.begin_reading()?;
         let answer = f(reading.get());
-        self.end_reading(reading, front);
+        self.end_reading(reading, prefix);
         Ok(answer)
     }
 
@@ -238,9 +238,9 @@ impl<J: Naming> Seat<J> {
         ensures gone { OnErr result (self.new.seen ≡ self.old.seen) }
         ensures untold { OnErr result (told.new ≡ told.old) }
     {
-        let (reading, front) = self.begin_reading()?;
+        let (reading, prefix) = self.begin_reading()?;
         route_with::<Brand>(reading.get(), from, facts, told, Blank::new(1));
-        self.end_reading(reading, front);
+        self.end_reading(reading, prefix);
         Ok(())
     }
 
@@ -264,11 +264,11 @@ impl<J: Naming> Seat<J> {
             × (self.new.last ≡ self.old.last) × (self.new.held ≡ self.old.held) }
         ensures gone { IfErr result (λ fault. fault ≡ AskGone → self.new ≡ self.old) }
     {
-        let Ok((reading, front)) = self.begin_reading() else {
+        let Ok((reading, prefix)) = self.begin_reading() else {
             return Err(AskFault::Gone);
         };
         let asked = reading.get().ask(query, body);
-        self.end_reading(reading, front);
+        self.end_reading(reading, prefix);
         asked
     }
 
@@ -318,9 +318,9 @@ impl<J: Naming> Seat<J> {
         ensures refused { IfErr result (λ e. e.change ≡ change) }
         ensures unchanged { OnErr result (self.new ≡ self.old) }
     {
-        match shared.change(rt, self.number, self.made, &self.front, &change) {
-            Ok((outcome, front)) => {
-                let note = self.go_on(1, front);
+        match shared.change(rt, self.number, self.made, &self.prefix, &change) {
+            Ok((outcome, prefix)) => {
+                let note = self.go_on(1, prefix);
                 Ok((outcome, note))
             }
             Err(cause) => Err(Refused { change, cause }),
@@ -354,33 +354,33 @@ impl<J: Naming> Seat<J> {
         ensures unchanged { OnErr result (self.new ≡ self.old) }
     {
         let count = changes.len() as u64;
-        let (outcomes, front) = shared.change_all(
+        let (outcomes, prefix) = shared.change_all(
             rt,
             self.number,
             self.made,
-            &self.front,
+            &self.prefix,
             changes,
         )?;
-        let note = self.go_on(count, front);
+        let note = self.go_on(count, prefix);
         Ok((outcomes, note))
     }
 
     // Goes on to where so many changes of it were made, and tells of them in a note.
-    fn go_on(&mut self, count: u64, front: Front) -> Note<J>
-        requires book { front.book ≡ J.book }
+    fn go_on(&mut self, count: u64, prefix: Prefix) -> Note<J>
+        requires book { prefix.book ≡ J.book }
         requires room { self.old.made + count < 2 ^ 64 }
-        ensures note { result ≡ front.log }
+        ensures note { result ≡ prefix.log }
         ensures seen { self.new ≡ record self.old {
-          seen = front.log;
+          seen = prefix.log;
           made = self.old.made + count;
-          last = length front.log;
-          held = Some front.log;
+          last = length prefix.log;
+          held = Some prefix.log;
         } }
     {
-        let note = Note::of(&front);
+        let note = Note::of(&prefix);
         self.made += count;
-        self.last = front.len();
-        self.front = front;
+        self.last = prefix.len();
+        self.prefix = prefix;
         self.watched = true;
         self.held = Some(note.again());
         note
@@ -400,10 +400,10 @@ impl<J: Naming> Seat<J> {
             Some(held) => held.or_longer(note),
             None => note.again(),
         };
-        if !note.front().begins(&self.front) {
-            self.front = note.front().again();
+        if !note.prefix().begins(&self.prefix) {
+            self.prefix = note.prefix().again();
         }
-        let _legal = self.front.len();
+        let _legal = self.prefix.len();
         self.watched = true;
         self.held = Some(held);
     }

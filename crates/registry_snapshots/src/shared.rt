@@ -15,7 +15,7 @@ use crate::registrar::Registrar;
 use crate::seat::Seat;
 use bus_view::{BatchCause, Cause, RefusedAll, can_open};
 use names::WellKnown;
-use registry_snapshots_core::{Front, Naming, Opened};
+use registry_snapshots_core::{Prefix, Naming, NewHistory};
 use seq_bus_core::limits::{MAX_BATCH, MAX_ROUTERS};
 use seq_bus_core::{Change, Outcome};
 use std::alloc::{AllocError, Global};
@@ -48,12 +48,12 @@ fn add_seat<J: Naming>(
     seats: &mut Vec<Seat<J>>,
     registrar: &Registrar<J>,
     number: u8,
-    front: &Front,
+    prefix: &Prefix,
 ) -> Result<(), AllocError>
-    requires { (front.now.book ≡ J.book) × (front.now.log ≡ []) }
+    requires { (prefix.now.book ≡ J.book) × (prefix.now.log ≡ []) }
     ensures { OnOk result (seats.new.items ≡ seats.old.items ++ fresh number ∷ []) }
 {
-    let seat = Seat::new(number, registrar.reader()?, front.again());
+    let seat = Seat::new(number, registrar.reader()?, prefix.again());
     match seats.push(seat) {
         Ok(()) => Ok(()),
         Err(_) => Err(AllocError),
@@ -64,15 +64,15 @@ fn add_seat<J: Naming>(
 fn new_seats<J: Naming>(
     alloc: Global,
     registrar: &Registrar<J>,
-    front: &Front,
+    prefix: &Prefix,
     count: u8,
 ) -> Result<Vec<Seat<J>>, AllocError>
-    requires { (front.now.book ≡ J.book) × (front.now.log ≡ []) }
+    requires { (prefix.now.book ≡ J.book) × (prefix.now.log ≡ []) }
     ensures { IfOk result (λ seats. seats.items ≡ fresh_to count) }
 {
     let mut seats = Vec::new(alloc);
     for number in 0..count {
-        add_seat(&mut seats, registrar, number, front)?;
+        add_seat(&mut seats, registrar, number, prefix)?;
     }
     Ok(seats)
 }
@@ -85,7 +85,7 @@ impl<J: Naming> Shared<J> {
     pub fn new<R: Wait>(
         rt: &R,
         alloc: Global,
-        opened: Opened,
+        opened: NewHistory,
         services: &[WellKnown],
         routers: u8,
     ) -> Result<(Shared<J>, Vec<Seat<J>>), StartFault>
@@ -104,7 +104,7 @@ impl<J: Naming> Shared<J> {
         if !can_open(services, routers) {
             return Err(StartFault::Services);
         }
-        let (head, front) = opened.parts();
+        let (head, prefix) = opened.parts();
         let Ok(registrar) = Registrar::new(
             rt,
             alloc,
@@ -112,11 +112,11 @@ impl<J: Naming> Shared<J> {
             routers,
             usize::from(routers) + 1,
             head,
-            &front,
+            &prefix,
         ) else {
             return Err(StartFault::NoMemory);
         };
-        match new_seats(alloc, &registrar, &front, routers + 1) {
+        match new_seats(alloc, &registrar, &prefix, routers + 1) {
             Ok(seats) => {
                 let shared = Shared {
                     alloc,
@@ -148,9 +148,9 @@ impl<J: Naming> Shared<J> {
         rt: &R,
         seat: u8,
         made: u64,
-        known: &Front,
+        known: &Prefix,
         change: &Change,
-    ) -> Result<(Outcome, Front), Cause>
+    ) -> Result<(Outcome, Prefix), Cause>
         requires book { known.now.book ≡ J.book }
         ensures made { IfOk result (λ r.
             IsChanged J.opening known.now.log seat made change.now r.0 r.1.log) }
@@ -169,9 +169,9 @@ impl<J: Naming> Shared<J> {
         rt: &R,
         seat: u8,
         made: u64,
-        known: &Front,
+        known: &Prefix,
         changes: Vec<Change>,
-    ) -> Result<(Vec<Outcome>, Front), RefusedAll>
+    ) -> Result<(Vec<Outcome>, Prefix), RefusedAll>
         requires book { known.now.book ≡ J.book }
         ensures made { IfOk result (λ r.
             AreChanged J.opening known.now.log seat made changes.items r.0.items r.1.log) }

@@ -10,7 +10,7 @@ use Rattle.seq_bus_core.specs.Histories.{IsLegal}
 use Rattle.seq_bus_core.specs.declared.change.Change.{Change}
 use Rattle.registry_snapshots_core.specs.Publications.{flat, IsKept, Adds}
 use Rattle.registry_snapshots_core.specs.declared.history.Publication.{Publication}
-use Rattle.registry_snapshots_core.proofs.Fronts.{prefix_whole, flat_append, flat_prefix}
+use Rattle.registry_snapshots_core.proofs.Prefixes.{prefix_whole, flat_append, flat_prefix}
 
 abbrev pub shown : List Publication → List Publication
 shown log = []

@@ -1,4 +1,4 @@
-pub mod Fronts
+pub mod Prefixes
 pub mod Adding
 pub mod Openings
 pub mod Steps

@@ -18,7 +18,7 @@ use Rattle.seq_bus_core.proofs.ChangeLaws.{steps_see_no_more}
 use Rattle.seq_bus_core.proofs.Extending.{after_more, legal_more, numbers_mine, numbers_others}
 use Rattle.registry.specs.PreparedChanges.{PreparedChange, ArePreparedFor, absorbed_along, state_along}
 use Rattle.registry.proofs.Along.{absorbed_is, entries_along}
-use Rattle.registry_snapshots_core.specs.Copies.{FrontView, SnapView, front_of, put_number, absorbed, absorbed_all, IsSnapOf, IsLastOf}
+use Rattle.registry_snapshots_core.specs.Copies.{PrefixView, SnapView, prefix_of, put_number, absorbed, absorbed_all, IsSnapOf, IsLastOf}
 
 put_length : (last : List ℕ) (seat number : ℕ) → length (put_number last seat number) ≡ length last
 put_length last seat number = by_test (ltb seat (length last))
@@ -72,32 +72,32 @@ last_more last last' h seat first number changes kept next same new other within
         omega (arith, at, kept other there, ap length (numbers_others seat other first h changes differ))
 
 -- the copy that has the change of an entry too, which was prepared for it
-pub snap_next : (book : Book) (opening : WholeBus) (s : SnapView) (e : Entry) (p : PreparedChange) (front : FrontView) → IsSnapOf book opening s → e.left ≡ 0 → e.number ≡ length (numbers_of e.seat s.front.log) + 1
-    → p.seat ≡ e.seat → p.change ≡ as_seen e.change → front ≡ front_of book (s.front.log ++ e ∷ []) → IsSnapOf book opening (absorbed s e.seat e.number p front)
-snap_next book opening s e p front kept alone number seat change is =
+pub snap_next : (book : Book) (opening : WholeBus) (s : SnapView) (e : Entry) (p : PreparedChange) (prefix : PrefixView) → IsSnapOf book opening s → e.left ≡ 0 → e.number ≡ length (numbers_of e.seat s.prefix.log) + 1
+    → p.seat ≡ e.seat → p.change ≡ as_seen e.change → prefix ≡ prefix_of book (s.prefix.log ++ e ∷ []) → IsSnapOf book opening (absorbed s e.seat e.number p prefix)
+snap_next book opening s e p prefix kept alone number seat change is =
     let stepped : (step s.bus p.seat p.change).0 ≡ (step s.bus e.seat e.change).0 =
     ap (λ k. (step s.bus k p.change).0) seat ∙ ap (λ d. (step s.bus e.seat d).0) change ∙ ap (λ r. r.0) (steps_see_no_more s.bus e.seat e.change) in
-    let after : (step s.bus p.seat p.change).0 ≡ (bus_after opening (s.front.log ++ e ∷ [])).state =
-    stepped ∙ ap (λ (b : BusState). (step b e.seat e.change).0) kept.bus_is ∙ sym (ap (λ (b : WholeBus). b.state) (after_more opening s.front.log (e ∷ []))) in
-    let last : IsLastOf (put_number s.last e.seat e.number) (s.front.log ++ entry_alone e.seat e.number e.change ∷ []) =
-    last_more s.last (put_number s.last e.seat e.number) s.front.log e.seat e.number e.number (e.change ∷ []) kept.last_is number (put_length s.last e.seat e.number) (put_at s.last e.seat e.number) in
-    subst (λ (f : FrontView). IsSnapOf book opening (absorbed s e.seat e.number p f)) (sym is)
+    let after : (step s.bus p.seat p.change).0 ≡ (bus_after opening (s.prefix.log ++ e ∷ [])).state =
+    stepped ∙ ap (λ (b : BusState). (step b e.seat e.change).0) kept.bus_is ∙ sym (ap (λ (b : WholeBus). b.state) (after_more opening s.prefix.log (e ∷ []))) in
+    let last : IsLastOf (put_number s.last e.seat e.number) (s.prefix.log ++ entry_alone e.seat e.number e.change ∷ []) =
+    last_more s.last (put_number s.last e.seat e.number) s.prefix.log e.seat e.number e.number (e.change ∷ []) kept.last_is number (put_length s.last e.seat e.number) (put_at s.last e.seat e.number) in
+    subst (λ (f : PrefixView). IsSnapOf book opening (absorbed s e.seat e.number p f)) (sym is)
     (record {
       book_is = refl;
       bus_is = after;
-      last_is = subst (λ (x : Entry). IsLastOf (put_number s.last e.seat e.number) (s.front.log ++ x ∷ [])) (sym (by_itself e alone)) last;
+      last_is = subst (λ (x : Entry). IsLastOf (put_number s.last e.seat e.number) (s.prefix.log ++ x ∷ [])) (sym (by_itself e alone)) last;
     })
 
 -- the copy that has the changes of a batch too, which were prepared for it
-pub snap_next_all : (book : Book) (opening : WholeBus) (s : SnapView) (seat first number : ℕ) (changes : List Change) (prepared : List PreparedChange) (front : FrontView) → IsSnapOf book opening s
-    → number ≡ length (numbers_of seat s.front.log) + length changes → ArePreparedFor seat changes prepared → front ≡ front_of book (s.front.log ++ entries_of seat first changes) → IsSnapOf book opening (absorbed_all s seat number prepared front)
-snap_next_all book opening s seat first number changes prepared front kept count all is =
-    let more : History = s.front.log ++ entries_of seat first changes in
-    let stepped : absorbed_along s.bus prepared ≡ state_along (bus_after opening s.front.log).state seat changes =
+pub snap_next_all : (book : Book) (opening : WholeBus) (s : SnapView) (seat first number : ℕ) (changes : List Change) (prepared : List PreparedChange) (prefix : PrefixView) → IsSnapOf book opening s
+    → number ≡ length (numbers_of seat s.prefix.log) + length changes → ArePreparedFor seat changes prepared → prefix ≡ prefix_of book (s.prefix.log ++ entries_of seat first changes) → IsSnapOf book opening (absorbed_all s seat number prepared prefix)
+snap_next_all book opening s seat first number changes prepared prefix kept count all is =
+    let more : History = s.prefix.log ++ entries_of seat first changes in
+    let stepped : absorbed_along s.bus prepared ≡ state_along (bus_after opening s.prefix.log).state seat changes =
     absorbed_is s.bus seat changes prepared all ∙ ap (λ (t : BusState). state_along t seat changes) kept.bus_is in
     let after : absorbed_along s.bus prepared ≡ (bus_after opening more).state =
-    stepped ∙ sym (entries_along (bus_after opening s.front.log) seat first changes) ∙ sym (ap (λ (b : WholeBus). b.state) (after_more opening s.front.log (entries_of seat first changes))) in
+    stepped ∙ sym (entries_along (bus_after opening s.prefix.log) seat first changes) ∙ sym (ap (λ (b : WholeBus). b.state) (after_more opening s.prefix.log (entries_of seat first changes))) in
     let last : IsLastOf (put_number s.last seat number) more =
-    last_more s.last (put_number s.last seat number) s.front.log seat first number changes kept.last_is count (put_length s.last seat number) (put_at s.last seat number) in
-    subst (λ (f : FrontView). IsSnapOf book opening (absorbed_all s seat number prepared f)) (sym is)
+    last_more s.last (put_number s.last seat number) s.prefix.log seat first number changes kept.last_is count (put_length s.last seat number) (put_at s.last seat number) in
+    subst (λ (f : PrefixView). IsSnapOf book opening (absorbed_all s seat number prepared f)) (sym is)
     (record { book_is = refl; bus_is = after; last_is = last })

@@ -8,18 +8,18 @@ use Rattle.seq_bus_core.specs.Tickets.{WholeBus, bus_after}
 use Rattle.registry.specs.PreparedChanges.{PreparedChange, absorbed_along}
 
 -- a beginning of a book's history
-pub record FrontView : Type 0 where
+pub record PrefixView : Type 0 where
   pub book : Book
   pub log : History
 
-abbrev pub front_of : Book → History → FrontView
-front_of book log = record { book = book; log = log }
+abbrev pub prefix_of : Book → History → PrefixView
+prefix_of book log = record { book = book; log = log }
 
 -- a copy: the state of the bus, the number of each seat's last change, and the beginning of the history that it stands for
 pub record SnapView : Type 0 where
   pub bus : BusState
   pub last : List ℕ
-  pub front : FrontView
+  pub prefix : PrefixView
 
 -- `last` has the number of each seat's last change
 abbrev pub IsLastOf : List ℕ → History → Type 0
@@ -29,16 +29,16 @@ IsLastOf last history = (seat : ℕ) → seat < length last → slice_index last
 abbrev pub put_number : List ℕ → ℕ → ℕ → List ℕ
 put_number last seat number = if ltb seat (length last) then slice_set last seat number else last
 
--- the copy after a seat's change of this number, whose entry ends the beginning `front`
-abbrev pub absorbed : SnapView → ℕ → ℕ → PreparedChange → FrontView → SnapView
-absorbed s seat number p front = record { bus = (step s.bus p.seat p.change).0; last = put_number s.last seat number; front = front }
+-- the copy after a seat's change of this number, whose entry ends the beginning `prefix`
+abbrev pub absorbed : SnapView → ℕ → ℕ → PreparedChange → PrefixView → SnapView
+absorbed s seat number p prefix = record { bus = (step s.bus p.seat p.change).0; last = put_number s.last seat number; prefix = prefix }
 
--- the copy after a seat's changes, the last of which has this number, and whose entries end the beginning `front`
-abbrev pub absorbed_all : SnapView → ℕ → ℕ → List PreparedChange → FrontView → SnapView
-absorbed_all s seat number prepared front = record { bus = absorbed_along s.bus prepared; last = put_number s.last seat number; front = front }
+-- the copy after a seat's changes, the last of which has this number, and whose entries end the beginning `prefix`
+abbrev pub absorbed_all : SnapView → ℕ → ℕ → List PreparedChange → PrefixView → SnapView
+absorbed_all s seat number prepared prefix = record { bus = absorbed_along s.bus prepared; last = put_number s.last seat number; prefix = prefix }
 
 -- the copy is the bus after its beginning of this book's history, with the number of each seat's last change
 pub record IsSnapOf (book : Book) (opening : WholeBus) (s : SnapView) : Type 0 where
-  pub book_is : s.front.book ≡ book
-  pub bus_is : s.bus ≡ (bus_after opening s.front.log).state
-  pub last_is : IsLastOf s.last s.front.log
+  pub book_is : s.prefix.book ≡ book
+  pub bus_is : s.bus ≡ (bus_after opening s.prefix.log).state
+  pub last_is : IsLastOf s.last s.prefix.log

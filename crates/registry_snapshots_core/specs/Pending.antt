@@ -8,8 +8,8 @@ use Rattle.registry_snapshots_core.specs.declared.snap.Op.TheVariants.{Rest, Mad
 
 abbrev pub brought_up : SnapView → Op → SnapView
 brought_up s Rest = s
-brought_up s (Made seat number prepared front) = absorbed s seat number prepared front
-brought_up s (MadeAll seat number prepared front) = absorbed_all s seat number prepared.items front
+brought_up s (Made seat number prepared prefix) = absorbed s seat number prepared prefix
+brought_up s (MadeAll seat number prepared prefix) = absorbed_all s seat number prepared.items prefix
 
 -- the copy that has what is pending stands for a beginning of this book's history too
 abbrev pub IsReady : Book → WholeBus → SnapView → List Op → Type 0

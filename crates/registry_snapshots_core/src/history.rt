@@ -3,7 +3,7 @@
 ghost use Rattle.std.specs.Prelude.{◌≡◌, ◌+◌, ◌==◌, ◌<◌, ◌≤◌, ◌^◌, ◌++◌, ◌∷◌, [], length, MatchBool, IfSome};
 ghost use Rattle.seq_bus_core.specs.Batches.{entries_of};
 ghost use Rattle.seq_bus_core.specs.Histories.{IsLegal, Begins};
-ghost use Rattle.registry_snapshots_core.specs.Copies.{front_of};
+ghost use Rattle.registry_snapshots_core.specs.Copies.{prefix_of};
 
 use logbook::{Gain, Offer, Plain, Play, Rule, Seen, Start, Word};
 use seq_bus_core::{Change, Entry};
@@ -16,9 +16,9 @@ pub struct Publication {
 }
 
 /// The rule of the book: its word is the length of the history, which is legal.
-pub struct Law;
+pub struct HistoryRule;
 
-impl Rule<Publication, u64> for Law {
+impl Rule<Publication, u64> for HistoryRule {
     ghost use Rattle.std.specs.Prelude.{[]};
     ghost use base.Fml.{ftrue};
     ghost use Rattle.registry_snapshots_core.specs.Publications.{IsKept};
@@ -37,18 +37,18 @@ impl Rule<Publication, u64> for Law {
 }
 
 /// Callers trade nothing.
-pub struct Nothing;
+pub struct NoTrade;
 
-impl Gain<Publication, u64> for Nothing {
+impl Gain<Publication, u64> for NoTrade {
     ghost use base.Fml.{ftrue};
 
     ghost after = { λ names about answer. ftrue };
 }
 
 /// A step that adds a publication.
-pub struct Add;
+pub struct Append;
 
-impl Play<Publication, u64> for Add {
+impl Play<Publication, u64> for Append {
     ghost use Rattle.registry_snapshots_core.specs.Publications.{Adds};
 
     ghost then = { Adds };
@@ -75,7 +75,7 @@ impl<'a> Model for NextEntry<'a> {
 }
 
 /// What a step asks for: the publication of one entry.
-impl<'a> Plain<NextEntry<'a>, Publication, u64> for Add {
+impl<'a> Plain<NextEntry<'a>, Publication, u64> for Append {
     ghost use Rattle.std.specs.Prelude.{None};
     ghost use Rattle.registry_snapshots_core.specs.Publications.{publication_of};
 
@@ -94,7 +94,7 @@ pub struct Batch {
 }
 
 /// What a step asks for: the publication of a batch.
-impl Plain<Batch, Publication, u64> for Add {
+impl Plain<Batch, Publication, u64> for Append {
     ghost use Rattle.std.specs.Prelude.{None};
     ghost use Rattle.registry_snapshots_core.specs.Publications.{publication_of_batch};
 
@@ -106,7 +106,7 @@ impl Plain<Batch, Publication, u64> for Add {
 /// The word with the length of the history. Contracts see it as the book that it is of.
 #[derive(Drop)]
 pub struct Head {
-    word: Word<Publication, u64, Law>,
+    word: Word<Publication, u64, HistoryRule>,
 }
 
 impl Model for Head {
@@ -123,18 +123,18 @@ impl Model for Head {
 
 /// A beginning of the history that was seen, of which only the length is stored. Contracts see its book and its entries.
 #[derive(Drop)]
-pub struct Front {
+pub struct Prefix {
     count: u64,
-    seen: Seen<Publication, u64, Law>,
+    seen: Seen<Publication, u64, HistoryRule>,
 }
 
-impl Model for Front {
+impl Model for Prefix {
     ghost use Rattle.std.specs.Prelude.{◌≡◌, length};
     ghost use Rattle.seq_bus_core.specs.Histories.{IsLegal};
-    ghost use Rattle.registry_snapshots_core.specs.Copies.{FrontView};
+    ghost use Rattle.registry_snapshots_core.specs.Copies.{PrefixView};
     ghost use Rattle.registry_snapshots_core.specs.Publications.{flat};
 
-    ghost Value = { FrontView };
+    ghost Value = { PrefixView };
 
     ghost view = { λ f. record { book = f.seen.book; log = flat f.seen.log } };
 
@@ -143,43 +143,43 @@ impl Model for Front {
 
 /// An empty history, which has no name yet. Contracts see its book.
 #[derive(Drop)]
-pub struct Opened {
+pub struct NewHistory {
     head: Head,
-    front: Front,
+    prefix: Prefix,
 }
 
-impl Model for Opened {
+impl Model for NewHistory {
     ghost use Rattle.std.specs.Prelude.{◌≡◌, []};
     ghost use Rattle.logbook.specs.Pages.{Book};
 
     ghost Value = { Book };
 
-    ghost view = { λ o. o.front.book };
+    ghost view = { λ o. o.prefix.book };
 
-    ghost invariant = { λ o. (o.head ≡ o.front.book) × (o.front.log ≡ []) };
+    ghost invariant = { λ o. (o.head ≡ o.prefix.book) × (o.prefix.log ≡ []) };
 }
 
-impl Opened {
-    pub fn new() -> Opened {
+impl NewHistory {
+    pub fn new() -> NewHistory {
         let (seen, mut first, _second) = Seen::open(Start::alone(), 0, 0);
-        Opened {
+        NewHistory {
             head: Head {
                 word: Word::tracked(0, &mut first),
             },
-            front: Front { count: 0, seen },
+            prefix: Prefix { count: 0, seen },
         }
     }
 
-    /// The word with its length, and the front that has seen nothing.
-    pub fn parts(self) -> (Head, Front)
+    /// The word with its length, and the prefix that has seen nothing.
+    pub fn parts(self) -> (Head, Prefix)
         ensures { (result.0 ≡ self) × (result.1.book ≡ self) × (result.1.log ≡ []) }
     {
-        let Opened { head, front } = self;
-        (head, front)
+        let NewHistory { head, prefix } = self;
+        (head, prefix)
     }
 }
 
-impl Front {
+impl Prefix {
     /// How many changes it has.
     pub fn len(&self) -> u64
         ensures length { result ≡ length self.now.log }
@@ -189,17 +189,17 @@ impl Front {
     }
 
     /// A copy, which takes no memory.
-    pub fn again(&self) -> Front
+    pub fn again(&self) -> Prefix
         ensures { result ≡ self.now }
     {
-        Front {
+        Prefix {
             count: self.count,
             seen: self.seen.again(),
         }
     }
 
     /// Of two beginnings of one history, whether this one begins the other.
-    pub fn begins(&self, other: &Front) -> bool
+    pub fn begins(&self, other: &Prefix) -> bool
         requires { other.now.book ≡ self.now.book }
         ensures { MatchBool result (Begins self.now.log other.now.log)
             (Begins other.now.log self.now.log × (length other.now.log < length self.now.log)) }
@@ -210,43 +210,43 @@ impl Front {
     }
 
     /// Publishes an entry behind all that was seen, where that is the whole history.
-    pub fn add(&self, head: &Head, entry: &NextEntry<'_>) -> Option<Front>
+    pub fn add(&self, head: &Head, entry: &NextEntry<'_>) -> Option<Prefix>
         requires book { head.now ≡ self.now.book }
         requires room { length self.now.log < 2 ^ 63 }
         requires legal { IsLegal (self.now.log ++ entry.now ∷ []) }
-        ensures { IfSome result (λ f. f ≡ front_of self.now.book (self.now.log ++ entry.now ∷ [])) }
+        ensures { IfSome result (λ f. f ≡ prefix_of self.now.book (self.now.log ++ entry.now ∷ [])) }
     {
         let mut seen = self.seen.again();
-        let mut offer: Offer<Publication, u64, Law, Nothing> = seen.plain::<
-            Nothing,
+        let mut offer: Offer<Publication, u64, HistoryRule, NoTrade> = seen.plain::<
+            NoTrade,
             NextEntry<'_>,
-            Add,
+            Append,
         >(entry);
         let mut pen = seen.no_pen();
         let count = self.count;
         let found = head
             .word
-            .compare_exchange::<Add, Nothing>(count, count + 1, &mut seen, &mut offer, &mut pen);
+            .compare_exchange::<Append, NoTrade>(count, count + 1, &mut seen, &mut offer, &mut pen);
         if found != count {
             return None;
         }
-        Some(Front {
+        Some(Prefix {
             count: count + 1,
             seen,
         })
     }
 
     /// Publishes the entries of a batch together behind all that was seen, where that is the whole history.
-    pub fn add_all(&self, head: &Head, batch: &Batch) -> Option<Front>
+    pub fn add_all(&self, head: &Head, batch: &Batch) -> Option<Prefix>
         requires book { head.now ≡ self.now.book }
         requires room { length self.now.log + length batch.now.changes.items ≤ 2 ^ 63 }
         requires legal { IsLegal (self.now.log
             ++ entries_of batch.now.seat batch.now.first batch.now.changes.items) }
-        ensures { IfSome result (λ f. f ≡ front_of self.now.book (self.now.log
+        ensures { IfSome result (λ f. f ≡ prefix_of self.now.book (self.now.log
             ++ entries_of batch.now.seat batch.now.first batch.now.changes.items)) }
     {
         let mut seen = self.seen.again();
-        let mut offer: Offer<Publication, u64, Law, Nothing> = seen.plain::<Nothing, Batch, Add>(
+        let mut offer: Offer<Publication, u64, HistoryRule, NoTrade> = seen.plain::<NoTrade, Batch, Append>(
             batch,
         );
         let mut pen = seen.no_pen();
@@ -254,10 +254,10 @@ impl Front {
         let next = count + batch.changes.len() as u64;
         let found = head
             .word
-            .compare_exchange::<Add, Nothing>(count, next, &mut seen, &mut offer, &mut pen);
+            .compare_exchange::<Append, NoTrade>(count, next, &mut seen, &mut offer, &mut pen);
         if found != count {
             return None;
         }
-        Some(Front { count: next, seen })
+        Some(Prefix { count: next, seen })
     }
 }

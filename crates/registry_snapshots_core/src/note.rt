@@ -3,7 +3,7 @@
 ghost use Rattle.std.specs.Prelude.{◌≡◌, Some};
 ghost use Rattle.seq_bus_core.specs.Histories.{longer};
 
-use crate::history::Front;
+use crate::history::Prefix;
 use crate::naming::Naming;
 use bus_view::Again;
 use std::marker::{Model, PhantomData};
@@ -13,7 +13,7 @@ use std::marker::{Model, PhantomData};
 /// Contracts see the beginning of the history that it tells. Which registry it is of is said by its type.
 #[derive(Drop)]
 pub struct Note<J: Naming> {
-    front: Front,
+    prefix: Prefix,
     of: PhantomData<J>,
 }
 
@@ -23,15 +23,15 @@ impl<J: Naming> Model for Note<J> {
 
     ghost Value = { History };
 
-    ghost view = { λ n. n.front.log };
+    ghost view = { λ n. n.prefix.log };
 
-    ghost invariant = { λ n. n.front.book ≡ J.book };
+    ghost invariant = { λ n. n.prefix.book ≡ J.book };
 }
 
 impl<J: Naming> Again for Note<J> {
     fn again(&self) -> Note<J> {
         Note {
-            front: self.front.again(),
+            prefix: self.prefix.again(),
             of: PhantomData,
         }
     }
@@ -39,28 +39,28 @@ impl<J: Naming> Again for Note<J> {
 
 impl<J: Naming> Note<J> {
     /// What tells this beginning of the history.
-    pub fn of(front: &Front) -> Note<J>
-        requires { front.now.book ≡ J.book }
-        ensures { result ≡ front.now.log }
+    pub fn of(prefix: &Prefix) -> Note<J>
+        requires { prefix.now.book ≡ J.book }
+        ensures { result ≡ prefix.now.log }
     {
         Note {
-            front: front.again(),
+            prefix: prefix.again(),
             of: PhantomData,
         }
     }
 
     /// What it tells.
-    pub fn front(&self) -> &Front
+    pub fn prefix(&self) -> &Prefix
         ensures { (result.now.log ≡ self.now) × (result.now.book ≡ J.book) }
     {
-        &self.front
+        &self.prefix
     }
 
     /// Of the two, the longer.
     pub fn or_longer(&self, note: &Note<J>) -> Note<J>
         ensures { result ≡ longer (Some self.now) note.now }
     {
-        if self.front.len() < note.front.len() {
+        if self.prefix.len() < note.prefix.len() {
             note.again()
         } else {
             self.again()

@@ -5,7 +5,7 @@ ghost use Rattle.std.specs.Prelude.{◌≡◌, ◌<◌, length, IfOk, IfSome, re
 ghost use Rattle.seq_bus_core.specs.Histories.{CanOpen, opening};
 ghost use Rattle.registry_snapshots_core.specs.Copies.{put_number};
 
-use crate::history::Front;
+use crate::history::Prefix;
 use left_right::Absorb;
 use names::WellKnown;
 use owner_queues::Profile;
@@ -22,7 +22,7 @@ pub struct Snap {
     registry: Registry,
     // The number of each seat's last change.
     last: Vec<u64>,
-    front: Front,
+    prefix: Prefix,
 }
 
 impl Model for Snap {
@@ -30,7 +30,7 @@ impl Model for Snap {
 
     ghost Value = { SnapView };
 
-    ghost view = { λ s. record { bus = s.registry; last = s.last.items; front = s.front } };
+    ghost view = { λ s. record { bus = s.registry; last = s.last.items; prefix = s.prefix } };
 }
 
 /// What brings a copy up.
@@ -45,7 +45,7 @@ pub enum Op {
         number: u64,
         prepared: Prepared,
         /// The beginning of the history that its entry ends.
-        front: Front,
+        prefix: Prefix,
     },
     /// Changes that a seat made together.
     MadeAll {
@@ -55,7 +55,7 @@ pub enum Op {
         /// In order.
         prepared: Vec<Prepared>,
         /// The beginning of the history that their entries end.
-        front: Front,
+        prefix: Prefix,
     },
 }
 
@@ -77,19 +77,19 @@ impl Absorb<Op> for Snap {
                 seat,
                 number,
                 prepared,
-                front,
+                prefix,
             } => {
                 self.registry.absorb(prepared);
-                self.go_on(*seat, *number, front);
+                self.go_on(*seat, *number, prefix);
             }
             Op::MadeAll {
                 seat,
                 number,
                 prepared,
-                front,
+                prefix,
             } => {
                 self.registry.absorb_all(prepared.as_slice());
-                self.go_on(*seat, *number, front);
+                self.go_on(*seat, *number, prefix);
             }
         }
         Ok(())
@@ -113,31 +113,31 @@ impl Snap {
         services: &[WellKnown],
         routers: u8,
         seats: usize,
-        front: Front,
+        prefix: Prefix,
     ) -> Result<Snap, AllocError>
         requires { CanOpen routers services.now }
         ensures { IfOk result (λ s. s ≡ record {
           bus = opening Two routers services.now;
           last = replicate seats 0;
-          front = front;
+          prefix = prefix;
         }) }
     {
         Ok(Snap {
             registry: Registry::new(alloc, services, routers, PROFILE)?,
             last: Vec::from_elem(alloc, 0u64, seats)?,
-            front,
+            prefix,
         })
     }
 
     // From now on it stands for this beginning of the history, where this is the number of the seat's last change.
-    fn go_on(&mut self, seat: u8, number: u64, front: &Front)
+    fn go_on(&mut self, seat: u8, number: u64, prefix: &Prefix)
         ensures { self.new ≡ record self.old {
           last = put_number self.old.last seat number;
-          front = front.now;
+          prefix = prefix.now;
         } }
     {
         remember(&mut self.last, seat, number);
-        self.front = front.again();
+        self.prefix = prefix.again();
     }
 
     /// The tables of the bus. Changes are prepared on them.
@@ -148,10 +148,10 @@ impl Snap {
     }
 
     /// The beginning of the history that it stands for.
-    pub fn front(&self) -> &Front
-        ensures { result.now ≡ self.now.front }
+    pub fn prefix(&self) -> &Prefix
+        ensures { result.now ≡ self.now.prefix }
     {
-        &self.front
+        &self.prefix
     }
 
     /// The number of the seat's last change, if there is such a seat.

@@ -11,7 +11,7 @@ use crate::source::ScenarioSource;
 use crate::stopper::Stopper;
 use crate::trace_sink::SharedTrace;
 use outbox::Outboxes;
-use registry_snapshots::{Naming, Opened, Seat, Shared};
+use registry_snapshots::{Naming, NewHistory, Seat, Shared};
 use routers::{Coordinator, Fault, RouterSetup, serve};
 use std::alloc::{AllocError, Global};
 use std::marker::Brand;
@@ -36,14 +36,14 @@ pub(crate) fn play<R: Threads + Wait + Clock + Sync>(
     scenario: &Scenario,
 ) -> Result<Played, Fail> {
     let routers = u8::try_from(scenario.steps.len()).unwrap_or(0);
-    open::<Brand, R>(rt, alloc, Opened::new(), routers, scenario)
+    open::<Brand, R>(rt, alloc, NewHistory::new(), routers, scenario)
 }
 
 /// Opens the registry that the routers share.
 fn open<J: Naming + Send + Sync, R: Threads + Wait + Clock + Sync>(
     rt: &R,
     alloc: Global,
-    opened: Opened,
+    opened: NewHistory,
     routers: u8,
     scenario: &Scenario,
 ) -> Result<Played, Fail>

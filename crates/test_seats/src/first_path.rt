@@ -10,7 +10,7 @@ use bus_view::Refused;
 use driver::{Call, ReplyBody, ReplyTo, read_call, write_reply, write_signal};
 use message::{Framer, Message, facts, first_arguments, with_sender};
 use names::{BusName, UniqueName};
-use registry_snapshots::{Naming, Opened, Seat, Shared};
+use registry_snapshots::{Naming, NewHistory, Seat, Shared};
 use seq_bus_core::{BusSignal, Change, Conn, Outcome, Reply};
 use std::alloc::Global;
 use std::marker::Brand;
@@ -216,7 +216,7 @@ fn serve<J: Naming + Send + Sync, R: Threads + Wait + Sync>(
 fn serve_once<J: Naming + Send + Sync, R: Threads + Wait + Sync>(
     rt: &R,
     alloc: Global,
-    opened: Opened,
+    opened: NewHistory,
     client: &mut Client,
 ) -> Result<(), Fail>
     requires { (opened ≡ J.book) × (J.opening ≡ opening_bus Two 1 []) }
@@ -235,7 +235,7 @@ fn serve_once<J: Naming + Send + Sync, R: Threads + Wait + Sync>(
 #[test]
 fn first_path(rt: HostRuntime) -> Result<(), Fail> {
     let mut client = Client::new(rt.alloc())?;
-    serve_once::<Brand, _>(&rt, rt.alloc(), Opened::new(), &mut client)?;
+    serve_once::<Brand, _>(&rt, rt.alloc(), NewHistory::new(), &mut client)?;
     let mut expected = Vec::new(rt.alloc());
     for part in [WELCOME, ACQUIRED, ADDED, RELAYED] {
         expected.extend_from_slice(part)?;

@@ -6,7 +6,7 @@ ghost use Rattle.seq_bus_core.specs.Tickets.{opening_bus};
 
 use match_rules::{Facts, MessageKind};
 use names::UniqueName;
-use registry_snapshots::{Naming, Opened, Seat, Shared};
+use registry_snapshots::{Naming, NewHistory, Seat, Shared};
 use seq_bus_core::{Change, Outcome, Reply};
 use std::alloc::Global;
 use std::marker::Brand;
@@ -85,14 +85,14 @@ fn hellos<J: Naming, R: Wait>(
 
 #[test]
 fn no_refusal(rt: HostRuntime) {
-    two_routers::<Brand, _>(&rt, rt.alloc(), Opened::new());
+    two_routers::<Brand, _>(&rt, rt.alloc(), NewHistory::new());
 }
 
 /// Two routers that serve new connections at the same time.
 fn two_routers<J: Naming + Send + Sync, R: Threads + Wait + Abort + Sync>(
     rt: &R,
     alloc: Global,
-    opened: Opened,
+    opened: NewHistory,
 )
     requires { (opened ≡ J.book) × (J.opening ≡ opening_bus Two 2 []) }
 {

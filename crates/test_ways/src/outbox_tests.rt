@@ -7,7 +7,7 @@ ghost use Rattle.seq_bus_core.specs.Tickets.{opening_bus};
 use crate::examples::comes_to_the_second;
 use outbox::{Full, Lane, Outboxes, Tap};
 use outbox_core::{Content, Envelope};
-use registry_snapshots::{Naming, Note, Opened, Shared};
+use registry_snapshots::{Naming, Note, NewHistory, Shared};
 use seq_bus_core::SharedBytes;
 use std::alloc::{AllocError, Global};
 use std::marker::Brand;
@@ -51,7 +51,7 @@ fn first_of<J: Naming, R: Wait>(rt: &R, mut tap: Tap<Letter<J>>) -> Option<u64> 
 fn two_routers<J: Naming + Send + Sync, R: Threads + Wait + Abort + Sync>(
     rt: &R,
     alloc: Global,
-    opened: Opened,
+    opened: NewHistory,
 )
     requires { (opened ≡ J.book) × (J.opening ≡ opening_bus Two 2 []) }
 {
@@ -84,5 +84,5 @@ fn two_routers<J: Naming + Send + Sync, R: Threads + Wait + Abort + Sync>(
 
 #[test]
 fn the_257th_envelope_comes_back(rt: HostRuntime) {
-    two_routers::<Brand, _>(&rt, rt.alloc(), Opened::new());
+    two_routers::<Brand, _>(&rt, rt.alloc(), NewHistory::new());
 }

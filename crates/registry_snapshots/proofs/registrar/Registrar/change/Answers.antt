@@ -4,7 +4,7 @@ use Rattle.seq_bus_core.specs.BusState.{BusState}
 use Rattle.seq_bus_core.specs.Histories.{entry_alone}
 use Rattle.seq_bus_core.specs.Steps.{step}
 use Rattle.seq_bus_core.specs.Tickets.{bus_step, bus_after}
-use Rattle.registry_snapshots_core.specs.Copies.{FrontView, SnapView}
+use Rattle.registry_snapshots_core.specs.Copies.{PrefixView, SnapView}
 use Rattle.registry_snapshots.proofs.Changes.{calls_more, changed, few_told, settles_after}
 use Rattle.registry_snapshots.proofs.registrar.Registrar.change.Goals as goal
 
@@ -13,22 +13,22 @@ settle-outcome-requires g c =
     let s : SnapView = c.self.inside.copies.0 in
     let unspent : c.self.inside.copies.1 ≡ false = search rules in
     let settles = settles_after g.J.Naming.book g.J.Naming.opening s c.self.inside.third c.args.seat c.args.change.now c.in-Ok.settling c.published-shown.ensures.kept (c.self.invariant.same unspent) c.in-Ok.ensures.settles in
-    (bus_after g.J.Naming.opening s.front.log, (c.args.seat, (c.self.invariant.waiting.holding, settles)))
+    (bus_after g.J.Naming.opening s.prefix.log, (c.args.seat, (c.self.invariant.waiting.holding, settles)))
 
 pub invariant_of-self-2 : goal.invariant_of-self-2
 invariant_of-self-2 g c =
     let s : SnapView = c.self.inside.copies.0 in
     let seat = c.args.seat in
     let change = c.args.change.now in
-    let b = bus_after g.J.Naming.opening s.front.log in
+    let b = bus_after g.J.Naming.opening s.prefix.log in
     let unspent : c.self.inside.copies.1 ≡ false = search rules in
     let third = c.self.invariant.same unspent in
     let settles = settles_after g.J.Naming.book g.J.Naming.opening s c.self.inside.third seat change c.in-Ok.settling c.published-shown.ensures.kept third c.in-Ok.ensures.settles in
     let settled = c.settle-outcome.ensures b seat c.self.invariant.waiting.holding settles in
-    let same = c.in_ok-front.ensures.front.0 ∙ ap (λ (t : SnapView). t.front) c.published-shown.ensures.value in
-    let next = ap (λ (f : FrontView). f.log) (c.in-Ok-publish.ensures.published ∙ c.in-Ok-publish.ensures.next)
-    ∙ ap (λ (f : FrontView). f.log ++ entry_alone seat (c.args.made + 1) change ∷ []) same in
-    let waiting = calls_more g.J.Naming.opening s.front.log c.publish.new.self.0.front.log seat (c.args.made + 1) change c.self.inside.calls c.settle-outcome.new.calls c.self.invariant.waiting settled.0 next in
+    let same = c.in_ok-prefix.ensures.prefix.0 ∙ ap (λ (t : SnapView). t.prefix) c.published-shown.ensures.value in
+    let next = ap (λ (f : PrefixView). f.log) (c.in-Ok-publish.ensures.published ∙ c.in-Ok-publish.ensures.next)
+    ∙ ap (λ (f : PrefixView). f.log ++ entry_alone seat (c.args.made + 1) change ∷ []) same in
+    let waiting = calls_more g.J.Naming.opening s.prefix.log c.publish.new.self.0.prefix.log seat (c.args.made + 1) change c.self.inside.calls c.settle-outcome.new.calls c.self.invariant.waiting settled.0 next in
     let p : PreparedChange = c.in-Ok.prepared in
     let bus = c.in-Ok.ensures.made ∙ ap (λ (t : BusState). (step t p.seat p.change).0) third ∙ sym c.in-Ok-publish.ensures.bus in
     record { waiting = waiting; same = λ _. bus }
@@ -38,22 +38,22 @@ returns-clause-made g c =
     let s : SnapView = c.self.inside.copies.0 in
     let seat = c.args.seat in
     let change = c.args.change.now in
-    let b = bus_after g.J.Naming.opening s.front.log in
+    let b = bus_after g.J.Naming.opening s.prefix.log in
     let unspent : c.self.inside.copies.1 ≡ false = search rules in
     let settles = settles_after g.J.Naming.book g.J.Naming.opening s c.self.inside.third seat change c.in-Ok.settling c.published-shown.ensures.kept (c.self.invariant.same unspent) c.in-Ok.ensures.settles in
     let settled = c.settle-outcome.ensures b seat c.self.invariant.waiting.holding settles in
-    let same = c.in_ok-front.ensures.front.0 ∙ ap (λ (t : SnapView). t.front) c.published-shown.ensures.value in
-    let told = settled.1 ∙ ap (λ (f : FrontView). (bus_step (bus_after g.J.Naming.opening f.log) seat change).1) (sym same) in
-    changed g.J.Naming.opening c.args.known.now.log c.in_ok-front.front.log c.in-Ok-publish.next.log seat c.args.made change c.settle-outcome.result
-    c.in_ok-front.ensures.known c.in_ok-front.ensures.front.1 c.in_ok-front.ensures.made.0 told (ap (λ (f : FrontView). f.log) c.in-Ok-publish.ensures.next)
+    let same = c.in_ok-prefix.ensures.prefix.0 ∙ ap (λ (t : SnapView). t.prefix) c.published-shown.ensures.value in
+    let told = settled.1 ∙ ap (λ (f : PrefixView). (bus_step (bus_after g.J.Naming.opening f.log) seat change).1) (sym same) in
+    changed g.J.Naming.opening c.args.known.now.log c.in_ok-prefix.prefix.log c.in-Ok-publish.next.log seat c.args.made change c.settle-outcome.result
+    c.in_ok-prefix.ensures.known c.in_ok-prefix.ensures.prefix.1 c.in_ok-prefix.ensures.made.0 told (ap (λ (f : PrefixView). f.log) c.in-Ok-publish.ensures.next)
 
 pub returns-clause-few : goal.returns-clause-few
 returns-clause-few g c =
     let s : SnapView = c.self.inside.copies.0 in
     let seat = c.args.seat in
     let change = c.args.change.now in
-    let b = bus_after g.J.Naming.opening s.front.log in
+    let b = bus_after g.J.Naming.opening s.prefix.log in
     let unspent : c.self.inside.copies.1 ≡ false = search rules in
     let settles = settles_after g.J.Naming.book g.J.Naming.opening s c.self.inside.third seat change c.in-Ok.settling c.published-shown.ensures.kept (c.self.invariant.same unspent) c.in-Ok.ensures.settles in
     let settled = c.settle-outcome.ensures b seat c.self.invariant.waiting.holding settles in
-    few_told g.J.Naming.opening s.front.log seat change c.self.inside.calls c.settle-outcome.result c.self.invariant.waiting settled.1
+    few_told g.J.Naming.opening s.prefix.log seat change c.self.inside.calls c.settle-outcome.result c.self.invariant.waiting settled.1

@@ -7,7 +7,7 @@ use Rattle.seq_bus_core.specs.Tickets.{bus_after}
 use Rattle.seq_bus_core.specs.declared.change.Change.{Change}
 use Rattle.settling.specs.Batches.{IsSomeBusAlong, SettleAlong}
 use Rattle.settling.specs.Settlings.{Settling}
-use Rattle.registry_snapshots_core.specs.Copies.{FrontView, SnapView}
+use Rattle.registry_snapshots_core.specs.Copies.{PrefixView, SnapView}
 use Rattle.registry_snapshots.proofs.Changes.{all_changed, calls_along, few_told_all, settle_after}
 use Rattle.registry_snapshots.proofs.registrar.Registrar.change_all.Goals as goal
 
@@ -20,7 +20,7 @@ settle-outcomes-requires g c =
     let here : SettleAlong c.self.inside.third c.args.seat changes settlings = subst (λ (cs : List Change). SettleAlong c.self.inside.third c.args.seat cs settlings) c.deref.ensures.value c.in-Ok-prepare_all.ensures.settles in
     let along = settle_after g.J.Naming.book g.J.Naming.opening s c.self.inside.third c.args.seat changes settlings c.published-shown.ensures.kept (c.self.invariant.same unspent) here in
     subst (λ (cs : List Change). IsSomeBusAlong cs settlings c.self.inside.calls) (sym c.deref-2.ensures.value)
-    (bus_after g.J.Naming.opening s.front.log, (c.args.seat, (c.self.invariant.waiting.holding, along)))
+    (bus_after g.J.Naming.opening s.prefix.log, (c.args.seat, (c.self.invariant.waiting.holding, along)))
 
 pub invariant_of-self-2 : goal.invariant_of-self-2
 invariant_of-self-2 g c =
@@ -29,18 +29,18 @@ invariant_of-self-2 g c =
     let changes : List Change = c.args.changes.items in
     let settlings : List Settling = c.in-Ok-prepare_all.settlings in
     let prepared : List PreparedChange = c.in-Ok-prepare_all.prepared.items in
-    let b = bus_after g.J.Naming.opening s.front.log in
+    let b = bus_after g.J.Naming.opening s.prefix.log in
     let unspent : c.self.inside.copies.1 ≡ false = search rules in
     let third = c.self.invariant.same unspent in
     let here : SettleAlong c.self.inside.third seat changes settlings = subst (λ (cs : List Change). SettleAlong c.self.inside.third seat cs settlings) c.deref.ensures.value c.in-Ok-prepare_all.ensures.settles in
     let along = settle_after g.J.Naming.book g.J.Naming.opening s c.self.inside.third seat changes settlings c.published-shown.ensures.kept third here in
     let settled = (rw c.deref-2.ensures.value at c.settle-outcomes.ensures) b seat c.self.invariant.waiting.holding along in
-    let same = c.in-Ok.ensures.front.0 ∙ ap (λ (t : SnapView). t.front) c.published-shown.ensures.value in
-    let next = ap (λ (f : FrontView). f.log) (c.in-Ok-publish_all.ensures.published ∙ c.in-Ok-publish_all.ensures.next) ∙ ap (λ (f : FrontView). f.log ++ entries_of seat (c.args.made + 1) changes) same in
+    let same = c.in-Ok.ensures.prefix.0 ∙ ap (λ (t : SnapView). t.prefix) c.published-shown.ensures.value in
+    let next = ap (λ (f : PrefixView). f.log) (c.in-Ok-publish_all.ensures.published ∙ c.in-Ok-publish_all.ensures.next) ∙ ap (λ (f : PrefixView). f.log ++ entries_of seat (c.args.made + 1) changes) same in
     let all : ArePreparedFor seat changes prepared = subst (λ (cs : List Change). ArePreparedFor seat cs prepared) c.deref.ensures.value c.in-Ok-prepare_all.ensures.prepared in
     let bus = c.in-Ok-prepare_all.ensures.made ∙ ap (state_along c.self.inside.third seat) c.deref.ensures.value ∙ ap (λ (t : BusState). state_along t seat changes) third ∙ sym (absorbed_is s.bus seat changes prepared all) ∙ sym c.in-Ok-publish_all.ensures.bus in
     record {
-      waiting = calls_along g.J.Naming.opening s.front.log c.publish_all.new.self.0.front.log seat (c.args.made + 1) changes c.self.inside.calls c.settle-outcomes.new.calls c.self.invariant.waiting settled.0 next;
+      waiting = calls_along g.J.Naming.opening s.prefix.log c.publish_all.new.self.0.prefix.log seat (c.args.made + 1) changes c.self.inside.calls c.settle-outcomes.new.calls c.self.invariant.waiting settled.0 next;
       same = λ _. bus;
     }
 
@@ -50,15 +50,15 @@ returns-clause-made g c =
     let seat = c.args.seat in
     let changes : List Change = c.args.changes.items in
     let settlings : List Settling = c.in-Ok-prepare_all.settlings in
-    let b = bus_after g.J.Naming.opening s.front.log in
+    let b = bus_after g.J.Naming.opening s.prefix.log in
     let unspent : c.self.inside.copies.1 ≡ false = search rules in
     let here : SettleAlong c.self.inside.third seat changes settlings = subst (λ (cs : List Change). SettleAlong c.self.inside.third seat cs settlings) c.deref.ensures.value c.in-Ok-prepare_all.ensures.settles in
     let along = settle_after g.J.Naming.book g.J.Naming.opening s c.self.inside.third seat changes settlings c.published-shown.ensures.kept (c.self.invariant.same unspent) here in
     let settled = (rw c.deref-2.ensures.value at c.settle-outcomes.ensures) b seat c.self.invariant.waiting.holding along in
-    let same = c.in-Ok.ensures.front.0 ∙ ap (λ (t : SnapView). t.front) c.published-shown.ensures.value in
-    let told = settled.1 ∙ ap (λ (f : FrontView). outcomes_of (bus_after g.J.Naming.opening f.log) seat changes) (sym same) in
-    all_changed g.J.Naming.opening c.args.known.now.log c.in-Ok.front.log c.in-Ok-publish_all.next.log seat c.args.made changes c.settle-outcomes.result.items
-    c.in-Ok.ensures.known c.in-Ok.ensures.front.1 c.in-Ok.ensures.made.0 told (ap (λ (f : FrontView). f.log) c.in-Ok-publish_all.ensures.next)
+    let same = c.in-Ok.ensures.prefix.0 ∙ ap (λ (t : SnapView). t.prefix) c.published-shown.ensures.value in
+    let told = settled.1 ∙ ap (λ (f : PrefixView). outcomes_of (bus_after g.J.Naming.opening f.log) seat changes) (sym same) in
+    all_changed g.J.Naming.opening c.args.known.now.log c.in-Ok.prefix.log c.in-Ok-publish_all.next.log seat c.args.made changes c.settle-outcomes.result.items
+    c.in-Ok.ensures.known c.in-Ok.ensures.prefix.1 c.in-Ok.ensures.made.0 told (ap (λ (f : PrefixView). f.log) c.in-Ok-publish_all.ensures.next)
 
 pub returns-clause-few : goal.returns-clause-few
 returns-clause-few g c =
@@ -66,9 +66,9 @@ returns-clause-few g c =
     let seat = c.args.seat in
     let changes : List Change = c.args.changes.items in
     let settlings : List Settling = c.in-Ok-prepare_all.settlings in
-    let b = bus_after g.J.Naming.opening s.front.log in
+    let b = bus_after g.J.Naming.opening s.prefix.log in
     let unspent : c.self.inside.copies.1 ≡ false = search rules in
     let here : SettleAlong c.self.inside.third seat changes settlings = subst (λ (cs : List Change). SettleAlong c.self.inside.third seat cs settlings) c.deref.ensures.value c.in-Ok-prepare_all.ensures.settles in
     let along = settle_after g.J.Naming.book g.J.Naming.opening s c.self.inside.third seat changes settlings c.published-shown.ensures.kept (c.self.invariant.same unspent) here in
     let settled = (rw c.deref-2.ensures.value at c.settle-outcomes.ensures) b seat c.self.invariant.waiting.holding along in
-    few_told_all g.J.Naming.opening s.front.log seat changes c.self.inside.calls c.settle-outcomes.result.items c.self.invariant.waiting settled.1
+    few_told_all g.J.Naming.opening s.prefix.log seat changes c.self.inside.calls c.settle-outcomes.result.items c.self.invariant.waiting settled.1

@@ -1,9 +1,9 @@
 use Rattle.std.proofs.Common.{◌+◌, sym, ◌∙◌, ap, subst, refl, [], ◌∷◌, ◌++◌}
 use Rattle.seq_bus_core.specs.Histories.{History, IsLegal}
-use Rattle.registry_snapshots_core.specs.Copies.{FrontView}
+use Rattle.registry_snapshots_core.specs.Copies.{PrefixView}
 use Rattle.registry_snapshots_core.specs.Publications.{flat, publication_of}
 use Rattle.registry_snapshots_core.proofs.Adding.{adds_moves}
-use Rattle.registry_snapshots_core.proofs.history.Front.add.Goals as goal
+use Rattle.registry_snapshots_core.proofs.history.Prefix.add.Goals as goal
 
 pub compare_exchange-found-requires : goal.compare_exchange-found-requires
 compare_exchange-found-requires c =
@@ -11,8 +11,8 @@ compare_exchange-found-requires c =
     let offer = c.plain-offer.ensures in
     let pen = c.no_pen-pen.ensures in
     let seen = c.again-seen.ensures in
-    let book = ap (λ s. s.book) seen ∙ (ap (λ (v : FrontView). v.book) c.self.view_is ∙ (sym c.requires.book ∙ sym c.head.view_is)) in
-    let logs = ap (λ (v : FrontView). v.log) c.self.view_is in
+    let book = ap (λ s. s.book) seen ∙ (ap (λ (v : PrefixView). v.book) c.self.view_is ∙ (sym c.requires.book ∙ sym c.head.view_is)) in
+    let logs = ap (λ (v : PrefixView). v.log) c.self.view_is in
     let e = c.args.entry.now in
     let may : IsLegal (flat c.self.inside.seen.log ++ e ∷ []) = subst (λ (l : History). IsLegal (l ++ e ∷ [])) (sym logs) c.requires.legal in (
       ap (λ w. w.tracked) h,

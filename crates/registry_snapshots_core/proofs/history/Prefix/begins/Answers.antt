@@ -2,8 +2,8 @@ use Rattle.std.proofs.Common.{refl, ap, subst, List}
 use mathlib.Core.List.{IsPrefix}
 use Rattle.registry_snapshots_core.specs.Publications.{flat}
 use Rattle.registry_snapshots_core.specs.declared.history.Publication.{Publication}
-use Rattle.registry_snapshots_core.proofs.Fronts.{shorter_begins, flat_prefix}
-use Rattle.registry_snapshots_core.proofs.history.Front.begins.Goals as goal
+use Rattle.registry_snapshots_core.proofs.Prefixes.{shorter_begins, flat_prefix}
+use Rattle.registry_snapshots_core.proofs.history.Prefix.begins.Goals as goal
 
 pub returns : goal.returns
 returns c =

@@ -1,10 +1,10 @@
 use Rattle.std.proofs.Common.{◌≡◌, ◌+◌, length, sym, ◌∙◌, ap, subst, ◌++◌, arith, length-append, rules}
 use Rattle.seq_bus_core.specs.Batches.{entries_of}
 use Rattle.seq_bus_core.specs.Histories.{History, IsLegal}
-use Rattle.registry_snapshots_core.specs.Copies.{FrontView}
+use Rattle.registry_snapshots_core.specs.Copies.{PrefixView}
 use Rattle.registry_snapshots_core.specs.Publications.{flat, publication_of_batch}
 use Rattle.registry_snapshots_core.proofs.Adding.{adds_moves, as_many_entries}
-use Rattle.registry_snapshots_core.proofs.history.Front.add_all.Goals as goal
+use Rattle.registry_snapshots_core.proofs.history.Prefix.add_all.Goals as goal
 
 pub compare_exchange-found-requires : goal.compare_exchange-found-requires
 compare_exchange-found-requires c =
@@ -12,8 +12,8 @@ compare_exchange-found-requires c =
     let offer = c.plain-offer.ensures in
     let pen = c.no_pen-pen.ensures in
     let seen = c.again-seen.ensures in
-    let book = ap (λ s. s.book) seen ∙ (ap (λ (v : FrontView). v.book) c.self.view_is ∙ (sym c.requires.book ∙ sym c.head.view_is)) in
-    let logs = ap (λ (v : FrontView). v.log) c.self.view_is in
+    let book = ap (λ s. s.book) seen ∙ (ap (λ (v : PrefixView). v.book) c.self.view_is ∙ (sym c.requires.book ∙ sym c.head.view_is)) in
+    let logs = ap (λ (v : PrefixView). v.log) c.self.view_is in
     let batch = c.args.batch.now in
     let changes = batch.changes.items in
     let more = entries_of batch.seat batch.first changes in
@@ -35,7 +35,7 @@ invariant_of-result c =
     let before : History = c.args.self.now.log in
     let more : History = entries_of batch.seat batch.first changes in
     let now : flat c.compare_exchange-found.new.seen.log ≡ before ++ more = search rules in
-    let same : flat c.self.inside.seen.log ≡ before = ap (λ (v : FrontView). v.log) c.self.view_is in
+    let same : flat c.self.inside.seen.log ≡ before = ap (λ (v : PrefixView). v.log) c.self.view_is in
     let count : c.len.result ≡ length changes = search rules in (
       omega (arith, c.self.invariant.0, ap length same, ap length now, length-append before more, count, as_many_entries batch.seat batch.first changes),
       subst IsLegal (sym now) c.requires.legal,
