@@ -10,7 +10,7 @@ ghost use Rattle.busd_core.specs.Parts.{Delivers};
 use crate::carrying::{Place, bring};
 use crate::fault::RunFault;
 use bus_view::BusView;
-use outbox_core::{Content, Deliveries, Envelope, OwnMessage};
+use outbox_core::{BusMessage, Content, Deliveries, Envelope};
 use router::Engine;
 use router_core::{Action, Event, Gate};
 use seq_bus_core::{AddressedSignal, Conn};
@@ -84,7 +84,7 @@ fn announce_one<V: BusView, G: Gate, W: Write>(
     let Ok(signal) = addressed.signal.again() else {
         return Err(RunFault::Memory);
     };
-    let content = Content::Own(OwnMessage::Signal(signal));
+    let content = Content::Own(BusMessage::Signal(signal));
     let to = addressed.to.as_slice();
     let monitors = addressed.monitors.as_slice();
     deliver(engine, right, place, to, monitors, &content, writer)

@@ -13,10 +13,10 @@ use Rattle.driver.specs.declared.reply.ReplyTo.{ReplyTo}
 use Rattle.driver.specs.OwnMessages.{number_types, number_values, string_types, string_values, reply_header, error_message, signal_message}
 use Rattle.outbox_core.specs.declared.content.Content.{Content}
 use Rattle.outbox_core.specs.declared.content.Content.TheVariants as content
-use Rattle.outbox_core.specs.declared.own_message.OwnMessage.{OwnMessage}
-use Rattle.outbox_core.specs.declared.own_message.OwnMessage.TheVariants as message
-use Rattle.outbox_core.specs.declared.own_message.ReplyContent.{ReplyContent}
-use Rattle.outbox_core.specs.declared.own_message.ReplyContent.TheVariants as reply
+use Rattle.outbox_core.specs.declared.bus_message.BusMessage.{BusMessage}
+use Rattle.outbox_core.specs.declared.bus_message.BusMessage.TheVariants as message
+use Rattle.outbox_core.specs.declared.bus_message.ReplyContent.{ReplyContent}
+use Rattle.outbox_core.specs.declared.bus_message.ReplyContent.TheVariants as reply
 
 -- ## Messages of the bus, before they are numbered
 
@@ -52,10 +52,10 @@ carried_values (UniqueName number) = string_values (unique_text number ∷ [])
 carried_values (Answered answer) = values (answer_value answer ∷ [])
 
 -- the message of the bus, by its serial among those to its recipient
-abbrev pub own_message : ℕ → Own → Message
-own_message serial (Signals signal) = signal_message serial signal
-own_message serial (Replies to carried) = message_of (reply_header serial to) (carried_types carried) (carried_values carried)
-own_message serial (Errs to error) = error_message serial to error
+abbrev pub bus_message : ℕ → Own → Message
+bus_message serial (Signals signal) = signal_message serial signal
+bus_message serial (Replies to carried) = message_of (reply_header serial to) (carried_types carried) (carried_values carried)
+bus_message serial (Errs to error) = error_message serial to error
 
 -- ## As they are held
 
@@ -65,7 +65,7 @@ carried_of (reply.Number n) = Number n
 carried_of (reply.UniqueName number) = UniqueName number
 carried_of (reply.Answer answer) = Answered answer
 
-abbrev pub own_of : OwnMessage → Own
+abbrev pub own_of : BusMessage → Own
 own_of (message.Signal signal) = Signals signal
 own_of (message.Reply to held) = Replies to (carried_of held)
 own_of (message.Error to error) = Errs to error

@@ -4,7 +4,7 @@ use Rattle.names.specs.UniqueName.{unique_text}
 use Rattle.seq_bus_core.specs.declared.signal.BusSignal.{BusSignal}
 use Rattle.seq_bus_core.specs.declared.signal.BusSignal.TheVariants.{NameOwnerChanged, NameLost, NameAcquired}
 use Rattle.driver.specs.OwnMessages.{signal_destination}
-use Rattle.outbox_core.specs.declared.own_facts.OwnNames.{OwnNames}
+use Rattle.outbox_core.specs.declared.bus_facts.BusMessageNames.{BusMessageNames}
 use Rattle.outbox_core.specs.Contents.{Own, Signals, Replies, Errs, Carried, Nothing, Number, UniqueName, Answered}
 
 -- the one connection that the message is for
@@ -40,7 +40,7 @@ second_of (Signals signal) = new_owner_of signal
 second_of (Replies to carried) = None
 second_of (Errs to error) = None
 
-abbrev pub names_of : Own → OwnNames
+abbrev pub names_of : Own → BusMessageNames
 names_of own = record {
   destination = option_map unique_text (destination_of own);
   first = option_map unique_text (first_of own);

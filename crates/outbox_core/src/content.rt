@@ -2,7 +2,7 @@
 
 ghost use Rattle.std.specs.Prelude.{◌≡◌, IfOk};
 
-use crate::own_message::OwnMessage;
+use crate::bus_message::BusMessage;
 use seq_bus_core::SharedBytes;
 use std::alloc::AllocError;
 
@@ -12,7 +12,7 @@ pub enum Content {
     /// A message of a connection, as it is written.
     Relayed(SharedBytes),
     /// A message of the bus itself.
-    Own(OwnMessage),
+    Own(BusMessage),
 }
 
 impl Content {

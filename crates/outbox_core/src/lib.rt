@@ -1,7 +1,7 @@
 //! What routers send one another: messages on their way to connections of other routers, and who gets them.
 //!
 //! A relayed message is there in its bytes, which all who get it share. The bus's own messages are numbered by the
-//! router of the recipient, so they travel unwritten, as an [`OwnMessage`], and are written where they arrive. An
+//! router of the recipient, so they travel unwritten, as an [`BusMessage`], and are written where they arrive. An
 //! [`Envelope`] has such a [`Content`], the number of the connection that it is for, and what its sender knew of the
 //! bus. Who gets a content, and in which order, is said by [`Deliveries`]; its laws stand in [`laws`].
 //!
@@ -21,18 +21,18 @@
 #![tactic(auto)]
 
 mod answer;
+mod bus_facts;
+mod bus_message;
 mod call;
 mod content;
 mod deliveries;
 mod envelope;
 pub mod laws;
-mod own_facts;
-mod own_message;
 
 pub use answer::AnswerBody;
+pub use bus_facts::{BusMessageNames, OwnArguments};
+pub use bus_message::{BusMessage, ReplyContent};
 pub use call::CallToAnswer;
 pub use content::Content;
 pub use deliveries::Deliveries;
 pub use envelope::Envelope;
-pub use own_facts::{OwnArguments, OwnNames};
-pub use own_message::{OwnMessage, ReplyContent};

@@ -15,7 +15,7 @@ use crate::registrar::Registrar;
 use crate::seat::Seat;
 use bus_view::{BatchCause, Cause, RefusedAll, can_open};
 use names::WellKnown;
-use registry_snapshots_core::{Prefix, Naming, NewHistory};
+use registry_snapshots_core::{Naming, NewHistory, Prefix};
 use seq_bus_core::limits::{MAX_BATCH, MAX_ROUTERS};
 use seq_bus_core::{Change, Outcome};
 use std::alloc::{AllocError, Global};

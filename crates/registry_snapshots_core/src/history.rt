@@ -246,9 +246,11 @@ impl Prefix {
             ++ entries_of batch.now.seat batch.now.first batch.now.changes.items)) }
     {
         let mut seen = self.seen.again();
-        let mut offer: Offer<Publication, u64, HistoryRule, NoTrade> = seen.plain::<NoTrade, Batch, Append>(
-            batch,
-        );
+        let mut offer: Offer<Publication, u64, HistoryRule, NoTrade> = seen.plain::<
+            NoTrade,
+            Batch,
+            Append,
+        >(batch);
         let mut pen = seen.no_pen();
         let count = self.count;
         let next = count + batch.changes.len() as u64;

@@ -20,7 +20,7 @@ use Rattle.message_core.specs.Messages.{Message}
 use Rattle.message_core.specs.Said.{said as message_said}
 use Rattle.driver.specs.declared.call.Call.TheVariants as call
 use Rattle.driver.specs.Calls.{expects_reply, is_hello}
-use Rattle.outbox_core.specs.Contents.{Said, Relays, Tells, Own, Errs, UniqueName, own_message}
+use Rattle.outbox_core.specs.Contents.{Said, Relays, Tells, Own, Errs, UniqueName, bus_message}
 use Rattle.message.specs.FactsOf.{facts_of}
 use Rattle.router_core.specs.declared.cause.CloseCause.{CloseCause}
 use Rattle.router_core.specs.declared.cause.CloseCause.TheVariants as cause
@@ -224,12 +224,12 @@ module _ (piece : List ℕ) (key : ℕ) where
   numbered_more p n (Shut conn) = refl
 
   abbrev sent : ℕ → Own → Peer → ℕ → OfPeer
-  sent k own p serial = Doing (Sends k (own_message serial own)) (Gives (numbered p serial))
+  sent k own p serial = Doing (Sends k (bus_message serial own)) (Gives (numbered p serial))
 
   send_natural : (k : ℕ) (own : Own) → Natural (send k own)
   send_natural k own p =
       ap (λ (n : ℕ). sent k own (more p) (next_serial n)) (serial_same p p.stage)
-      ∙ ap (λ (q : Peer). Doing (Sends k (own_message (next_serial p.serial) own)) (Gives q)) (numbered_more p (next_serial p.serial) p.stage)
+      ∙ ap (λ (q : Peer). Doing (Sends k (bus_message (next_serial p.serial) own)) (Gives q)) (numbered_more p (next_serial p.serial) p.stage)
 
   write_natural : (k : ℕ) (said : Said) → Natural (write k said)
   write_natural k (Relays bytes) p = refl
@@ -256,10 +256,10 @@ module _ (piece : List ℕ) (key : ℕ) where
   refuse_with_natural k m error p = by_test (expects_reply m)
     where
       asked : Peer → OfPeer
-      asked q = Routing 0 (facts_of (own_message 1 (error_to m error))) (λ heard. refuse k (error_to m error) q heard)
+      asked q = Routing 0 (facts_of (bus_message 1 (error_to m error))) (λ heard. refuse k (error_to m error) q heard)
 
       by_test : (b : Bool) → (if b then asked (more p) else Gives (more p)) ≡ seen_as more (if b then asked p else Gives p)
-      by_test true = λ i. Routing 0 (facts_of (own_message 1 (error_to m error))) (λ heard. refuse_natural k (error_to m error) heard p i)
+      by_test true = λ i. Routing 0 (facts_of (bus_message 1 (error_to m error))) (λ heard. refuse_natural k (error_to m error) heard p i)
       by_test false = refl
 
   turn_away_natural : (k : ℕ) (m : Message) → Natural (turn_away k m)

@@ -21,16 +21,16 @@ slot_of_conn slot number (Some p) is = in_stage p.stage is
     in_stage (Unnamed privileged) is = is
     in_stage (Shut conn) is = is
 
-module _ (test : Option Peer → Bool) (slot : ℕ) (of_slot : (o : Option Peer) → test o ≡ true → has_slot slot o ≡ true) (peers : List (Option Peer)) (places : List ℕ) (indexed : IsIndexed peers places) (below : slot < slot_count) where
-  only : (k : ℕ) → (get_or places slot 0 ≡ k → ⊥) → test (get_or peers k None) ≡ false
+module _ (test : Option Peer → Bool) (slot : ℕ) (of_slot : (o : Option Peer) → test o ≡ true → has_slot slot o ≡ true) (peers : List (Option Peer)) (key_of_slot : List ℕ) (indexed : IsIndexed peers key_of_slot) (below : slot < slot_count) where
+  only : (k : ℕ) → (get_or key_of_slot slot 0 ≡ k → ⊥) → test (get_or peers k None) ≡ false
   only k other = false_from_ne_true (test (get_or peers k None)) (λ is. other (indexed k slot below (of_slot (get_or peers k None) is)))
 
-  pub found_here : (key : ℕ) → key < length peers → get_or places slot 0 ≡ key → test (get_or peers key None) ≡ true → position test peers ≡ Some key
+  pub found_here : (key : ℕ) → key < length peers → get_or key_of_slot slot 0 ≡ key → test (get_or peers key None) ≡ true → position test peers ≡ Some key
   found_here key inside kept is =
       let first = position_or_len_is test peers key None (omega arith) (λ k before. only k (λ e. omega (arith, before, e, kept))) (λ _. is) in
       ap (λ n. cond (nat_lt n (length peers)) (Some n) None) first ∙ ap (λ b. cond b (Some key) None) (lt-ltb key (length peers) inside)
 
-  pub found_nowhere : (key : ℕ) → get_or places slot 0 ≡ key → test (get_or peers key None) ≡ false → position test peers ≡ None
+  pub found_nowhere : (key : ℕ) → get_or key_of_slot slot 0 ≡ key → test (get_or peers key None) ≡ false → position test peers ≡ None
   found_nowhere key kept isnt =
       let none : (k : ℕ) → test (get_or peers k None) ≡ false = λ k.
       elim (cases_eq key k) [
@@ -49,8 +49,8 @@ Keeps old new = (slot : ℕ) → has_slot slot new ≡ true → has_slot slot ol
 abbrev pub KeepsAll : List (Option Peer) → List (Option Peer) → Type 0
 KeepsAll old new = (k : ℕ) → Keeps (get_or old k None) (get_or new k None)
 
-pub index_kept : (old new : List (Option Peer)) (places : List ℕ) → KeepsAll old new → IsIndexed old places → IsIndexed new places
-index_kept old new places keeps indexed = λ key slot below has. indexed key slot below (keeps key slot has)
+pub index_kept : (old new : List (Option Peer)) (key_of_slot : List ℕ) → KeepsAll old new → IsIndexed old key_of_slot → IsIndexed new key_of_slot
+index_kept old new key_of_slot keeps indexed = λ key slot below has. indexed key slot below (keeps key slot has)
 
 pub set_keeps : (peers : List (Option Peer)) (key : ℕ) (new : Option Peer) → Keeps (get_or peers key None) new → KeepsAll peers (set peers key new)
 set_keeps [] key new keeps k = λ slot has. has
@@ -69,14 +69,14 @@ pub same_keeps : (old new : Option Peer) → new ≡ old → Keeps old new
 same_keeps old new same = λ slot has. subst (λ o. has_slot slot o ≡ true) same has
 
 -- a place was written, of which this was read
-pub index_at : (peers : List (Option Peer)) (places : List ℕ) (key : ℕ) (old new : Option Peer) → old ≡ get_or peers key None → Keeps old new → IsIndexed peers places → IsIndexed (set peers key new) places
-index_at peers places key old new there keeps indexed =
-    index_kept peers (set peers key new) places (set_keeps peers key new (subst (λ o. Keeps o new) there keeps)) indexed
+pub index_at : (peers : List (Option Peer)) (key_of_slot : List ℕ) (key : ℕ) (old new : Option Peer) → old ≡ get_or peers key None → Keeps old new → IsIndexed peers key_of_slot → IsIndexed (set peers key new) key_of_slot
+index_at peers key_of_slot key old new there keeps indexed =
+    index_kept peers (set peers key new) key_of_slot (set_keeps peers key new (subst (λ o. Keeps o new) there keeps)) indexed
 
 -- one that has no slot was written
-pub index_without : (peers : List (Option Peer)) (places : List ℕ) (key : ℕ) (new : Option Peer) → Keeps None new → IsIndexed peers places → IsIndexed (set peers key new) places
-index_without peers places key new without indexed =
-    index_kept peers (set peers key new) places (set_keeps peers key new (λ slot has. absurd (false≢true (without slot has)))) indexed
+pub index_without : (peers : List (Option Peer)) (key_of_slot : List ℕ) (key : ℕ) (new : Option Peer) → Keeps None new → IsIndexed peers key_of_slot → IsIndexed (set peers key new) key_of_slot
+index_without peers key_of_slot key new without indexed =
+    index_kept peers (set peers key new) key_of_slot (set_keeps peers key new (λ slot has. absurd (false≢true (without slot has)))) indexed
 
 pub either_way : {T E P Q R : Type 0} (r : Result T E) → OnOk r P → OnErr r Q → (P → R) → (Q → R) → R
 either_way (Ok x) p q f g = f p
@@ -96,25 +96,25 @@ either_set (y ∷ ys) (suc key) (suc k) x d =
       | inr same ↦ inr same
     ]
 
-module _ (peers : List (Option Peer)) (places : List ℕ) (indexed : IsIndexed peers places) (key : ℕ) (p : Peer) (conn : Conn) (vacant : IsVacant conn.slot peers) where
+module _ (peers : List (Option Peer)) (key_of_slot : List ℕ) (indexed : IsIndexed peers key_of_slot) (key : ℕ) (p : Peer) (conn : Conn) (vacant : IsVacant conn.slot peers) where
   abbrev named : Option Peer
   named = Some (record p { stage = Named conn })
 
-  index_within : length places ≡ slot_count → conn.slot < slot_count → IsIndexed (set peers key named) (set places conn.slot key)
+  index_within : length key_of_slot ≡ slot_count → conn.slot < slot_count → IsIndexed (set peers key named) (set key_of_slot conn.slot key)
   index_within whole inside = λ k slot below has.
       elim (either_set peers key k named None) [
         | inl e ↦
             let is : conn.slot ≡ slot = eqb-true conn.slot slot (subst (λ o. has_slot slot o ≡ true) e.1 has) in
-            let there : conn.slot < length places = omega (arith, whole, inside) in
-            subst (λ n. get_or (set places conn.slot key) n 0 ≡ k) is (get_or-set_same places conn.slot key 0 there ∙ sym e.0)
+            let there : conn.slot < length key_of_slot = omega (arith, whole, inside) in
+            subst (λ n. get_or (set key_of_slot conn.slot key) n 0 ≡ k) is (get_or-set_same key_of_slot conn.slot key 0 there ∙ sym e.0)
         | inr same ↦
             let had : has_slot slot (get_or peers k None) ≡ true = subst (λ o. has_slot slot o ≡ true) same has in
             let other : slot ≢ conn.slot = λ e. vacant k inside (subst (λ n. has_slot n (get_or peers k None) ≡ true) e had) in
-            get_or-set_other places conn.slot slot key 0 other ∙ indexed k slot below had
+            get_or-set_other key_of_slot conn.slot slot key 0 other ∙ indexed k slot below had
       ]
 
   -- no key is kept for its slot
-  index_beyond : slot_count ≤ conn.slot → IsIndexed (set peers key named) places
+  index_beyond : slot_count ≤ conn.slot → IsIndexed (set peers key named) key_of_slot
   index_beyond beyond = λ k slot below has.
       elim (either_set peers key k named None) [
         | inl e ↦
@@ -123,13 +123,13 @@ module _ (peers : List (Option Peer)) (places : List ℕ) (indexed : IsIndexed p
         | inr same ↦ indexed k slot below (subst (λ o. has_slot slot o ≡ true) same has)
       ]
 
-  pub index_named : length places ≡ slot_count → IsIndexed (set peers key named) (set places conn.slot key)
+  pub index_named : length key_of_slot ≡ slot_count → IsIndexed (set peers key named) (set key_of_slot conn.slot key)
   index_named whole =
       elim (cases_lt conn.slot slot_count) [
         | inl inside ↦ index_within whole inside
         | inr beyond ↦
-            let past : length places ≤ conn.slot = omega (arith, whole, beyond) in
-            subst (λ ns. IsIndexed (set peers key named) ns) (sym (set_past places conn.slot key past)) (index_beyond beyond)
+            let past : length key_of_slot ≤ conn.slot = omega (arith, whole, beyond) in
+            subst (λ ns. IsIndexed (set peers key named) ns) (sym (set_past key_of_slot conn.slot key past)) (index_beyond beyond)
       ]
 
 inside_from_has : (slot key : ℕ) (peers : List (Option Peer)) → has_slot slot (get_or peers key None) ≡ true → key < length peers
@@ -157,8 +157,8 @@ vacant_unfound slot peers none = λ k below has.
     ]
 
 -- whoever has the slot is closed
-pub vacant_closed : (slot key : ℕ) (new : Option Peer) (peers : List (Option Peer)) (places : List ℕ) → IsIndexed peers places → has_slot slot (get_or peers key None) ≡ true → Keeps None new → IsVacant slot (set peers key new)
-vacant_closed slot key new peers places indexed has gone = λ k below still.
+pub vacant_closed : (slot key : ℕ) (new : Option Peer) (peers : List (Option Peer)) (key_of_slot : List ℕ) → IsIndexed peers key_of_slot → has_slot slot (get_or peers key None) ≡ true → Keeps None new → IsVacant slot (set peers key new)
+vacant_closed slot key new peers key_of_slot indexed has gone = λ k below still.
     elim (cases_eq k key) [
       | inl e ↦
           let here = subst (λ n. has_slot slot (get_or (set peers key new) n None) ≡ true) e still in

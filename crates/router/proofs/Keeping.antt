@@ -19,7 +19,7 @@ use Rattle.message_core.specs.Messages.{Message}
 use Rattle.message_core.specs.Said.{said as message_said}
 use Rattle.message.specs.FactsOf.{facts_of}
 use Rattle.driver.specs.Calls.{expects_reply, is_hello}
-use Rattle.outbox_core.specs.Contents.{Said, Relays, Tells, Own, Errs, UniqueName, own_message}
+use Rattle.outbox_core.specs.Contents.{Said, Relays, Tells, Own, Errs, UniqueName, bus_message}
 use Rattle.router_core.specs.declared.cause.CloseCause.{CloseCause}
 use Rattle.router_core.specs.declared.cause.CloseCause.TheVariants as cause
 use Rattle.router_core.specs.declared.fate.PeerFate.{PeerFate}
@@ -183,7 +183,7 @@ module _ (key : ℕ) (m : Message) (p : Peer) where
   pub refusing : (kind : ErrorKind) → AllGive IsLike (refuse_with key m kind p)
   refusing kind =
       let own = Errs (hello_of m) kind in
-      if_give IsLike (expects_reply m) (Routing 0 (facts_of (own_message 1 own)) (λ heard. refuse key own p heard)) (Gives p) (λ heard. refused_by own heard) refl
+      if_give IsLike (expects_reply m) (Routing 0 (facts_of (bus_message 1 own)) (λ heard. refuse key own p heard)) (Gives p) (λ heard. refused_by own heard) refl
 
   -- one that is turned away has no slot
   pub turning_away : AllGive (λ q. Keeps None (Some q)) (turn_away key m p)

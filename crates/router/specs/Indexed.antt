@@ -8,7 +8,7 @@ slot_count = 256
 
 -- For each slot a key is kept: that of the connection which has the slot, if there is one. So no two have the same slot.
 abbrev pub IsIndexed : List (Option Peer) → List ℕ → Type 0
-IsIndexed peers places = (key slot : ℕ) → slot < slot_count → has_slot slot (slice_index_or peers key None) ≡ true → slice_index places slot ≡ key
+IsIndexed peers key_of_slot = (key slot : ℕ) → slot < slot_count → has_slot slot (slice_index_or peers key None) ≡ true → slice_index key_of_slot slot ≡ key
 
 -- nobody has the slot
 abbrev pub IsVacant : ℕ → List (Option Peer) → Type 0

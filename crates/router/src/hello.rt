@@ -46,15 +46,15 @@ fn has_slot(peer: &Option<Peer>, slot: u16) -> bool
 }
 
 /// The key of the connection that has a name, and this slot.
-fn find_slot(peers: &[Option<Peer>], places: &[usize; SLOT_COUNT], slot: u16) -> Option<usize>
-    requires { IsIndexed peers.now places.now }
+fn find_slot(peers: &[Option<Peer>], key_of_slot: &[usize; SLOT_COUNT], slot: u16) -> Option<usize>
+    requires { IsIndexed peers.now key_of_slot.now }
     ensures { result ≡ position (has_slot slot) peers.now }
 {
     let at = usize::from(slot);
     if at >= SLOT_COUNT {
         return peers.iter().position(|peer| has_slot(peer, slot));
     }
-    let key = places[at];
+    let key = key_of_slot[at];
     if key >= peers.len() {
         return None;
     }
@@ -65,13 +65,13 @@ fn find_slot(peers: &[Option<Peer>], places: &[usize; SLOT_COUNT], slot: u16) ->
 }
 
 /// Keeps the key of the connection that has a slot from now on.
-fn keep_key(places: &mut [usize; SLOT_COUNT], slot: u16, key: usize)
-    ensures set { places.new ≡ slice_set places.old slot key }
-    ensures count { length places.old ≡ slot_count }
+fn keep_key(key_of_slot: &mut [usize; SLOT_COUNT], slot: u16, key: usize)
+    ensures set { key_of_slot.new ≡ slice_set key_of_slot.old slot key }
+    ensures count { length key_of_slot.old ≡ slot_count }
 {
     let at = usize::from(slot);
     if at < SLOT_COUNT {
-        places[at] = key;
+        key_of_slot[at] = key;
     }
 }
 
@@ -92,7 +92,7 @@ impl<V: BusView, G: Gate> Peers<V, G> {
     pub fn key_of(&self, slot: u16) -> Option<usize>
         ensures { result ≡ position (has_slot slot) self.now.standing.peers }
     {
-        find_slot(&self.peers, &self.places, slot)
+        find_slot(&self.peers, &self.key_of_slot, slot)
     }
 
     /// Whoever had the slot before has left, though its connection is not gone yet: it is closed.
@@ -107,7 +107,7 @@ impl<V: BusView, G: Gate> Peers<V, G> {
         ensures others { (key : ℕ) → has_slot conn.slot (peer_at self.old.standing key) ≡ false →
             peer_at self.new.standing key ≡ peer_at self.old.standing key }
     {
-        match find_slot(&self.peers, &self.places, conn.slot) {
+        match find_slot(&self.peers, &self.key_of_slot, conn.slot) {
             Some(key) => self.context.close_left(key, &mut self.peers[key]),
             None => {}
         }
@@ -129,7 +129,7 @@ impl<V: BusView, G: Gate> Peers<V, G> {
             .reply_with(hello, conn, ReplyContent::UniqueName(conn.number));
         self.context.announce(outcome.signals);
         name_in(&mut self.peers[key], conn);
-        keep_key(&mut self.places, conn.slot, key);
+        keep_key(&mut self.key_of_slot, conn.slot, key);
     }
 
     /// The bus refused the Hello: the connection stays without a name.

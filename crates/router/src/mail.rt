@@ -33,11 +33,11 @@ fn is_addressed(peer: &Option<Peer>, slot: u16, number: u64) -> bool
 /// The key of the connection of this slot and this number.
 fn find_addressed(
     peers: &[Option<Peer>],
-    places: &[usize; SLOT_COUNT],
+    key_of_slot: &[usize; SLOT_COUNT],
     slot: u16,
     number: u64,
 ) -> Option<usize>
-    requires { IsIndexed peers.now places.now }
+    requires { IsIndexed peers.now key_of_slot.now }
     ensures { result ≡ position (is_conn slot number) peers.now }
 {
     let at = usize::from(slot);
@@ -46,7 +46,7 @@ fn find_addressed(
             .iter()
             .position(|peer| is_addressed(peer, slot, number));
     }
-    let key = places[at];
+    let key = key_of_slot[at];
     if key >= peers.len() {
         return None;
     }
@@ -71,14 +71,14 @@ impl<V: BusView, G: Gate> Peers<V, G> {
         ensures world { OnErr result (self.new.work.world ≡ self.old.work.world) }
     {
         self.context.reserve(1)?;
-        match find_addressed(&self.peers, &self.places, slot, envelope.number) {
+        match find_addressed(&self.peers, &self.key_of_slot, slot, envelope.number) {
             None => {
                 self.context.take_note_of(&envelope.note);
                 Ok(())
             }
             Some(key) => {
                 self.context
-                    .bring_to(self.alloc, key, &mut self.peers[key], envelope)
+                    .deliver_to(self.alloc, key, &mut self.peers[key], envelope)
             }
         }
     }

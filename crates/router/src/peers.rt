@@ -25,7 +25,7 @@ pub struct Peers<V: BusView, G: Gate> {
     pub(crate) context: Context<V, G>,
     pub(crate) peers: Vec<Option<Peer>>,
     /// The key of the connection that has a slot, if there is one.
-    pub(crate) places: [usize; SLOT_COUNT],
+    pub(crate) key_of_slot: [usize; SLOT_COUNT],
     pub(crate) leaves: Vec<u64>,
     /// Who may log in; none where nobody is asked.
     login: Option<Login>,
@@ -42,7 +42,7 @@ impl<V: BusView, G: Gate> Model for Peers<V, G> {
       work = s.context;
     } };
 
-    ghost invariant = { λ s. IsIndexed s.peers.items s.places };
+    ghost invariant = { λ s. IsIndexed s.peers.items s.key_of_slot };
 }
 
 /// The least key that a connection had and that none has now.
@@ -83,7 +83,7 @@ impl<V: BusView + Drop, G: Gate + Drop> Peers<V, G> {
             alloc,
             context: Context::new(alloc, view, gate)?,
             peers: Vec::new(alloc),
-            places: [0; SLOT_COUNT],
+            key_of_slot: [0; SLOT_COUNT],
             leaves: Vec::new(alloc),
             login,
         })

@@ -27,7 +27,7 @@ use Rattle.message_core.specs.Said.{said as message_said}
 use Rattle.message.specs.FactsOf.{facts_of}
 use Rattle.driver.specs.declared.call.Call.TheVariants as call
 use Rattle.driver.specs.Calls.{expects_reply, is_hello}
-use Rattle.outbox_core.specs.Contents.{Said, Relays, Tells, Own, Errs, UniqueName, own_message, said_of}
+use Rattle.outbox_core.specs.Contents.{Said, Relays, Tells, Own, Errs, UniqueName, bus_message, said_of}
 use Rattle.router_core.specs.declared.cause.CloseCause.{CloseCause}
 use Rattle.router_core.specs.declared.cause.CloseCause.TheVariants as cause
 use Rattle.router_core.specs.declared.fate.PeerFate.{PeerFate}
@@ -83,7 +83,7 @@ fated key (fate.Closes cause) p = closing key cause p
 
 -- a message of the bus, numbered and written
 abbrev pub send : ℕ → Own → Peer → OfPeer
-send key own p = Doing (Sends key (own_message (next_serial p.serial) own)) (Gives (record p { serial = next_serial p.serial }))
+send key own p = Doing (Sends key (bus_message (next_serial p.serial) own)) (Gives (record p { serial = next_serial p.serial }))
 
 abbrev pub write : ℕ → Said → Peer → OfPeer
 write key (Relays bytes) p = Doing (Writes key bytes) (Gives p)
@@ -138,7 +138,7 @@ refuse key own p heard = and_then (send key own p) (λ q. putting (monitors_in h
 
 abbrev pub refuse_with : ℕ → Message → ErrorKind → Peer → OfPeer
 refuse_with key m error p =
-    if expects_reply m then Routing 0 (facts_of (own_message 1 (Errs (record { caller = None; call = m.serial }) error))) (λ heard. refuse key (Errs (record { caller = None; call = m.serial }) error) p heard)
+    if expects_reply m then Routing 0 (facts_of (bus_message 1 (Errs (record { caller = None; call = m.serial }) error))) (λ heard. refuse key (Errs (record { caller = None; call = m.serial }) error) p heard)
     else Gives p
 
 abbrev pub close_at : Standing → ℕ → Option Peer → Stands

@@ -37,7 +37,7 @@ use Rattle.driver.specs.declared.call.Call.{Call}
 use Rattle.driver.specs.declared.call.Call.TheVariants as call
 use Rattle.driver.specs.declared.reply.ReplyTo.{ReplyTo}
 use Rattle.driver.specs.Calls.{Reading, expects_reply, error_of}
-use Rattle.outbox_core.specs.Contents.{Own, Replies, Errs, Carried, Nothing, Number, Answered, Relays, Tells, own_message}
+use Rattle.outbox_core.specs.Contents.{Own, Replies, Errs, Carried, Nothing, Number, Answered, Relays, Tells, bus_message}
 use Rattle.router_core.specs.declared.cause.CloseCause.{CloseCause}
 use Rattle.router_core.specs.declared.cause.CloseCause.TheVariants.{TooLong, Left}
 use Rattle.router_core.specs.declared.fate.PeerFate.{PeerFate}
@@ -76,7 +76,7 @@ monitors_in (Refuses refusal) = []
 
 -- to a connection, and to the monitors that are shown it
 abbrev pub tell : Conn → Own → Work
-tell conn own = Routing 0 (facts_of (own_message 1 own)) (λ heard. putting (all_of (conn ∷ []) (monitors_in heard)) (Tells own) nothing)
+tell conn own = Routing 0 (facts_of (bus_message 1 own)) (λ heard. putting (all_of (conn ∷ []) (monitors_in heard)) (Tells own) nothing)
 
 abbrev pub call_of : Message → Conn → ReplyTo
 call_of m caller = record { caller = Some caller.number; call = m.serial }

@@ -5,7 +5,7 @@ use Rattle.seq_bus_core.specs.declared.signal.AddressedSignal.{AddressedSignal}
 use Rattle.outbox_core.specs.declared.content.Content.{Content}
 use Rattle.outbox_core.specs.declared.content.Content.TheVariants.{Own}
 use Rattle.outbox_core.specs.declared.envelope.Envelope.{Envelope}
-use Rattle.outbox_core.specs.declared.own_message.OwnMessage.TheVariants.{Signal}
+use Rattle.outbox_core.specs.declared.bus_message.BusMessage.TheVariants.{Signal}
 use Rattle.router_host_core.specs.Carrying.{ArePut, IsAnnounced}
 use Rattle.router_host_core.specs.States.{Carried}
 

@@ -6,7 +6,7 @@ use Rattle.outbox_core.specs.Deliveries.{deliveries_of}
 use Rattle.outbox_core.specs.declared.content.Content.{Content}
 use Rattle.outbox_core.specs.declared.content.Content.TheVariants.{Own}
 use Rattle.outbox_core.specs.declared.envelope.Envelope.{Envelope}
-use Rattle.outbox_core.specs.declared.own_message.OwnMessage.TheVariants.{Signal}
+use Rattle.outbox_core.specs.declared.bus_message.BusMessage.TheVariants.{Signal}
 use Rattle.router_core.specs.declared.action.Action.{Action}
 use Rattle.router_core.specs.declared.action.Action.TheVariants.{Write, Put, Announce, Close, Run}
 use Rattle.router_host_core.specs.declared.ending.EndCause.{EndCause}

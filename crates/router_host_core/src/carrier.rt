@@ -2,7 +2,7 @@
 
 ghost use Rattle.std.specs.Prelude.{◌≡◌, ◌<◌, ◌++◌, ◌∷◌, [], ◌↔◌, IfSome, IfErr, IsTrue, OnOk, OnErr, reverse, vec_capacity, vec_len};
 ghost use Rattle.outbox_core.specs.declared.content.Content.TheVariants.{Own};
-ghost use Rattle.outbox_core.specs.declared.own_message.OwnMessage.TheVariants.{Signal};
+ghost use Rattle.outbox_core.specs.declared.bus_message.BusMessage.TheVariants.{Signal};
 ghost use Rattle.std.specs.List.{AllByRecursion};
 ghost use Rattle.router_core.specs.declared.action.Action.TheVariants.{Run};
 ghost use Rattle.router_core.specs.Deeds.{CarriesOwn, IsOwnNote};
@@ -16,7 +16,7 @@ use crate::slots::Slots;
 use crate::socket::Socket;
 use bus_view::{Again, BusView};
 use names::BusName;
-use outbox_core::{Content, Deliveries, Envelope, OwnMessage};
+use outbox_core::{BusMessage, Content, Deliveries, Envelope};
 use router_core::Action;
 use seq_bus_core::{AddressedSignal, Conn, SharedSignal};
 use std::alloc::Global;
@@ -63,7 +63,7 @@ fn content_of(signal: &SharedSignal) -> Option<Content>
     ensures { IfSome result (λ content. content ≡ Own (Signal signal.now)) }
 {
     match signal.again() {
-        Ok(signal) => Some(Content::Own(OwnMessage::Signal(signal))),
+        Ok(signal) => Some(Content::Own(BusMessage::Signal(signal))),
         Err(_) => None,
     }
 }

@@ -2,7 +2,7 @@
 use Rattle.std.proofs.Common.{◌≡◌, ℕ, Bool, List, refl, sym, subst}
 use Rattle.seq_bus_core.specs.Histories.{History}
 use Rattle.message_core.specs.Messages.{Message, IsWritten}
-use Rattle.outbox_core.specs.Contents.{Said, Own, Relays, Tells, own_message}
+use Rattle.outbox_core.specs.Contents.{Said, Own, Relays, Tells, bus_message}
 use Rattle.router_core.specs.Deeds.{GatedCall, Writes, Sends}
 use Rattle.router_core.specs.Events.{write}
 use Rattle.router_core.specs.Scripts.{World, Does, Comes}
@@ -18,5 +18,5 @@ module _ {N G : Type 0} (told : N → History) (registry_of : N → ℕ) (passes
   pub tells : (said : Said) (own : Own) → said ≡ Tells own → IsSpelled said (next_serial p.serial) bytes → ((m : Message) → IsWritten bytes m → Does told registry_of alone (Sends key m) w v) →
       Comes told registry_of passes alone (write key said p) w (record p { serial = next_serial p.serial }) v
   tells said own is spelled does =
-      let written : IsWritten bytes (own_message (next_serial p.serial) own) = subst (λ s. IsSpelled s (next_serial p.serial) bytes) is spelled in
-      subst (λ s. Comes told registry_of passes alone (write key s p) w (record p { serial = next_serial p.serial }) v) (sym is) (v, does (own_message (next_serial p.serial) own) written, (refl, refl))
+      let written : IsWritten bytes (bus_message (next_serial p.serial) own) = subst (λ s. IsSpelled s (next_serial p.serial) bytes) is spelled in
+      subst (λ s. Comes told registry_of passes alone (write key s p) w (record p { serial = next_serial p.serial }) v) (sym is) (v, does (bus_message (next_serial p.serial) own) written, (refl, refl))

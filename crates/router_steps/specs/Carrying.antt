@@ -1,7 +1,7 @@
 -- What a call is answered, as it is held.
 use Rattle.std.specs.Prelude.{Result, Ok, Err}
 use Rattle.seq_bus_core.specs.declared.error_kind.ErrorKind.{ErrorKind}
-use Rattle.outbox_core.specs.declared.own_message.ReplyContent.{ReplyContent}
+use Rattle.outbox_core.specs.declared.bus_message.ReplyContent.{ReplyContent}
 use Rattle.outbox_core.specs.Contents.{Carried, carried_of}
 
 -- a reply with what it carries, or an error

@@ -4,7 +4,7 @@ use Rattle.seq_bus_core.specs.declared.error_kind.ErrorKind.{ErrorKind}
 use Rattle.seq_bus_core.specs.declared.error_kind.ErrorKind.TheVariants as error
 use Rattle.message_core.specs.Messages.{Message, IsWritten}
 use Rattle.driver.specs.declared.reply.ReplyTo.{ReplyTo}
-use Rattle.outbox_core.specs.Contents.{Errs, own_message}
+use Rattle.outbox_core.specs.Contents.{Errs, bus_message}
 
 -- The caller of a Hello has no name yet.
 abbrev pub hello_of : Message → ReplyTo
@@ -12,7 +12,7 @@ hello_of m = record { caller = None; call = m.serial }
 
 -- the bytes of the error that it is answered, as the message of the bus of this serial
 abbrev pub IsRefusal : Message → ErrorKind → (serial : ℕ) → List ℕ → Type 0
-IsRefusal m error serial bytes = IsWritten bytes (own_message serial (Errs (hello_of m) error))
+IsRefusal m error serial bytes = IsWritten bytes (bus_message serial (Errs (hello_of m) error))
 
 -- the bytes of the errors
 pub record Spelled : Type 0 where

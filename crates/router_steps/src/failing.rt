@@ -12,7 +12,7 @@ use crate::context::Context;
 use crate::releasing::wants_reply;
 use bus_view::{BusView, Cause};
 use driver::ReplyTo;
-use outbox_core::{CallToAnswer, OwnMessage};
+use outbox_core::{BusMessage, CallToAnswer};
 use router_core::{Gate, HowEnded, StartEnd};
 use seq_bus_core::{Change, Conn, Ending, ErrorKind, Ticket, Tickets};
 use std::alloc::AllocError;
@@ -74,7 +74,7 @@ impl<V: BusView, G: Gate> Context<V, G> {
             caller: Some(caller.number),
             call: serial,
         });
-        self.tell(caller, OwnMessage::Error { to, error });
+        self.tell(caller, BusMessage::Error { to, error });
     }
 
     /// Answers a call that waited why its service did not come.

@@ -4,7 +4,7 @@ ghost use Rattle.std.specs.Prelude.{◌≡◌, ◌<◌, ◌≤◌, ◌+◌, IfOk
 ghost use Rattle.message_core.specs.Messages.{IsWritten};
 ghost use Rattle.message_core.specs.Said.{said};
 ghost use Rattle.message.specs.FactsOf.{facts_of};
-ghost use Rattle.outbox_core.specs.Contents.{Errs, own_of, own_message};
+ghost use Rattle.outbox_core.specs.Contents.{Errs, own_of, bus_message};
 ghost use Rattle.router_core.specs.Answers.{error_for, refusal_of};
 ghost use Rattle.router_core.specs.Events.{refuse, refuse_with, turn_away};
 ghost use Rattle.router_core.specs.Scripts.{Routing, RunsTo};
@@ -18,14 +18,14 @@ use crate::verdicts::tell_monitors_alone;
 use bus_view::{BusView, Cause};
 use driver::{ReplyTo, expects_reply};
 use message_core::Message;
-use outbox_core::{CallToAnswer, Content, OwnMessage};
+use outbox_core::{BusMessage, CallToAnswer, Content};
 use router_core::{CloseCause, Gate, WrittenBytes};
 use seq_bus_core::ErrorKind;
 use std::alloc::{AllocError, Global};
 use std::marker::Model;
 
 /// The error that a Hello is answered. Its caller has no name yet.
-fn refusal(hello: &Message, error: ErrorKind) -> OwnMessage
+fn refusal(hello: &Message, error: ErrorKind) -> BusMessage
     ensures { own_of result ≡ Errs (hello_of (said hello.now)) error }
 {
     let _bytes = hello.as_bytes();
@@ -33,7 +33,7 @@ fn refusal(hello: &Message, error: ErrorKind) -> OwnMessage
         caller: None,
         call: hello.serial(),
     });
-    OwnMessage::Error { to, error }
+    BusMessage::Error { to, error }
 }
 
 /// The error that a Hello is answered, in its bytes.
@@ -91,13 +91,13 @@ impl HelloErrors {
 
 impl<V: BusView, G: Gate> Context<V, G> {
     /// Writes an error to a connection that has no name, and puts it to the monitors.
-    fn refuse(&mut self, key: usize, peer: &mut Peer, own: OwnMessage, bytes: WrittenBytes)
+    fn refuse(&mut self, key: usize, peer: &mut Peer, own: BusMessage, bytes: WrittenBytes)
         requires room { 1 < self.old.room }
         requires crowds { 0 < self.old.crowds }
         requires written { IsWritten bytes
-            (own_message (next_serial peer.old.serial) (own_of own)) }
+            (bus_message (next_serial peer.old.serial) (own_of own)) }
         ensures comes { RunsTo V.BusView G.Gate
-            (Routing 0 (facts_of (own_message 1 (own_of own)))
+            (Routing 0 (facts_of (bus_message 1 (own_of own)))
             (λ heard. refuse key (own_of own) peer.old heard))
             self.old.world peer.new self.new.world }
         ensures room { self.old.room ≤ self.new.room + 2 }

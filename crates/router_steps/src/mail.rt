@@ -42,7 +42,13 @@ pub fn bytes_of(alloc: Global, content: &Content, serial: u32) -> Result<Written
 impl<V: BusView, G: Gate> Context<V, G> {
     /// Writes to a connection what an envelope brings.
     #[tactic(auto, using(crate::proofs::Delivering::relays))]
-    pub fn deliver(&mut self, key: usize, peer: &mut Peer, content: &Content, bytes: WrittenBytes)
+    pub fn write_mail(
+        &mut self,
+        key: usize,
+        peer: &mut Peer,
+        content: &Content,
+        bytes: WrittenBytes,
+    )
         requires room { 0 < self.old.room }
         requires spelled { IsSpelled (said_of content.now) (next_serial peer.old.serial) bytes }
         ensures comes { RunsTo V.BusView G.Gate (writing key (said_of content.now) peer.old)
@@ -71,7 +77,7 @@ impl<V: BusView, G: Gate> Context<V, G> {
     }
 
     /// Takes the note of an envelope, and writes to its connection what it brings. Without memory nothing changes.
-    pub fn bring(
+    pub fn deliver(
         &mut self,
         alloc: Global,
         key: usize,
@@ -89,7 +95,7 @@ impl<V: BusView, G: Gate> Context<V, G> {
     {
         let bytes = bytes_of(alloc, &envelope.content, serial_after(peer.serial()))?;
         self.take_note_of(&envelope.note);
-        self.deliver(key, peer, &envelope.content, bytes);
+        self.write_mail(key, peer, &envelope.content, bytes);
         Ok(())
     }
 }

@@ -8,7 +8,7 @@ use crate::context::Context;
 use bus_view::BusView;
 use driver::ReplyTo;
 use message_core::NO_REPLY_EXPECTED;
-use outbox_core::{CallToAnswer, Content, OwnMessage, ReplyContent};
+use outbox_core::{BusMessage, CallToAnswer, Content, ReplyContent};
 use router_core::{Addressees, Gate};
 use seq_bus_core::{Conn, Ticket, Tickets};
 
@@ -42,7 +42,7 @@ impl<V: BusView, G: Gate> Context<V, G> {
             call: serial,
         });
         let content = ReplyContent::Number(1);
-        self.tell(caller, OwnMessage::Reply { to, content });
+        self.tell(caller, BusMessage::Reply { to, content });
     }
 
     /// Releases a call that waited for a name, once the name has this owner. The call is put to the owner, its bytes as they

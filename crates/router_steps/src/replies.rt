@@ -4,7 +4,7 @@ ghost use Rattle.std.specs.Prelude.{◌≡◌, ◌<◌, ◌≤◌, ◌+◌};
 ghost use Rattle.seq_bus_core.specs.declared.verdict.Verdict.{Verdict as Told};
 ghost use Rattle.message_core.specs.Said.{said};
 ghost use Rattle.message.specs.FactsOf.{facts_of};
-ghost use Rattle.outbox_core.specs.Contents.{carried_of, own_of, own_message};
+ghost use Rattle.outbox_core.specs.Contents.{carried_of, own_of, bus_message};
 ghost use Rattle.router_core.specs.Answers.{Heard};
 ghost use Rattle.router_core.specs.Scripts.{Routes, RunsTo};
 ghost use Rattle.router_core.specs.Serving.{answer_with as answering, call_of as call_in, err_if_call as erring_if_call, err_with as erring, is_method_call as is_method_call_in, monitors_in, reply_with as replying, tell as telling};
@@ -16,7 +16,7 @@ use bus_view::BusView;
 use driver::{ReplyTo, expects_reply};
 use match_rules::MessageKind;
 use message_core::Message;
-use outbox_core::{CallToAnswer, Content, OwnMessage, ReplyContent};
+use outbox_core::{BusMessage, CallToAnswer, Content, ReplyContent};
 use router_core::Gate;
 use seq_bus_core::{Conn, ErrorKind, Verdict};
 
@@ -41,10 +41,10 @@ pub fn is_method_call(message: &Message) -> bool
 impl<V: BusView, G: Gate> Context<V, G> {
     /// Asks which monitors are shown a message of the bus. Where the bus does not say, it is shown to none; where there are no
     /// monitors, what they would see of it is not made.
-    pub(crate) fn ask_monitors(&mut self, own: &OwnMessage) -> Box<Verdict>
+    pub(crate) fn ask_monitors(&mut self, own: &BusMessage) -> Box<Verdict>
         requires { 0 < self.old.crowds }
         ensures routes { (heard : Heard Told) ×
-            Routes V.alone 0 (facts_of (own_message 1 (own_of own.now))) self.old.world heard
+            Routes V.alone 0 (facts_of (bus_message 1 (own_of own.now))) self.old.world heard
             self.new.world × (result.value.monitors ≡ monitors_in heard) }
         ensures room { self.new.room ≡ self.old.room }
         ensures crowds { self.new.crowds + 1 ≡ self.old.crowds }
@@ -65,7 +65,7 @@ impl<V: BusView, G: Gate> Context<V, G> {
     }
 
     /// Tells a connection a message of the bus. The monitors are shown it too.
-    pub fn tell(&mut self, conn: Conn, own: OwnMessage)
+    pub fn tell(&mut self, conn: Conn, own: BusMessage)
         requires room { 0 < self.old.room }
         requires crowds { 0 < self.old.crowds }
         ensures comes { RunsTo V.BusView G.Gate (telling conn (own_of own))
@@ -90,7 +90,7 @@ impl<V: BusView, G: Gate> Context<V, G> {
     {
         if expects_reply(call) {
             let to = call_of(call, caller);
-            self.tell(caller, OwnMessage::Reply { to, content });
+            self.tell(caller, BusMessage::Reply { to, content });
         }
     }
 
@@ -105,7 +105,7 @@ impl<V: BusView, G: Gate> Context<V, G> {
     {
         if expects_reply(call) {
             let to = call_of(call, caller);
-            self.tell(caller, OwnMessage::Error { to, error });
+            self.tell(caller, BusMessage::Error { to, error });
         }
     }
 

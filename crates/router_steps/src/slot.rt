@@ -45,7 +45,7 @@ impl<V: BusView, G: Gate> Context<V, G> {
 
     /// Takes the note of an envelope, and writes to the connection of a key what it brings, if it is there. Without memory
     /// nothing changes.
-    pub fn bring_to(
+    pub fn deliver_to(
         &mut self,
         alloc: Global,
         key: usize,
@@ -66,7 +66,7 @@ impl<V: BusView, G: Gate> Context<V, G> {
                 self.take_note_of(&envelope.note);
                 Ok(())
             }
-            Some(peer) => self.bring(alloc, key, peer, envelope),
+            Some(peer) => self.deliver(alloc, key, peer, envelope),
         }
     }
 

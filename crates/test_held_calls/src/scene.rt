@@ -2,7 +2,7 @@
 
 use crate::waiting_calls::new_bus;
 use driver::ReplyTo;
-use outbox_core::{Content, OwnMessage, ReplyContent};
+use outbox_core::{Content, BusMessage, ReplyContent};
 use router::Engine;
 use router_core::{Action, Event, OpenGate};
 use seq_bus::SeqBus;
@@ -68,16 +68,16 @@ pub(crate) enum Told {
     Other,
 }
 
-fn told_of_own(conn: Conn, message: &OwnMessage) -> Told {
+fn told_of_own(conn: Conn, message: &BusMessage) -> Told {
     match message {
-        OwnMessage::Reply {
+        BusMessage::Reply {
             to,
             content: ReplyContent::Number(number),
         } => {
             let ReplyTo { call, .. } = to.reply_to();
             Told::Number(conn, call, *number)
         }
-        OwnMessage::Error { to, error } => {
+        BusMessage::Error { to, error } => {
             let ReplyTo { call, .. } = to.reply_to();
             Told::Error(conn, call, *error)
         }

@@ -28,7 +28,7 @@ use crate::words::Words;
 use anyhow::{Context, Result, bail, ensure};
 use bus_view::can_open;
 use names::WellKnown;
-use outbox_core::{Content, Deliveries, OwnMessage};
+use outbox_core::{Content, Deliveries, BusMessage};
 use owner_queues::Profile;
 use router::Engine;
 use router_core::{Action, Addressees, Event, OpenGate};
@@ -302,7 +302,7 @@ impl EngineScene {
             Action::Announce { signals, note: _ } => {
                 for addressed in signals.as_slice() {
                     let signal = addressed.signal.again()?;
-                    let content = Content::Own(OwnMessage::Signal(signal));
+                    let content = Content::Own(BusMessage::Signal(signal));
                     let monitors = addressed.monitors.as_slice();
                     self.put(addressed.to.as_slice(), monitors, &content, journal)?;
                 }

@@ -4,7 +4,7 @@ use anyhow::Result;
 use marshal::Order;
 use match_rules::{Argument, MessageKind};
 use message::{Framer, Message};
-use outbox_core::OwnMessage;
+use outbox_core::BusMessage;
 use std::alloc::Global;
 use test_support::Escaped;
 
@@ -101,7 +101,7 @@ pub fn put_bytes(alloc: Global, bytes: &[u8], text: &mut String) -> Result<()> {
 }
 
 /// What rules see of a message of the bus itself that has no serial yet: its type, whom it is for, and its arguments.
-pub fn put_own(message: &OwnMessage, text: &mut String) -> Result<()> {
+pub fn put_own(message: &BusMessage, text: &mut String) -> Result<()> {
     let names = message.names();
     let arguments = message.arguments(&names);
     let facts = message.facts(&names, arguments.as_slice());

@@ -1,7 +1,7 @@
 //! Several messages of a connection, which an engine serves in one turn.
 
 use crate::engine::{Plain, feed};
-use outbox_core::{Content, OwnMessage};
+use outbox_core::{Content, BusMessage};
 use router_core::{Action, Event};
 use seq_bus_core::ErrorKind;
 use seq_bus_core::limits::MAX_BATCH;
@@ -62,9 +62,9 @@ fn answered(action: &Action<()>) -> Option<u32> {
         return None;
     };
     match content {
-        Content::Own(OwnMessage::Reply { to, content: _ }) => Some(to.reply_to().call),
+        Content::Own(BusMessage::Reply { to, content: _ }) => Some(to.reply_to().call),
         Content::Own(
-            OwnMessage::Error {
+            BusMessage::Error {
                 to,
                 error: ErrorKind::NoMemory,
             },

@@ -2,7 +2,7 @@
 
 use crate::changes::clock;
 use crate::engine::{Plain, brought, send};
-use outbox_core::{Content, OwnMessage};
+use outbox_core::{Content, BusMessage};
 use router_core::{Action, Event, HowEnded, StartEnd};
 use seq_bus_core::{Ending, ErrorKind};
 use std::alloc::Global;
@@ -56,7 +56,7 @@ fn told_of(actions: &[Action<()>]) -> Told {
     match actions {
         [Action::Run { name: _, start }] => Told::Runs(*start),
         [Action::Put { content, .. }] => match content {
-            Content::Own(OwnMessage::Error { to: _, error }) => Told::Fails(*error),
+            Content::Own(BusMessage::Error { to: _, error }) => Told::Fails(*error),
             _ => Told::Other,
         },
         _ => Told::Other,

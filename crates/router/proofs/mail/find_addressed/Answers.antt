@@ -9,39 +9,39 @@ pub returns-then-key-peers : goal.returns-then-key-peers
 returns-then-key-peers c =
     let slot = c.args.slot in
     let peers = c.args.peers.now in
-    let places = c.args.places.now in
+    let key_of_slot = c.args.key_of_slot.now in
     let test = is_conn slot c.args.number in
     let at : c.from-at.result ≡ slot = search rules in
     let below : slot < slot_count = omega (arith, at, c.if-at-ge-SLOT_COUNT.false) in
-    let key = get_or places c.from-at.result 0 in
-    let kept : get_or places slot 0 ≡ key = ap (λ n. get_or places n 0) (sym at) in
+    let key = get_or key_of_slot c.from-at.result 0 in
+    let kept : get_or key_of_slot slot 0 ≡ key = ap (λ n. get_or key_of_slot n 0) (sym at) in
     let isnt : test (get_or peers key None) ≡ false = ap test (get_or_past peers key None c.if-key-peers.true) in
-    sym (found_nowhere test slot (slot_of_conn slot c.args.number) peers places c.requires below key kept isnt)
+    sym (found_nowhere test slot (slot_of_conn slot c.args.number) peers key_of_slot c.requires below key kept isnt)
 
 pub returns-then-is_addressed : goal.returns-then-is_addressed
 returns-then-is_addressed c =
     let slot = c.args.slot in
     let peers = c.args.peers.now in
-    let places = c.args.places.now in
+    let key_of_slot = c.args.key_of_slot.now in
     let test = is_conn slot c.args.number in
     let at : c.from-at.result ≡ slot = search rules in
     let below : slot < slot_count = omega (arith, at, c.if-at-ge-SLOT_COUNT.false) in
-    let key = get_or places c.from-at.result 0 in
-    let kept : get_or places slot 0 ≡ key = ap (λ n. get_or places n 0) (sym at) in
+    let key = get_or key_of_slot c.from-at.result 0 in
+    let kept : get_or key_of_slot slot 0 ≡ key = ap (λ n. get_or key_of_slot n 0) (sym at) in
     let there = get_or_read peers key c.index-peers-key.result c.if-key-peers.false c.index-peers-key.is None in
     let is : test (get_or peers key None) ≡ true = ap test (sym there) ∙ sym c.if-is_addressed.ensures in
-    sym (found_here test slot (slot_of_conn slot c.args.number) peers places c.requires below key c.if-key-peers.false kept is)
+    sym (found_here test slot (slot_of_conn slot c.args.number) peers key_of_slot c.requires below key c.if-key-peers.false kept is)
 
 pub returns : goal.returns
 returns c =
     let slot = c.args.slot in
     let peers = c.args.peers.now in
-    let places = c.args.places.now in
+    let key_of_slot = c.args.key_of_slot.now in
     let test = is_conn slot c.args.number in
     let at : c.from-at.result ≡ slot = search rules in
     let below : slot < slot_count = omega (arith, at, c.if-at-ge-SLOT_COUNT.false) in
-    let key = get_or places c.from-at.result 0 in
-    let kept : get_or places slot 0 ≡ key = ap (λ n. get_or places n 0) (sym at) in
+    let key = get_or key_of_slot c.from-at.result 0 in
+    let kept : get_or key_of_slot slot 0 ≡ key = ap (λ n. get_or key_of_slot n 0) (sym at) in
     let there = get_or_read peers key c.index-peers-key.result c.if-key-peers.false c.index-peers-key.is None in
     let isnt : test (get_or peers key None) ≡ false = ap test (sym there) ∙ sym c.if-is_addressed.ensures in
-    sym (found_nowhere test slot (slot_of_conn slot c.args.number) peers places c.requires below key kept isnt)
+    sym (found_nowhere test slot (slot_of_conn slot c.args.number) peers key_of_slot c.requires below key kept isnt)

@@ -10,8 +10,8 @@ use Rattle.router.proofs.peers.Peers.close.Goals as goal
 
 pub invariant_of-self-2 : goal.invariant_of-self-2
 invariant_of-self-2 g c =
-    let places = c.self.inside.places in
-    subst (λ peers. IsIndexed peers places) (sym c.take_peer.ensures.rest) (index_without c.self.inside.peers.items places c.args.key None (λ slot has. has) c.self.invariant)
+    let key_of_slot = c.self.inside.key_of_slot in
+    subst (λ peers. IsIndexed peers key_of_slot) (sym c.take_peer.ensures.rest) (index_without c.self.inside.peers.items key_of_slot c.args.key None (λ slot has. has) c.self.invariant)
 
 pub returns-clause-comes : goal.returns-clause-comes
 returns-clause-comes g c =

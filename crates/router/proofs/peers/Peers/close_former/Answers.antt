@@ -37,7 +37,7 @@ returns-in-Some-clause-vacant g c =
     let some : position test peers ≡ Some key = sym (c.in-Some.ensures ∙ ap (position test) c.deref.ensures.value) in
     let has = (position-Some test peers key None some).1 in
     let gone = closed_has_none g.V.BusView.told g.V.BusView.registry_of g.G.Gate.passes g.V.BusView.alone c.self.inside.context.world c.close_left.new.self.world key Left c.index_mut.result.now c.close_left.new.slot c.close_left.ensures.comes in
-    vacant_closed conn.slot key c.close_left.new.slot peers c.self.inside.places c.self.invariant has gone
+    vacant_closed conn.slot key c.close_left.new.slot peers c.self.inside.key_of_slot c.self.invariant has gone
 
 pub returns-in-Some-clause-others : goal.returns-in-Some-clause-others
 returns-in-Some-clause-others g c key isnt =

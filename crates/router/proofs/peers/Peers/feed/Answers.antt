@@ -22,7 +22,7 @@ invariant_of-self-2 g c =
     either_way c.hear_slot.result c.hear_slot.ensures.comes c.hear_slot.ensures.err
     (λ came. feed_keeps g.V.BusView.told g.V.BusView.registry_of g.G.Gate.passes g.V.BusView.alone c.reserve.new.self.world c.hear_slot.new.self.world key c.args.piece.now.items old new came) (λ same. same_keeps old new same)
     in
-    index_at peers c.self.inside.places key old new there keeps c.self.invariant
+    index_at peers c.self.inside.key_of_slot key old new there keeps c.self.invariant
 
 pub returns-clause-comes : goal.returns-clause-comes
 returns-clause-comes g c =

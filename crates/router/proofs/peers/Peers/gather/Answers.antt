@@ -20,7 +20,7 @@ invariant_of-self-in-Ok-Rule g c =
     ap (λ (k : Table g.row.V-Note.Denot g.row.G.Denot). length k.standing.peers) c.self-2.view_is ∙ ap (λ (s : Standing). length s.peers) c.make_room.ensures.standing ∙ sym (ap (λ (k : Table g.row.V-Note.Denot g.row.G.Denot). length k.standing.peers) c.self.view_is) in
     let inside : key < length peers = omega (arith, long, c.if-key-len.false, c.len.ensures, c.self.inside.peers.ok.0) in
     let there = get_or_read peers key old inside c.index_mut.ensures.value None in
-    index_at peers c.self-2.inside.places key old new there (due_keeps c.in-Ok-Rule.field-0 old new c.in-Ok-Rule.ensures.due) c.self-2.invariant
+    index_at peers c.self-2.inside.key_of_slot key old new there (due_keeps c.in-Ok-Rule.field-0 old new c.in-Ok-Rule.ensures.due) c.self-2.invariant
 
 pub returns-in-Ok-Rule-clause-comes : goal.returns-in-Ok-Rule-clause-comes
 returns-in-Ok-Rule-clause-comes g c =

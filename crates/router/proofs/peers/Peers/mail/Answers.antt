@@ -41,18 +41,18 @@ returns-in-Some-clause-comes g c =
     let key = c.in-Some.key in
     let s : Standing = record { peers = c.self.inside.peers.items; leaves = c.self.inside.leaves.items; login = c.self.inside.login } in
     let w = c.self.inside.context.world in
-    let v = c.bring_to.new.self.world in
-    let q = c.bring_to.new.slot in
+    let v = c.deliver_to.new.self.world in
+    let q = c.deliver_to.new.slot in
     let t : Standing = record s { peers = slice_set s.peers key q } in
     let some : position test s.peers ≡ Some key = sym (c.in-Some.ensures ∙ ap (position test) c.deref.ensures.value) in
     let there : c.index_mut.result.now ≡ peer_at s key = get_or_read s.peers key c.index_mut.result.now (position-Some test s.peers key None some).0 c.index_mut.ensures.value None in
-    on_ok_weaker c.bring_to.result
+    on_ok_weaker c.deliver_to.result
     (λ brought.
     let here = subst (λ k. Comes told registry_of passes alone (once_noted held (for_slot c.index_mut.result.now (write key said))) k q v) c.reserve.ensures.world brought in
     let found = subst (λ o. Comes told registry_of passes alone (once_noted held (for_slot o (write key said))) w q v) there here in
     subst (λ (k : Table g.row.V-Note.Denot g.row.G.Denot). Comes told registry_of passes alone (noted held (mail_found k.standing said (position test k.standing.peers))) k.work.world t v) c.self.view_is
     (delivered told registry_of passes alone w v held s said (position test s.peers) key q some found))
-    c.bring_to.ensures.comes
+    c.deliver_to.ensures.comes
 
 pub invariant_of-self-in-Some : goal.invariant_of-self-in-Some
 invariant_of-self-in-Some g c =
@@ -60,13 +60,13 @@ invariant_of-self-in-Some g c =
     let peers = c.self.inside.peers.items in
     let test = is_conn c.args.slot c.args.envelope.now.number in
     let old = c.index_mut.result.now in
-    let new = c.bring_to.new.slot in
+    let new = c.deliver_to.new.slot in
     let some : position test peers ≡ Some key = sym (c.in-Some.ensures ∙ ap (position test) c.deref.ensures.value) in
     let there = get_or_read peers key old (position-Some test peers key None some).0 c.index_mut.ensures.value None in
     let held = option_map g.V.BusView.told c.args.envelope.now.note in
     let said = said_of c.args.envelope.now.content in
     let keeps =
-    either_way c.bring_to.result c.bring_to.ensures.comes c.bring_to.ensures.err
-    (λ came. brought_keeps g.V.BusView.told g.V.BusView.registry_of g.G.Gate.passes g.V.BusView.alone c.reserve.new.self.world c.bring_to.new.self.world held key said old new came) (λ same. same_keeps old new same)
+    either_way c.deliver_to.result c.deliver_to.ensures.comes c.deliver_to.ensures.err
+    (λ came. brought_keeps g.V.BusView.told g.V.BusView.registry_of g.G.Gate.passes g.V.BusView.alone c.reserve.new.self.world c.deliver_to.new.self.world held key said old new came) (λ same. same_keeps old new same)
     in
-    index_at peers c.self.inside.places key old new there keeps c.self.invariant
+    index_at peers c.self.inside.key_of_slot key old new there keeps c.self.invariant

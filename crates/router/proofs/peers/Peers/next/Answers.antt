@@ -57,7 +57,7 @@ invariant_of-self-in-None g c =
     let there = get_or_read peers key old inside c.index_mut.ensures.value None in
     let comes = subst (λ (o : Option HelloCall). ComesOfNext g.V.BusView g.G.Gate key o old new c.reserve_crowds.new.self.world c.next_in.new.context.world) c.in-None.is c.in_ok-next_in.ensures.next in
     let keeps = next_keeps told registry_of passes alone key old new c.reserve_crowds.new.self.world c.next_in.new.context.world comes in
-    index_at peers c.self.inside.places key old new there keeps c.self.invariant
+    index_at peers c.self.inside.key_of_slot key old new there keeps c.self.invariant
 
 pub greet-requires-clause-nameless : goal.greet-requires-clause-nameless
 greet-requires-clause-nameless g c =
@@ -96,4 +96,4 @@ invariant_of-self-in-Some g c =
     let there = get_or_read peers key old within c.index_mut.ensures.value None in
     let like : q.stage ≡ p.stage = ap (λ (x : Peer). x.stage) next_is.4.rest in
     let keeps = subst (λ (o : Option Peer). Keeps o new) (sym next_is.2) (subst (λ (o : Option Peer). Keeps (Some p) o) (sym next_is.3) (like_keeps p q like)) in
-    index_at peers c.self.inside.places key old new there keeps c.self.invariant
+    index_at peers c.self.inside.key_of_slot key old new there keeps c.self.invariant

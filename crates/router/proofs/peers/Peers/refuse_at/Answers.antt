@@ -34,4 +34,4 @@ invariant_of-self g c =
     let within : key < length peers = subst (λ (k : Table g.row.V-Note.Denot g.row.G.Denot). key < length k.standing.peers) (sym c.self.view_is) c.requires.key in
     let there = get_or_read peers key old within c.index_mut.ensures.value None in
     let keeps = refused_keeps g.V.BusView.told g.V.BusView.registry_of g.G.Gate.passes g.V.BusView.alone c.self.inside.context.world c.refuse_in.new.self.world key (said c.args.hello.now) (error_for (refusal_of c.args.why)) old new c.refuse_in.ensures in
-    index_at peers c.self.inside.places key old new there keeps c.self.invariant
+    index_at peers c.self.inside.key_of_slot key old new there keeps c.self.invariant

@@ -48,4 +48,4 @@ invariant_of-self g c =
     let new = c.settle.new.slot in
     let named = subst (λ (k : Table g.row.V-Note.Denot g.row.G.Denot). is_named (peer_at k.standing key) ≡ true) (sym c.self.view_is) c.requires.named in
     let there = get_or_read peers key old (named_within peers key named) c.index_mut.ensures.value None in
-    index_at peers c.self.inside.places key old new there (settled_keeps g.V.BusView g.G.Gate key c.args.fate old new c.self.inside.context.world c.settle.new.context.world c.settle.ensures.settled) c.self.invariant
+    index_at peers c.self.inside.key_of_slot key old new there (settled_keeps g.V.BusView g.G.Gate key c.args.fate old new c.self.inside.context.world c.settle.new.context.world c.settle.ensures.settled) c.self.invariant

@@ -44,7 +44,7 @@ invariant_of-self-2 g c =
     let passes = g.G.Gate.passes in
     let alone = g.V.BusView.alone in
     let peers = c.self.inside.peers.items in
-    let places = c.self.inside.places in
+    let key_of_slot = c.self.inside.key_of_slot in
     let ys = c.look_at_all.new.peers in
     let m = c.leave_all.new.self.world in
     let v = c.look_at_all.new.self.world in
@@ -53,4 +53,4 @@ invariant_of-self-2 g c =
     let all = c.deref_mut.ensures.len in
     let full : length ys ≡ c.self.inside.peers.len = omega (arith, kept_length, all) in
     let back = take_at ys (drop (length ys) peers) c.self.inside.peers.len full in
-    subst (λ xs. IsIndexed xs places) (sym back) (index_kept peers ys places (looked_keeps told registry_of passes alone m v peers ys looked) c.self.invariant)
+    subst (λ xs. IsIndexed xs key_of_slot) (sym back) (index_kept peers ys key_of_slot (looked_keeps told registry_of passes alone m v peers ys looked) c.self.invariant)

@@ -28,4 +28,4 @@ pub invariant_of-self : goal.invariant_of-self
 invariant_of-self g c =
     let new = c.turn_away_in.new.slot in
     let without = turned_away_has_none g.V.BusView.told g.V.BusView.registry_of g.G.Gate.passes g.V.BusView.alone c.self.inside.context.world c.turn_away_in.new.self.world c.args.key (said c.args.hello.now) c.index_mut.result.now new c.turn_away_in.ensures in
-    index_without c.self.inside.peers.items c.self.inside.places c.args.key new without c.self.invariant
+    index_without c.self.inside.peers.items c.self.inside.key_of_slot c.args.key new without c.self.invariant

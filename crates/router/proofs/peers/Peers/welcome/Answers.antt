@@ -50,7 +50,7 @@ invariant_of-self g c =
     let key = c.args.key in
     let conn = c.args.conn in
     let peers = c.self.inside.peers.items in
-    let places = c.self.inside.places in
+    let key_of_slot = c.self.inside.key_of_slot in
     let s : Standing = record { peers = c.self.inside.peers.items; leaves = c.self.inside.leaves.items; login = c.self.inside.login } in
     let old = c.index_mut.result.now in
     let within : key < length peers = subst (λ (k : Table g.row.V-Note.Denot g.row.G.Denot). key < length k.standing.peers) (sym c.self.view_is) c.requires.key in
@@ -58,6 +58,6 @@ invariant_of-self g c =
     let nameless = subst (λ (k : Table g.row.V-Note.Denot g.row.G.Denot). IsNameless (peer_at k.standing key)) (sym c.self.view_is) c.requires.nameless in
     let found = nameless_peer (peer_at s key) nameless in
     let vacant = subst (λ (k : Table g.row.V-Note.Denot g.row.G.Denot). IsVacant conn.slot k.standing.peers) (sym c.self.view_is) c.requires.vacant in
-    let indexed = index_named peers places c.self.invariant key found.0 conn vacant c.keep_key.ensures.count in
-    let here = subst (λ (q : Option Peer). IsIndexed (set peers key q) (set places conn.slot key)) (sym (c.name_in.ensures found.0 (there ∙ found.1))) indexed in
+    let indexed = index_named peers key_of_slot c.self.invariant key found.0 conn vacant c.keep_key.ensures.count in
+    let here = subst (λ (q : Option Peer). IsIndexed (set peers key q) (set key_of_slot conn.slot key)) (sym (c.name_in.ensures found.0 (there ∙ found.1))) indexed in
     subst (λ ns. IsIndexed (set peers key c.name_in.new.slot) ns) (sym c.keep_key.ensures.set) here

@@ -2,7 +2,7 @@ use Rattle.std.proofs.Common.{◌≡◌, List, map, refl, sym, ap, subst, ◌∙
 use Rattle.match_rules.specs.Facts.{Argument, Facts}
 use Rattle.match_rules.specs.FactsView.{argument_of}
 use Rattle.message.specs.FactsOf.{facts_of}
-use Rattle.outbox_core.specs.Contents.{own_of, own_message}
+use Rattle.outbox_core.specs.Contents.{own_of, bus_message}
 use Rattle.router_core.specs.Answers.{Says, Refuses, Lost}
 use Rattle.router_core.specs.Scripts.{World, Routes}
 use Rattle.seq_bus_core.specs.Recipients.{recipients}
@@ -17,7 +17,7 @@ seen_as own seen are = ap (λ (xs : List Argument). record own { arguments = xs 
 
 pub returns-in-Ok-clause-routes : goal.returns-in-Ok-clause-routes
 returns-in-Ok-clause-routes g c =
-    let facts = facts_of (own_message 1 (own_of c.args.own.now)) in
+    let facts = facts_of (bus_message 1 (own_of c.args.own.now)) in
     let lent = c.facts-facts.ensures ∙ seen_as facts (map argument_of c.as_slice.result.now) (ap (map argument_of) c.as_slice.ensures.value ∙ c.arguments-arguments.ensures) in
     let told = c.route.new.verdict in
     let n = c.route.new.self.world in
@@ -26,7 +26,7 @@ returns-in-Ok-clause-routes g c =
 
 pub returns-in-Err-clause-routes : goal.returns-in-Err-clause-routes
 returns-in-Err-clause-routes g c =
-    let facts = facts_of (own_message 1 (own_of c.args.own.now)) in
+    let facts = facts_of (bus_message 1 (own_of c.args.own.now)) in
     let lent = c.facts-facts.ensures ∙ seen_as facts (map argument_of c.as_slice.result.now) (ap (map argument_of) c.as_slice.ensures.value ∙ c.arguments-arguments.ensures) in
     let n = c.route.new.self.world in
     let asked = subst (λ (f : Facts). Routes g.V.BusView.alone 0 f c.take_verdict-verdict.new.self.world (Refuses Lost) n) lent c.in-Err.ensures.routes in
@@ -34,7 +34,7 @@ returns-in-Err-clause-routes g c =
 
 pub returns-then-not-is_watched-clause-routes : goal.returns-then-not-is_watched-clause-routes
 returns-then-not-is_watched-clause-routes g c =
-    let facts = facts_of (own_message 1 (own_of c.args.own.now)) in
+    let facts = facts_of (bus_message 1 (own_of c.args.own.now)) in
     let w = c.take_verdict-verdict.new.self.world in
     let bus = (bus_seen w.view).state in
     let told = recipients bus 0 facts in

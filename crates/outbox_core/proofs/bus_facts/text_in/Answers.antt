@@ -3,7 +3,7 @@ use Rattle.marshal_check.specs.Arguments.{string_argument, path_argument, other_
 use Rattle.marshal_check.specs.ArgumentViews.{arguments_left}
 use Rattle.bus_view.specs.Bodies.{answer_value}
 use Rattle.outbox_core.proofs.SeenTexts.{is_text, left_of, first_left}
-use Rattle.outbox_core.proofs.own_facts.text_in.Goals as goal
+use Rattle.outbox_core.proofs.bus_facts.text_in.Goals as goal
 
 pub invariant_of-types : goal.invariant_of-types
 invariant_of-types c = record { valid = is_text }

@@ -2,7 +2,7 @@
 
 ghost use Rattle.std.specs.Prelude.{◌≡◌, ◌<◌, IfOk, OnOk, OnErr};
 ghost use Rattle.driver.specs.OwnMessages.{IsReplyBody, Writes};
-ghost use Rattle.outbox_core.specs.Contents.{Answered, carried_of, own_of, carried_types, carried_values, own_message};
+ghost use Rattle.outbox_core.specs.Contents.{Answered, carried_of, own_of, carried_types, carried_values, bus_message};
 
 use crate::answer::{AnswerBody, BodyKind};
 use crate::call::CallToAnswer;
@@ -53,7 +53,7 @@ impl ReplyContent {
 
 /// A message of the bus itself, which has no serial yet ("Message Bus Messages" of the D-Bus Specification).
 #[derive(Debug, Drop)]
-pub enum OwnMessage {
+pub enum BusMessage {
     Signal(SharedSignal),
     Reply {
         to: CallToAnswer,
@@ -65,7 +65,7 @@ pub enum OwnMessage {
     },
 }
 
-impl OwnMessage {
+impl BusMessage {
     /// Appends the message, with the serial that it has among the bus's own messages to its recipient.
     ///
     /// # Errors
@@ -74,32 +74,32 @@ impl OwnMessage {
     pub fn write(&self, serial: u32, out: &mut Vec<u8>) -> Result<(), AllocError>
         requires { 0 < serial }
         ensures ok { OnOk result (Writes out.old.items out.new.items
-            (own_message serial (own_of self.now))) }
+            (bus_message serial (own_of self.now))) }
         ensures err { OnErr result (out.new.items ≡ out.old.items) }
     {
         match self {
-            OwnMessage::Signal(signal) => write_signal(serial, signal.get(), out),
-            OwnMessage::Reply { to, content } => {
+            BusMessage::Signal(signal) => write_signal(serial, signal.get(), out),
+            BusMessage::Reply { to, content } => {
                 write_reply(serial, to.reply_to(), content.body(), out)
             }
-            OwnMessage::Error { to, error } => write_error(serial, to.reply_to(), *error, out),
+            BusMessage::Error { to, error } => write_error(serial, to.reply_to(), *error, out),
         }
     }
 
     /// The same once more. No bytes are copied; it fails where too many share them already.
-    pub fn again(&self) -> Result<OwnMessage, AllocError>
+    pub fn again(&self) -> Result<BusMessage, AllocError>
         ensures { IfOk result (λ message. message ≡ self.now) }
     {
         match self {
-            OwnMessage::Signal(signal) => {
+            BusMessage::Signal(signal) => {
                 let signal = signal.again()?;
-                Ok(OwnMessage::Signal(signal))
+                Ok(BusMessage::Signal(signal))
             }
-            OwnMessage::Reply { to, content } => {
+            BusMessage::Reply { to, content } => {
                 let content = content.again()?;
-                Ok(OwnMessage::Reply { to: *to, content })
+                Ok(BusMessage::Reply { to: *to, content })
             }
-            OwnMessage::Error { to, error } => Ok(OwnMessage::Error {
+            BusMessage::Error { to, error } => Ok(BusMessage::Error {
                 to: *to,
                 error: *error,
             }),

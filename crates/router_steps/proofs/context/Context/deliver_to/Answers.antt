@@ -3,7 +3,7 @@ use Rattle.std.proofs.lemmas.Result.{on_ok_weaker}
 use Rattle.outbox_core.specs.Contents.{said_of}
 use Rattle.router_core.specs.Events.{write}
 use Rattle.router_steps.proofs.Receiving.{for_nobody, for_one_noted}
-use Rattle.router_steps.proofs.context.Context.bring_to.Goals as goal
+use Rattle.router_steps.proofs.context.Context.deliver_to.Goals as goal
 
 pub returns-in-None-clause-comes : goal.returns-in-None-clause-comes
 returns-in-None-clause-comes g c =
@@ -11,6 +11,6 @@ returns-in-None-clause-comes g c =
 
 pub returns-in-Some-clause-comes : goal.returns-in-Some-clause-comes
 returns-in-Some-clause-comes g c =
-    on_ok_weaker c.bring.result
-    (for_one_noted g.V.BusView.told g.V.BusView.registry_of g.G.Gate.passes g.V.BusView.alone c.args.self.now.world c.bring.new.self.world (option_map g.V.BusView.told c.args.envelope.now.note) c.args.slot.now c.in-Some.peer c.bring.new.peer (write c.args.key (said_of c.args.envelope.now.content)) c.in-Some.is)
-    c.bring.ensures.comes
+    on_ok_weaker c.deliver.result
+    (for_one_noted g.V.BusView.told g.V.BusView.registry_of g.G.Gate.passes g.V.BusView.alone c.args.self.now.world c.deliver.new.self.world (option_map g.V.BusView.told c.args.envelope.now.note) c.args.slot.now c.in-Some.peer c.deliver.new.peer (write c.args.key (said_of c.args.envelope.now.content)) c.in-Some.is)
+    c.deliver.ensures.comes

@@ -10,11 +10,11 @@ ghost use Rattle.bus_view.specs.Bodies.{answer_value};
 ghost use Rattle.driver.specs.OwnMessages.{signal_member, signal_texts};
 ghost use Rattle.outbox_core.specs.Answers.{kind_of};
 ghost use Rattle.outbox_core.specs.declared.answer.BodyKind.TheVariants.{Text};
-ghost use Rattle.outbox_core.specs.Contents.{Signals, carried_of, carried_values, own_of, own_message};
+ghost use Rattle.outbox_core.specs.Contents.{Signals, carried_of, carried_values, own_of, bus_message};
 ghost use Rattle.outbox_core.specs.Named.{names_of, number_in};
 
 use crate::answer::{AnswerBody, BodyKind};
-use crate::own_message::{OwnMessage, ReplyContent};
+use crate::bus_message::{BusMessage, ReplyContent};
 use arrayvec::ArrayVec;
 use driver::error_text;
 use marshal_check::{Argument as Read, Arguments, Types};
@@ -27,9 +27,9 @@ use seq_bus_core::BusSignal;
 pub type OwnArguments<'a> = ArrayVec<Argument<'a>, 3>;
 
 /// The unique names in a message of the bus, which has them by the numbers of their connections. Its
-/// [facts](OwnMessage::facts) are lent out of both.
+/// [facts](BusMessage::facts) are lent out of both.
 #[derive(Clone, Copy, Debug)]
-pub struct OwnNames {
+pub struct BusMessageNames {
     /// The connection that the message is for.
     destination: Option<ConnectionName>,
     /// The connections in its body.
@@ -65,8 +65,8 @@ fn owner_argument(name: &Option<ConnectionName>) -> Argument<'_>
     }
 }
 
-impl OwnNames {
-    fn of_signal(signal: &BusSignal) -> OwnNames
+impl BusMessageNames {
+    fn of_signal(signal: &BusSignal) -> BusMessageNames
         ensures { result ≡ names_of (Signals signal.now) }
     {
         match signal {
@@ -74,13 +74,13 @@ impl OwnNames {
                 name: _,
                 old_owner,
                 new_owner,
-            } => OwnNames {
+            } => BusMessageNames {
                 destination: None,
                 first: name_of(*old_owner),
                 second: name_of(*new_owner),
             },
             BusSignal::NameLost { name: _, owner } | BusSignal::NameAcquired { name: _, owner } => {
-                OwnNames {
+                BusMessageNames {
                     destination: name_of(Some(*owner)),
                     first: None,
                     second: None,
@@ -147,7 +147,11 @@ fn put_carried<'a>(
 }
 
 /// Puts the texts of a signal.
-fn put_texts<'a>(signal: &'a BusSignal, names: &'a OwnNames, arguments: &mut OwnArguments<'a>)
+fn put_texts<'a>(
+    signal: &'a BusSignal,
+    names: &'a BusMessageNames,
+    arguments: &mut OwnArguments<'a>,
+)
     requires names { names.now ≡ names_of (Signals signal.now) }
     requires none { arguments.old.items ≡ [] }
     ensures { map argument_of arguments.new.items ≡ map StringArgument (signal_texts signal.now) }
@@ -173,19 +177,19 @@ fn member_of(signal: &BusSignal) -> &'static str
     }
 }
 
-impl OwnMessage {
+impl BusMessage {
     /// The unique names in the message. It takes no memory.
-    pub fn names(&self) -> OwnNames
+    pub fn names(&self) -> BusMessageNames
         ensures { result ≡ names_of (own_of self.now) }
     {
         match self {
-            OwnMessage::Signal(signal) => OwnNames::of_signal(signal.get()),
-            OwnMessage::Reply { to, content } => OwnNames {
+            BusMessage::Signal(signal) => BusMessageNames::of_signal(signal.get()),
+            BusMessage::Reply { to, content } => BusMessageNames {
                 destination: name_of(to.reply_to().caller),
                 first: name_of(content.number()),
                 second: None,
             },
-            OwnMessage::Error { to, error: _ } => OwnNames {
+            BusMessage::Error { to, error: _ } => BusMessageNames {
                 destination: name_of(to.reply_to().caller),
                 first: None,
                 second: None,
@@ -194,59 +198,59 @@ impl OwnMessage {
     }
 
     fn kind(&self) -> MessageKind
-        ensures { result ≡ (facts_of (own_message 1 (own_of self.now))).kind }
+        ensures { result ≡ (facts_of (bus_message 1 (own_of self.now))).kind }
     {
         match self {
-            OwnMessage::Signal(_) => MessageKind::Signal,
-            OwnMessage::Reply { .. } => MessageKind::MethodReturn,
-            OwnMessage::Error { .. } => MessageKind::Error,
+            BusMessage::Signal(_) => MessageKind::Signal,
+            BusMessage::Reply { .. } => MessageKind::MethodReturn,
+            BusMessage::Error { .. } => MessageKind::Error,
         }
     }
 
     fn path(&self) -> Option<&'static str>
         ensures { option_map (λ t. t.now) result
-            ≡ (facts_of (own_message 1 (own_of self.now))).path }
+            ≡ (facts_of (bus_message 1 (own_of self.now))).path }
     {
         match self {
-            OwnMessage::Signal(_) => Some("/org/freedesktop/DBus"),
-            OwnMessage::Reply { .. } | OwnMessage::Error { .. } => None,
+            BusMessage::Signal(_) => Some("/org/freedesktop/DBus"),
+            BusMessage::Reply { .. } | BusMessage::Error { .. } => None,
         }
     }
 
     fn interface(&self) -> Option<&'static str>
         ensures { option_map (λ t. t.now) result
-            ≡ (facts_of (own_message 1 (own_of self.now))).interface }
+            ≡ (facts_of (bus_message 1 (own_of self.now))).interface }
     {
         match self {
-            OwnMessage::Signal(_) => Some("org.freedesktop.DBus"),
-            OwnMessage::Reply { .. } | OwnMessage::Error { .. } => None,
+            BusMessage::Signal(_) => Some("org.freedesktop.DBus"),
+            BusMessage::Reply { .. } | BusMessage::Error { .. } => None,
         }
     }
 
     fn member(&self) -> Option<&'static str>
         ensures { option_map (λ t. t.now) result
-            ≡ (facts_of (own_message 1 (own_of self.now))).member }
+            ≡ (facts_of (bus_message 1 (own_of self.now))).member }
     {
         match self {
-            OwnMessage::Signal(signal) => Some(member_of(signal.get())),
-            OwnMessage::Reply { .. } | OwnMessage::Error { .. } => None,
+            BusMessage::Signal(signal) => Some(member_of(signal.get())),
+            BusMessage::Reply { .. } | BusMessage::Error { .. } => None,
         }
     }
 
     /// The arguments of the message, lent out of it and its names.
     #[inline(never)]
-    pub fn arguments<'a>(&'a self, names: &'a OwnNames) -> OwnArguments<'a>
+    pub fn arguments<'a>(&'a self, names: &'a BusMessageNames) -> OwnArguments<'a>
         requires { names.now ≡ names_of (own_of self.now) }
         ensures { map argument_of result.items
-            ≡ (facts_of (own_message 1 (own_of self.now))).arguments }
+            ≡ (facts_of (bus_message 1 (own_of self.now))).arguments }
     {
         let mut arguments = OwnArguments::new();
         match self {
-            OwnMessage::Signal(signal) => put_texts(signal.get(), names, &mut arguments),
-            OwnMessage::Reply { to: _, content } => {
+            BusMessage::Signal(signal) => put_texts(signal.get(), names, &mut arguments),
+            BusMessage::Reply { to: _, content } => {
                 put_carried(content, &names.first, &mut arguments)
             }
-            OwnMessage::Error { to: _, error } => {
+            BusMessage::Error { to: _, error } => {
                 arguments.push(Argument::String(error_text(*error)))
             }
         }
@@ -255,9 +259,13 @@ impl OwnMessage {
 
     /// What match rules and routing look at in the message ("Match Rules" of the D-Bus Specification), with these
     /// arguments of it. The message is not written for that, and it takes no memory.
-    pub fn facts<'a>(&'a self, names: &'a OwnNames, arguments: &'a [Argument<'a>]) -> Facts<'a>
+    pub fn facts<'a>(
+        &'a self,
+        names: &'a BusMessageNames,
+        arguments: &'a [Argument<'a>],
+    ) -> Facts<'a>
         requires { names.now ≡ names_of (own_of self.now) }
-        ensures { result ≡ record (facts_of (own_message 1 (own_of self.now))) {
+        ensures { result ≡ record (facts_of (bus_message 1 (own_of self.now))) {
           arguments = map argument_of arguments.now;
         } }
     {
