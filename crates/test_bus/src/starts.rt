@@ -368,3 +368,64 @@ fn as_many_tickets_as_can_wait(rt: HostRuntime) {
     play(&rt, alloc, &mut registry, "a full table", FULL);
     drop(registry);
 }
+
+/// All tickets that can wait, the first so many numbers, as those of an owner that serves them.
+fn all_served(rt: &impl Abort, alloc: Global) -> Vec<SettledNumber> {
+    let mut served = once_more!(rt; Vec::with_capacity(alloc, TICKETS as usize));
+    for number in 1..=TICKETS {
+        served
+            .push(SettledNumber {
+                fate: Fate::Served,
+                number,
+            })
+            .expect(rt, "there is room");
+    }
+    served
+}
+
+/// The most calls that wait.
+const TICKETS: u64 = 512;
+
+/// As many calls as can wait, all for one start.
+fn crowd(rt: &impl Abort, alloc: Global, registry: &mut Registry) {
+    for ticket in 1..=TICKETS {
+        let asked = if ticket == 1 { Some(1) } else { None };
+        let waits = (
+            Deed::Hold(1, CLOCK),
+            Reply::Held(ticket),
+            asked,
+            [].as_slice(),
+        );
+        assert!(rt; is_so(rt, alloc, registry, waits), "ticket {ticket}");
+    }
+}
+
+/// None more waits, and no other service is started.
+const CROWDED: &[Row] = &[
+    (Deed::Start(2, CLOCK), Reply::LimitsExceeded, None, &[]),
+    (Deed::Hold(2, CLOCK), Reply::LimitsExceeded, None, &[]),
+    (Deed::Start(2, LAMP), Reply::LimitsExceeded, None, &[]),
+    (Deed::Hold(2, LAMP), Reply::LimitsExceeded, None, &[]),
+];
+
+/// There is room again, and what was refused has taken no number.
+const GOES_ON_BEHIND: &[Row] = &[
+    (Deed::Start(1, CLOCK), Reply::AlreadyRunning, None, &[]),
+    (Deed::Start(2, LAMP), Reply::Held(TICKETS + 1), Some(2), &[]),
+    (Deed::Hold(1, LAMP), Reply::Held(TICKETS + 2), None, &[]),
+];
+
+#[test]
+fn as_many_tickets_of_one_start(rt: HostRuntime) {
+    let alloc = rt.alloc();
+    let clock = WellKnown::parse(CLOCK).ok().expect(&rt, "a name");
+    let lamp = WellKnown::parse(LAMP).ok().expect(&rt, "a name");
+    let mut registry = registry_of(&rt, alloc, &[clock, lamp]);
+    crowd(&rt, alloc, &mut registry);
+    play(&rt, alloc, &mut registry, "a crowded start", CROWDED);
+    let served = all_served(&rt, alloc);
+    let owned = (Deed::Request(2, CLOCK), OWNED, None, served.as_slice());
+    play(&rt, alloc, &mut registry, "an owner for all", &[owned]);
+    play(&rt, alloc, &mut registry, "room again", GOES_ON_BEHIND);
+    drop(registry);
+}
