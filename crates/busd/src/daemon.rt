@@ -18,8 +18,8 @@ fn print_address<R: Print>(rt: &R, address: BusAddress<'_>) -> Result<(), ServeF
 ///
 /// # Errors
 ///
-/// What is wrong at the start, the first of: the command line, what [`Bus::open`] tells, standard output; and later what the
-/// system gave no more.
+/// What is wrong at the start, the first of: the command line, what [`Bus::open`] tells, standard
+/// output; and later what the system gave no more.
 fn serve_bus<R: DaemonRuntime + Print>(rt: &R, found: &ArgMatches<'_>) -> Result<(), ServeFault>
 where
     R::File: Send,

@@ -1,4 +1,5 @@
-//! The message bus as a program: `busd serve` serves the clients of a socket, `busd run` the message stream on standard input.
+//! The message bus as a program: `busd serve` serves the clients of a socket, `busd run` the
+//! message stream on standard input.
 #![tactic(auto)]
 
 ghost use Rattle.std.specs.Prelude.{◌≡◌, ◌⊎◌, []};

@@ -1,7 +1,8 @@
-//! Serves the message stream of one connection that needs no authentication, by the engine of a router.
+//! Serves the message stream of one connection that needs no authentication, by the engine of a
+//! router.
 //!
-//! [`run`] is the whole of it: `specs/Sessions` says which events happen to the engine, and what becomes of the actions
-//! that they bring.
+//! [`run`] is the whole of it: `specs/Sessions` says which events happen to the engine, and what
+//! becomes of the actions that they bring.
 //!
 //! ```
 //! use bus_view::BusView;

@@ -49,8 +49,8 @@ fn next_piece<R: Read>(
     }
 }
 
-/// Serves an event, and carries out its actions: what they write is written, then what they put comes back as mail. Where
-/// they close the connection, the run ends.
+/// Serves an event, and carries out its actions: what they write is written, then what they put
+/// comes back as mail. Where they close the connection, the run ends.
 fn carry_out<V: BusView, G: Gate, W: Write>(
     engine: &mut Engine<V, G>,
     right: &V::Right,
@@ -71,18 +71,20 @@ fn carry_out<V: BusView, G: Gate, W: Write>(
     delivered
 }
 
-/// Serves the message stream of one connection by the engine of the router of a seat. The connection needs no
-/// authentication, and counts as the bus's own user ("Message Bus Messages" of the D-Bus Specification).
+/// Serves the message stream of one connection by the engine of the router of a seat. The
+/// connection needs no authentication, and counts as the bus's own user ("Message Bus Messages" of
+/// the D-Bus Specification).
 ///
-/// The connection comes, with a key that is free. Its bytes come as they are read, and each whole message is served before
-/// more is read. What the actions of an event write to the connection is written at once; what they put to connections of
-/// this router comes back as mail, in order, without a note, as the router that made it has nothing to learn from it. At
-/// the end of the input the connection is gone, and a rest that is no whole message is ignored.
+/// The connection comes, with a key that is free. Its bytes come as they are read, and each whole
+/// message is served before more is read. What the actions of an event write to the connection is
+/// written at once; what they put to connections of this router comes back as mail, in order,
+/// without a note, as the router that made it has nothing to learn from it. At the end of the input
+/// the connection is gone, and a rest that is no whole message is ignored.
 ///
 /// # Errors
 ///
-/// The run ends earlier where the connection is closed, with all that was written to it up to there; where the reader or
-/// the writer fails; and where there is not enough memory to go on.
+/// The run ends earlier where the connection is closed, with all that was written to it up to
+/// there; where the reader or the writer fails; and where there is not enough memory to go on.
 pub fn run<V: BusView, G: Gate, R: Read, W: Write>(
     alloc: Global,
     engine: &mut Engine<V, G>,

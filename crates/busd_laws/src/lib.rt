@@ -1,8 +1,9 @@
 //! Laws of streams that one connection sends.
 //!
-//! Where no call of the bus and no memory is refused, what [`busd_core::run`] writes for a stream depends on the bytes of
-//! the stream alone: not on how they were cut, and not on when the messages in them were served. The law is what
-//! [`streams_agree`] ensures, for the proof of whoever calls it.
+//! Where no call of the bus and no memory is refused, what [`busd_core::run`] writes for a stream
+//! depends on the bytes of the stream alone: not on how they were cut, and not on when the messages
+//! in them were served. The law is what [`streams_agree`] ensures, for the proof of whoever calls
+//! it.
 //!
 //! ```
 //! ghost use Rattle.busd_laws.specs.Streams.{StreamsAgree};
@@ -25,8 +26,8 @@ ghost use Rattle.busd_laws.specs.Streams.{StreamsAgree};
 use bus_view::BusView;
 use router_core::Gate;
 
-/// Two runs over the same bytes to their end write the same, however the bytes came, where nobody else makes changes of
-/// the bus and nothing is refused.
+/// Two runs over the same bytes to their end write the same, however the bytes came, where nobody
+/// else makes changes of the bus and nothing is refused.
 pub fn streams_agree<V: BusView, G: Gate, H: Gate>()
     ensures { StreamsAgree V.told G.passes H.passes V.alone }
 {}

@@ -107,20 +107,21 @@ fn prepare<R: Files + AllocGlobal + Clone + Drop>(
 /// The size of a block that is let go of before any message is.
 const LARGE: usize = 4_194_304;
 
-/// Has the process keep what messages leave free. The system's allocator gives back what lies free behind all blocks in
-/// use, once it is more than twice the largest block that was let go of: a turn with large messages leaves megabytes,
-/// and the next would be given them anew, page by page.
+/// Has the process keep what messages leave free. The system's allocator gives back what lies free
+/// behind all blocks in use, once it is more than twice the largest block that was let go of: a
+/// turn with large messages leaves megabytes, and the next would be given them anew, page by page.
 fn keep_free_memory(alloc: Global) {
     let _block: Result<Vec<u8>, AllocError> = Vec::with_capacity(alloc, LARGE);
 }
 
 impl<'a> Bus<'a> {
-    /// Reads what the options name, begins the trace where they want one, and makes the socket. From then on clients can connect;
-    /// they are served once [`Bus::serve`] runs.
+    /// Reads what the options name, begins the trace where they want one, and makes the socket.
+    /// From then on clients can connect; they are served once [`Bus::serve`] runs.
     ///
     /// # Errors
     ///
-    /// What is wrong at the start, the first of: the keyring, the services, the trace, random bytes, the socket, the polls.
+    /// What is wrong at the start, the first of: the keyring, the services, the trace, random
+    /// bytes, the socket, the polls.
     pub fn open<R: Net + Files + AllocGlobal + Clone + Drop>(
         rt: &R,
         options: Options<'a>,
@@ -178,15 +179,16 @@ impl<'a> Bus<'a> {
         }
     }
 
-    /// Serves the clients that connect, until the bus is stopped: each router in a thread of its own, and this one accepts, and
-    /// starts the programs of services that are called. Programs that run when the bus is stopped go on.
-    /// What is told of connections, where the options want that, goes to standard error. Where they want a trace, each thread
-    /// writes its lines at the end of a turn: so all are written while the bus is idle, and once this has returned.
+    /// Serves the clients that connect, until the bus is stopped: each router in a thread of its
+    /// own, and this one accepts, and starts the programs of services that are called. Programs
+    /// that run when the bus is stopped go on. What is told of connections, where the options want
+    /// that, goes to standard error. Where they want a trace, each thread writes its lines at the
+    /// end of a turn: so all are written while the bus is idle, and once this has returned.
     ///
     /// # Errors
     ///
-    /// What the system gave no more: memory, word of the sockets, random bytes, or files of the trace that take its lines. Then all
-    /// connections are closed.
+    /// What the system gave no more: memory, word of the sockets, random bytes, or files of the
+    /// trace that take its lines. Then all connections are closed.
     pub fn serve<R: DaemonRuntime>(
         &self,
         rt: &R,

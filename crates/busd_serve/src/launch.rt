@@ -118,8 +118,8 @@ impl ProgramJob {
     }
 }
 
-/// Starts a thread that runs a program to its end, and tells the main thread how that was. Nobody waits for the thread. It is false where
-/// there can't be one more.
+/// Starts a thread that runs a program to its end, and tells the main thread how that was. Nobody
+/// waits for the thread. It is false where there can't be one more.
 fn start_program<R: Threads + Wait + RunsPrograms + Clock + Copy + Send + 'static>(
     rt: &R,
     job: ProgramJob,
@@ -129,7 +129,8 @@ fn start_program<R: Threads + Wait + RunsPrograms + Clock + Copy + Send + 'stati
     thread.spawn(rt, move || job.run(&theirs)).is_ok()
 }
 
-/// Starts the program of a job in a thread of its own. Where that can't be, the main thread is told so.
+/// Starts the program of a job in a thread of its own. Where that can't be, the main thread is told
+/// so.
 fn start_job<R: Threads + Wait + RunsPrograms + Clock + Copy + Send + 'static>(
     rt: &R,
     job: ProgramJob,

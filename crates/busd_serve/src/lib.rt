@@ -1,5 +1,6 @@
-//! A bus over a Unix socket, as `busd serve` runs it: [`Bus::open`] makes the socket, and [`Bus::serve`] serves its clients,
-//! each router in a thread of its own, until the bus is told to stop or the system gives no more.
+//! A bus over a Unix socket, as `busd serve` runs it: [`Bus::open`] makes the socket, and
+//! [`Bus::serve`] serves its clients, each router in a thread of its own, until the bus is told to
+//! stop or the system gives no more.
 //!
 //! ```
 //! use busd_serve::{Bus, DaemonRuntime};

@@ -12,7 +12,8 @@ use std::net::Net;
 /// How many connections wait for a router at most.
 const WAITING: usize = 64;
 
-/// The polls of a bus, with what wakes its threads and the queues of the connections that come to them.
+/// The polls of a bus, with what wakes its threads and the queues of the connections that come to
+/// them.
 #[derive(Drop)]
 pub(crate) struct Polls {
     /// The poll of the thread that accepts.

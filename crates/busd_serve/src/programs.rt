@@ -16,8 +16,8 @@ use supervisor::Event;
 /// How many programs wait to be started at most.
 const JOBS: usize = 512;
 
-/// Runs the programs of services: a thread starts them, each in a thread of its own that waits for its end. Nothing waits for these
-/// threads.
+/// Runs the programs of services: a thread starts them, each in a thread of its own that waits for
+/// its end. Nothing waits for these threads.
 #[derive(Drop)]
 pub(crate) struct Launcher<'a, R: Wait> {
     rt: &'a R,
@@ -27,8 +27,8 @@ pub(crate) struct Launcher<'a, R: Wait> {
     jobs: Sender<ProgramJob, Global>,
 }
 
-/// Runs the programs of these services for a bus. Where there are any, a thread is started that waits for programs to start. The waker wakes
-/// the main thread.
+/// Runs the programs of these services for a bus. Where there are any, a thread is started that
+/// waits for programs to start. The waker wakes the main thread.
 ///
 /// # Errors
 ///

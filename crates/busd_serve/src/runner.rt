@@ -17,8 +17,8 @@ pub enum ProgramEnd {
 
 /// Runs programs, in whatever thread.
 pub trait RunsPrograms {
-    /// Runs the program of a service to its end, where the bus has this address. Where the system does not tell how it ended, it is as if it
-    /// had exited with 0.
+    /// Runs the program of a service to its end, where the bus has this address. Where the system
+    /// does not tell how it ended, it is as if it had exited with 0.
     fn run_program(&self, alloc: Global, service: &Service, address: &str) -> ProgramEnd;
 }
 

@@ -115,7 +115,8 @@ fn setups<'a, J: Naming, F: Drop, R: Net + Eprint + AllocGlobal>(
     Ok(setups)
 }
 
-/// What the last router that is not taken yet begins with: its seat, its ways to the others, and the connections that come to it.
+/// What the last router that is not taken yet begins with: its seat, its ways to the others, and
+/// the connections that come to it.
 fn setup<'a, J: Naming, F: Drop, R: Net + Eprint + AllocGlobal>(
     rt: &'a R,
     bus: &'a Bus<'_>,

@@ -24,7 +24,8 @@ pub trait AcceptLog {
 
 /// What the thread that accepts does besides.
 pub trait Chores {
-    /// Does what there is to do. Tells in how many milliseconds it is to be called again though nobody wakes the thread.
+    /// Does what there is to do. Tells in how many milliseconds it is to be called again though
+    /// nobody wakes the thread.
     ///
     /// # Errors
     ///
@@ -41,7 +42,8 @@ enum Accepted {
     Later,
 }
 
-/// Accepts connections and hands them to the routers in turn, beside its chores. What doesn't fit into a router's queue is closed.
+/// Accepts connections and hands them to the routers in turn, beside its chores. What doesn't fit
+/// into a router's queue is closed.
 #[derive(Drop)]
 pub struct Acceptor<'a, F: Read + Drop, L: AcceptLog + Drop, C: Chores + Drop> {
     poll: Poll,
@@ -59,7 +61,8 @@ pub struct Acceptor<'a, F: Read + Drop, L: AcceptLog + Drop, C: Chores + Drop> {
 }
 
 impl<'a, F: Read + Drop, L: AcceptLog + Drop, C: Chores + Drop> Acceptor<'a, F, L, C> {
-    /// Accepts the connections of this listener for the routers of the coordinator, whose main waker wakes this poll.
+    /// Accepts the connections of this listener for the routers of the coordinator, whose main
+    /// waker wakes this poll.
     pub fn new(
         alloc: Global,
         poll: Poll,
@@ -107,7 +110,8 @@ impl<'a, F: Read + Drop, L: AcceptLog + Drop, C: Chores + Drop> Acceptor<'a, F, 
         Ok(accepted)
     }
 
-    /// Hands a connection to the router whose turn it is, or closes it where that one's queue is full.
+    /// Hands a connection to the router whose turn it is, or closes it where that one's queue is
+    /// full.
     fn hand_over<R: Wait>(&mut self, rt: &R, stream: UnixStream) -> Result<(), Fault> {
         let mut challenge = [0; 16];
         if self.random.read_exact(&mut challenge).is_err() {

@@ -1,8 +1,8 @@
-//! The sockets of the daemon: a listener, whose connections go to the routers in turn, and for each router what the system
-//! tells of its sockets.
+//! The sockets of the daemon: a listener, whose connections go to the routers in turn, and for each
+//! router what the system tells of its sockets.
 //!
-//! [`Acceptor`] is the task of the main thread, [`Sockets`] the source of a router. Readiness is told by edges:
-//! once, when it begins.
+//! [`Acceptor`] is the task of the main thread, [`Sockets`] the source of a router. Readiness is
+//! told by edges: once, when it begins.
 //!
 //! ```
 //! use busd_sockets::{EndLog, NewConnections, PollWaker, Sockets};

@@ -43,7 +43,8 @@ impl Change {
     }
 }
 
-/// What happens to the sockets of a router, as the system tells it, and the connections that come to the router.
+/// What happens to the sockets of a router, as the system tells it, and the connections that come
+/// to the router.
 #[derive(Drop)]
 pub struct Sockets<'a, L: EndLog + Drop> {
     poll: Poll,

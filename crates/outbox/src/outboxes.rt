@@ -11,15 +11,16 @@ use std::alloc::{AllocError, Global};
 /// How many connections a bus has places for.
 const PLACES: usize = 256;
 
-/// What lies in the outboxes of a registry: messages on their way, each with a note of that registry.
+/// What lies in the outboxes of a registry: messages on their way, each with a note of that
+/// registry.
 pub type EnvelopeOf<J> = Envelope<Note<J>>;
 
 /// The outboxes of a registry.
 pub struct Outboxes;
 
 impl Outboxes {
-    /// The outboxes of a registry: a lane for each seat, seat 0 first, and for each router the taps of its places, as many
-    /// for each.
+    /// The outboxes of a registry: a lane for each seat, seat 0 first, and for each router the taps
+    /// of its places, as many for each.
     ///
     /// A lane reaches an outbox by its slot, the place among those of all routers.
     ///

@@ -19,8 +19,8 @@ use router_core::{Action, Event, Gate};
 use std::alloc::{AllocError, Global};
 use std::marker::Model;
 
-/// An engine serves one event after another, and hands out the actions that each brings. An event that there is no
-/// memory for changes nothing.
+/// An engine serves one event after another, and hands out the actions that each brings. An event
+/// that there is no memory for changes nothing.
 #[derive(Drop)]
 pub struct Engine<V: BusView, G: Gate> {
     pub(crate) peers: Peers<V, G>,
@@ -43,7 +43,8 @@ impl<V: BusView, G: Gate> Model for Engine<V, G> {
 }
 
 impl<V: BusView + Drop, G: Gate + Drop> Engine<V, G> {
-    /// An engine without connections. Connections that come with a challenge are asked who they are, by the login. It takes some memory.
+    /// An engine without connections. Connections that come with a challenge are asked who they
+    /// are, by the login. It takes some memory.
     pub fn new(
         alloc: Global,
         view: V,
@@ -64,8 +65,8 @@ impl<V: BusView + Drop, G: Gate + Drop> Engine<V, G> {
 }
 
 impl<V: BusView, G: Gate> Engine<V, G> {
-    /// The key of the next connection: the least that none has. A connection that is gone has given its key up, so keys
-    /// stay below the most connections that were there at once.
+    /// The key of the next connection: the least that none has. A connection that is gone has given
+    /// its key up, so keys stay below the most connections that were there at once.
     pub fn free_key(&self) -> usize
         ensures { IsFree self.now.standing result }
     {
@@ -129,7 +130,8 @@ impl<V: BusView, G: Gate> Engine<V, G> {
         self.peers.unnamed()
     }
 
-    /// The number of the connection of a key, once its Hello gave it one. A closed one keeps it until it is gone.
+    /// The number of the connection of a key, once its Hello gave it one. A closed one keeps it
+    /// until it is gone.
     pub fn number_of(&self, key: usize) -> Option<u64>
         ensures { result ≡ number_at self.now.standing key }
     {
@@ -143,8 +145,8 @@ impl<V: BusView, G: Gate> Engine<V, G> {
         self.peers.ticks()
     }
 
-    /// Takes back the actions that an event brought, once they are done. Those of the next events stand where they stood; without this
-    /// the engine makes room for them anew.
+    /// Takes back the actions that an event brought, once they are done. Those of the next events
+    /// stand where they stood; without this the engine makes room for them anew.
     pub fn give_back(&mut self, actions: Vec<Action<V::Note>>)
         ensures { self.new ≡ self.old }
     {
@@ -171,7 +173,8 @@ impl<V: BusView, G: Gate> Engine<V, G> {
         Ok(self.peers.take_actions())
     }
 
-    /// The next whole messages of connections are served, one after the other, as many of each as its key stands there.
+    /// The next whole messages of connections are served, one after the other, as many of each as
+    /// its key stands there.
     fn turn(
         &mut self,
         right: &V::Right,
@@ -267,13 +270,15 @@ impl<V: BusView, G: Gate> Engine<V, G> {
         }
     }
 
-    /// Something happened. What it brings, it brings for some answers that the bus may give; over a bus of one thread, where
-    /// nothing is refused, it is a function of the event. What its actions carry is for any engine over a view of the same bus.
+    /// Something happened. What it brings, it brings for some answers that the bus may give; over a
+    /// bus of one thread, where nothing is refused, it is a function of the event. What its actions
+    /// carry is for any engine over a view of the same bus.
     ///
     /// # Errors
     ///
-    /// There is no memory for it. Then nothing changed, and the event is as it was: it may be served again, and brings then what it would
-    /// have brought. An event that was served has given its bytes away.
+    /// There is no memory for it. Then nothing changed, and the event is as it was: it may be
+    /// served again, and brings then what it would have brought. An event that was served has given
+    /// its bytes away.
     pub fn event(
         &mut self,
         right: &V::Right,

@@ -211,9 +211,10 @@ impl<V: BusView, G: Gate> Peers<V, G> {
         }
     }
 
-    /// Serves the Hello of the connection of a key, which has no name yet. The gate is shown the call, the bus makes the
-    /// change, and the connection has its name: the reply comes first, then the signals; whoever had the slot before and has left
-    /// is closed. Where the bus refuses, the connection is answered an error; where a limit would be exceeded, it is closed too.
+    /// Serves the Hello of the connection of a key, which has no name yet. The gate is shown the
+    /// call, the bus makes the change, and the connection has its name: the reply comes first, then
+    /// the signals; whoever had the slot before and has left is closed. Where the bus refuses, the
+    /// connection is answered an error; where a limit would be exceeded, it is closed too.
     ///
     /// It takes no memory: room was made, and the errors were made too.
     pub(crate) fn greet(

@@ -24,8 +24,8 @@ fn take_peer(peers: &mut Vec<Option<Peer>>, key: usize) -> Option<Peer>
 }
 
 impl<V: BusView, G: Gate> Peers<V, G> {
-    /// A connection is gone: its key is free, and the Leave of its number is made. A Leave that is refused is kept, and
-    /// made at a [`tick`](Peers::tick). Without memory nothing changes.
+    /// A connection is gone: its key is free, and the Leave of its number is made. A Leave that is
+    /// refused is kept, and made at a [`tick`](Peers::tick). Without memory nothing changes.
     #[tactic(auto, using(crate::proofs::Slots::set_same))]
     pub fn close(&mut self, right: &V::Right, key: usize) -> Result<(), AllocError>
         ensures comes { OnOk result (RunsTo V.BusView G.Gate
@@ -44,8 +44,8 @@ impl<V: BusView, G: Gate> Peers<V, G> {
         Ok(())
     }
 
-    /// The Leave of a number is made, whoever has it. One that is refused is kept, and made at a [`tick`](Peers::tick). Without memory
-    /// nothing changes.
+    /// The Leave of a number is made, whoever has it. One that is refused is kept, and made at a
+    /// [`tick`](Peers::tick). Without memory nothing changes.
     pub fn leave(&mut self, right: &V::Right, number: u64) -> Result<(), AllocError>
         ensures comes { OnOk result (RunsTo V.BusView G.Gate (leave self.old.standing number)
             self.old.work.world self.new.standing self.new.work.world) }

@@ -1,8 +1,9 @@
 //! The engine of a router.
 //!
-//! An engine serves connections over any view of a bus. [`Peers`] is the table of its connections, with the context in
-//! which one at a time is served. Each of its methods serves one event, as `router_core` defines its script. An engine over a
-//! [`Traced`] view hands out the lines of its trace.
+//! An engine serves connections over any view of a bus. [`Peers`] is the table of its connections,
+//! with the context in which one at a time is served. Each of its methods serves one event, as
+//! `router_core` defines its script. An engine over a [`Traced`] view hands out the lines of its
+//! trace.
 //!
 //! ```
 //! use bus_view::BusView;

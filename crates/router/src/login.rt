@@ -4,8 +4,8 @@ use sasl::Cookie;
 use std::marker::Model;
 use std::sync::ArcStr;
 
-/// Who may log in: the user whose cookie this is, and, where they are allowed, anonymous clients. (D-Bus Specification: "Authentication
-/// Mechanisms".)
+/// Who may log in: the user whose cookie this is, and, where they are allowed, anonymous clients.
+/// (D-Bus Specification: "Authentication Mechanisms".)
 #[derive(Drop)]
 pub struct Login {
     /// What identifies the bus to its clients.

@@ -57,9 +57,10 @@ fn find_addressed(
 }
 
 impl<V: BusView, G: Gate> Peers<V, G> {
-    /// Mail came for the connection in a slot: its note is taken, and what it brings is written, a relayed message as it
-    /// is, one of the bus with the connection's next serial. Where the connection of its number is not there, it is
-    /// dropped: its slot may be another's by now. Without memory nothing changes.
+    /// Mail came for the connection in a slot: its note is taken, and what it brings is written, a
+    /// relayed message as it is, one of the bus with the connection's next serial. Where the
+    /// connection of its number is not there, it is dropped: its slot may be another's by now.
+    /// Without memory nothing changes.
     pub fn mail(&mut self, slot: u16, envelope: &Envelope<V::Note>) -> Result<(), AllocError>
         requires { IsOwnNote V.registry_of self.old.work.world.view.registry envelope.now.note }
         ensures comes { OnOk result (RunsTo V.BusView G.Gate

@@ -51,7 +51,8 @@ impl<V: BusView, G: Gate> Peers<V, G> {
         count_unnamed(&self.peers)
     }
 
-    /// The number of the connection of a key, once its Hello gave it one. A closed one keeps it until it is gone.
+    /// The number of the connection of a key, once its Hello gave it one. A closed one keeps it
+    /// until it is gone.
     #[tactic(auto, using(crate::proofs::Slots::none_beyond))]
     pub fn number_of(&self, key: usize) -> Option<u64>
         ensures { result ≡ number_at self.now.standing key }

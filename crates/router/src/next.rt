@@ -27,7 +27,8 @@ fn has_next(slot: &Option<Peer>) -> bool
 }
 
 impl<V: BusView, G: Gate> Peers<V, G> {
-    /// Whether the connection of a key has sent a whole message that was not served, or what is no message.
+    /// Whether the connection of a key has sent a whole message that was not served, or what is no
+    /// message.
     #[tactic(auto, using(crate::proofs::Slots::none_beyond))]
     pub fn has_next(&self, key: usize) -> bool
         ensures quiet { result ≡ false → HasNoNext self.now.standing key }
@@ -39,8 +40,9 @@ impl<V: BusView, G: Gate> Peers<V, G> {
         has_next(&self.peers[key])
     }
 
-    /// Serves the next whole message of a connection, if there is one. A connection without a name is greeted where it says
-    /// Hello, and closed where it says anything else; what is no message closes each. Without memory nothing changes.
+    /// Serves the next whole message of a connection, if there is one. A connection without a name
+    /// is greeted where it says Hello, and closed where it says anything else; what is no message
+    /// closes each. Without memory nothing changes.
     #[tactic(auto, using(crate::proofs::Slots::none_beyond))]
     pub fn next(&mut self, right: &V::Right, key: usize) -> Result<(), AllocError>
         ensures comes { OnOk result (RunsTo V.BusView G.Gate
@@ -52,7 +54,8 @@ impl<V: BusView, G: Gate> Peers<V, G> {
         if key >= self.peers.len() {
             return Ok(());
         }
-        // What is shown to monitors, the signals, the answer and a close, and each call that waited for the name.
+        // What is shown to monitors, the signals, the answer and a close, and each call that waited
+        // for the name.
         self.context.reserve(MAX_TICKETS + 4)?;
         self.context.reserve_crowds(2)?;
         match next_in(

@@ -18,7 +18,8 @@ use std::marker::Model;
 /// The bus gives slots below this.
 pub(crate) const SLOT_COUNT: usize = 256;
 
-/// The connections by their keys, the numbers of those that left and whose Leave is not made yet, and what is at hand.
+/// The connections by their keys, the numbers of those that left and whose Leave is not made yet,
+/// and what is at hand.
 #[derive(Drop)]
 pub struct Peers<V: BusView, G: Gate> {
     pub(crate) alloc: Global,
@@ -138,7 +139,8 @@ impl<V: BusView, G: Gate> Peers<V, G> {
         self.login.is_some()
     }
 
-    /// How far a connection has come that has sent nothing: with a challenge it is to say who it is.
+    /// How far a connection has come that has sent nothing: with a challenge it is to say who it
+    /// is.
     fn first_stage(&self, challenge: Option<[u8; 16]>) -> Result<Stage, AllocError>
         ensures stage { IfOk result
             (λ stage. stage_of stage ≡ first_stage self.now.standing.login challenge) }

@@ -1,4 +1,5 @@
-//! Starts of services that end without their names. (D-Bus Specification: "Message Bus Starting Services (Activation)")
+//! Starts of services that end without their names. (D-Bus Specification: "Message Bus Starting
+//! Services (Activation)")
 
 ghost use Rattle.std.specs.Prelude.{◌≡◌, OnOk, OnErr};
 ghost use Rattle.router_core.specs.Events.{child};
@@ -11,8 +12,8 @@ use seq_bus_core::limits::MAX_TICKETS;
 use std::alloc::AllocError;
 
 impl<V: BusView, G: Gate> Peers<V, G> {
-    /// The bus is told of the end of a start, and the calls that waited for it are answered why their service did not come. Without
-    /// memory nothing changes.
+    /// The bus is told of the end of a start, and the calls that waited for it are answered why
+    /// their service did not come. Without memory nothing changes.
     pub fn end_start(&mut self, right: &V::Right, ended: &StartEnd) -> Result<(), AllocError>
         ensures comes { OnOk result (RunsTo V.BusView G.Gate (child self.old.standing ended.now)
             self.old.work.world self.new.standing self.new.work.world) }

@@ -10,8 +10,9 @@ use router_core::Gate;
 use std::alloc::AllocError;
 
 impl<V: BusView, G: Gate> Peers<V, G> {
-    /// Time has passed: the Leaves that were refused are made, in order, and then each connection with a name that has
-    /// left is closed. A Leave that is refused again is kept. Without memory nothing changes.
+    /// Time has passed: the Leaves that were refused are made, in order, and then each connection
+    /// with a name that has left is closed. A Leave that is refused again is kept. Without memory
+    /// nothing changes.
     pub fn tick(&mut self, right: &V::Right) -> Result<(), AllocError>
         ensures comes { OnOk result (RunsTo V.BusView G.Gate (ticking self.old.standing)
             self.old.work.world self.new.standing self.new.work.world) }

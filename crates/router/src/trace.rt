@@ -21,8 +21,8 @@ impl<V: BusView, G: Gate> Peers<Traced<V>, G> {
 }
 
 impl<V: BusView, G: Gate> Engine<Traced<V>, G> {
-    /// Hands out the lines of the trace that were kept since it did so last, each ended by a line feed. It takes no
-    /// memory.
+    /// Hands out the lines of the trace that were kept since it did so last, each ended by a line
+    /// feed. It takes no memory.
     pub fn take_lines(&mut self) -> Vec<u8>
         ensures { self.new ≡ self.old }
     {

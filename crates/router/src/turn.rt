@@ -26,7 +26,7 @@ use seq_bus_core::limits::MAX_TICKETS;
 use seq_bus_core::{Change, Conn, Outcome};
 use std::alloc::{AllocError, Global};
 
-/// The most actions that a call brings whose change was made: its answer, and that it is closed.
+/// The most actions that a call brings whose change was made: the signals, its answer and a close.
 const ANSWER: usize = 3;
 
 /// The changes of calls, in order.
@@ -84,7 +84,8 @@ fn settle<V: BusView, G: Gate>(
     }
 }
 
-/// Takes one more message of the connection in a place of the table off its bytes. It stays as it was.
+/// Takes one more message of the connection in a place of the table off its bytes. It stays as it
+/// was.
 fn read_in(slot: &mut Option<Peer>) -> Result<(), AllocError>
     ensures { slot.new ≡ slot.old }
 {
@@ -101,11 +102,13 @@ enum Due {
     Nothing,
     /// What is served by itself.
     Apart,
-    /// A call of a connection that has a name, which adds or removes a rule and reads well. It was taken off the bytes.
+    /// A call of a connection that has a name, which adds or removes a rule and reads well. It was
+    /// taken off the bytes.
     Rule(Conn, Message, Call),
 }
 
-/// What is next of the connection in a place of the table. Without memory to read it nothing changes.
+/// What is next of the connection in a place of the table. Without memory to read it nothing
+/// changes.
 fn due_in(slot: &mut Option<Peer>) -> Result<Due, AllocError>
     ensures due { IfOk result (λ due. IsDue due slot.old slot.new) }
     ensures err { OnErr result (slot.new ≡ slot.old) }
@@ -134,8 +137,8 @@ fn due_in(slot: &mut Option<Peer>) -> Result<Due, AllocError>
 }
 
 impl<V: BusView, G: Gate> Peers<V, G> {
-    /// Takes the next messages of connections off their bytes, as many of each as its key stands there. Without memory those that were
-    /// taken off stay its next ones.
+    /// Takes the next messages of connections off their bytes, as many of each as its key stands
+    /// there. Without memory those that were taken off stay its next ones.
     fn read_ahead(&mut self, keys: &[usize]) -> Result<(), AllocError>
         ensures standing { self.new.standing ≡ self.old.standing }
         ensures work { self.new.work ≡ self.old.work }
@@ -308,7 +311,8 @@ impl<V: BusView, G: Gate> Peers<V, G> {
         joints.clear();
     }
 
-    /// Does what is to be done for a call that did not join others, unless its connection was closed in the meantime.
+    /// Does what is to be done for a call that did not join others, unless its connection was
+    /// closed in the meantime.
     fn part_one(
         &mut self,
         right: &V::Right,
@@ -337,7 +341,8 @@ impl<V: BusView, G: Gate> Peers<V, G> {
         self.settle(key, fate);
     }
 
-    /// Serves the next message of a connection, once the changes of the calls before it are made. Without memory these alone are made.
+    /// Serves the next message of a connection, once the changes of the calls before it are made.
+    /// Without memory these alone are made.
     fn serve_apart(
         &mut self,
         right: &V::Right,
@@ -410,7 +415,8 @@ impl<V: BusView, G: Gate> Peers<V, G> {
         }
     }
 
-    /// Makes room for so many actions, and for so many of them to have several recipients. Without memory there is room as before.
+    /// Makes room for so many actions, and for so many of them to have several recipients. Without
+    /// memory there is room as before.
     fn make_room(&mut self, actions: usize, crowds: usize) -> Result<(), AllocError>
         ensures standing { self.new.standing ≡ self.old.standing }
         ensures world { self.new.work.world ≡ self.old.work.world }
@@ -424,8 +430,9 @@ impl<V: BusView, G: Gate> Peers<V, G> {
         self.context.reserve_crowds(crowds)
     }
 
-    /// The next message of a connection: gathers it where it is a call that adds or removes a rule, and else serves it. Tells whether there
-    /// was one. Without memory for it the changes of the calls before it are made, and it stays unserved.
+    /// The next message of a connection: gathers it where it is a call that adds or removes a rule,
+    /// and else serves it. Tells whether there was one. Without memory for it the changes of the
+    /// calls before it are made, and it stays unserved.
     fn gather(
         &mut self,
         right: &V::Right,
@@ -460,8 +467,8 @@ impl<V: BusView, G: Gate> Peers<V, G> {
         if key >= self.peers.len() {
             return Ok(false);
         }
-        // The answers to the calls that were gathered and to this one, what is shown to monitors, and what it may come to where it does not
-        // join them.
+        // The answers to the calls that were gathered and to this one, what is shown to monitors,
+        // and what it may come to where it does not join them.
         let Ok(()) = self.make_room(ANSWER * joints.len() + MAX_TICKETS + 5, joints.len() + 2)
         else {
             self.make_all(right, joints);
@@ -484,9 +491,11 @@ impl<V: BusView, G: Gate> Peers<V, G> {
         }
     }
 
-    /// Serves the next messages of connections, one after the other, as many of each as its key stands there. Neighbouring calls that add
-    /// and remove rules are routed first, then their changes are made together, then they are answered. Without memory to read them all, or
-    /// for the first, nothing changes; without memory for a later one it and those behind it stay unserved.
+    /// Serves the next messages of connections, one after the other, as many of each as its key
+    /// stands there. Neighbouring calls that add and remove rules are routed first, then their
+    /// changes are made together, then they are answered. Without memory to read them all, or for
+    /// the first, nothing changes; without memory for a later one it and those behind it stay
+    /// unserved.
     pub fn turn(&mut self, right: &V::Right, keys: &[usize]) -> Result<(), AllocError>
         requires { length keys.now ≤ max_batch }
         ensures comes { OnOk result (RunsTo V.BusView G.Gate

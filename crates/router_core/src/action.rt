@@ -7,7 +7,8 @@ use names::BusName;
 use outbox_core::Content;
 use seq_bus_core::Signals;
 
-/// What a router does to the world. What is put carries the furthest note that the router had made or taken.
+/// What a router does to the world. What is put carries the furthest note that the router had made
+/// or taken.
 #[derive(Drop)]
 pub enum Action<N: Drop> {
     /// Bytes are written to a connection.
@@ -31,7 +32,8 @@ pub enum Action<N: Drop> {
         key: usize,
         cause: CloseCause,
     },
-    /// The program of a service is to be run. The name lies apart: an action is moved often, and few run a program.
+    /// The program of a service is to be run. The name lies apart: an action is moved often, and
+    /// few run a program.
     Run {
         name: Box<BusName>,
         start: u64,

@@ -4,7 +4,8 @@ use message_core::FrameFault;
 use sasl::AuthenticationFault;
 use std::fmt;
 
-/// Why a router closes a connection. It is shown as its code: `66`, or that of the fault, as `28` or `25/9`.
+/// Why a router closes a connection. It is shown as its code: `66`, or that of the fault, as `28`
+/// or `25/9`.
 #[derive(Clone, Copy, Debug, PartialEq, Eq)]
 pub enum CloseCause {
     /// What it sent is no message.

@@ -7,7 +7,8 @@ use crate::cause::CloseCause;
 pub enum PeerFate {
     /// It stays as it is.
     Stays,
-    /// It is a monitor from now on. (D-Bus Specification: "org.freedesktop.DBus.Monitoring.BecomeMonitor")
+    /// It is a monitor from now on. (D-Bus Specification:
+    /// "org.freedesktop.DBus.Monitoring.BecomeMonitor")
     Watches,
     /// The bus closes it.
     Closes(CloseCause),

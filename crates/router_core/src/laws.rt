@@ -12,8 +12,8 @@ pub fn serials_begin_again()
     ensures { next_serial 4294967295 ≡ 1 }
 {}
 
-/// A connection that was closed brings no more actions: it is not served, in no turn either, its bytes are let go, and no mail is written to
-/// it.
+/// A connection that was closed brings no more actions: it is not served, in no turn either, its
+/// bytes are let go, and no mail is written to it.
 #[tactic(auto, using(crate::proofs::FirstMessages::closed_are_not_served, crate::proofs::FirstMessages::closed_have_no_turn, crate::proofs::FirstMessages::closed_take_nothing, crate::proofs::FirstMessages::closed_get_no_mail))]
 pub fn closed_connections_are_quiet()
     ensures served { ClosedAreNotServed }
@@ -28,8 +28,8 @@ pub fn nobody_speaks_before_begin()
     ensures { NobodySpeaksBeforeBegin }
 {}
 
-/// A connection that says who it is goes on to its messages only where its conversation is done, and is the bus's own user's only where it
-/// knows the cookie.
+/// A connection that says who it is goes on to its messages only where its conversation is done,
+/// and is the bus's own user's only where it knows the cookie.
 pub fn only_begin_begins<V: BusView, G: Gate>()
     ensures { OnlyBeginBegins V.told V.registry_of G.passes V.alone }
 {}
@@ -40,7 +40,8 @@ pub fn unknown_types_bring_nothing()
     ensures { UnknownTypesBringNothing }
 {}
 
-/// A connection that sends anything before the call of Hello is closed for it, and nothing else is done.
+/// A connection that sends anything before the call of Hello is closed for it, and nothing else is
+/// done.
 #[tactic(auto, using(crate::proofs::FirstMessages::only_hello_greets))]
 pub fn only_hello_greets<V: BusView, G: Gate>()
     ensures { OnlyHelloGreets V.told V.registry_of G.passes V.alone }
@@ -52,8 +53,8 @@ pub fn monitors_send_nothing<V: BusView, G: Gate>()
     ensures { MonitorsSendNothing V.told V.registry_of G.passes V.alone }
 {}
 
-/// A connection gets the least key that none has. So the table of connections is never longer than the most that were
-/// there at once, and a key is free as soon as its connection is gone.
+/// A connection gets the least key that none has. So the table of connections is never longer than
+/// the most that were there at once, and a key is free as soon as its connection is gone.
 #[tactic(auto, using(crate::proofs::Keys::only_full_tables_grow))]
 pub fn only_full_tables_grow()
     ensures { OnlyFullTablesGrow }
@@ -64,20 +65,21 @@ pub fn answers_are_lawful<V: BusView, G: Gate>()
     ensures { AnswersAreLawful V.told V.registry_of G.passes V.alone }
 {}
 
-/// An event leaves the view of the registry that it was of, and the notes that its actions carry are of that registry: they may be
-/// handed to any other engine over a view of it.
+/// An event leaves the view of the registry that it was of, and the notes that its actions carry
+/// are of that registry: they may be handed to any other engine over a view of it.
 pub fn notes_are_own<V: BusView, G: Gate>()
     ensures { NotesAreOwn V.told V.registry_of G.passes V.alone }
 {}
 
-/// Over a bus of one thread, where nothing is refused, what an event brings is a function of it and of what was read.
+/// Over a bus of one thread, where nothing is refused, what an event brings is a function of it and
+/// of what was read.
 #[tactic(auto, using(crate::proofs::Functions::one_thread_is_a_function))]
 pub fn one_thread_is_a_function()
     ensures { OneThreadIsAFunction }
 {}
 
-/// Over a bus of one thread, where nothing is refused, the bytes that go to each connection are a function of the events
-/// and of what was read, however many events there are.
+/// Over a bus of one thread, where nothing is refused, the bytes that go to each connection are a
+/// function of the events and of what was read, however many events there are.
 #[tactic(auto, using(crate::proofs::Functions::bytes_are_a_function))]
 pub fn bytes_are_a_function()
     ensures { BytesAreAFunction }

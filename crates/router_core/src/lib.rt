@@ -1,12 +1,15 @@
-//! What a router does: its events and actions, and the definitions that say which actions an event brings.
+//! What a router does: its events and actions, and the definitions that say which actions an event
+//! brings.
 //!
-//! A router is an engine over a view of a bus. [`Event`]s happen to it: a connection comes, bytes of it come, its next
-//! message is served, mail comes from another router, a connection is gone, time has passed. It answers with [`Action`]s,
-//! and asks its [`Gate`] before each call to the bus that it serves.
+//! A router is an engine over a view of a bus. [`Event`]s happen to it: a connection comes, bytes
+//! of it come, its next message is served, mail comes from another router, a connection is gone,
+//! time has passed. It answers with [`Action`]s, and asks its [`Gate`] before each call to the bus
+//! that it serves.
 //!
-//! The definitions stand in `specs/`: `Serving` says what is done for a message, `Events` what is done at an event, as a
-//! script of calls of the bus whose answers decide what comes next; `OneThread` says what the scripts come to over a bus
-//! of one thread, and which bytes go to each connection. Their laws stand in [`laws`].
+//! The definitions stand in `specs/`: `Serving` says what is done for a message, `Events` what is
+//! done at an event, as a script of calls of the bus whose answers decide what comes next;
+//! `OneThread` says what the scripts come to over a bus of one thread, and which bytes go to each
+//! connection. Their laws stand in [`laws`].
 //!
 //! ```
 //! use router_core::Action;

@@ -5,7 +5,8 @@ ghost use Rattle.std.specs.Prelude.{◌≡◌, [], ◌∷◌, IfSome};
 use seq_bus_core::{Conn, Verdict};
 use std::marker::Model;
 
-/// Those that a message is put to, each once. For one of them it takes no memory; several stand in the verdict that the bus told.
+/// Those that a message is put to, each once. For one of them it takes no memory; several stand in
+/// the verdict that the bus told.
 #[derive(Debug, Drop)]
 pub struct Addressees {
     held: Held,
@@ -35,7 +36,8 @@ impl Addressees {
         }
     }
 
-    /// The recipients of a verdict, and the monitors that are shown the message. A monitor that is a recipient gets it once.
+    /// The recipients of a verdict, and the monitors that are shown the message. A monitor that is
+    /// a recipient gets it once.
     pub fn shown(verdict: Box<Verdict>) -> Self
         ensures { result ≡ record { to = verdict.value.to; monitors = verdict.value.monitors } }
     {

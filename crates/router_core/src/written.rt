@@ -5,7 +5,8 @@ ghost use Rattle.std.specs.Prelude.{◌≡◌};
 use seq_bus_core::SharedBytes;
 use std::marker::Model;
 
-/// The bytes that are written to a connection. Those of a message that others get too are shared with them, and not copied.
+/// The bytes that are written to a connection. Those of a message that others get too are shared
+/// with them, and not copied.
 #[derive(Debug, Drop)]
 pub struct WrittenBytes {
     held: Held,

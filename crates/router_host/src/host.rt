@@ -37,8 +37,8 @@ pub struct Host<V: BusView, G: Gate, P: Post<V>, S: Socket> {
     pub(crate) ended: Vec<Ended>,
     /// A connection of these took no more mail, and is to be looked at.
     pub(crate) looks: bool,
-    /// The last event seems to have added or removed rules. Such calls come in numbers, and share a publication where they are served at
-    /// once.
+    /// The last event seems to have added or removed rules. Such calls come in numbers, and share a
+    /// publication where they are served at once.
     pub(crate) changes_rules: bool,
 }
 
@@ -94,7 +94,8 @@ impl<V: BusView + Drop, G: Gate + Drop, P: Post<V>, S: Socket> Host<V, G, P, S> 
 }
 
 impl<V: BusView, G: Gate, P: Post<V>, S: Socket> Host<V, G, P, S> {
-    /// Whether there are as many connections without a name as there may be: one that comes now is refused.
+    /// Whether there are as many connections without a name as there may be: one that comes now is
+    /// refused.
     pub fn is_crowded(&self) -> bool {
         self.engine.unnamed() >= MOST_UNNAMED
     }
@@ -116,12 +117,13 @@ impl<V: BusView, G: Gate, P: Post<V>, S: Socket> Host<V, G, P, S> {
         &self.carrier.post
     }
 
-    /// A connection came, and has the key that was free. With a challenge, sixteen bytes that nobody can guess, it is to say
-    /// who it is.
+    /// A connection came, and has the key that was free. With a challenge, sixteen bytes that
+    /// nobody can guess, it is to say who it is.
     ///
     /// # Errors
     ///
-    /// There are 64 connections without a name already, nobody may log in though it is asked to, or there is no memory.
+    /// There are 64 connections without a name already, nobody may log in though it is asked to, or
+    /// there is no memory.
     pub fn open(
         &mut self,
         right: &V::Right,
@@ -153,7 +155,8 @@ impl<V: BusView, G: Gate, P: Post<V>, S: Socket> Host<V, G, P, S> {
     ///
     /// # Errors
     ///
-    /// There was no memory for it, or there is no room for what events before it brought: it is to be told again.
+    /// There was no memory for it, or there is no room for what events before it brought: it is to
+    /// be told again.
     pub fn end_start(&mut self, right: &V::Right, end: Box<StartEnd>) -> Result<(), AllocError>
         ensures happens { OnOk result
             (Happens V.told G.passes V.alone P.puts P.starts self.old (Child end) self.new) }
@@ -207,7 +210,8 @@ impl<V: BusView, G: Gate, P: Post<V>, S: Socket> Host<V, G, P, S> {
         self.looks || self.engine.ticks()
     }
 
-    /// The connections that were over since this was asked last; at most 1,024, and none that there was no memory to note.
+    /// The connections that were over since this was asked last; at most 1,024, and none that there
+    /// was no memory to note.
     pub fn take_ended(&mut self) -> Vec<Ended>
         ensures { self.new ≡ self.old }
     {

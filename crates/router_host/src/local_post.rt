@@ -52,7 +52,8 @@ impl Mail {
     }
 }
 
-/// The mail of all slots of a bus of one thread, in memory, and the starts that it asks for. Its one router finds its own mail here.
+/// The mail of all slots of a bus of one thread, in memory, and the starts that it asks for. Its
+/// one router finds its own mail here.
 #[derive(Drop)]
 pub struct LocalPost {
     mails: Vec<Mail>,

@@ -30,11 +30,13 @@ const HANDFUL: u32 = 256;
 const MOST_ENDED: usize = 1024;
 
 impl<V: BusView, G: Gate, P: Post<V>, S: Socket> Host<V, G, P, S> {
-    /// Serves what is ready, takes mail, gives each socket what waits for it, and lets go of the connections that are over.
+    /// Serves what is ready, takes mail, gives each socket what waits for it, and lets go of the
+    /// connections that are over.
     ///
     /// # Errors
     ///
-    /// There was no memory for something, or no room for a start. It is done first in the next turn, which is to come some time later.
+    /// There was no memory for something, or no room for a start. It is done first in the next
+    /// turn, which is to come some time later.
     pub fn turn(&mut self, right: &V::Right) -> Result<(), AllocError>
         ensures does { Does V.told G.passes V.alone P.puts P.starts P.takes self.old self.new }
         ensures ok { OnOk result (self.new.kept ≡ None) }
@@ -143,8 +145,8 @@ impl<V: BusView, G: Gate, P: Post<V>, S: Socket> Host<V, G, P, S> {
         }
     }
 
-    /// Serves an event, and carries out what it brings. Where there is no memory for it, or no room for what events before it brought, it is
-    /// as it was.
+    /// Serves an event, and carries out what it brings. Where there is no memory for it, or no room
+    /// for what events before it brought, it is as it was.
     pub(crate) fn bring(
         &mut self,
         right: &V::Right,
@@ -163,7 +165,8 @@ impl<V: BusView, G: Gate, P: Post<V>, S: Socket> Host<V, G, P, S> {
         Ok(())
     }
 
-    /// Serves an event. Where there is no memory for it, or no room for what events before it brought, it is kept for the next turn.
+    /// Serves an event. Where there is no memory for it, or no room for what events before it
+    /// brought, it is kept for the next turn.
     fn serve(&mut self, right: &V::Right, event: Event<V::Note>) -> Result<(), AllocError>
         requires { CanWait V.registry_of self.old.engine.view.registry event }
         ensures brought { IsBrought V.told G.passes V.alone P.puts P.starts self.old event
@@ -214,7 +217,8 @@ impl<V: BusView, G: Gate, P: Post<V>, S: Socket> Host<V, G, P, S> {
         Ok(())
     }
 
-    /// Serves a connection: its whole messages, up to its share of a turn. Where there is none, it is read first.
+    /// Serves a connection: its whole messages, up to its share of a turn. Where there is none, it
+    /// is read first.
     fn serve_line(&mut self, right: &V::Right, key: usize) -> Result<(), AllocError>
         requires none { self.old.kept ≡ None }
         ensures does { Does V.told G.passes V.alone P.puts P.starts P.takes self.old self.new }
@@ -233,8 +237,8 @@ impl<V: BusView, G: Gate, P: Post<V>, S: Socket> Host<V, G, P, S> {
         Ok(())
     }
 
-    /// Serves whole messages of a connection, up to its share of a turn: one by one, but twice as many at once each time that those
-    /// before seem to have changed rules.
+    /// Serves whole messages of a connection, up to its share of a turn: one by one, but twice as
+    /// many at once each time that those before seem to have changed rules.
     fn serve_share(&mut self, right: &V::Right, key: usize) -> Result<(), AllocError>
         requires none { self.old.kept ≡ None }
         ensures does { Does V.told G.passes V.alone P.puts P.starts P.takes self.old self.new }
@@ -327,7 +331,8 @@ impl<V: BusView, G: Gate, P: Post<V>, S: Socket> Host<V, G, P, S> {
         Ok(())
     }
 
-    /// Takes the mail of a slot, until there is no more, or its connection has enough. Where its socket takes no more bytes, none is taken.
+    /// Takes the mail of a slot, until there is no more, or its connection has enough. Where its
+    /// socket takes no more bytes, none is taken.
     fn take_mail_of(&mut self, right: &V::Right, slot: u16) -> Result<(), AllocError>
         requires none { self.old.kept ≡ None }
         ensures does { Does V.told G.passes V.alone P.puts P.starts P.takes self.old self.new }
@@ -344,7 +349,8 @@ impl<V: BusView, G: Gate, P: Post<V>, S: Socket> Host<V, G, P, S> {
         Ok(())
     }
 
-    /// Whether mail of a slot is to be taken now. Where its connection has enough, it is looked at in the next turn.
+    /// Whether mail of a slot is to be taken now. Where its connection has enough, it is looked at
+    /// in the next turn.
     fn may_take(&mut self, slot: u16) -> bool
         ensures blocked { IsSlotBlocked self.old slot → result ≡ false }
         ensures same { self.new ≡ self.old }
@@ -484,8 +490,8 @@ impl<V: BusView, G: Gate, P: Post<V>, S: Socket> Host<V, G, P, S> {
     }
 }
 
-/// Whether an event that brought these actions seems to have added or removed rules: it was answered with nothing, or
-/// nothing came of it. What is relayed never seems so.
+/// Whether an event that brought these actions seems to have added or removed rules: it was
+/// answered with nothing, or nothing came of it. What is relayed never seems so.
 fn seem_of_rules<N: Drop>(actions: &[Action<N>]) -> bool {
     match actions.last() {
         None => true,

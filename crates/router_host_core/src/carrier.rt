@@ -22,7 +22,8 @@ use seq_bus_core::{AddressedSignal, Conn, SharedSignal};
 use std::alloc::Global;
 use std::marker::{Model, PhantomData};
 
-/// What actions are carried out on: the connections, the ways to other routers, and who took no more mail.
+/// What actions are carried out on: the connections, the ways to other routers, and who took no
+/// more mail.
 #[derive(Drop)]
 pub struct Carrier<V: BusView, P: Post<V>, S: Socket> {
     pub lines: Lines<S>,
@@ -82,8 +83,8 @@ impl<V: BusView, P: Post<V>, S: Socket> Carrier<V, P, S> {
         }
     }
 
-    /// Carries out actions, the last first, until none is left or there is no room for a start: that action and those before it are
-    /// left. Tells whether none is.
+    /// Carries out actions, the last first, until none is left or there is no room for a start:
+    /// that action and those before it are left. Tells whether none is.
     pub fn carry_out(&mut self, right: &V::Right, actions: &mut Vec<Action<V::Note>>) -> bool
         requires { AllByRecursion (CarriesOwn V.registry_of (P.registry self.old.post))
             (reverse actions.old.items) }
@@ -152,8 +153,8 @@ impl<V: BusView, P: Post<V>, S: Socket> Carrier<V, P, S> {
         }
     }
 
-    /// Puts a message to its recipients, and to the monitors that are none of them. Where there is no message for want of memory, they are
-    /// to be put out.
+    /// Puts a message to its recipients, and to the monitors that are none of them. Where there is
+    /// no message for want of memory, they are to be put out.
     fn put(
         &mut self,
         right: &V::Right,
@@ -182,7 +183,8 @@ impl<V: BusView, P: Post<V>, S: Socket> Carrier<V, P, S> {
         }
     }
 
-    /// Puts a signal. Where it can't be shared any more, those who should have got it are to be put out.
+    /// Puts a signal. Where it can't be shared any more, those who should have got it are to be put
+    /// out.
     fn announce_one(
         &mut self,
         right: &V::Right,

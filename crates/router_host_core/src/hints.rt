@@ -3,7 +3,8 @@
 use std::alloc::Global;
 use std::mem;
 
-/// Keys to be looked at in the next turn, in order. Where there was no memory to note one, all are to be looked at.
+/// Keys to be looked at in the next turn, in order. Where there was no memory to note one, all are
+/// to be looked at.
 #[derive(Drop)]
 pub(crate) struct Hints {
     alloc: Global,

@@ -1,7 +1,9 @@
-//! What a router's host keeps: connections with their sockets, the mail of its slots, and who took no more mail.
+//! What a router's host keeps: connections with their sockets, the mail of its slots, and who took
+//! no more mail.
 //!
-//! A [`Carrier`] carries out the actions of an engine: what is written goes to the outgoing bytes of a connection, and what
-//! is put goes to other routers by a [`Post`]. What is to be looked at next is noted by [`Lines`] and [`Slots`].
+//! A [`Carrier`] carries out the actions of an engine: what is written goes to the outgoing bytes
+//! of a connection, and what is put goes to other routers by a [`Post`]. What is to be looked at
+//! next is noted by [`Lines`] and [`Slots`].
 //!
 //! ```
 //! use bus_view::BusView;

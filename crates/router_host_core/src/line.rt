@@ -75,7 +75,8 @@ pub enum Pulled {
 }
 
 impl<S: Socket> Line<S> {
-    /// A connection that came, of which there may be something to be read. It is among those to be served.
+    /// A connection that came, of which there may be something to be read. It is among those to be
+    /// served.
     pub(crate) fn new(alloc: Global, socket: S) -> Line<S>
         ensures { result ≡ new_line }
     {
@@ -134,8 +135,8 @@ impl<S: Socket> Line<S> {
         }
     }
 
-    /// It is looked at, and no longer among those to be served. Tells whether it is to be served: it is not over, and where it has no name
-    /// yet, nothing waits for its socket.
+    /// It is looked at, and no longer among those to be served. Tells whether it is to be served:
+    /// it is not over, and where it has no name yet, nothing waits for its socket.
     pub(crate) fn begin(&mut self, named: bool) -> bool
         ensures { self.new ≡ self.old }
     {
@@ -204,7 +205,8 @@ impl<S: Socket> Line<S> {
         }
     }
 
-    /// Writes bytes behind those that wait. Where there is no memory for them it is over, and takes no more.
+    /// Writes bytes behind those that wait. Where there is no memory for them it is over, and takes
+    /// no more.
     pub(crate) fn write(&mut self, bytes: WrittenBytes)
         ensures { IsWritten self.old bytes self.new }
     {

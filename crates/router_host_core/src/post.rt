@@ -25,8 +25,8 @@ pub struct StartRequest {
 #[derive(Clone, Copy, Debug, PartialEq, Eq)]
 pub struct TooManyStarts;
 
-/// The ways between the routers of a bus, and to whoever runs the programs of services, as one router uses them. All notes on
-/// them are of one registry.
+/// The ways between the routers of a bus, and to whoever runs the programs of services, as one
+/// router uses them. All notes on them are of one registry.
 pub trait Post<V: BusView>: Drop {
     ghost use Rattle.std.specs.Prelude.{ℕ};
     ghost use Rattle.outbox_core.specs.declared.envelope.Envelope.{Envelope};
@@ -45,7 +45,8 @@ pub trait Post<V: BusView>: Drop {
     /// What it may be once an envelope for a slot of this router was taken.
     ghost takes: { Self → ℕ → Envelope V.Note → Self → Type 0 };
 
-    /// Puts an envelope for a connection of whatever router. Where there is no room for it, it comes back.
+    /// Puts an envelope for a connection of whatever router. Where there is no room for it, it
+    /// comes back.
     fn put(
         &mut self,
         right: &V::Right,
@@ -58,7 +59,8 @@ pub trait Post<V: BusView>: Drop {
         ensures refused { OnErr result (self.new ≡ self.old) }
         ensures back { IfErr result (λ full. full.0 ≡ envelope) };
 
-    /// The program of a service is to be run. Where there is no room to tell of it, nothing happens: it is to be asked for again.
+    /// The program of a service is to be run. Where there is no room to tell of it, nothing
+    /// happens: it is to be asked for again.
     fn start(&mut self, right: &V::Right, request: StartRequest) -> Result<(), TooManyStarts>
         ensures registry { registry self.new ≡ registry self.old }
         ensures asked { OnOk result (starts self.old request self.new) }

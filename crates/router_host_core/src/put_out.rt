@@ -9,7 +9,8 @@ use std::marker::Model;
 /// How many slots a bus has.
 pub const SLOTS: usize = 256;
 
-/// The connections that took no more mail, one of each slot at most. A slot whose connection is another was given to another since.
+/// The connections that took no more mail, one of each slot at most. A slot whose connection is
+/// another was given to another since.
 #[derive(Drop)]
 pub struct PutOut {
     conns: [Option<Conn>; SLOTS],

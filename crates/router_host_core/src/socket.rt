@@ -6,7 +6,8 @@ use std::io;
 
 /// The socket of a connection, which does not block.
 pub trait Socket: outgoing::Socket + Drop {
-    /// Reads what is there into the room, and tells how many bytes that was; none at the end of the input.
+    /// Reads what is there into the room, and tells how many bytes that was; none at the end of the
+    /// input.
     ///
     /// The error is of the kind `WouldBlock` where nothing is there now but may be later.
     fn read(&mut self, room: &mut [u8]) -> io::Result<usize>

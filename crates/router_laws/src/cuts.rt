@@ -5,10 +5,11 @@ ghost use Rattle.router_laws.specs.GrantedRuns.{AlikeRunsAgree};
 
 use router_core::Gate;
 
-/// However the bytes of a connection are cut, the same bytes go to each connection, and the same is left: pieces that come
-/// one after the other are the same as all of it at once, also where they say who it is; serving a connection whose next
-/// message is not whole yet, or that still says who it is, does nothing; and once it has begun its messages, one that is
-/// whole, or at fault, is served in the same way, whatever comes behind it.
+/// However the bytes of a connection are cut, the same bytes go to each connection, and the same is
+/// left: pieces that come one after the other are the same as all of it at once, also where they
+/// say who it is; serving a connection whose next message is not whole yet, or that still says who
+/// it is, does nothing; and once it has begun its messages, one that is whole, or at fault, is
+/// served in the same way, whatever comes behind it.
 pub fn cuts_make_no_difference()
     ensures joined { PiecesAreJoined }
     ensures waiting { ShortMessagesWait }
@@ -16,8 +17,8 @@ pub fn cuts_make_no_difference()
     ensures whole { WholeMessagesComeFirst }
 {}
 
-/// So two calls of [`router_runs::run`] with the same bus give the same bytes, where their events differ in such cuts
-/// alone, one after the other, and nothing is refused.
+/// So two calls of [`router_runs::run`] with the same bus give the same bytes, where their events
+/// differ in such cuts alone, one after the other, and nothing is refused.
 pub fn recut_runs_agree<G: Gate, H: Gate>()
     ensures { AlikeRunsAgree G.passes H.passes }
 {}

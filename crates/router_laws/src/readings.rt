@@ -2,8 +2,8 @@
 
 ghost use Rattle.router_laws.specs.Readings.{CallsAreOne, CallsAreRead, FrontsAreOne, FrontsStay};
 
-/// What stands at the front of bytes is one thing: a message and what is behind it, or one fault, or the beginning of a
-/// message.
+/// What stands at the front of bytes is one thing: a message and what is behind it, or one fault,
+/// or the beginning of a message.
 #[tactic(auto, using(crate::proofs::Fronts::fronts_are_one))]
 pub fn fronts_are_one()
     ensures { FrontsAreOne }

@@ -4,14 +4,14 @@ ghost use Rattle.router_laws.specs.GrantedRuns.{RunsAgree, RunsAreOne};
 
 use router_core::Gate;
 
-/// Where nothing is refused, the same events bring the same: the same is written, put and closed, for the same cause, and
-/// the engine is left the same.
+/// Where nothing is refused, the same events bring the same: the same is written, put and closed,
+/// for the same cause, and the engine is left the same.
 pub fn runs_are_one()
     ensures { RunsAreOne }
 {}
 
-/// Two calls of [`router_runs::run`] with the same bus and the same events, in which nothing is refused, give the same
-/// bytes, whatever gates they have.
+/// Two calls of [`router_runs::run`] with the same bus and the same events, in which nothing is
+/// refused, give the same bytes, whatever gates they have.
 pub fn runs_agree<G: Gate, H: Gate>()
     ensures { RunsAgree G.passes H.passes }
 {}

@@ -9,7 +9,8 @@ pub enum RunFault {
     /// A connection comes at the event of this index, and its key is not the least that none has.
     #[error("event {0}: the key is not the least that is free")]
     WrongKey(usize),
-    /// A connection that is to say who it is comes at the event of this index, and no one may log in.
+    /// A connection that is to say who it is comes at the event of this index, and no one may log
+    /// in.
     #[error("event {0}: no one may log in")]
     NoLogin(usize),
     /// The event of this index is a turn of no keys, or of more than 64.

@@ -1,6 +1,7 @@
 //! Runs of a router's engine: events that are served one after the other.
 //!
-//! [`run`] serves a list of events over a plain bus, and gives the bytes that go to each connection.
+//! [`run`] serves a list of events over a plain bus, and gives the bytes that go to each
+//! connection.
 //!
 //! ```
 //! use router_core::{Event, OpenGate};

@@ -46,8 +46,8 @@ impl<G: Gate + Drop> Session<G> {
         })
     }
 
-    /// Whether the event of this index can happen: a connection comes only where its key is free, and is asked who it is only
-    /// where someone may log in; a turn has 1 to 64 keys.
+    /// Whether the event of this index can happen: a connection comes only where its key is free,
+    /// and is asked who it is only where someone may log in; a turn has 1 to 64 keys.
     fn admit(&self, index: usize, event: &Event<()>) -> Result<(), RunFault>
         requires { self.now.engine.view.registry ≡ 0 }
         ensures happens { OnOk result
@@ -112,11 +112,13 @@ fn admit_turn(index: usize, keys: &[usize]) -> Result<(), RunFault>
     Ok(())
 }
 
-/// Serves events in order over a plain bus, from no connection on, and gives the bytes that go to each connection, the
-/// first that came first. Connections that come with a challenge say who they are, by the login.
+/// Serves events in order over a plain bus, from no connection on, and gives the bytes that go to
+/// each connection, the first that came first. Connections that come with a challenge say who they
+/// are, by the login.
 ///
-/// What goes to them is what the actions of the events write. It ends early where a connection comes whose key is not the
-/// least that none has, or that is to say who it is where no one may log in; at a turn of no keys or of more than 64; and without memory.
+/// What goes to them is what the actions of the events write. It ends early where a connection
+/// comes whose key is not the least that none has, or that is to say who it is where no one may log
+/// in; at a turn of no keys or of more than 64; and without memory.
 pub fn run<G: Gate + Drop>(
     alloc: Global,
     bus: SeqBus,

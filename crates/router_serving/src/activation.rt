@@ -1,4 +1,5 @@
-//! Calls to names whose service is not running. (D-Bus Specification: "Message Bus Starting Services (Activation)")
+//! Calls to names whose service is not running. (D-Bus Specification: "Message Bus Starting
+//! Services (Activation)")
 
 ghost use Rattle.std.specs.Prelude.{◌≡◌, ◌<◌, ◌≤◌, ◌+◌, true, IfOk};
 ghost use Rattle.message_core.specs.Said.{said};
@@ -30,7 +31,8 @@ pub(crate) fn waiting_call(message: &Message) -> CallHead
     }
 }
 
-/// A call that is to wait: the name that it is for, and its bytes with its sender's name, for the bus and for an owner of the name.
+/// A call that is to wait: the name that it is for, and its bytes with its sender's name, for the
+/// bus and for an owner of the name.
 #[derive(Drop)]
 struct Parcel {
     name: Box<BusName>,
@@ -65,7 +67,8 @@ fn pack<V: BusView, G: Gate>(
     Ok(Parcel { name, held, passed })
 }
 
-/// Goes on with a call once the bus has decided: it waits, or is put to the owner that its name has by now, or is answered an error.
+/// Goes on with a call once the bus has decided: it waits, or is put to the owner that its name has
+/// by now, or is answered an error.
 fn held<V: BusView, G: Gate>(
     context: &mut Context<V, G>,
     message: &Message,
@@ -141,8 +144,8 @@ fn wait<V: BusView, G: Gate>(
     }
 }
 
-/// Lets a call wait until the service of its name runs. The first such call of a name asks for the service's program to be run. Without
-/// memory the call is answered so.
+/// Lets a call wait until the service of its name runs. The first such call of a name asks for the
+/// service's program to be run. Without memory the call is answered so.
 pub(crate) fn hold<V: BusView, G: Gate>(
     alloc: Global,
     context: &mut Context<V, G>,

@@ -87,8 +87,8 @@ pub(crate) fn refuse<V: BusView, G: Gate>(
     PeerFate::Stays
 }
 
-/// Tells of a change: its signals come first, then what the caller is answered, and then the calls that waited for the
-/// name are released.
+/// Tells of a change: its signals come first, then what the caller is answered, and then the calls
+/// that waited for the name are released.
 pub(crate) fn tell_change<V: BusView, G: Gate>(
     context: &mut Context<V, G>,
     call: &Message,
@@ -220,8 +220,8 @@ fn make<V: BusView, G: Gate>(
     made(context, call, caller, told)
 }
 
-// A change is large, and what a function holds is cleared at its entry: each has a function of its own, so that queries need
-// not clear it.
+// A change is large, and what a function holds is cleared at its entry: each has a function of its
+// own, so that queries need not clear it.
 
 #[inline(never)]
 fn request_name<V: BusView, G: Gate>(
@@ -414,9 +414,9 @@ fn serve_call<V: BusView, G: Gate>(
     serve_reading(alloc, context, right, message, caller, &reading)
 }
 
-/// Serves a message to the bus ("Message Bus Messages" of the D-Bus Specification). A call is answered, and one that
-/// makes a change has its signals told first; other messages are ignored. The sender is to be closed where it has left
-/// in the meantime.
+/// Serves a message to the bus ("Message Bus Messages" of the D-Bus Specification). A call is
+/// answered, and one that makes a change has its signals told first; other messages are ignored.
+/// The sender is to be closed where it has left in the meantime.
 pub fn serve_bus<V: BusView, G: Gate>(
     alloc: Global,
     context: &mut Context<V, G>,

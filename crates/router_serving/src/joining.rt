@@ -1,4 +1,5 @@
-//! Calls that add and remove rules, whose changes are made together. (D-Bus Specification: "Message Bus Messages")
+//! Calls that add and remove rules, whose changes are made together. (D-Bus Specification: "Message
+//! Bus Messages")
 
 ghost use Rattle.std.specs.Prelude.{◌≡◌, ◌<◌, ◌≤◌, ◌+◌, [], Ok, Some, true, is_some};
 ghost use Rattle.message_core.specs.Said.{said};
@@ -116,7 +117,8 @@ fn join_to<V: BusView, G: Gate>(
     }
 }
 
-/// Routes a call that adds or removes a rule, and shows it to the monitors and to the gate. Its change is not made yet.
+/// Routes a call that adds or removes a rule, and shows it to the monitors and to the gate. Its
+/// change is not made yet.
 pub fn join<V: BusView, G: Gate>(
     context: &mut Context<V, G>,
     message: &Message,

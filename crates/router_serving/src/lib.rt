@@ -1,7 +1,8 @@
-//! What a router does for the messages of its connections: where they go, and what comes of the next one.
+//! What a router does for the messages of its connections: where they go, and what comes of the
+//! next one.
 //!
-//! [`serve`] asks the bus where a message goes and relays it, or serves it as a call to the bus. [`next_in`] takes the
-//! next message off the bytes of a connection and serves it.
+//! [`serve`] asks the bus where a message goes and relays it, or serves it as a call to the bus.
+//! [`next_in`] takes the next message off the bytes of a connection and serves it.
 //!
 //! ```
 //! use bus_view::BusView;

@@ -14,8 +14,8 @@ use router_steps::{Context, Front, HelloCall, Peer, Stage};
 use seq_bus_core::Conn;
 use std::alloc::{AllocError, Global};
 
-/// Serves the next whole message of a connection that has its name, and closes it if there is a cause. A monitor that sends is
-/// closed. Without memory nothing changes.
+/// Serves the next whole message of a connection that has its name, and closes it if there is a
+/// cause. A monitor that sends is closed. Without memory nothing changes.
 fn serve_next<V: BusView, G: Gate>(
     alloc: Global,
     context: &mut Context<V, G>,
@@ -49,8 +49,9 @@ fn serve_next<V: BusView, G: Gate>(
     Ok(())
 }
 
-/// Serves the next whole message of the connection of a key, if it is there. The call of Hello is handed out, as the bus
-/// has to give its connection a name; it leaves the room as it was. Without memory nothing changes.
+/// Serves the next whole message of the connection of a key, if it is there. The call of Hello is
+/// handed out, as the bus has to give its connection a name; it leaves the room as it was. Without
+/// memory nothing changes.
 pub fn next_in<V: BusView, G: Gate>(
     alloc: Global,
     context: &mut Context<V, G>,

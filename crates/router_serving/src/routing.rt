@@ -173,7 +173,8 @@ fn relay<V: BusView, G: Gate>(
     }
 }
 
-/// Relays a message once the bus has said where it goes. Where it says nothing, a call is answered so.
+/// Relays a message once the bus has said where it goes. Where it says nothing, a call is answered
+/// so.
 pub(crate) fn routed<V: BusView, G: Gate>(
     alloc: Global,
     context: &mut Context<V, G>,
@@ -216,8 +217,8 @@ fn ask_with<V: BusView, G: Gate>(
     context.route(sender.number, &seen, verdict)
 }
 
-/// The same for a message that has more than a few arguments. The room for them is large, and is kept out of the way of
-/// the others.
+/// The same for a message that has more than a few arguments. The room for them is large, and is
+/// kept out of the way of the others.
 #[inline(never)]
 fn ask_with_many<V: BusView, G: Gate>(
     context: &mut Context<V, G>,
@@ -274,8 +275,8 @@ fn route_message<V: BusView, G: Gate>(
     routed(alloc, context, right, message, sender, verdict, heard)
 }
 
-/// Serves a message of a connection that has its name ("Message Bus Message Routing" of the D-Bus Specification). A message of a
-/// type that the standard does not define is dropped.
+/// Serves a message of a connection that has its name ("Message Bus Message Routing" of the D-Bus
+/// Specification). A message of a type that the standard does not define is dropped.
 ///
 /// What becomes of the connection then.
 pub fn serve<V: BusView, G: Gate>(

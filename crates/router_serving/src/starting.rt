@@ -44,7 +44,8 @@ fn started<V: BusView, G: Gate>(
     }
 }
 
-/// Has the service of a name started, unless the name has an owner. Without memory the call is answered so.
+/// Has the service of a name started, unless the name has an owner. Without memory the call is
+/// answered so.
 // A change is large: it has a function of its own.
 #[inline(never)]
 pub(crate) fn start_service<V: BusView, G: Gate>(

@@ -15,7 +15,8 @@ use router_steps::Context;
 use seq_bus_core::{Change, Conn, ErrorKind, MonitorRules, Outcome, Reply};
 use std::alloc::Global;
 
-/// Tells of the change: the signals of the names that the connection gave up come first, then the answer.
+/// Tells of the change: the signals of the names that the connection gave up come first, then the
+/// answer.
 fn watched<V: BusView, G: Gate>(
     context: &mut Context<V, G>,
     call: &Message,

@@ -36,7 +36,8 @@ pub struct Context<V: BusView, G: Gate> {
     actions: Vec<Action<V::Note>>,
     /// Where the next actions go once these are handed out.
     spare: Vec<Action<V::Note>>,
-    /// In these the bus says where messages go. One of a message to several recipients goes out with its action.
+    /// In these the bus says where messages go. One of a message to several recipients goes out
+    /// with its action.
     verdicts: Vec<Box<Verdict>>,
     room: usize,
 }
@@ -59,7 +60,8 @@ impl<V: BusView, G: Gate> Model for Context<V, G> {
 }
 
 impl<V: BusView + Drop, G: Gate + Drop> Context<V, G> {
-    /// A context in which nothing was done yet, with what one message needs that goes to several recipients.
+    /// A context in which nothing was done yet, with what one message needs that goes to several
+    /// recipients.
     pub fn new(alloc: Global, view: V, gate: G) -> Result<Context<V, G>, AllocError>
         ensures { IfOk result
             (λ context. context.world ≡ record { view = V.knows view; gate = gate; actions = [] }) }
@@ -118,8 +120,9 @@ impl<V: BusView, G: Gate> Context<V, G> {
         std::mem::replace(&mut self.actions, next)
     }
 
-    /// Takes back the actions that it handed out, once they are done: later ones go where they stood, and to several recipients where
-    /// theirs were. Those of the mail that they bring have a place beside theirs.
+    /// Takes back the actions that it handed out, once they are done: later ones go where they
+    /// stood, and to several recipients where theirs were. Those of the mail that they bring have a
+    /// place beside theirs.
     pub fn give_back(&mut self, actions: Vec<Action<V::Note>>)
         ensures world { self.new.world ≡ self.old.world }
     {
@@ -146,7 +149,8 @@ impl<V: BusView, G: Gate> Context<V, G> {
         }
     }
 
-    /// Keeps the verdict of a message that is done, for the next one, where there is a place for it.
+    /// Keeps the verdict of a message that is done, for the next one, where there is a place for
+    /// it.
     pub(crate) fn keep_verdict(&mut self, verdict: Box<Verdict>)
         ensures world { self.new.world ≡ self.old.world }
         ensures room { self.new.room ≡ self.old.room }
@@ -211,8 +215,8 @@ impl<V: BusView, G: Gate> Context<V, G> {
         self.act(Action::Put { to, note, content });
     }
 
-    /// Puts a message to the recipients of a verdict and to the monitors, each once; to nobody it is not put. Where they are several, the
-    /// verdict goes out with it.
+    /// Puts a message to the recipients of a verdict and to the monitors, each once; to nobody it
+    /// is not put. Where they are several, the verdict goes out with it.
     pub fn put_to(&mut self, verdict: Box<Verdict>, content: Content)
         requires { 0 < self.old.room }
         ensures comes { RunsTo V.BusView G.Gate
@@ -273,8 +277,8 @@ impl<V: BusView, G: Gate> Context<V, G> {
         }
     }
 
-    /// Makes 1 to 64 changes of the bus together, or hands them back and makes none of them. Each that is made settles 512 tickets at
-    /// most.
+    /// Makes 1 to 64 changes of the bus together, or hands them back and makes none of them. Each
+    /// that is made settles 512 tickets at most.
     #[tactic(auto, using(crate::proofs::Refusals::all_lost))]
     pub fn change_all(
         &mut self,
@@ -296,8 +300,8 @@ impl<V: BusView, G: Gate> Context<V, G> {
         }
     }
 
-    /// Asks who gets a message of the connection of this number, and which monitors are shown it. 0 is the bus. Where the bus does not say,
-    /// the verdict stays as it is.
+    /// Asks who gets a message of the connection of this number, and which monitors are shown it. 0
+    /// is the bus. Where the bus does not say, the verdict stays as it is.
     pub fn route(&mut self, from: u64, facts: &Facts<'_>, verdict: &mut Verdict) -> Result<(), Gone>
         ensures routes { Routes V.alone from facts.now self.old.world
             (heard_verdict result verdict.new) self.new.world }

@@ -33,7 +33,8 @@ fn is_user(identity: Identity) -> bool
 }
 
 impl Peer {
-    /// Goes on with the conversation by which it says who it is. Once that is done, the bytes behind it are the first of its messages.
+    /// Goes on with the conversation by which it says who it is. Once that is done, the bytes
+    /// behind it are the first of its messages.
     fn converse(&mut self, piece: &[u8]) -> Turn
         ensures turn { IsConversed self.old self.old.stage piece.now result.sent.items result.fault
             self.new }
@@ -92,8 +93,9 @@ impl<V: BusView, G: Gate> Context<V, G> {
         }
     }
 
-    /// Takes a piece of the bytes of a connection. While it says who it is, each line that is whole by them is answered. Without memory
-    /// for messages nothing changes, and the piece stays where it was; without memory for lines the connection is closed.
+    /// Takes a piece of the bytes of a connection. While it says who it is, each line that is whole
+    /// by them is answered. Without memory for messages nothing changes, and the piece stays where
+    /// it was; without memory for lines the connection is closed.
     pub fn hear(
         &mut self,
         key: usize,

@@ -1,4 +1,5 @@
-//! Starts of services that end without their names. (D-Bus Specification: "Message Bus Starting Services (Activation)")
+//! Starts of services that end without their names. (D-Bus Specification: "Message Bus Starting
+//! Services (Activation)")
 
 ghost use Rattle.std.specs.Prelude.{◌≡◌, ◌<◌, ◌≤◌, ◌+◌, Some, length, OnOk, OnErr};
 ghost use Rattle.seq_bus_core.specs.declared.limits.TheConstants.{MAX_TICKETS};
@@ -54,7 +55,8 @@ fn is_final(why: Cause) -> bool
 }
 
 impl<V: BusView, G: Gate> Context<V, G> {
-    /// Answers the call of this serial an error, and shows the monitors the error. Without memory nobody is told.
+    /// Answers the call of this serial an error, and shows the monitors the error. Without memory
+    /// nobody is told.
     fn tell_failed(&mut self, error: ErrorKind, caller: Conn, serial: u32)
         requires { 0 < self.old.room }
         ensures comes { RunsTo V.BusView G.Gate
@@ -101,8 +103,8 @@ impl<V: BusView, G: Gate> Context<V, G> {
         }
     }
 
-    /// Tells the bus of the end of a start, and those whose calls waited for it. Without memory nothing changes, and
-    /// the end is refused.
+    /// Tells the bus of the end of a start, and those whose calls waited for it. Without memory
+    /// nothing changes, and the end is refused.
     pub fn end_start(&mut self, right: &V::Right, ended: &StartEnd) -> Result<(), AllocError>
         requires { MAX_TICKETS < self.old.room }
         ensures comes { OnOk result ((s : Standing) →

@@ -39,7 +39,8 @@ pub struct HelloCall {
 }
 
 impl Peer {
-    /// Takes its next message off its bytes; at a fault they are let go. Without memory nothing changes.
+    /// Takes its next message off its bytes; at a fault they are let go. Without memory nothing
+    /// changes.
     #[tactic(auto, using(crate::proofs::Stages::messages_unread, crate::proofs::Stages::messages_silent))]
     pub fn take_next(&mut self) -> Result<Front, AllocError>
         requires { SpeaksDBus self.old.stage }
@@ -83,8 +84,9 @@ impl Peer {
 }
 
 impl<V: BusView, G: Gate> Context<V, G> {
-    /// Takes the first message of a connection that has no name yet, if it is there. One that says Hello is to be served;
-    /// one that sends anything else is closed. Without memory nothing changes.
+    /// Takes the first message of a connection that has no name yet, if it is there. One that says
+    /// Hello is to be served; one that sends anything else is closed. Without memory nothing
+    /// changes.
     pub fn hello_or_close(
         &mut self,
         key: usize,

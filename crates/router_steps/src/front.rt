@@ -31,8 +31,9 @@ pub(crate) enum More {
     Faulty(FrameFault),
 }
 
-/// Takes the next message off the bytes of a connection: the first that is pending, or else the one at the front of what
-/// is unread. At a fault they are let go: nothing is left but to close the connection. Without memory nothing changes.
+/// Takes the next message off the bytes of a connection: the first that is pending, or else the one
+/// at the front of what is unread. At a fault they are let go: nothing is left but to close the
+/// connection. Without memory nothing changes.
 pub(crate) fn take_front(
     alloc: Global,
     pending: &mut VecDeque<Message>,
@@ -64,7 +65,8 @@ pub(crate) fn take_front(
     }
 }
 
-/// Has the next message of a connection pending, if there is one. The bytes that were not served stay the same, also without memory.
+/// Has the next message of a connection pending, if there is one. The bytes that were not served
+/// stay the same, also without memory.
 pub(crate) fn fill(pending: &mut VecDeque<Message>, unread: &mut Framer) -> Result<More, AllocError>
     requires fine { unread.old.fault ≡ None }
     requires within { AreWithin pending.old.items }
@@ -82,8 +84,8 @@ pub(crate) fn fill(pending: &mut VecDeque<Message>, unread: &mut Framer) -> Resu
     }
 }
 
-/// Takes the message behind those that are pending off the bytes of a connection, and leaves it pending too. So the bytes that
-/// were not served stay the same, also without memory.
+/// Takes the message behind those that are pending off the bytes of a connection, and leaves it
+/// pending too. So the bytes that were not served stay the same, also without memory.
 pub(crate) fn read_more(
     pending: &mut VecDeque<Message>,
     unread: &mut Framer,

@@ -49,7 +49,8 @@ fn refusal_bytes(
     bytes_of(alloc, &Content::Own(refusal(hello, error)), serial)
 }
 
-/// The errors that a Hello may be answered, in their bytes. They are made before the bus is asked, so that its answer needs no memory.
+/// The errors that a Hello may be answered, in their bytes. They are made before the bus is asked,
+/// so that its answer needs no memory.
 #[derive(Drop)]
 pub struct HelloErrors {
     no_memory: WrittenBytes,
@@ -109,7 +110,8 @@ impl<V: BusView, G: Gate> Context<V, G> {
         self.put_to(verdict, Content::Own(own));
     }
 
-    /// Answers a Hello an error, if it wants an answer. The connection stays without a name: it may say Hello again.
+    /// Answers a Hello an error, if it wants an answer. The connection stays without a name: it may
+    /// say Hello again.
     fn refuse_with(
         &mut self,
         key: usize,

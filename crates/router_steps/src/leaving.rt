@@ -61,7 +61,8 @@ impl<V: BusView, G: Gate> Context<V, G> {
         }
     }
 
-    /// Makes the Leaves of these numbers, in order, each by itself. Those that are refused are kept.
+    /// Makes the Leaves of these numbers, in order, each by itself. Those that are refused are
+    /// kept.
     fn leave_each(&mut self, right: &V::Right, numbers: &[u64], leaves: &mut Vec<u64>)
         requires room { length numbers.now ≤ self.old.room }
         requires spare { vec_len leaves.old + length numbers.now ≤ vec_capacity leaves.old }
@@ -90,8 +91,8 @@ impl<V: BusView, G: Gate> Context<V, G> {
         }
     }
 
-    /// Makes the Leaves of these numbers together, and announces them in order. Where there is no memory for that each is made by itself.
-    /// Those that are refused are kept.
+    /// Makes the Leaves of these numbers together, and announces them in order. Where there is no
+    /// memory for that each is made by itself. Those that are refused are kept.
     fn leave_batch(
         &mut self,
         right: &V::Right,
@@ -117,7 +118,8 @@ impl<V: BusView, G: Gate> Context<V, G> {
         }
     }
 
-    /// Makes the Leaves of 64 numbers at most together, if there are any. Those that are refused are kept.
+    /// Makes the Leaves of 64 numbers at most together, if there are any. Those that are refused
+    /// are kept.
     fn leave_together(&mut self, right: &V::Right, numbers: &[u64], leaves: &mut Vec<u64>)
         requires few { length numbers.now ≤ max_batch }
         requires room { length numbers.now ≤ self.old.room }
@@ -139,7 +141,8 @@ impl<V: BusView, G: Gate> Context<V, G> {
         }
     }
 
-    /// Makes the Leaves of the numbers from `start` up to `place` together, once they are 64. Where those begin that are not made yet.
+    /// Makes the Leaves of the numbers from `start` up to `place` together, once they are 64. Where
+    /// those begin that are not made yet.
     fn leave_full(
         &mut self,
         right: &V::Right,
@@ -176,7 +179,8 @@ impl<V: BusView, G: Gate> Context<V, G> {
         place
     }
 
-    /// Makes the Leaves of these numbers, in order, 64 at most together. Those that are refused are kept.
+    /// Makes the Leaves of these numbers, in order, 64 at most together. Those that are refused are
+    /// kept.
     pub fn leave_all(&mut self, right: &V::Right, numbers: &[u64], leaves: &mut Vec<u64>)
         requires room { length numbers.now ≤ self.old.room }
         requires spare { vec_len leaves.old + length numbers.now ≤ vec_capacity leaves.old }

@@ -1,7 +1,8 @@
 //! The steps that a router's engine makes for one connection.
 //!
-//! [`Context`] is what an engine works with while an event is served: the view of the bus, the gate and the actions so far.
-//! Each of its methods makes one step of the scripts that `router_core` defines. [`Peer`] is one connection.
+//! [`Context`] is what an engine works with while an event is served: the view of the bus, the gate
+//! and the actions so far. Each of its methods makes one step of the scripts that `router_core`
+//! defines. [`Peer`] is one connection.
 //!
 //! ```
 //! use bus_view::BusView;

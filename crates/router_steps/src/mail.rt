@@ -76,7 +76,8 @@ impl<V: BusView, G: Gate> Context<V, G> {
         }
     }
 
-    /// Takes the note of an envelope, and writes to its connection what it brings. Without memory nothing changes.
+    /// Takes the note of an envelope, and writes to its connection what it brings. Without memory
+    /// nothing changes.
     pub fn deliver(
         &mut self,
         alloc: Global,

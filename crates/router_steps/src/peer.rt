@@ -49,8 +49,8 @@ impl Stage {
     }
 }
 
-/// A connection: how far it has come, its bytes that were not served, the serial of the last message of the bus to it, and whether it
-/// is a monitor.
+/// A connection: how far it has come, its bytes that were not served, the serial of the last
+/// message of the bus to it, and whether it is a monitor.
 #[derive(Drop)]
 pub struct Peer {
     pub(crate) alloc: Global,
@@ -113,8 +113,8 @@ impl Peer {
         self.watches
     }
 
-    /// Takes a piece of the bytes of its messages. Once it was closed it takes none. Without memory nothing changes, and the piece stays
-    /// where it was.
+    /// Takes a piece of the bytes of its messages. Once it was closed it takes none. Without memory
+    /// nothing changes, and the piece stays where it was.
     pub(crate) fn feed(&mut self, piece: &mut Vec<u8>) -> Result<(), AllocError>
         requires { SpeaksDBus self.old.stage }
         ensures ok { OnOk result (self.new ≡ fed piece.old.items self.old self.old.stage) }
@@ -128,7 +128,8 @@ impl Peer {
         }
     }
 
-    /// Takes one more message off its bytes, if it is there as a whole, and leaves it pending: it stays as it was, also without memory.
+    /// Takes one more message off its bytes, if it is there as a whole, and leaves it pending: it
+    /// stays as it was, also without memory.
     pub fn read_ahead(&mut self) -> Result<(), AllocError>
         ensures { self.new ≡ self.old }
     {
@@ -143,7 +144,8 @@ impl Peer {
         }
     }
 
-    /// Whether there is something of it to be served: a whole message at the front of its bytes, or what is none.
+    /// Whether there is something of it to be served: a whole message at the front of its bytes, or
+    /// what is none.
     pub fn has_next(&self) -> bool
         ensures quiet { result ≡ false → IsQuiet self.now }
         ensures ready { result ≡ true → IsQuiet self.now → ⊥ }

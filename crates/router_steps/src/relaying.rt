@@ -39,8 +39,8 @@ impl<V: BusView, G: Gate> Context<V, G> {
         }
     }
 
-    /// Puts a message to the recipients and to the monitors of its verdict, each once, with its sender's name. To nobody it
-    /// is not put, only measured.
+    /// Puts a message to the recipients and to the monitors of its verdict, each once, with its
+    /// sender's name. To nobody it is not put, only measured.
     ///
     /// # Errors
     ///
@@ -84,7 +84,8 @@ impl<V: BusView, G: Gate> Context<V, G> {
         }
     }
 
-    /// Puts a message to the monitors of its verdict, with its sender's name. To nobody it is not put, only measured.
+    /// Puts a message to the monitors of its verdict, with its sender's name. To nobody it is not
+    /// put, only measured.
     ///
     /// # Errors
     ///
@@ -116,7 +117,8 @@ impl<V: BusView, G: Gate> Context<V, G> {
         self.relay(message, sender, verdict)
     }
 
-    /// Puts a message to the bus to the monitors of its verdict. Where there is none, it is not even measured.
+    /// Puts a message to the bus to the monitors of its verdict. Where there is none, it is not
+    /// even measured.
     ///
     /// # Errors
     ///

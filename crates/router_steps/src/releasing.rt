@@ -1,4 +1,5 @@
-//! Calls that waited for a service. (D-Bus Specification: "Message Bus Starting Services (Activation)")
+//! Calls that waited for a service. (D-Bus Specification: "Message Bus Starting Services
+//! (Activation)")
 
 ghost use Rattle.std.specs.Prelude.{◌≡◌, ◌<◌, ◌≤◌, ◌+◌, Some, length};
 ghost use Rattle.router_core.specs.Scripts.{Wanting, RunsTo};
@@ -20,8 +21,8 @@ pub(crate) fn wants_reply(ticket: &Ticket) -> bool
 }
 
 impl<V: BusView, G: Gate> Context<V, G> {
-    /// Answers the call of this serial that its service was started, and shows the monitors the reply. Without memory nobody
-    /// is told.
+    /// Answers the call of this serial that its service was started, and shows the monitors the
+    /// reply. Without memory nobody is told.
     fn tell_started(&mut self, caller: Conn, serial: u32)
         requires { 0 < self.old.room }
         ensures comes { RunsTo V.BusView G.Gate
@@ -45,8 +46,9 @@ impl<V: BusView, G: Gate> Context<V, G> {
         self.tell(caller, BusMessage::Reply { to, content });
     }
 
-    /// Releases a call that waited for a name, once the name has this owner. The call is put to the owner, its bytes as they
-    /// are held; StartServiceByName is answered that the service was started.
+    /// Releases a call that waited for a name, once the name has this owner. The call is put to the
+    /// owner, its bytes as they are held; StartServiceByName is answered that the service was
+    /// started.
     pub fn release(&mut self, owner: Conn, ticket: Ticket)
         requires { 0 < self.old.room }
         ensures comes { RunsTo V.BusView G.Gate (releasing owner ticket ticket.message)

@@ -39,8 +39,8 @@ pub fn is_method_call(message: &Message) -> bool
 }
 
 impl<V: BusView, G: Gate> Context<V, G> {
-    /// Asks which monitors are shown a message of the bus. Where the bus does not say, it is shown to none; where there are no
-    /// monitors, what they would see of it is not made.
+    /// Asks which monitors are shown a message of the bus. Where the bus does not say, it is shown
+    /// to none; where there are no monitors, what they would see of it is not made.
     pub(crate) fn ask_monitors(&mut self, own: &BusMessage) -> Box<Verdict>
         requires { 0 < self.old.crowds }
         ensures routes { (heard : Heard Told) ×

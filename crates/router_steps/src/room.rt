@@ -42,7 +42,8 @@ fn keep_verdict_of<N: Drop>(action: Action<N>, verdicts: &mut Vec<Box<Verdict>>)
     }
 }
 
-/// Lets actions go that are done. The verdicts of those for several recipients are kept, where there are places for them.
+/// Lets actions go that are done. The verdicts of those for several recipients are kept, where
+/// there are places for them.
 pub fn clear_actions<N: Drop>(actions: &mut Vec<Action<N>>, verdicts: &mut Vec<Box<Verdict>>) {
     while let Some(action) = actions.pop() {
         keep_verdict_of(action, verdicts);

@@ -22,7 +22,8 @@ use seq_bus_core::ErrorKind;
 use std::alloc::{AllocError, Global};
 
 impl<V: BusView, G: Gate> Context<V, G> {
-    /// Takes a piece of the bytes of a connection, if it is there. Without memory nothing changes, and the piece stays where it was.
+    /// Takes a piece of the bytes of a connection, if it is there. Without memory nothing changes,
+    /// and the piece stays where it was.
     pub fn hear_slot(
         &mut self,
         key: usize,
@@ -43,8 +44,8 @@ impl<V: BusView, G: Gate> Context<V, G> {
         }
     }
 
-    /// Takes the note of an envelope, and writes to the connection of a key what it brings, if it is there. Without memory
-    /// nothing changes.
+    /// Takes the note of an envelope, and writes to the connection of a key what it brings, if it
+    /// is there. Without memory nothing changes.
     pub fn deliver_to(
         &mut self,
         alloc: Global,
@@ -93,7 +94,8 @@ impl<V: BusView, G: Gate> Context<V, G> {
         }
     }
 
-    /// Answers a Hello that would exceed a limit of the bus, and closes its connection, if it is there.
+    /// Answers a Hello that would exceed a limit of the bus, and closes its connection, if it is
+    /// there.
     pub fn turn_away_in(
         &mut self,
         key: usize,

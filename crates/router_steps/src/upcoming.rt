@@ -71,7 +71,8 @@ fn read_rule_call(alloc: Global, watches: bool, message: &Message) -> Option<Cal
 }
 
 impl Peer {
-    /// Whether something comes next of it: a whole message, or what is none. It stays as it was, also without memory.
+    /// Whether something comes next of it: a whole message, or what is none. It stays as it was,
+    /// also without memory.
     pub fn is_coming(&mut self) -> Result<bool, AllocError>
         requires { SpeaksDBus self.old.stage }
         ensures ok { IfOk result (λ coming. IsComing coming self.old) }
@@ -84,7 +85,8 @@ impl Peer {
         }
     }
 
-    /// What comes next of it. A call that adds or removes a rule and reads well is taken off its bytes. Without memory nothing changes.
+    /// What comes next of it. A call that adds or removes a rule and reads well is taken off its
+    /// bytes. Without memory nothing changes.
     pub fn take_rule(&mut self) -> Result<Upcoming, AllocError>
         requires { SpeaksDBus self.old.stage }
         ensures ok { IfOk result (λ upcoming. IsUpcoming upcoming self.old self.new) }

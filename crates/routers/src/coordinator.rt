@@ -15,7 +15,8 @@ pub(crate) const PLACES: usize = 256;
 
 /// Ends the wait of one thread.
 pub trait Wake {
-    /// The thread's wait ends, or its next one at once. Where the system refuses that, nothing happens.
+    /// The thread's wait ends, or its next one at once. Where the system refuses that, nothing
+    /// happens.
     fn wake(&self);
 }
 
@@ -55,8 +56,8 @@ fn lower(flag: &AtomicBool) -> bool {
     flag.load(Ordering::SeqCst) && flag.swap(false, Ordering::SeqCst)
 }
 
-/// What the threads of a bus share, besides its registry and its outboxes: how to wake each, which places have mail, which
-/// programs are to be run, and whether they are to end.
+/// What the threads of a bus share, besides its registry and its outboxes: how to wake each, which
+/// places have mail, which programs are to be run, and whether they are to end.
 #[derive(Drop)]
 pub struct Coordinator<W: Wake + Drop> {
     states: Vec<RouterState<W>>,
@@ -71,7 +72,8 @@ pub struct Coordinator<W: Wake + Drop> {
 }
 
 impl<W: Wake + Drop> Coordinator<W> {
-    /// The coordinator of as many routers as there are wakers, and of the main thread, whose waker is `main`.
+    /// The coordinator of as many routers as there are wakers, and of the main thread, whose waker
+    /// is `main`.
     pub fn new(alloc: Global, wakers: Vec<W>, main: W) -> Result<Coordinator<W>, AllocError> {
         let mut states = Vec::with_capacity(alloc, wakers.len())?;
         for waker in wakers {
@@ -125,7 +127,8 @@ impl<W: Wake + Drop> Coordinator<W> {
         }
     }
 
-    /// Whether there is mail for any place of a router. It is asked for once, before the places are.
+    /// Whether there is mail for any place of a router. It is asked for once, before the places
+    /// are.
     pub(crate) fn takes_any_mail(&self, router: usize) -> bool {
         match self.states.get(router) {
             Some(state) => lower(&state.mail),

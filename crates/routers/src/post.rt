@@ -12,8 +12,9 @@ use seq_bus_core::Conn;
 use std::marker::Model;
 use std::sync::Wait;
 
-/// How a router reaches the others: its lane into all outboxes, the taps of its own places, and the coordinator, where it tells
-/// that something was brought to another router, or that a program is to be run.
+/// How a router reaches the others: its lane into all outboxes, the taps of its own places, and the
+/// coordinator, where it tells that something was brought to another router, or that a program is
+/// to be run.
 ///
 /// Contracts see the lane.
 #[derive(Drop)]

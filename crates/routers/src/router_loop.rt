@@ -29,8 +29,8 @@ impl<
     E: Source<S> + Drop,
     W: Wake + Drop,
 > Router<'a, V, G, P, S, E, W> {
-    /// Serves until all are to end, or nothing happens any more. What a turn recorded is written at its end: so all of it is written
-    /// while the router waits.
+    /// Serves until all are to end, or nothing happens any more. What a turn recorded is written at
+    /// its end: so all of it is written while the router waits.
     ///
     /// # Errors
     ///

@@ -18,7 +18,8 @@ pub enum Timeout {
 /// What happens to a router.
 #[derive(Drop)]
 pub enum SourceEvent<S: Drop> {
-    /// A connection came, which is to say who it is if there is a challenge: sixteen bytes that nobody can guess.
+    /// A connection came, which is to say who it is if there is a challenge: sixteen bytes that
+    /// nobody can guess.
     Accepted {
         socket: S,
         challenge: Option<[u8; 16]>,
@@ -36,7 +37,8 @@ pub enum SourceEvent<S: Drop> {
     Ended,
 }
 
-/// Where a router hears of what happens to its connections, which are read from and written to sockets of type `S`.
+/// Where a router hears of what happens to its connections, which are read from and written to
+/// sockets of type `S`.
 pub trait Source<S: Socket> {
     /// Waits for what happens next, no longer than this.
     fn wait(&mut self, timeout: Timeout) -> Result<(), Fault>;
@@ -44,7 +46,8 @@ pub trait Source<S: Socket> {
     /// What happened since, one after another.
     fn next<R: Wait>(&mut self, rt: &R) -> Option<SourceEvent<S>>;
 
-    /// From now on it is told what happens to this socket, under its key. It is false where the system refuses that.
+    /// From now on it is told what happens to this socket, under its key. It is false where the
+    /// system refuses that.
     fn watch(&mut self, key: usize, socket: &mut S) -> bool;
 
     /// A connection is over.

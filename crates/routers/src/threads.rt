@@ -170,7 +170,8 @@ fn run_all<T: Task + Send + Drop, W: Wake + Drop, M: MainTask, R: Threads + Wait
     );
 }
 
-/// Runs a router for each setup in a thread of its own, and the main task in this one, until all have ended.
+/// Runs a router for each setup in a thread of its own, and the main task in this one, until all
+/// have ended.
 ///
 /// # Errors
 ///

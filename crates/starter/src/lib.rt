@@ -1,7 +1,8 @@
 //! The programs of services, which the thread that started the routers runs for them.
 //!
-//! That thread serves no connection. It has a [`MainSeat`]: seat 0 of the registry, its lane into the outboxes, and a
-//! [`Starter`], which asks [`Programs`] to run what routers ask for and tells the bus how starts end.
+//! That thread serves no connection. It has a [`MainSeat`]: seat 0 of the registry, its lane into
+//! the outboxes, and a [`Starter`], which asks [`Programs`] to run what routers ask for and tells
+//! the bus how starts end.
 //!
 //! ```
 //! use names::BusName;

@@ -14,8 +14,9 @@ use std::sync::Wait;
 /// How long is waited where there was no memory, in milliseconds.
 const LATER: u64 = 100;
 
-/// The seat and the lane that are no router's, in the hands of the thread that started the routers. It serves no connection: it runs
-/// the programs of services, tells the bus how starts end, and writes what it recorded.
+/// The seat and the lane that are no router's, in the hands of the thread that started the routers.
+/// It serves no connection: it runs the programs of services, tells the bus how starts end, and
+/// writes what it recorded.
 ///
 /// Contracts see nothing of it.
 #[derive(Drop)]
@@ -66,8 +67,9 @@ impl<
         })
     }
 
-    /// Runs what is asked for, tells the bus how starts ended, and writes what it recorded, at this moment in milliseconds. Answers
-    /// in how many the next turn is due though nothing happens, 0 where more may be waiting.
+    /// Runs what is asked for, tells the bus how starts ended, and writes what it recorded, at this
+    /// moment in milliseconds. Answers in how many the next turn is due though nothing happens, 0
+    /// where more may be waiting.
     ///
     /// # Errors
     ///

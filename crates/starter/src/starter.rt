@@ -15,18 +15,20 @@ use supervisor::{Deed, Event, Supervisor};
 
 /// Who runs the programs of services.
 pub trait Programs {
-    /// Runs the program of the service of this name, as the start of this number. It is false where it can't be run; otherwise it is
-    /// told later what becomes of it.
+    /// Runs the program of the service of this name, as the start of this number. It is false where
+    /// it can't be run; otherwise it is told later what becomes of it.
     fn run(&mut self, name: &BusName, start: u64) -> bool;
 
-    /// What happened since, one after another: a start is asked for, a program ended or could not be run.
+    /// What happened since, one after another: a start is asked for, a program ended or could not
+    /// be run.
     fn next<R: Wait>(&mut self, rt: &R) -> Option<Event>;
 }
 
 /// How many happenings are looked at in a turn.
 const HANDFUL: u32 = 512;
 
-/// A supervisor of started programs, and a host without connections, by which the bus is told how starts end.
+/// A supervisor of started programs, and a host without connections, by which the bus is told how
+/// starts end.
 #[derive(Drop)]
 pub struct Starter<V: BusView, G: Gate, P: Post<V>, S: Socket, Q: Programs + Drop> {
     alloc: Global,
@@ -76,11 +78,13 @@ impl<V: BusView, G: Gate, P: Post<V>, S: Socket, Q: Programs + Drop> Starter<V, 
         self.supervisor.due()
     }
 
-    /// Runs what is asked for, and tells the bus how starts ended, at this moment in milliseconds. Tells whether more may be waiting.
+    /// Runs what is asked for, and tells the bus how starts ended, at this moment in milliseconds.
+    /// Tells whether more may be waiting.
     ///
     /// # Errors
     ///
-    /// There was no memory for something. It is done first in the next turn, which is to come some time later.
+    /// There was no memory for something. It is done first in the next turn, which is to come some
+    /// time later.
     pub fn turn<R: Wait>(
         &mut self,
         rt: &R,

@@ -56,8 +56,8 @@ impl Write for Room {
     }
 }
 
-/// How many bytes of the sample are read before the reader fails, if it does; for how many the writer has room; how the
-/// run ends, and how many bytes are written then.
+/// How many bytes of the sample are read before the reader fails, if it does; for how many the
+/// writer has room; how the run ends, and how many bytes are written then.
 type Row = (Option<usize>, usize, Result<(), RunFault>, usize);
 
 const ROWS: &[Row] = &[

@@ -15,7 +15,8 @@ fn shown(alloc: Global, fault: RunFault) -> Result<String, AllocError> {
     }
 }
 
-/// Whether the run ends with the input or is closed by a known code, where one byte of the sample is another.
+/// Whether the run ends with the input or is closed by a known code, where one byte of the sample
+/// is another.
 fn is_known(alloc: Global, place: usize, byte: u8) -> Result<bool, AllocError> {
     let mut changed = joined(alloc, &[HELLO, GET_NAME_OWNER])?;
     if let Some(slot) = changed.get_mut(place) {

@@ -1,5 +1,5 @@
-//! Runs of the program over memory: what clients send in, what the bus writes back, and how the run ends. Each row holds
-//! too where any one allocation fails: then it is played once more.
+//! Runs of the program over memory: what clients send in, what the bus writes back, and how the run
+//! ends. Each row holds too where any one allocation fails: then it is played once more.
 #![tactic(auto)]
 
 #[cfg(test)]

@@ -131,7 +131,8 @@ pub const SERVICE_UNKNOWN: &[u8] =
 pub const ELSEWHERE_SILENT: &[u8] =
     b"l\x01\x01\x01\0\0\0\0\x02\0\0\0f\0\0\0\x01\x01o\0\x15\0\0\0/org/freedesktop/DBus\0\0\0\x02\x01s\0\x14\0\0\0org.freedesktop.DBus\0\0\0\0\x03\x01s\0\x04\0\0\0Ping\0\0\0\0\x06\x01s\0\x0d\0\0\0com.example.A\0\0\0";
 
-/// A call of the connection to itself, big-endian, with an unknown field and the name of another sender.
+/// A call of the connection to itself, big-endian, with an unknown field and the name of another
+/// sender.
 pub const TO_ITSELF: &[u8] =
     b"B\x01\0\x01\0\0\0\x06\0\0\0\x02\0\0\0O\xc8\x01y\0\x07\0\0\0\x01\x01o\0\0\0\0\x02/a\0\0\0\0\0\0\x03\x01s\0\0\0\0\x04Ping\0\0\0\0\x06\x01s\0\0\0\0\x04:1.1\0\0\0\0\x07\x01s\0\0\0\0\x04:1.9\0\0\0\0\x08\x01g\0\x01s\0\0\0\0\0\x01x\0";
 

@@ -1,4 +1,5 @@
-//! Calls that waited, as an engine answers them where the start of their service ends without the name.
+//! Calls that waited, as an engine answers them where the start of their service ends without the
+//! name.
 
 use crate::scene::{Plain, Told, engine_with_calls, told_of};
 use crate::waiting_calls::{FIRST, S};
@@ -9,7 +10,8 @@ use std::alloc::Global;
 use std::process::Abort;
 use test_support::once_more;
 
-/// How a start ends, and what the calls are answered. The program may take the name though it ended well.
+/// How a start ends, and what the calls are answered. The program may take the name though it ended
+/// well.
 const ENDS: [(HowEnded, Option<ErrorKind>); 6] = [
     (HowEnded::Program(Ending::Exit(0)), None),
     (
@@ -31,7 +33,8 @@ const ENDS: [(HowEnded, Option<ErrorKind>); 6] = [
     (HowEnded::TimedOut, Some(ErrorKind::TimedOut)),
 ];
 
-/// What the engine does where a start ends. An end that there is no memory for is handed back, and comes once more.
+/// What the engine does where a start ends. An end that there is no memory for is handed back, and
+/// comes once more.
 fn ended(
     rt: &impl Abort,
     alloc: Global,

@@ -1,4 +1,5 @@
-//! Calls that waited, as an engine releases them: once a connection has the name, behind the reply to its request.
+//! Calls that waited, as an engine releases them: once a connection has the name, behind the reply
+//! to its request.
 
 use crate::scene::{REQUEST, Told, come, engine_with_calls, served, told_of};
 use crate::waiting_calls::{FIRST, THIRD};

@@ -135,8 +135,8 @@ pub(crate) fn come(rt: &impl Abort, alloc: Global, engine: &mut Plain, key: usiz
     let _welcome = served(rt, alloc, engine, key, HELLO);
 }
 
-/// An engine with two clients whose calls wait for `com.example.S`: StartServiceByName of each, and between them three
-/// calls to it. The program is run once, and nothing else is done.
+/// An engine with two clients whose calls wait for `com.example.S`: StartServiceByName of each, and
+/// between them three calls to it. The program is run once, and nothing else is done.
 pub(crate) fn engine_with_calls(rt: &impl Abort, alloc: Global) -> Plain {
     let bus = new_bus(rt, alloc);
     let engine = Engine::new(alloc, bus, OpenGate, None);

@@ -32,7 +32,8 @@ enum Deed<'a> {
     TimedOut(&'a str, u64),
 }
 
-/// A ticket that is settled: what became of it, its number, its caller, and the serial and the bytes of the call.
+/// A ticket that is settled: what became of it, its number, its caller, and the serial and the
+/// bytes of the call.
 type Settled<'a> = (Fate, u64, Conn, u32, Option<&'a [u8]>);
 
 /// A deed, and what it is told: the reply, the start that is asked for, and the tickets.

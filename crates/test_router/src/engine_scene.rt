@@ -1,22 +1,29 @@
-//! An engine of a plain bus, which no host serves: which connection has which key, slot and number, and what each event brings.
+//! An engine of a plain bus, which no host serves: which connection has which key, slot and number,
+//! and what each event brings.
 //!
 //! A connection stands as its key. What is put waits as mail until a row brings it.
 //!
 //! - `engine [SERVICE..]`: the bus has these services.
-//! - `opens K [asked]`: a connection comes, and may be asked who it is. `hello K`, `sends K BYTES`: it sends the call of Hello with
-//!   serial 1, or bytes. `calls K SERIAL MEMBER ..`, `says K TYPE SERIAL ..`: it sends a call to the bus, or any message, as
-//!   [`scene`](crate::scene) has them. `serves K`: its next message is served. `turn K..`: the next
-//!   messages of these are served, of each as many as it stands there. `leaves K`: it is gone.
-//! - `ends START SERVICE exit STATUS`, or `killed`, `exec` or `timeout` for the last two words: a start of a service ended so.
-//! - `mail`: the oldest mail comes. `fills N`: connection number N takes no more mail. `tick`: time passes.
-//! - `next`: the key of the next connection. `free K`: whether that is K. `ready K`: whether K has something to be served. `number K`: its
-//!   number. `slot N`: the key of the connection that has this slot. `unnamed`: how many have no name.
+//! - `opens K [asked]`: a connection comes, and may be asked who it is. `hello K`, `sends K BYTES`:
+//!   it sends the call of Hello with serial 1, or bytes. `calls K SERIAL MEMBER ..`, `says K TYPE
+//!   SERIAL ..`: it sends a call to the bus, or any message, as [`scene`](crate::scene) has them.
+//!   `serves K`: its next message is served. `turn K..`: the next messages of these are served, of
+//!   each as many as it stands there. `leaves K`: it is gone.
+//! - `ends START SERVICE exit STATUS`, or `killed`, `exec` or `timeout` for the last two words: a
+//!   start of a service ended so.
+//! - `mail`: the oldest mail comes. `fills N`: connection number N takes no more mail. `tick`: time
+//!   passes.
+//! - `next`: the key of the next connection. `free K`: whether that is K. `ready K`: whether K has
+//!   something to be served. `number K`: its number. `slot N`: the key of the connection that has
+//!   this slot. `unnamed`: how many have no name.
 //! - `comers N`: so many come and go, one after the other; tells how many had the key 0.
-//! - `run`: all that has happened is run once more as a list of events; tells the bytes that go to each connection, or why it ends early.
+//! - `run`: all that has happened is run once more as a list of events; tells the bytes that go to
+//!   each connection, or why it ends early.
 //! - `to N.. monitors N..`: who a message is put to. `fault`: what is said of a run without memory.
 //! - `N times ROW`: the row is done so many times.
 //!
-//! Of what is written the message is told; of what is put, whom it is for, and what rules see of it where it is the bus's own.
+//! Of what is written the message is told; of what is put, whom it is for, and what rules see of it
+//! where it is the bus's own.
 
 ghost use Rattle.std.specs.Prelude.{IsTrue};
 ghost use Rattle.router_core.specs.Events.{CanHappen};
@@ -65,7 +72,8 @@ fn bus(alloc: Global, services: &[WellKnown]) -> Result<SeqBus> {
     Ok(SeqBus::new(alloc, services, 1, Profile::Two)?)
 }
 
-/// Whether an event can happen to an engine: a connection comes with a key that is free. Mail brings no note here.
+/// Whether an event can happen to an engine: a connection comes with a key that is free. Mail
+/// brings no note here.
 fn can_happen(engine: &Plain, event: &Event<()>) -> bool
     ensures { IsTrue result
         → CanHappen (λ _. 0) engine.now.view.registry engine.now.standing event.now }

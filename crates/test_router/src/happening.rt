@@ -14,7 +14,8 @@ use test_support::unescaped;
 /// What a client is challenged with: the bytes 0 to 15.
 pub const CHALLENGE: [u8; 16] = [0, 1, 2, 3, 4, 5, 6, 7, 8, 9, 10, 11, 12, 13, 14, 15];
 
-/// `SERVICE exit STATUS`, `SERVICE killed`, `SERVICE exec`, `SERVICE timeout`: a start of a service ended.
+/// `SERVICE exit STATUS`, `SERVICE killed`, `SERVICE exec`, `SERVICE timeout`: a start of a service
+/// ended.
 fn start_end(start: u32, mut words: Words<'_>) -> Result<StartEnd> {
     let name = BusName::parse(words.next()).ok();
     let how = match words.next() {
@@ -84,7 +85,8 @@ pub fn event_of(alloc: Global, row: &str) -> Result<Event<()>> {
     })
 }
 
-/// Mail for a connection: what was in an envelope for nobody, whose note is kept. A plain bus brings nothing by notes.
+/// Mail for a connection: what was in an envelope for nobody, whose note is kept. A plain bus
+/// brings nothing by notes.
 pub fn mail(to: Conn, note: Option<()>, content: &Content) -> Result<Event<()>> {
     let envelope = Envelope {
         number: 0,

@@ -1,17 +1,22 @@
 //! What clients of a message bus see on their sockets, as the rows of a table say.
 //!
-//! A row is a line of standard input, and the line of the same number answers it with all that it brought; `-` is nothing. Empty lines
-//! and headings (`#`) stand in both. Rows are steps of a scenario, which goes on up to the next one. One that begins with `bus` is played
-//! by the daemon's own hosts over sockets in memory; [`scene`] says what a row of it may ask. One that begins with `engine` is about an
-//! engine alone, which no host serves; [`engine_scene`] says what a row of it may ask.
+//! A row is a line of standard input, and the line of the same number answers it with all that it
+//! brought; `-` is nothing. Empty lines and headings (`#`) stand in both. Rows are steps of a
+//! scenario, which goes on up to the next one. One that begins with `bus` is played by the daemon's
+//! own hosts over sockets in memory; [`scene`] says what a row of it may ask. One that begins with
+//! `engine` is about an engine alone, which no host serves; [`engine_scene`] says what a row of it
+//! may ask.
 //!
-//! - `bus plain N`, `bus registry N`: a bus of N routers, as one thread has it or as several share it. The plain one has one router, which
-//!   has the places of one of N. `bus both N`: each of the two, one after the other, which must answer the same.
-//! - `login`, in the next row: connections may be asked who they are, and the user is `alice`. `login anonymous`: anybody may come in.
-//! - `watch`, in a later row: where a call is shown that requests or releases a name, it is told whether the name has an owner then. Only
-//!   the registry's first router looks.
-//! - `again`: the scenario is played again byte by byte, and must answer the same. `again cut N`: also by the plain bus with the bytes of
-//!   each row in two pieces, for each length of the first up to N.
+//! - `bus plain N`, `bus registry N`: a bus of N routers, as one thread has it or as several share
+//!   it. The plain one has one router, which has the places of one of N. `bus both N`: each of the
+//!   two, one after the other, which must answer the same.
+//! - `login`, in the next row: connections may be asked who they are, and the user is `alice`.
+//!   `login anonymous`: anybody may come in.
+//! - `watch`, in a later row: where a call is shown that requests or releases a name, it is told
+//!   whether the name has an owner then. Only the registry's first router looks.
+//! - `again`: the scenario is played again byte by byte, and must answer the same. `again cut N`:
+//!   also by the plain bus with the bytes of each row in two pieces, for each length of the first
+//!   up to N.
 #![tactic(auto)]
 
 mod client;
@@ -34,7 +39,8 @@ use std::alloc::Global;
 use std::io::{BufRead, BufReader};
 use std::sync::Wait;
 
-/// The answers of the bus that the scenario asks for, or of each of the two, which must be the same.
+/// The answers of the bus that the scenario asks for, or of each of the two, which must be the
+/// same.
 fn answers<R: Wait>(rt: &R, alloc: Global, scenario: Scenario<'_>) -> Result<String> {
     match scenario.view {
         View::Plain => plain_bus::play(alloc, scenario),

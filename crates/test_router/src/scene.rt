@@ -1,16 +1,22 @@
 //! The stage on which a scenario is played: the routers of a bus, and their clients.
 //!
-//! A client stands as its name. Each row is done to its end: until no router has anything left to do.
+//! A client stands as its name. Each row is done to its end: until no router has anything left to
+//! do.
 //!
-//! - `open A [at N] [asked]`: a client comes to router N, which is 1 where none is named, and may be asked who it is.
-//! - `crowd N [at N]`: so many come and send nothing. `crowd N [at N] hello`: so many come and say Hello, and that is told how many are
-//!   answered a reply. What comes to them later is not told, but for the end of a connection.
+//! - `open A [at N] [asked]`: a client comes to router N, which is 1 where none is named, and may
+//!   be asked who it is.
+//! - `crowd N [at N]`: so many come and send nothing. `crowd N [at N] hello`: so many come and say
+//!   Hello, and that is told how many are answered a reply. What comes to them later is not told,
+//!   but for the end of a connection.
 //! - `A hello`: it sends the call of Hello with serial 1.
-//! - `A calls SERIAL MEMBER [SIGNATURE ARGUMENT..]`: it calls a method of the bus. An array of texts is written as their count and they.
-//! - `A sends TYPE SERIAL [FIELD VALUE ..] [args SIGNATURE ARGUMENT..]`: it sends any message; fields are `path`, `interface`, `member`,
-//!   `name` (of an error), `to`, `from`, `answers` (a serial), `flags`, and `order big`.
+//! - `A calls SERIAL MEMBER [SIGNATURE ARGUMENT..]`: it calls a method of the bus. An array of
+//!   texts is written as their count and they.
+//! - `A sends TYPE SERIAL [FIELD VALUE ..] [args SIGNATURE ARGUMENT..]`: it sends any message;
+//!   fields are `path`, `interface`, `member`, `name` (of an error), `to`, `from`, `answers` (a
+//!   serial), `flags`, and `order big`.
 //! - `A writes BYTES`: it sends bytes, written as in Rust's literals.
-//! - `A takes N`, `A takes all`: its socket takes so many bytes more. `A fails after N`: behind so many it can't be written any more.
+//! - `A takes N`, `A takes all`: its socket takes so many bytes more. `A fails after N`: behind so
+//!   many it can't be written any more.
 //! - `A ends`: it sends no more. `A breaks`: its socket can't be read any more.
 //! - `tick`: time passes.
 //! - `N times ROW`: the row is done so many times.
@@ -347,7 +353,8 @@ impl<V: BusView, G: Gate, P: Post<V>> Scene<V, G, P> {
         self.drive(right)
     }
 
-    /// The routers take turns until none has anything left to do, and once more, for the mail that the last of them brought the first.
+    /// The routers take turns until none has anything left to do, and once more, for the mail that
+    /// the last of them brought the first.
     fn drive(&mut self, right: &V::Right) -> Result<()> {
         let mut was_quiet = false;
         for _turn in 0..MOST_TURNS {

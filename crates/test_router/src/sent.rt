@@ -44,7 +44,8 @@ pub fn call(alloc: Global, mut words: Words<'_>) -> Result<Vec<u8>> {
     bytes_of(alloc, &header, words)
 }
 
-/// `TYPE SERIAL [FIELD VALUE ..] [args SIGNATURE ARGUMENT..]`: the bytes of any message. `bus` stands for the name of the bus.
+/// `TYPE SERIAL [FIELD VALUE ..] [args SIGNATURE ARGUMENT..]`: the bytes of any message. `bus`
+/// stands for the name of the bus.
 pub fn message(alloc: Global, mut words: Words<'_>) -> Result<Vec<u8>> {
     let kind = match words.next() {
         "call" => MessageKind::MethodCall,

@@ -14,8 +14,8 @@ const BUS_PATH: &str = "/org/freedesktop/DBus";
 
 const ERRORS: &str = "org.freedesktop.DBus.Error.";
 
-/// Whether a message is as the bus writes its own: little-endian, not to be replied to, and, where it is a signal, from the bus's object
-/// and of its interface. Then these are not told.
+/// Whether a message is as the bus writes its own: little-endian, not to be replied to, and, where
+/// it is a signal, from the bus's object and of its interface. Then these are not told.
 fn is_own(message: &Message) -> bool {
     let is_at_home = message.path() == Some(BUS_PATH) && message.interface() == Some(BUS);
     let is_plain = message.path().is_none() && message.interface().is_none();
@@ -59,8 +59,9 @@ fn put_origin(message: &Message, text: &mut String) -> Result<()> {
     Ok(())
 }
 
-/// A message: what it is and its serial, its member, what it replies to, whom it is for, its signature and its arguments. All else is
-/// told of messages that are not as the bus writes its own.
+/// A message: what it is and its serial, its member, what it replies to, whom it is for, its
+/// signature and its arguments. All else is told of messages that are not as the bus writes its
+/// own.
 pub fn put_message(alloc: Global, message: &Message, text: &mut String) -> Result<()> {
     put_kind(message, text)?;
     if !is_own(message) {
@@ -100,7 +101,8 @@ pub fn put_bytes(alloc: Global, bytes: &[u8], text: &mut String) -> Result<()> {
     Ok(())
 }
 
-/// What rules see of a message of the bus itself that has no serial yet: its type, whom it is for, and its arguments.
+/// What rules see of a message of the bus itself that has no serial yet: its type, whom it is for,
+/// and its arguments.
 pub fn put_own(message: &BusMessage, text: &mut String) -> Result<()> {
     let names = message.names();
     let arguments = message.arguments(&names);

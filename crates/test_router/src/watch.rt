@@ -73,7 +73,8 @@ impl<'b, J: Naming, R: Wait> Lookout<'b, J, R> {
     }
 }
 
-/// Lets each call pass. Where it has a lookout, it looks whether the name has an owner that a call requests or releases.
+/// Lets each call pass. Where it has a lookout, it looks whether the name has an owner that a call
+/// requests or releases.
 #[derive(Drop)]
 pub struct Watch<'b, J: Naming, R: Wait> {
     pub alloc: Global,

@@ -58,7 +58,8 @@ impl<'a, R: Clock> Gate for HoldingGate<'a, R> {
     }
 }
 
-/// Seat 1's second call is held until seat 2, whose second call is answered meanwhile, is asked for its third.
+/// Seat 1's second call is held until seat 2, whose second call is answered meanwhile, is asked for
+/// its third.
 const GATED: Scenario = Scenario {
     rooms: &[1_000_000, 1_000_000],
     steps: &[

@@ -1,8 +1,9 @@
 //! Routers of one bus in threads of their own, over sockets in memory.
 //!
-//! A scenario says what happens to each router, step by step: clients connect, send something, hang up; a step may wait
-//! until another client received something. It is run by `routers::serve`, and what each client received is told. No step
-//! waits for a clock, but a bus that gets no further fails after twenty seconds.
+//! A scenario says what happens to each router, step by step: clients connect, send something, hang
+//! up; a step may wait until another client received something. It is run by `routers::serve`, and
+//! what each client received is told. No step waits for a clock, but a bus that gets no further
+//! fails after twenty seconds.
 #![tactic(auto)]
 
 #[cfg(test)]

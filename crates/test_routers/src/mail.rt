@@ -101,7 +101,8 @@ client 1
 4 org.freedesktop.DBus NameOwnerChanged com.example.A  :1.1
 ";
 
-/// 256 envelopes wait for a client that does not read. The next is one too many: the client is put out, and others are told.
+/// 256 envelopes wait for a client that does not read. The next is one too many: the client is put
+/// out, and others are told.
 const SLOW: Scenario = Scenario {
     rooms: &[GREETING, ROOM, ROOM],
     steps: &[

@@ -23,7 +23,8 @@ use std::thread::Threads;
 /// What is told of a scenario.
 #[derive(Drop)]
 pub(crate) struct Played {
-    /// What each client was written, why connections are over, and the fault that the bus ended with.
+    /// What each client was written, why connections are over, and the fault that the bus ended
+    /// with.
     pub(crate) told: String,
     /// The lines that routers recorded.
     pub(crate) trace: String,

@@ -76,7 +76,8 @@ pub(crate) struct Scenario {
     pub(crate) rooms: &'static [usize],
     /// What happens to each router.
     pub(crate) steps: &'static [&'static [Step]],
-    /// When the main thread stops the bus. Where there is no condition, the routers end by themselves.
+    /// When the main thread stops the bus. Where there is no condition, the routers end by
+    /// themselves.
     pub(crate) stops: &'static [Condition],
     /// Whether the second call of seat 1 is held until the third of seat 2.
     pub(crate) holds: bool,

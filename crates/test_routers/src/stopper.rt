@@ -6,7 +6,8 @@ use routers::{Coordinator, Fault, MainTask};
 use std::rt::Clock;
 use std::sync::Wait;
 
-/// Stops the bus once all conditions hold, or ends when it is woken. Where there is no condition it ends at once.
+/// Stops the bus once all conditions hold, or ends when it is woken. Where there is no condition it
+/// ends at once.
 #[derive(Drop)]
 pub(crate) struct Stopper<'a, 'c, R: Clock> {
     pub(crate) clock: &'a R,

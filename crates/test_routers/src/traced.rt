@@ -12,9 +12,10 @@ const ROOM: usize = 1_000_000;
 /// All clients have hung up.
 const ALL_OVER: Step = Step::Awaits(Condition::Over(4));
 
-/// Forty events, ten at the client of each of four routers. It comes once the one before has its name, says Hello, sends something seven
-/// times, and hangs up. Behind an event stands which lines it brings: c is a change, q a query, m a message that goes somewhere. A reply
-/// of the bus is a message too; to come brings none.
+/// Forty events, ten at the client of each of four routers. It comes once the one before has its
+/// name, says Hello, sends something seven times, and hangs up. Behind an event stands which lines
+/// it brings: c is a change, q a query, m a message that goes somewhere. A reply of the bus is a
+/// message too; to come brings none.
 const KNOWN_CALLS: Scenario = Scenario {
     rooms: &[ROOM, ROOM, ROOM, ROOM],
     steps: &[

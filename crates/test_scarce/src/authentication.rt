@@ -4,7 +4,8 @@ use sasl::{AuthenticationFault, Identity, KeyringFault, Progress, Server, read_k
 use std::alloc::{AllocError, Global};
 use std::sync::ArcStr;
 
-/// The pieces of a client, of which the second ends within a line and the last has a byte of a message.
+/// The pieces of a client, of which the second ends within a line and the last has a byte of a
+/// message.
 const PIECES: [&[u8]; 4] = [
     b"\0AUTH EXTERNAL 31303030\r\nAUTH DBUS_COOKIE_SHA1\r\n",
     b"DATA 616c696365\r\nDATA 61626364203332653731",
@@ -21,7 +22,8 @@ fn stays_closed(server: &mut Server) -> bool {
     step.sent.is_empty() && step.progress == Progress::Closed(AuthenticationFault::NoMemory)
 }
 
-/// Whether the client is let in; an error where memory was refused, and all calls said so. What the server sends is appended.
+/// Whether the client is let in; an error where memory was refused, and all calls said so. What the
+/// server sends is appended.
 fn converse(server: &mut Server, sent: &mut Vec<u8>) -> Result<bool, AllocError> {
     let mut is_done = false;
     for piece in PIECES {

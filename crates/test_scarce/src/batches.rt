@@ -13,7 +13,8 @@ use seq_bus_core::{
 use std::alloc::{AllocError, Global};
 use std::sync::Arc;
 
-/// What a connection does, which stands as its number. It calls a service, and its rules are those of all messages.
+/// What a connection does, which stands as its number. It calls a service, and its rules are those
+/// of all messages.
 #[derive(Clone, Copy)]
 enum Deed {
     Hello,
@@ -29,7 +30,8 @@ enum Deed {
     TimedOut(u64),
 }
 
-/// A deed, its reply, the start that it asks for, and the calls that it lets go: the number and the bytes of each.
+/// A deed, its reply, the start that it asks for, and the calls that it lets go: the number and the
+/// bytes of each.
 type Row = (Deed, Reply, Option<u64>, &'static [(u64, &'static [u8])]);
 
 /// The service.
@@ -165,7 +167,8 @@ fn told(alloc: Global, bus: &mut SeqBus, deed: Deed) -> Option<Outcome> {
     }
 }
 
-/// What the batch is told. Where it is refused it is made again, and till then all that the bus tells is as it was.
+/// What the batch is told. Where it is refused it is made again, and till then all that the bus
+/// tells is as it was.
 fn told_at_once(alloc: Global, bus: &mut SeqBus) -> Option<Vec<Outcome>> {
     let changes = match batch(alloc) {
         Some(changes) => changes,

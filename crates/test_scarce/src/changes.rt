@@ -9,8 +9,8 @@ use std::alloc::{AllocError, Global};
 /// How many changes are made. Their places are counted from 0.
 pub const CHANGES: u8 = 11;
 
-/// The places of the changes that are made once more at the end, as a batch: a connection comes, and the first gives up the name
-/// and takes it again.
+/// The places of the changes that are made once more at the end, as a batch: a connection comes,
+/// and the first gives up the name and takes it again.
 const AGAIN: [u8; 3] = [1, 9, 10];
 
 /// The first connection, served by the first router.
@@ -81,7 +81,8 @@ pub fn batch(alloc: Global, name: BusName) -> Option<Vec<Change>> {
     }
 }
 
-/// Whether the changes of the batch have their replies, where this is the connection that comes by it.
+/// Whether the changes of the batch have their replies, where this is the connection that comes by
+/// it.
 pub fn are_replied(outcomes: &[Outcome], third: Conn) -> bool {
     outcomes
         .iter()

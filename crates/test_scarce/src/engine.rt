@@ -15,7 +15,8 @@ use test_support::messages::HELLO;
 /// An engine of a plain bus.
 pub type Plain = Engine<SeqBus, OpenGate>;
 
-/// Whether calls wait as they should, whether several messages are served so in one turn, and whether connections leave so.
+/// Whether calls wait as they should, whether several messages are served so in one turn, and
+/// whether connections leave so.
 pub fn serves(alloc: Global) -> (bool, bool, bool) {
     let Some(mut engine) = opened(alloc) else {
         return (false, false, false);

@@ -14,7 +14,8 @@ use test_support::messages::{ACQUIRED, GET_NAME_OWNER, HELLO, OWNER, WELCOME};
 /// How many bytes a socket takes at most.
 const ROOM: usize = 2048;
 
-/// A socket whose other side sends these pieces, one a read, and takes what is written without memory.
+/// A socket whose other side sends these pieces, one a read, and takes what is written without
+/// memory.
 #[derive(Drop)]
 struct Script {
     pieces: &'static [&'static [u8]],
@@ -129,8 +130,8 @@ fn both_served(alloc: Global) -> Result<(bool, bool), AllocError> {
     served
 }
 
-/// Whether a host serves two clients as it should: where memory is refused while it serves one, that one may be told so, and
-/// the other is served; and a host that is opened then serves both.
+/// Whether a host serves two clients as it should: where memory is refused while it serves one,
+/// that one may be told so, and the other is served; and a host that is opened then serves both.
 pub fn are_served(alloc: Global) -> bool {
     match both_served(alloc) {
         Ok((true, true)) => true,

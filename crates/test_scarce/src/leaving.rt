@@ -4,8 +4,9 @@ use crate::engine::{Plain, brought, greet};
 use router_core::{Action, CloseCause, Event};
 use std::alloc::Global;
 
-/// Whether the client is put out, once, and whether the next one leaves when it is gone: a Leave that there is no memory for is made at the
-/// next tick. Where nothing is due, a tick takes no memory.
+/// Whether the client is put out, once, and whether the next one leaves when it is gone: a Leave
+/// that there is no memory for is made at the next tick. Where nothing is due, a tick takes no
+/// memory.
 pub fn are_gone(engine: &mut Plain, alloc: Global) -> Option<bool> {
     brought(engine, Event::Full { number: 1 })?;
     let is_put_out = is_put_out(engine)?;
@@ -17,7 +18,8 @@ pub fn are_gone(engine: &mut Plain, alloc: Global) -> Option<bool> {
     Some(is_put_out && is_still && first_is_gone && has_come && second_is_gone)
 }
 
-/// Whether the last that a tick does is to close the client, which has left; before that its Leave may be told.
+/// Whether the last that a tick does is to close the client, which has left; before that its Leave
+/// may be told.
 fn is_put_out(engine: &mut Plain) -> Option<bool> {
     let actions = brought(engine, Event::Tick)?;
     let is_put_out = match actions.last() {

@@ -1,11 +1,13 @@
 //! What calls answer where memory is refused.
 //!
-//! The program reads and writes bodies and messages, lets a client in, opens a plain bus and a registry of two routers with
-//! its outboxes, makes the same changes and a batch on both buses, and on a plain bus a batch of rules, calls that wait and
-//! monitors, starts services in a registry, lets calls wait for a service in an engine, serves messages in one turn of it,
-//! lets its clients go, and serves clients as the host of a router. It says of each whether the calls answered as they should: with what was
-//! wanted; or that memory ran out, all as it was before, and with what was wanted once they are made again. It prints the
-//! same whichever one allocation is refused: `make memory` refuses each in turn.
+//! The program reads and writes bodies and messages, lets a client in, opens a plain bus and a
+//! registry of two routers with its outboxes, makes the same changes and a batch on both buses, and
+//! on a plain bus a batch of rules, calls that wait and monitors, starts services in a registry,
+//! lets calls wait for a service in an engine, serves messages in one turn of it, lets its clients
+//! go, and serves clients as the host of a router. It says of each whether the calls answered as
+//! they should: with what was wanted; or that memory ran out, all as it was before, and with what
+//! was wanted once they are made again. It prints the same whichever one allocation is refused:
+//! `make memory` refuses each in turn.
 #![tactic(auto)]
 
 mod authentication;

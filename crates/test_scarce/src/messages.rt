@@ -24,8 +24,8 @@ const NUMBER: &[u8] =
     b"l\x02\x01\x01\x04\0\0\0\x03\0\0\0?\0\0\0\x05\x01u\0\x02\0\0\0\x06\x01s\0\x04\0\0\0:1.1\0\0\0\0\
     \x07\x01s\0\x14\0\0\0org.freedesktop.DBus\0\0\0\0\x08\x01g\0\x01u\0\0\x01\0\0\0";
 
-/// The message that the bytes are, in pieces. A call that is refused is made again; nothing else may
-/// be told.
+/// The message that the bytes are, in pieces. A call that is refused is made again; nothing else
+/// may be told.
 fn framed(framer: &mut Framer, bytes: &[u8]) -> Option<Message> {
     for piece in bytes.chunks(50) {
         if framer.feed(piece).is_err() {

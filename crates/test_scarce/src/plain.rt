@@ -91,7 +91,8 @@ fn made(bus: &mut SeqBus, change: Change) -> Option<Reply> {
     }
 }
 
-/// Whether the changes of the batch have their replies. One that is refused is made again, and till then the bus is as it was.
+/// Whether the changes of the batch have their replies. One that is refused is made again, and till
+/// then the bus is as it was.
 fn are_made(alloc: Global, bus: &mut SeqBus, name: BusName) -> Option<bool> {
     let changes = batch(alloc, name)?;
     let length = bus.history().len();

@@ -85,7 +85,8 @@ fn are_made<J: Naming, R: Wait>(
     are_made_at_once(rt, alloc, shared, &first, &mut second, &clock)
 }
 
-/// Whether a batch of the second seat, which sees what the first saw, is told and seen as it should be.
+/// Whether a batch of the second seat, which sees what the first saw, is told and seen as it should
+/// be.
 fn are_made_at_once<J: Naming, R: Wait>(
     rt: &R,
     alloc: Global,
@@ -103,8 +104,8 @@ fn are_made_at_once<J: Naming, R: Wait>(
     Some(are_told && shown(second, name)? == before && second.present(3).ok()?)
 }
 
-/// Whether the changes of a batch have their replies. One that is refused is made again, and till then the seat reads what it read
-/// before.
+/// Whether the changes of a batch have their replies. One that is refused is made again, and till
+/// then the seat reads what it read before.
 fn told_at_once<J: Naming, R: Wait>(
     rt: &R,
     shared: &Shared<J>,
@@ -126,8 +127,8 @@ fn told_at_once<J: Naming, R: Wait>(
     }
 }
 
-/// The reply to a change at a seat that sees what the other saw. One that is refused is made again, and till then the seat
-/// reads what it read before.
+/// The reply to a change at a seat that sees what the other saw. One that is refused is made again,
+/// and till then the seat reads what it read before.
 fn made<J: Naming, R: Wait>(
     rt: &R,
     shared: &Shared<J>,
@@ -152,7 +153,8 @@ fn made<J: Naming, R: Wait>(
     }
 }
 
-/// Whether the two connections are there, who owns the name, how many stand in its queue, and whether the second has a rule.
+/// Whether the two connections are there, who owns the name, how many stand in its queue, and
+/// whether the second has a rule.
 fn shown<J: Naming>(
     seat: &mut Seat<J>,
     name: &BusName,

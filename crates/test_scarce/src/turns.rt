@@ -7,12 +7,14 @@ use seq_bus_core::ErrorKind;
 use seq_bus_core::limits::MAX_BATCH;
 use std::alloc::Global;
 
-/// Calls with the serials 2 to 5, put together by hand: AddMatch of `type='signal'` twice, GetNameOwner of `:1.1` big-endian, AddMatch again.
+/// Calls with the serials 2 to 5, put together by hand: AddMatch of `type='signal'` twice,
+/// GetNameOwner of `:1.1` big-endian, AddMatch again.
 const CALLS: &[u8] =
     b"l\x01\0\x01\x12\0\0\0\x02\0\0\0\x7f\0\0\0\x01\x01o\0\x15\0\0\0/org/freedesktop/DBus\0\0\0\x02\x01s\0\x14\0\0\0org.freedesktop.DBus\0\0\0\0\x03\x01s\0\x08\0\0\0AddMatch\0\0\0\0\0\0\0\0\x06\x01s\0\x14\0\0\0org.freedesktop.DBus\0\0\0\0\x08\x01g\0\x01s\0\0\x0d\0\0\0type='signal'\0l\x01\0\x01\x12\0\0\0\x03\0\0\0\x7f\0\0\0\x01\x01o\0\x15\0\0\0/org/freedesktop/DBus\0\0\0\x02\x01s\0\x14\0\0\0org.freedesktop.DBus\0\0\0\0\x03\x01s\0\x08\0\0\0AddMatch\0\0\0\0\0\0\0\0\x06\x01s\0\x14\0\0\0org.freedesktop.DBus\0\0\0\0\x08\x01g\0\x01s\0\0\x0d\0\0\0type='signal'\0B\x01\0\x01\0\0\0\x09\0\0\0\x04\0\0\0\x7f\x01\x01o\0\0\0\0\x15/org/freedesktop/DBus\0\0\0\x02\x01s\0\0\0\0\x14org.freedesktop.DBus\0\0\0\0\x03\x01s\0\0\0\0\x0cGetNameOwner\0\0\0\0\x06\x01s\0\0\0\0\x14org.freedesktop.DBus\0\0\0\0\x08\x01g\0\x01s\0\0\0\0\0\x04:1.1\0l\x01\0\x01\x12\0\0\0\x05\0\0\0\x7f\0\0\0\x01\x01o\0\x15\0\0\0/org/freedesktop/DBus\0\0\0\x02\x01s\0\x14\0\0\0org.freedesktop.DBus\0\0\0\0\x03\x01s\0\x08\0\0\0AddMatch\0\0\0\0\0\0\0\0\x06\x01s\0\x14\0\0\0org.freedesktop.DBus\0\0\0\0\x08\x01g\0\x01s\0\0\x0d\0\0\0type='signal'\0";
 
-/// Whether two turns serve the calls, which are answered in order, each once: a turn that there is memory for serves the first of those that
-/// are left, and the second finds calls only where memory ran out in the first.
+/// Whether two turns serve the calls, which are answered in order, each once: a turn that there is
+/// memory for serves the first of those that are left, and the second finds calls only where memory
+/// ran out in the first.
 pub fn are_served(engine: &mut Plain, alloc: Global) -> Option<bool> {
     feed(engine, alloc, CALLS)?;
     let mut serial = 2;
@@ -24,7 +26,8 @@ pub fn are_served(engine: &mut Plain, alloc: Global) -> Option<bool> {
     Some(serial == 6 && !engine.has_next(0))
 }
 
-/// The serial of the call that is left first by a turn that begins with this one; none where it is not served.
+/// The serial of the call that is left first by a turn that begins with this one; none where it is
+/// not served.
 fn behind_turn(engine: &mut Plain, alloc: Global, first: u32) -> Option<u32> {
     match turn(engine, alloc) {
         Some(actions) => behind(&actions, first),
@@ -41,7 +44,8 @@ fn turn(engine: &mut Plain, alloc: Global) -> Option<Vec<Action<()>>> {
     engine.event(&(), &mut Event::Turn { keys }).ok()
 }
 
-/// The serial behind those of the calls that are answered, which are one or more, in order from this one on.
+/// The serial behind those of the calls that are answered, which are one or more, in order from
+/// this one on.
 fn behind(actions: &[Action<()>], first: u32) -> Option<u32> {
     let mut serial = first;
     for action in actions {

@@ -19,8 +19,8 @@ enum Told {
     Other,
 }
 
-/// Whether a call waits whose service is run, is answered why it did not come, and may then wait once more. A call that there is no memory
-/// for is answered so, and sent again.
+/// Whether a call waits whose service is run, is answered why it did not come, and may then wait
+/// once more. A call that there is no memory for is answered so, and sent again.
 pub fn are_answered(engine: &mut Plain, alloc: Global) -> Option<bool> {
     Some(
         waits(engine, alloc)? == Told::Runs(1)
@@ -37,7 +37,8 @@ fn waits(engine: &mut Plain, alloc: Global) -> Option<Told> {
     }
 }
 
-/// What is done where the program of the first start fails. The end of a start that there is no memory for is handed back.
+/// What is done where the program of the first start fails. The end of a start that there is no
+/// memory for is handed back.
 fn ends(engine: &mut Plain, alloc: Global) -> Option<Told> {
     let end = StartEnd {
         name: clock()?,

@@ -87,7 +87,8 @@ enum Act {
     Note,
 }
 
-/// How much of the history a desk has seen, how many changes it made, and the place of the last of them.
+/// How much of the history a desk has seen, how many changes it made, and the place of the last of
+/// them.
 type Standing = (u64, u64, u64);
 
 /// What is done at which desk, and where the two stand then.

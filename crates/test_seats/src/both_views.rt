@@ -19,8 +19,8 @@ const SINGLE: u8 = 7;
 /// How many are made, those of the batch behind the others.
 const ALL: u8 = 11;
 
-/// What is told of each change, and then of the names: two calls wait for the service, a connection becomes a monitor, and a
-/// batch brings the service's owner.
+/// What is told of each change, and then of the names: two calls wait for the service, a connection
+/// becomes a monitor, and a batch brings the service's owner.
 const LINES: &str = "\
 c 1 1 1 hello 0 => r=1 g=noc/:1.1/-/1/-/-,acq/:1.1/1/- t=- b=-
 c 2 1 2 hello 0 => r=2 g=noc/:1.2/-/2/-/-,acq/:1.2/2/- t=- b=-

@@ -22,7 +22,8 @@ const SECOND: Conn = Conn {
     router: 2,
 };
 
-/// Makes a change. One that is refused for want of memory leaves the desk as it was, and is made when it is tried once more.
+/// Makes a change. One that is refused for want of memory leaves the desk as it was, and is made
+/// when it is tried once more.
 fn make<J: Naming, R: Wait>(
     rt: &R,
     desk: &mut Desk<'_, J, R>,

@@ -1,5 +1,6 @@
-//! The way of a message, from bytes to bytes, over two seats of a shared registry: a thread makes each change with a seat
-//! of its own and tells of it in a note; whoever takes the note reads the bus with another seat.
+//! The way of a message, from bytes to bytes, over two seats of a shared registry: a thread makes
+//! each change with a seat of its own and tells of it in a note; whoever takes the note reads the
+//! bus with another seat.
 
 ghost use Rattle.std.specs.Prelude.{◌≡◌, ◌<◌, [], IfOk};
 ghost use Rattle.owner_queues.specs.declared.request.Profile.TheVariants.{Two};
@@ -196,8 +197,8 @@ fn listen<J: Naming + Send + Sync, R: Threads + Wait + Sync>(
     reply(3, &call, conn, ReplyBody::Empty, &mut client.out)
 }
 
-/// A client says Hello, adds a rule and sends a signal, which comes back to it. A thread makes the changes, and what
-/// is read is read here.
+/// A client says Hello, adds a rule and sends a signal, which comes back to it. A thread makes the
+/// changes, and what is read is read here.
 fn serve<J: Naming + Send + Sync, R: Threads + Wait + Sync>(
     rt: &R,
     alloc: Global,

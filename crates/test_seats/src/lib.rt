@@ -1,5 +1,5 @@
-//! A registry that several routers share: its seats, and the desks over them, one after the other and in threads of
-//! their own. A run that one refused allocation has changed is played once more.
+//! A registry that several routers share: its seats, and the desks over them, one after the other
+//! and in threads of their own. A run that one refused allocation has changed is played once more.
 #![tactic(auto)]
 
 #[cfg(test)]

@@ -1,4 +1,5 @@
-//! Runs in which a connection becomes a monitor at the seat of one router, and is shown what both route.
+//! Runs in which a connection becomes a monitor at the seat of one router, and is shown what both
+//! route.
 
 use crate::rows::{
     A, Addressed, Deed, FIRST, FIRST_COMES, NOBODY, OWNED, Router, Row, SECOND, SECOND_COMES,
@@ -35,7 +36,8 @@ const FIRST_WATCHES: &[Addressed] = &[
     (Signal::Passed(":1.1", Some(1), None), NOBODY, &[FIRST]),
 ];
 
-/// What it brings that the second connection becomes a monitor, which owns a name that the first waits for.
+/// What it brings that the second connection becomes a monitor, which owns a name that the first
+/// waits for.
 const OWNER_WATCHES: &[Addressed] = &[
     (Signal::Lost(A, 2), &[SECOND], NOBODY),
     (Signal::Passed(A, Some(2), Some(1)), NOBODY, &[SECOND]),

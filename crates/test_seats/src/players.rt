@@ -19,7 +19,8 @@ enum Play {
     Rows(&'static [Row]),
     /// A seat is told of a connection, and tells of another.
     Notes,
-    /// Each of sixteen connections takes 64 names and then one more, and another connection takes one more.
+    /// Each of sixteen connections takes 64 names and then one more, and another connection takes
+    /// one more.
     MostNames,
     /// Two connections take a hundred names, in another order than that of their bytes.
     NamesInOrder,

@@ -29,8 +29,9 @@ fn make<J: Naming, R: Wait>(
     (seat, made)
 }
 
-/// Makes a change with this seat in a thread of its own, under the lock of the registry. The thread ends with the seat,
-/// the outcome and a note that tells of the change, or with the change that was refused, and the seat as it was.
+/// Makes a change with this seat in a thread of its own, under the lock of the registry. The thread
+/// ends with the seat, the outcome and a note that tells of the change, or with the change that was
+/// refused, and the seat as it was.
 pub(crate) fn publish<J: Naming + Send + Sync, R: Threads + Wait + Sync>(
     rt: &R,
     shared: &Shared<J>,
@@ -46,8 +47,9 @@ pub(crate) fn publish<J: Naming + Send + Sync, R: Threads + Wait + Sync>(
     join(rt, move || make(rt, shared, seat, change), || ()).0
 }
 
-/// Makes a change with a seat in a thread of its own, and tells another seat of it: from then on that one sees the
-/// change, and all that the first had seen. Refused, the change is handed back and neither has seen more.
+/// Makes a change with a seat in a thread of its own, and tells another seat of it: from then on
+/// that one sees the change, and all that the first had seen. Refused, the change is handed back
+/// and neither has seen more.
 pub(crate) fn publish_to<J: Naming + Send + Sync, R: Threads + Wait + Sync>(
     rt: &R,
     shared: &Shared<J>,

@@ -10,7 +10,8 @@ use seq_bus_core::{
 use std::alloc::Global;
 use std::sync::Wait;
 
-/// A change. A connection stands as its number, a name and a rule as their texts, and flags as in a message.
+/// A change. A connection stands as its number, a name and a rule as their texts, and flags as in a
+/// message.
 #[derive(Clone, Copy)]
 pub(crate) enum Deed<'a> {
     Hello,

@@ -48,7 +48,8 @@ fn call_to(name: &UniqueName) -> Facts<'_> {
     }
 }
 
-/// Makes a Hello, and routes a call of the new connection to itself: its number, if nothing was refused.
+/// Makes a Hello, and routes a call of the new connection to itself: its number, if nothing was
+/// refused.
 fn greet<J: Naming, R: Wait>(rt: &R, seat: &mut Seat<J>, shared: &Shared<J>) -> Option<u64> {
     let change = Change::Hello { privileged: false };
     let (outcome, _) = seat.change(rt, shared, change).ok()?;

@@ -1,4 +1,5 @@
-//! Calls that wait for a service, made at the seats of two routers. Each seat is told what the other has made.
+//! Calls that wait for a service, made at the seats of two routers. Each seat is told what the
+//! other has made.
 
 use crate::rows::Router;
 use bus_view::Cause;
@@ -31,10 +32,12 @@ enum Deed {
     TimedOut(u64),
 }
 
-/// A ticket that is settled: what became of it, its number, its caller, and the serial and the bytes of the call.
+/// A ticket that is settled: what became of it, its number, its caller, and the serial and the
+/// bytes of the call.
 type Settled = (Fate, u64, Conn, u32, Option<&'static [u8]>);
 
-/// The router of a deed, and what it is told: the reply, the start that is asked for, and the tickets.
+/// The router of a deed, and what it is told: the reply, the start that is asked for, and the
+/// tickets.
 type Row = (Router, Deed, Reply, Option<u64>, &'static [Settled]);
 
 struct Run {
@@ -307,9 +310,9 @@ fn settles(outcome: &Outcome, expected: &[Settled]) -> bool {
             .all(|(settled, ticket)| carries(settled, ticket))
 }
 
-/// Makes a change, of which the other seat is told: what it is told. One that is refused for want of memory leaves the seat
-/// as it was and is handed back, and what it is told once it is made shows nothing of the refusal: a call that waits has
-/// the ticket's number that it would have had.
+/// Makes a change, of which the other seat is told: what it is told. One that is refused for want
+/// of memory leaves the seat as it was and is handed back, and what it is told once it is made
+/// shows nothing of the refusal: a call that waits has the ticket's number that it would have had.
 fn make<J: Naming, R: Wait>(
     rt: &R,
     shared: &Shared<J>,

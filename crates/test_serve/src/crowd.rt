@@ -11,7 +11,8 @@ const UNNAMED: usize = 64;
 /// How many times as many a bus may have with a name.
 const ROUNDS: usize = 4;
 
-/// So many clients as may be without a name are let in, and one more is not. They get their names then.
+/// So many clients as may be without a name are let in, and one more is not. They get their names
+/// then.
 fn round<R: Net>(rt: &R, alloc: Global, path: &str, named: &mut Vec<Client>) -> Result<(), Wrong> {
     let mut unnamed = Vec::new(alloc);
     for _ in 0..UNNAMED {

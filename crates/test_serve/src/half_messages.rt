@@ -16,7 +16,8 @@ const HALF: usize = 300_000;
 /// How many KiB the memory may grow by. All that they send is some 58,600 KiB.
 const GROWTH: u64 = 32_768;
 
-/// So many KiB has a process only where it is run with checks of its addresses, which keep what was let go.
+/// So many KiB has a process only where it is run with checks of its addresses, which keep what was
+/// let go.
 const CHECKED: u64 = 1_000_000_000;
 
 /// A signal with a body of 300,001 bytes, as far as the body.
