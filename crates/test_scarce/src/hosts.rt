@@ -15,12 +15,12 @@ use test_support::messages::{ACQUIRED, GET_NAME_OWNER, HELLO, OWNER, WELCOME};
 const ROOM: usize = 2048;
 
 /// A socket whose other side sends these pieces, one a read, and takes what is written without
-/// memory.
+/// memory. An empty piece is the end of what it sends.
 #[derive(Drop)]
-struct Script {
+pub struct Script {
     pieces: &'static [&'static [u8]],
     next: usize,
-    taken: Vec<u8>,
+    pub taken: Vec<u8>,
 }
 
 impl Script {
@@ -59,9 +59,10 @@ impl Socket for Script {
     }
 }
 
-type ScriptedHost = Host<SeqBus, OpenGate, LocalPost, Script>;
+pub type ScriptedHost = Host<SeqBus, OpenGate, LocalPost, Script>;
 
-fn open_host(alloc: Global) -> Result<ScriptedHost, AllocError> {
+/// A host of a bus without services.
+pub fn open_host(alloc: Global) -> Result<ScriptedHost, AllocError> {
     if !can_open(&[], 1) {
         return Err(AllocError);
     }
@@ -72,7 +73,7 @@ fn open_host(alloc: Global) -> Result<ScriptedHost, AllocError> {
 }
 
 /// Opens a connection, once more where there was no memory.
-fn open(
+pub fn open(
     host: &mut ScriptedHost,
     alloc: Global,
     pieces: &'static [&'static [u8]],

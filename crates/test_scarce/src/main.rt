@@ -4,10 +4,10 @@
 //! registry of two routers with its outboxes, makes the same changes and a batch on both buses, and
 //! on a plain bus a batch of rules, calls that wait and monitors, starts services in a registry,
 //! lets calls wait for a service in an engine, serves messages in one turn of it, lets its clients
-//! go, and serves clients as the host of a router. It says of each whether the calls answered as
-//! they should: with what was wanted; or that memory ran out, all as it was before, and with what
-//! was wanted once they are made again. It prints the same whichever one allocation is refused:
-//! `make memory` refuses each in turn.
+//! go, and as the host of a router serves clients and relays between them. It says of each whether
+//! the calls answered as they should: with what was wanted; or that memory ran out, all as it was
+//! before, and with what was wanted once they are made again. It prints the same whichever one
+//! allocation is refused: `make memory` refuses each in turn.
 #![tactic(auto)]
 
 mod authentication;
@@ -19,6 +19,7 @@ mod hosts;
 mod leaving;
 mod messages;
 mod plain;
+mod relays;
 mod seats;
 mod starts;
 mod turns;
@@ -97,6 +98,7 @@ fn main(rt: HostRuntime) -> io::Result<()> {
         ("messages in turn", in_turn),
         ("connections that leave", leaving),
         ("host", hosts::are_served(alloc)),
+        ("relays of a host", relays::are_relayed(alloc)),
     ] {
         println!(rt; "{what}: {}", told(is_answered))?;
     }
