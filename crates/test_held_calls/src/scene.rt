@@ -2,7 +2,7 @@
 
 use crate::waiting_calls::new_bus;
 use driver::ReplyTo;
-use outbox_core::{Content, BusMessage, ReplyContent};
+use outbox_core::{BusMessage, Content, ReplyContent};
 use router::Engine;
 use router_core::{Action, Event, OpenGate};
 use seq_bus::SeqBus;

@@ -35,7 +35,7 @@ use crate::words::Words;
 use anyhow::{Context, Result, bail, ensure};
 use bus_view::can_open;
 use names::WellKnown;
-use outbox_core::{Content, Deliveries, BusMessage};
+use outbox_core::{BusMessage, Content, Deliveries};
 use owner_queues::Profile;
 use router::Engine;
 use router_core::{Action, Addressees, Event, OpenGate};

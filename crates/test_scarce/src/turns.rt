@@ -1,7 +1,7 @@
 //! Several messages of a connection, which an engine serves in one turn.
 
 use crate::engine::{Plain, feed};
-use outbox_core::{Content, BusMessage};
+use outbox_core::{BusMessage, Content};
 use router_core::{Action, Event};
 use seq_bus_core::ErrorKind;
 use seq_bus_core::limits::MAX_BATCH;

@@ -2,7 +2,7 @@
 
 use crate::changes::clock;
 use crate::engine::{Plain, brought, send};
-use outbox_core::{Content, BusMessage};
+use outbox_core::{BusMessage, Content};
 use router_core::{Action, Event, HowEnded, StartEnd};
 use seq_bus_core::{Ending, ErrorKind};
 use std::alloc::Global;

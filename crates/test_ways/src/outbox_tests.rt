@@ -7,7 +7,7 @@ ghost use Rattle.seq_bus_core.specs.Tickets.{opening_bus};
 use crate::examples::comes_to_the_second;
 use outbox::{Full, Lane, Outboxes, Tap};
 use outbox_core::{Content, Envelope};
-use registry_snapshots::{Naming, Note, NewHistory, Shared};
+use registry_snapshots::{Naming, NewHistory, Note, Shared};
 use seq_bus_core::SharedBytes;
 use std::alloc::{AllocError, Global};
 use std::marker::Brand;
