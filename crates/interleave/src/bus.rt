@@ -83,7 +83,7 @@ impl SteppedBus {
         match question {
             Question::Ask(query) => {
                 let mut body = Vec::new(alloc);
-                let Ok(asked) = self.registry.ask(query, &mut body) else {
+                let Ok(asked) = self.registry.answer(query, &mut body) else {
                     return Err(AllocError);
                 };
                 Ok(Answer::Body { query, asked, body })

@@ -33,7 +33,7 @@ impl Snap {
         ensures fault { IfErr result (λ fault. fault ≡ AskNoMemory) }
         ensures unanswered { OnErr result (body.new.items ≡ body.old.items) }
     {
-        self.registry().ask(query, body)
+        self.registry().answer(query, body)
     }
 
     /// Where a message from this connection goes, 0 being the bus, and which monitors are shown it.

@@ -160,7 +160,7 @@ impl SeqBus {
         ensures unanswered { OnErr result (body.new.items ≡ body.old.items) }
         ensures unchanged { self.new ≡ self.old }
     {
-        self.registry.ask(query, body)
+        self.registry.answer(query, body)
     }
 
     /// Where a message from a connection goes, and which monitors are shown it. 0 is the bus.

@@ -218,10 +218,10 @@ impl Seated {
     /// Whether a query is answered this body, which is empty where the name has no owner.
     fn answers(&self, query: &Query, expected: &[u8]) -> bool {
         let mut body = Vec::new(self.alloc);
-        let asked = match self.registry.ask(query, &mut body) {
+        let asked = match self.registry.answer(query, &mut body) {
             Ok(asked) => Ok(asked),
             Err(_) if !body.is_empty() => return false,
-            Err(_) => self.registry.ask(query, &mut body),
+            Err(_) => self.registry.answer(query, &mut body),
         };
         asked == Ok(answer_of(expected)) && body.as_slice() == expected
     }

@@ -198,7 +198,7 @@ fn says(
         }
         (Answer::Body { asked, body, .. }, Some(Question::Ask(query))) => {
             let mut due = Vec::new(alloc);
-            let Ok(due_asked) = bus.ask(query, &mut due) else {
+            let Ok(due_asked) = bus.answer(query, &mut due) else {
                 return Err(AllocError);
             };
             *asked == due_asked && body.as_slice() == due.as_slice()

@@ -9,5 +9,5 @@ use Rattle.seq_bus.proofs.bus.SeqBus.ask.Goals as goal
 pub returns-clause-answered : goal.returns-clause-answered
 returns-clause-answered c =
     let now : (bus_now c.args.self.now).state ≡ c.self.inside.registry = ap (λ (b : PlainBus). (bus_now b).state) (sym c.self.view_is) ∙ c.self.invariant.now in
-    IfOk-weaker c.ask.result _ _
-    (λ asked h. subst (λ (b : BusState). Answers asked (answer b c.args.query.now) c.args.body.now.items c.ask.new.body.items) (sym now) h) c.ask.ensures.answered
+    IfOk-weaker c.answer.result _ _
+    (λ asked h. subst (λ (b : BusState). Answers asked (answer b c.args.query.now) c.args.body.now.items c.answer.new.body.items) (sym now) h) c.answer.ensures.answered
