@@ -29,19 +29,19 @@
 //! ```
 #![tactic(auto)]
 
-mod again;
 mod answer;
 mod bodies;
+mod cheap_copy;
 mod opening;
 mod refusal;
 mod view;
 
-pub use again::Again;
 pub use answer::{AskFault, Asked};
 pub use bodies::{
     append_name, append_owner, append_whether, begin_names, end_names, push_connection, push_name,
     undo_names,
 };
+pub use cheap_copy::CheapCopy;
 pub use opening::can_open;
 pub use refusal::{BatchCause, Cause, Gone, Refused, RefusedAll};
 pub use view::BusView;

@@ -14,8 +14,8 @@ ghost use Rattle.bus_view.specs.declared.answer.AskFault.TheVariants.{Gone as As
 ghost use Rattle.bus_view.specs.Views.{Knowledge, bus_seen, AreChanged, IsChanged, IsRead, IsUnread, IsNoted};
 ghost use Rattle.bus_view.specs.declared.refusal.Cause.TheVariants.{NoMemory};
 
-use crate::again::Again;
 use crate::answer::{AskFault, Asked};
+use crate::cheap_copy::CheapCopy;
 use crate::refusal::{BatchCause, Gone, Refused, RefusedAll};
 use match_rules::Facts;
 use seq_bus_core::{Change, Outcome, Query, Verdict};
@@ -28,7 +28,7 @@ pub trait BusView {
     ghost use Rattle.std.specs.Prelude.{Bool, ℕ};
 
     /// What is told to other views of the same bus: whoever takes it sees no less.
-    type Note: Again + Drop;
+    type Note: CheapCopy + Drop;
 
     /// What it takes to make changes.
     type Right;

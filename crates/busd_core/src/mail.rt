@@ -32,7 +32,7 @@ fn deliver_to<V: BusView, G: Gate, W: Write>(
     if conn.router != place.seat {
         return Ok(());
     }
-    let Ok(content) = content.again() else {
+    let Ok(content) = content.try_clone() else {
         return Err(RunFault::Memory);
     };
     let envelope = Envelope {
@@ -81,7 +81,7 @@ fn announce_one<V: BusView, G: Gate, W: Write>(
         (mail_of_signal place.seat addressed.now) (W.contents writer.old) (W.contents writer.new)
         engine.new result }
 {
-    let Ok(signal) = addressed.signal.again() else {
+    let Ok(signal) = addressed.signal.try_clone() else {
         return Err(RunFault::Memory);
     };
     let content = Content::Own(BusMessage::Signal(signal));

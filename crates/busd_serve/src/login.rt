@@ -21,7 +21,7 @@ impl LoginSettings<'_> {
         Ok(Login {
             guid: self.guid,
             user: ArcStr::from_str(alloc, self.user)?,
-            cookie: self.cookie.again()?,
+            cookie: self.cookie.try_clone()?,
             allow_anonymous: self.allow_anonymous,
         })
     }

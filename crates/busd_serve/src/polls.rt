@@ -31,7 +31,7 @@ pub(crate) struct Polls {
 pub(crate) fn open_polls<R: Net>(rt: &R, alloc: Global, routers: u8) -> Result<Polls, ServeFault> {
     let poll = Poll::new(rt).map_err(poll_fault)?;
     let waker = PollWaker::new(alloc, &poll).map_err(poll_fault)?;
-    let main_waker = waker.again()?;
+    let main_waker = waker.try_clone()?;
     let RouterPolls {
         polls,
         wakers,

@@ -26,7 +26,7 @@ impl PollWaker {
     }
 
     /// One more for the same poll.
-    pub fn again(&self) -> Result<PollWaker, AllocError> {
+    pub fn try_clone(&self) -> Result<PollWaker, AllocError> {
         Ok(PollWaker {
             waker: Arc::try_clone(&self.waker)?,
         })

@@ -45,7 +45,7 @@ fn message_of(change: &Change) -> Result<Option<SharedBytes>, AllocError>
     ensures { IfOk result (λ message. message ≡ message_of change.now) }
 {
     match change {
-        Change::Hold { message, .. } => Ok(Some(message.again()?)),
+        Change::Hold { message, .. } => Ok(Some(message.try_clone()?)),
         _ => Ok(None),
     }
 }

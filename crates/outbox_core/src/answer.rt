@@ -81,10 +81,10 @@ impl AnswerBody {
     }
 
     /// The same answer once more. No bytes are copied; it fails where too many share them already.
-    pub fn again(&self) -> Result<AnswerBody, AllocError>
+    pub fn try_clone(&self) -> Result<AnswerBody, AllocError>
         ensures { IfOk result (λ body. body ≡ self.now) }
     {
-        let bytes = self.bytes.again()?;
+        let bytes = self.bytes.try_clone()?;
         Ok(AnswerBody {
             kind: self.kind,
             bytes,

@@ -36,7 +36,7 @@ impl ReplyContent {
     }
 
     /// The same once more. No bytes are copied; it fails where too many share them already.
-    pub fn again(&self) -> Result<ReplyContent, AllocError>
+    pub fn try_clone(&self) -> Result<ReplyContent, AllocError>
         ensures { IfOk result (λ content. content ≡ self.now) }
     {
         match self {
@@ -44,7 +44,7 @@ impl ReplyContent {
             ReplyContent::Number(number) => Ok(ReplyContent::Number(*number)),
             ReplyContent::UniqueName(number) => Ok(ReplyContent::UniqueName(*number)),
             ReplyContent::Answer(answer) => {
-                let answer = answer.again()?;
+                let answer = answer.try_clone()?;
                 Ok(ReplyContent::Answer(answer))
             }
         }
@@ -87,16 +87,16 @@ impl BusMessage {
     }
 
     /// The same once more. No bytes are copied; it fails where too many share them already.
-    pub fn again(&self) -> Result<BusMessage, AllocError>
+    pub fn try_clone(&self) -> Result<BusMessage, AllocError>
         ensures { IfOk result (λ message. message ≡ self.now) }
     {
         match self {
             BusMessage::Signal(signal) => {
-                let signal = signal.again()?;
+                let signal = signal.try_clone()?;
                 Ok(BusMessage::Signal(signal))
             }
             BusMessage::Reply { to, content } => {
-                let content = content.again()?;
+                let content = content.try_clone()?;
                 Ok(BusMessage::Reply { to: *to, content })
             }
             BusMessage::Error { to, error } => Ok(BusMessage::Error {

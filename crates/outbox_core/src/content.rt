@@ -17,16 +17,16 @@ pub enum Content {
 
 impl Content {
     /// The same once more. No bytes are copied; it fails where too many share them already.
-    pub fn again(&self) -> Result<Content, AllocError>
+    pub fn try_clone(&self) -> Result<Content, AllocError>
         ensures { IfOk result (λ content. content ≡ self.now) }
     {
         match self {
             Content::Relayed(bytes) => {
-                let bytes = bytes.again()?;
+                let bytes = bytes.try_clone()?;
                 Ok(Content::Relayed(bytes))
             }
             Content::Own(message) => {
-                let message = message.again()?;
+                let message = message.try_clone()?;
                 Ok(Content::Own(message))
             }
         }

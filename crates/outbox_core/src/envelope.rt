@@ -3,7 +3,7 @@
 ghost use Rattle.std.specs.Prelude.{◌≡◌, IfOk};
 
 use crate::content::Content;
-use bus_view::Again;
+use bus_view::CheapCopy;
 use std::alloc::AllocError;
 
 /// What one router sends another for a connection.
@@ -16,14 +16,14 @@ pub struct Envelope<N: Drop> {
     pub content: Content,
 }
 
-impl<N: Again + Drop> Envelope<N> {
+impl<N: CheapCopy + Drop> Envelope<N> {
     /// The same for another connection. No bytes are copied; it fails where too many share them already.
     pub fn for_another(&self, number: u64) -> Result<Envelope<N>, AllocError>
         ensures { IfOk result (λ envelope. envelope ≡ record self.now { number = number }) }
     {
-        let content = self.content.again()?;
+        let content = self.content.try_clone()?;
         let note = match &self.note {
-            Some(note) => Some(note.again()),
+            Some(note) => Some(note.copy()),
             None => None,
         };
         Ok(Envelope {

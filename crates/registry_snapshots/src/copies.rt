@@ -78,8 +78,8 @@ fn new_writer<J: Naming>(
         × (w.desk.shown.value.bus ≡ J.opening.state)) }
     ensures settled { IfOk result (λ w. drop w.behind w.log.items ≡ []) }
 {
-    let first = Snap::new(alloc, services, routers, seats, prefix.again())?;
-    let second = Snap::new(alloc, services, routers, seats, prefix.again())?;
+    let first = Snap::new(alloc, services, routers, seats, prefix.copy())?;
+    let second = Snap::new(alloc, services, routers, seats, prefix.copy())?;
     Writer::new(alloc, first, second, seats)
 }
 
@@ -203,7 +203,7 @@ impl<J: Naming> Copies<J> {
             seat: entry.seat,
             number: entry.number,
             prepared,
-            prefix: next.again(),
+            prefix: next.copy(),
         };
         self.show(rt, op)?;
         Ok(next)
@@ -245,7 +245,7 @@ impl<J: Naming> Copies<J> {
             seat: batch.seat,
             number: batch.first - 1 + batch.changes.len() as u64,
             prepared,
-            prefix: next.again(),
+            prefix: next.copy(),
         };
         self.show(rt, op)?;
         Ok(next)

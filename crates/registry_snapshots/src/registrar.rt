@@ -68,7 +68,7 @@ pub fn judge(shown: &Snap, seat: u8, made: u64, known: &Prefix, more: u64) -> Re
     ensures full { IfErr result (λ e. e ≡ HistoryFull →
         2 ^ 63 < length shown.now.prefix.log + more) }
 {
-    let prefix = shown.prefix().again();
+    let prefix = shown.prefix().copy();
     if shown.made(seat) != Some(made) || !known.begins(&prefix) {
         return Err(Cause::ForeignSeat);
     }

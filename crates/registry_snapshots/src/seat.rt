@@ -18,7 +18,7 @@ ghost use Rattle.registry_snapshots.specs.Seats.{fresh, AreChanged, IsChanged, I
 use crate::copies::SnapReader;
 use crate::rule::{CopyKeepsRule, CopyRule};
 use crate::shared::Shared;
-use bus_view::{Again, AskFault, Asked, BatchCause, Gone, Refused, RefusedAll};
+use bus_view::{AskFault, Asked, BatchCause, CheapCopy, Gone, Refused, RefusedAll};
 use left_right::reader::Reading;
 use match_index::Steps;
 use match_rules::Facts;
@@ -81,7 +81,7 @@ fn enter<J: Naming>(
 {
     let reading = reader.enter_as::<CopyKeepsRule<J>>()?;
     let snap = reading.get();
-    let prefix = snap.prefix().again();
+    let prefix = snap.prefix().copy();
     if snap.made(number) != Some(made) || !seen.begins(&prefix) {
         return Err(reading.leave());
     }
@@ -382,7 +382,7 @@ impl<J: Naming> Seat<J> {
         self.last = prefix.len();
         self.prefix = prefix;
         self.watched = true;
-        self.held = Some(note.again());
+        self.held = Some(note.copy());
         note
     }
 
@@ -398,10 +398,10 @@ impl<J: Naming> Seat<J> {
     {
         let held = match &self.held {
             Some(held) => held.or_longer(note),
-            None => note.again(),
+            None => note.copy(),
         };
         if !note.prefix().begins(&self.prefix) {
-            self.prefix = note.prefix().again();
+            self.prefix = note.prefix().copy();
         }
         let _legal = self.prefix.len();
         self.watched = true;
@@ -414,7 +414,7 @@ impl<J: Naming> Seat<J> {
         ensures seen { IfSome result (λ note. Begins note self.now.seen) }
     {
         match &self.held {
-            Some(held) => Some(held.again()),
+            Some(held) => Some(held.copy()),
             None => None,
         }
     }

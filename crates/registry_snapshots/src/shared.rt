@@ -53,7 +53,7 @@ fn add_seat<J: Naming>(
     requires { (prefix.now.book ≡ J.book) × (prefix.now.log ≡ []) }
     ensures { OnOk result (seats.new.items ≡ seats.old.items ++ fresh number ∷ []) }
 {
-    let seat = Seat::new(number, registrar.reader()?, prefix.again());
+    let seat = Seat::new(number, registrar.reader()?, prefix.copy());
     match seats.push(seat) {
         Ok(()) => Ok(()),
         Err(_) => Err(AllocError),

@@ -189,7 +189,7 @@ impl Prefix {
     }
 
     /// A copy, which takes no memory.
-    pub fn again(&self) -> Prefix
+    pub fn copy(&self) -> Prefix
         ensures { result ≡ self.now }
     {
         Prefix {

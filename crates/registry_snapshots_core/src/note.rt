@@ -5,7 +5,7 @@ ghost use Rattle.seq_bus_core.specs.Histories.{longer};
 
 use crate::history::Prefix;
 use crate::naming::Naming;
-use bus_view::Again;
+use bus_view::CheapCopy;
 use std::marker::{Model, PhantomData};
 
 /// What a seat told of the history. Whoever takes it sees no less.
@@ -28,10 +28,10 @@ impl<J: Naming> Model for Note<J> {
     ghost invariant = { λ n. n.prefix.book ≡ J.book };
 }
 
-impl<J: Naming> Again for Note<J> {
-    fn again(&self) -> Note<J> {
+impl<J: Naming> CheapCopy for Note<J> {
+    fn copy(&self) -> Note<J> {
         Note {
-            prefix: self.prefix.again(),
+            prefix: self.prefix.copy(),
             of: PhantomData,
         }
     }
@@ -44,7 +44,7 @@ impl<J: Naming> Note<J> {
         ensures { result ≡ prefix.now.log }
     {
         Note {
-            prefix: prefix.again(),
+            prefix: prefix.copy(),
             of: PhantomData,
         }
     }
@@ -61,9 +61,9 @@ impl<J: Naming> Note<J> {
         ensures { result ≡ longer (Some self.now) note.now }
     {
         if self.prefix.len() < note.prefix.len() {
-            note.again()
+            note.copy()
         } else {
-            self.again()
+            self.copy()
         }
     }
 }

@@ -137,7 +137,7 @@ impl Snap {
         } }
     {
         remember(&mut self.last, seat, number);
-        self.prefix = prefix.again();
+        self.prefix = prefix.copy();
     }
 
     /// The tables of the bus. Changes are prepared on them.

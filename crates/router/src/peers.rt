@@ -156,7 +156,7 @@ impl<V: BusView, G: Gate> Peers<V, G> {
             self.alloc,
             login.guid,
             login.user.clone()?,
-            login.cookie.again()?,
+            login.cookie.try_clone()?,
             challenge,
             login.allow_anonymous,
         );

@@ -14,7 +14,7 @@ use crate::post::{Post, StartRequest, TooManyStarts};
 use crate::put_out::PutOut;
 use crate::slots::Slots;
 use crate::socket::Socket;
-use bus_view::{Again, BusView};
+use bus_view::{BusView, CheapCopy};
 use names::BusName;
 use outbox_core::{BusMessage, Content, Deliveries, Envelope};
 use router_core::Action;
@@ -49,12 +49,12 @@ fn push_back<T: Drop>(elements: &mut Vec<T>, element: T)
     let _ = elements.push(element);
 }
 
-/// A note once more, if there is one.
-fn again<N: Again>(note: &Option<N>) -> Option<N>
+/// A copy of the note, if there is one.
+fn copy_of<N: CheapCopy>(note: &Option<N>) -> Option<N>
     ensures { result ≡ note.now }
 {
     match note {
-        Some(note) => Some(note.again()),
+        Some(note) => Some(note.copy()),
         None => None,
     }
 }
@@ -63,7 +63,7 @@ fn again<N: Again>(note: &Option<N>) -> Option<N>
 fn content_of(signal: &SharedSignal) -> Option<Content>
     ensures { IfSome result (λ content. content ≡ Own (Signal signal.now)) }
 {
-    match signal.again() {
+    match signal.try_clone() {
         Ok(signal) => Some(Content::Own(BusMessage::Signal(signal))),
         Err(_) => None,
     }
@@ -220,13 +220,13 @@ impl<V: BusView, P: Post<V>, S: Socket> Carrier<V, P, S> {
             self.put_out.add(to);
             return;
         };
-        let Ok(content) = content.again() else {
+        let Ok(content) = content.try_clone() else {
             self.put_out.add(to);
             return;
         };
         let envelope = Envelope {
             number: to.number,
-            note: again(note),
+            note: copy_of(note),
             content,
         };
         match self.post.put(right, to, envelope) {

@@ -63,7 +63,7 @@ fn pack<V: BusView, G: Gate>(
     let Ok(held) = context.sign(message, sender) else {
         return Err(AllocError);
     };
-    let passed = held.again()?;
+    let passed = held.try_clone()?;
     Ok(Parcel { name, held, passed })
 }
 

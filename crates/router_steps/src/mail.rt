@@ -30,7 +30,7 @@ pub fn bytes_of(alloc: Global, content: &Content, serial: u32) -> Result<Written
     ensures { IfOk result (λ bytes. IsSpelled (said_of content.now) serial bytes) }
 {
     match content {
-        Content::Relayed(relayed) => Ok(WrittenBytes::shared(relayed.again()?)),
+        Content::Relayed(relayed) => Ok(WrittenBytes::shared(relayed.try_clone()?)),
         Content::Own(message) => {
             let mut bytes = Vec::new(alloc);
             message.write(serial, &mut bytes)?;

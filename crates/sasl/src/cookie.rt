@@ -57,7 +57,7 @@ impl Cookie {
     }
 
     /// The same cookie, for one more. Nothing is copied; it fails where too many share it already.
-    pub fn again(&self) -> Result<Cookie, AllocError>
+    pub fn try_clone(&self) -> Result<Cookie, AllocError>
         ensures { IfOk result (λ cookie. cookie ≡ self.now) }
     {
         let parts = Arc::try_clone(&self.parts)?;

@@ -38,7 +38,7 @@ impl SharedBytes {
     }
 
     /// The same bytes, for one more. Nothing is copied; it fails where too many share them already.
-    pub fn again(&self) -> Result<SharedBytes, AllocError>
+    pub fn try_clone(&self) -> Result<SharedBytes, AllocError>
         ensures { IfOk result (λ bytes. bytes ≡ self.now) }
     {
         let bytes = Arc::try_clone(&self.bytes)?;
@@ -81,7 +81,7 @@ impl SharedSignal {
     }
 
     /// The same signal, for one more. Nothing is copied; it fails where too many share it already.
-    pub fn again(&self) -> Result<SharedSignal, AllocError>
+    pub fn try_clone(&self) -> Result<SharedSignal, AllocError>
         ensures { IfOk result (λ signal. signal ≡ self.now) }
     {
         let signal = Arc::try_clone(&self.signal)?;

@@ -1,7 +1,7 @@
 //! Runs, row by row, over a plain bus, its view and a registry.
 
 use crate::buses::{Bus, Deed, NO_MEMORY, Plain, Seated, Told, Viewed};
-use bus_view::{Again, BusView};
+use bus_view::{BusView, CheapCopy};
 use match_rules::{Facts, MessageKind};
 use names::{BusName, UniqueName};
 use owner_queues::{Profile, Reply as QueueReply};
@@ -645,7 +645,7 @@ fn over_the_view_of_a_plain_bus(rt: HostRuntime) {
         assert!(rt; viewed.view.note().is_none());
         plays(&rt, &mut viewed, run);
         let note = viewed.view.note().expect(&rt, "it made changes");
-        viewed.view.take_note(&note.again());
+        viewed.view.take_note(&note.copy());
         assert!(rt; viewed.view.seat() == 1, "{}", run.name);
         drop(viewed);
     }

@@ -34,7 +34,7 @@ fn speak(
     let guid = *b"\xa0\xa1\xa2\xa3\xa4\xa5\xa6\xa7\xa8\xa9\xaa\xab\xac\xad\xae\xaf";
     let challenge = [0, 1, 2, 3, 4, 5, 6, 7, 8, 9, 10, 11, 12, 13, 14, 15];
     let user = ArcStr::from_str(alloc, user)?;
-    let cookie = Cookie::new(alloc, b"5", b"c0ffee")?.again()?;
+    let cookie = Cookie::new(alloc, b"5", b"c0ffee")?.try_clone()?;
     let mut server = Server::new(alloc, guid, user, cookie, challenge, allow_anonymous);
     let mut outcome = Outcome {
         sent: Vec::new(alloc),

@@ -309,7 +309,7 @@ impl EngineScene {
             } => self.put(to.to(), to.monitors(), content, journal),
             Action::Announce { signals, note: _ } => {
                 for addressed in signals.as_slice() {
-                    let signal = addressed.signal.again()?;
+                    let signal = addressed.signal.try_clone()?;
                     let content = Content::Own(BusMessage::Signal(signal));
                     let monitors = addressed.monitors.as_slice();
                     self.put(addressed.to.as_slice(), monitors, &content, journal)?;
@@ -355,7 +355,7 @@ impl EngineScene {
         for conn in Deliveries::new(to, monitors) {
             self.letters.push_back(Letter {
                 to: conn,
-                content: content.again()?,
+                content: content.try_clone()?,
             })?;
         }
         Ok(())

@@ -91,7 +91,7 @@ pub fn mail(to: Conn, note: Option<()>, content: &Content) -> Result<Event<()>> 
     let envelope = Envelope {
         number: 0,
         note,
-        content: content.again()?,
+        content: content.try_clone()?,
     };
     let envelope = envelope.for_another(to.number)?;
     ensure!(envelope.note == note, "the note is lost");

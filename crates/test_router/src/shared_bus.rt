@@ -99,7 +99,7 @@ impl<'a, R: Wait> Stage<'a, R> {
         coordinator: &'c Coordinator<NoWaker>,
     ) -> Result<String> {
         let findings = Findings::new(self.alloc)?;
-        let found = findings.again()?;
+        let found = findings.try_clone()?;
         let (lanes, taps) = Outboxes::new(self.alloc, shared)?;
         // Seat 0 and its lane are those of the thread that accepts connections.
         let mut seats = seats.into_iter();

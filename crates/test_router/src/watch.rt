@@ -29,7 +29,7 @@ impl Findings {
         })
     }
 
-    pub fn again(&self) -> Result<Findings, AllocError> {
+    pub fn try_clone(&self) -> Result<Findings, AllocError> {
         Ok(Findings {
             alloc: self.alloc,
             text: Rc::clone(&self.text)?,

@@ -66,7 +66,7 @@ pub fn tickets(alloc: Global) -> Result<(usize, usize, usize), AllocError> {
                 serial: 7,
                 flags: 0,
             },
-            message: Some(message.again()?),
+            message: Some(message.try_clone()?),
         },
     });
     outcome.tickets = room.into_tickets();

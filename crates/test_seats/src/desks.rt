@@ -1,6 +1,6 @@
 //! Two desks of one registry.
 
-use bus_view::{Again, AskFault, Asked, BusView, Cause};
+use bus_view::{AskFault, Asked, BusView, Cause, CheapCopy};
 use match_rules::Rule;
 use names::BusName;
 use owner_queues::{Reply as QueueReply, RequestFlags};
@@ -58,7 +58,7 @@ fn comes<J: Naming, R: Wait>(
     let Some((outcome, note)) = make(rt, desk, Change::Hello { privileged: true }) else {
         return false;
     };
-    other.take_note(&note.again());
+    other.take_note(&note.copy());
     let is_welcome = outcome.reply == Reply::Welcome(conn);
     is_welcome && is_present(other, conn.number) && !other.is_watched()
 }

@@ -22,7 +22,7 @@ fn letter<J: Naming>(bytes: &SharedBytes, number: u64) -> Result<Letter<J>, Allo
     Ok(Envelope {
         number,
         note: None,
-        content: Content::Relayed(bytes.again()?),
+        content: Content::Relayed(bytes.try_clone()?),
     })
 }
 

@@ -17,5 +17,5 @@ show-requires-clause-kept g c =
     let kept : IsSnapOf g.J.Naming.book g.J.Naming.opening s = subst (λ (v : SnapView × Bool). IsSnapOf g.J.Naming.book g.J.Naming.opening v.0) c.self.view_is c.self.invariant.1 in
     let long : c.len.result ≡ length batch.changes.items = search rules in
     let count : batch.first - 1 + c.len.result ≡ length (numbers_of batch.seat c.args.prefix.now.log) + length batch.changes.items = omega (arith, c.requires.first, long) in
-    shown_next_all g.J.Naming.book g.J.Naming.opening s c.args.prefix.now batch.seat batch.first (batch.first - 1 + c.len.result) batch.changes.items c.args.prepared.items c.in-Some.next c.again.result kept
-    c.requires.prefix count c.requires.prepared c.in-Some.ensures c.again.ensures
+    shown_next_all g.J.Naming.book g.J.Naming.opening s c.args.prefix.now batch.seat batch.first (batch.first - 1 + c.len.result) batch.changes.items c.args.prepared.items c.in-Some.next c.copy.result kept
+    c.requires.prefix count c.requires.prepared c.in-Some.ensures c.copy.ensures

@@ -3,12 +3,12 @@
 ghost use Rattle.std.specs.Prelude.{◌≡◌};
 
 /// What can be copied without taking memory.
-pub trait Again {
-    /// The same once more.
-    fn again(&self) -> Self
+pub trait CheapCopy {
+    /// A copy.
+    fn copy(&self) -> Self
         ensures { result ≡ self.now };
 }
 
-impl Again for () {
-    fn again(&self) -> () {}
+impl CheapCopy for () {
+    fn copy(&self) -> () {}
 }
