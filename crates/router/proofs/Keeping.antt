@@ -246,9 +246,9 @@ module _ (slot key : ℕ) where
         of_it (Some q) = λ has. false≢true (written_keeps u.peers (suc key) (Some (shut q)) slot has)
 
     welcomed_by : (x y : Option Peer) (o : Outcome) (conn : Conn) → has_slot slot x ≡ false → has_slot slot y ≡ true →
-        AllGive NotBoth (and_then (close_former (record { peers = two key x y; leaves = []; login = None }) conn) (λ t. welcome key m p o conn t))
+        AllGive NotBoth (and_then (close_former (record { peers = two key x y; due_leaves = []; login = None }) conn) (λ t. welcome key m p o conn t))
     welcomed_by x y o conn isnt is =
-        let s : Standing = record { peers = two key x y; leaves = []; login = None } in
+        let s : Standing = record { peers = two key x y; due_leaves = []; login = None } in
         elim (cases_eq conn.slot slot) [
           | inl e ↦
               let found : position (has_slot conn.slot) s.peers ≡ Some (suc key) = subst (λ n. position (has_slot n) s.peers ≡ Some (suc key)) (sym e) (second_is_found slot key x y isnt is) in
@@ -261,20 +261,20 @@ module _ (slot key : ℕ) where
               (close_former s conn) (all_give (λ t. Unit {0}) (λ t. tt) (close_former s conn))
         ]
 
-    greeting : (x y : Option Peer) (known : Bool) → has_slot slot x ≡ false → has_slot slot y ≡ true → AllGive NotBoth (greet (record { peers = two key x y; leaves = []; login = None }) key m p known)
+    greeting : (x y : Option Peer) (known : Bool) → has_slot slot x ≡ false → has_slot slot y ≡ true → AllGive NotBoth (greet (record { peers = two key x y; due_leaves = []; login = None }) key m p known)
     greeting x y known isnt is = by_answer
       where
-        by_reply : (o : Outcome) (reply : Reply) → AllGive NotBoth (greeted_by (record { peers = two key x y; leaves = []; login = None }) key m p o reply)
+        by_reply : (o : Outcome) (reply : Reply) → AllGive NotBoth (greeted_by (record { peers = two key x y; due_leaves = []; login = None }) key m p o reply)
         by_reply o (Welcome conn) = welcomed_by x y o conn isnt is
-        by_reply o other = turned_away (record { peers = two key x y; leaves = []; login = None })
+        by_reply o other = turned_away (record { peers = two key x y; due_leaves = []; login = None })
 
-        by_answer : (heard : Heard Outcome) → AllGive NotBoth (greeted (record { peers = two key x y; leaves = []; login = None }) key m p heard)
+        by_answer : (heard : Heard Outcome) → AllGive NotBoth (greeted (record { peers = two key x y; due_leaves = []; login = None }) key m p heard)
         by_answer (Says o) = by_reply o o.reply
-        by_answer (Refuses refusal) = refused (record { peers = two key x y; leaves = []; login = None }) (error_for refusal)
+        by_answer (Refuses refusal) = refused (record { peers = two key x y; due_leaves = []; login = None }) (error_for refusal)
 
   module _ (y : Option Peer) (has_second : has_slot slot y ≡ true) where
     abbrev standing_of : Option Peer → Standing
-    standing_of x = record { peers = two key x y; leaves = []; login = None }
+    standing_of x = record { peers = two key x y; due_leaves = []; login = None }
 
     as_it_was : (x : Option Peer) → has_slot slot x ≡ false → NotBoth (standing_of x)
     as_it_was x isnt = λ first second. false≢true (sym isnt ∙ ap (has_slot slot) (sym (first_of key x y)) ∙ first)
@@ -351,7 +351,7 @@ pub next_keeps : {N G : Type 0} (told : N → History) (registry_of : N → ℕ)
 next_keeps told registry_of passes alone key old new w v comes slot has =
     let other : Option Peer = Some (record { stage = Named (record { number = 0; slot = slot; router = 0 }); unread = []; serial = 0; watches = false }) in
     let is : has_slot slot other ≡ true = eq-eqb slot slot refl in
-    let s : Standing = record { peers = two key old other; leaves = []; login = None } in
+    let s : Standing = record { peers = two key old other; due_leaves = []; login = None } in
     elim (cases_Bool (has_slot slot old)) [
       | inl had ↦ had
       | inr hadnt ↦

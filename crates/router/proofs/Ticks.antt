@@ -10,11 +10,11 @@ use Rattle.router_steps.proofs.Sequels.{comes_then}
 module _ {N G : Type 0} (told : N → History) (registry_of : N → ℕ) (passes : G → GatedCall → G → Type 0) (alone : Bool) (w m v : World N G) where
   -- the Leaves, then the connections
   pub ticks : (s : Standing) (kept : List ℕ) (ys : List (Option Peer)) →
-      Comes told registry_of passes alone (leave_all s.leaves (record s { leaves = [] })) w (record s { leaves = kept }) m → Comes told registry_of passes alone (look_all [] s.peers) m ys v →
-      Comes told registry_of passes alone (tick s) w (record s { peers = ys; leaves = kept }) v
+      Comes told registry_of passes alone (leave_all s.due_leaves (record s { due_leaves = [] })) w (record s { due_leaves = kept }) m → Comes told registry_of passes alone (look_all [] s.peers) m ys v →
+      Comes told registry_of passes alone (tick s) w (record s { peers = ys; due_leaves = kept }) v
   ticks s kept ys made looked =
-      let between : Standing = record s { leaves = kept } in
-      let end : Standing = record s { peers = ys; leaves = kept } in
+      let between : Standing = record s { due_leaves = kept } in
+      let end : Standing = record s { peers = ys; due_leaves = kept } in
       comes_then told registry_of passes alone look_at_all between m end v
       (comes_then told registry_of passes alone (λ peers. Gives (record between { peers = peers })) ys v end v (refl, refl) (look_all [] s.peers) m looked)
-      (leave_all s.leaves (record s { leaves = [] })) w made
+      (leave_all s.due_leaves (record s { due_leaves = [] })) w made

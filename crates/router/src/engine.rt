@@ -140,7 +140,7 @@ impl<V: BusView, G: Gate> Engine<V, G> {
 
     /// Whether a Leave was refused, and is due at the next tick.
     pub fn ticks(&self) -> bool
-        ensures { IsTrue result ↔ (self.now.standing.leaves ≢ []) }
+        ensures { IsTrue result ↔ (self.now.standing.due_leaves ≢ []) }
     {
         self.peers.ticks()
     }

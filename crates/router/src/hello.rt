@@ -76,12 +76,12 @@ fn keep_key(key_of_slot: &mut [usize; SLOT_COUNT], slot: u16, key: usize)
 }
 
 /// Gives a connection in a place of the table its name.
-fn name_in(slot: &mut Option<Peer>, conn: Conn)
-    requires { IsNameless slot.old }
-    ensures { (p : Standing_peer) → slot.old ≡ Some p →
-        slot.new ≡ Some (record p { stage = Named conn }) }
+fn name_in(entry: &mut Option<Peer>, conn: Conn)
+    requires { IsNameless entry.old }
+    ensures { (p : Standing_peer) → entry.old ≡ Some p →
+        entry.new ≡ Some (record p { stage = Named conn }) }
 {
-    match slot {
+    match entry {
         Some(peer) => peer.welcome(conn),
         None => unreachable!(),
     }

@@ -35,12 +35,12 @@ impl<V: BusView, G: Gate> Peers<V, G> {
         ensures world { OnErr result (self.new.work.world ≡ self.old.work.world) }
     {
         self.context.reserve(1)?;
-        self.leaves.reserve(1)?;
+        self.due_leaves.reserve(1)?;
         let Some(peer) = take_peer(&mut self.peers, key) else {
             return Ok(());
         };
         self.context
-            .leave_of(right, peer.stage().conn(), &mut self.leaves);
+            .leave_of(right, peer.stage().conn(), &mut self.due_leaves);
         Ok(())
     }
 
@@ -53,15 +53,15 @@ impl<V: BusView, G: Gate> Peers<V, G> {
         ensures world { OnErr result (self.new.work.world ≡ self.old.work.world) }
     {
         self.context.reserve(1)?;
-        self.leaves.reserve(1)?;
-        self.context.leave(right, number, &mut self.leaves);
+        self.due_leaves.reserve(1)?;
+        self.context.leave(right, number, &mut self.due_leaves);
         Ok(())
     }
 
     /// Whether a Leave was refused, and is due.
     pub fn ticks(&self) -> bool
-        ensures { IsTrue result ↔ (self.now.standing.leaves ≢ []) }
+        ensures { IsTrue result ↔ (self.now.standing.due_leaves ≢ []) }
     {
-        !self.leaves.is_empty()
+        !self.due_leaves.is_empty()
     }
 }

@@ -27,7 +27,7 @@ pub struct Peers<V: BusView, G: Gate> {
     pub(crate) peers: Vec<Option<Peer>>,
     /// The key of the connection that has a slot, if there is one.
     pub(crate) key_of_slot: [usize; SLOT_COUNT],
-    pub(crate) leaves: Vec<u64>,
+    pub(crate) due_leaves: Vec<u64>,
     /// Who may log in; none where nobody is asked.
     login: Option<Login>,
 }
@@ -39,7 +39,7 @@ impl<V: BusView, G: Gate> Model for Peers<V, G> {
     ghost Value = { Table V.Note G };
 
     ghost view = { λ s. record {
-      standing = record { peers = s.peers.items; leaves = s.leaves.items; login = s.login };
+      standing = record { peers = s.peers.items; due_leaves = s.due_leaves.items; login = s.login };
       work = s.context;
     } };
 
@@ -85,7 +85,7 @@ impl<V: BusView + Drop, G: Gate + Drop> Peers<V, G> {
             context: Context::new(alloc, view, gate)?,
             peers: Vec::new(alloc),
             key_of_slot: [0; SLOT_COUNT],
-            leaves: Vec::new(alloc),
+            due_leaves: Vec::new(alloc),
             login,
         })
     }

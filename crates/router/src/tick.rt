@@ -19,10 +19,11 @@ impl<V: BusView, G: Gate> Peers<V, G> {
         ensures err { OnErr result (self.new.standing ≡ self.old.standing) }
         ensures world { OnErr result (self.new.work.world ≡ self.old.work.world) }
     {
-        self.context.reserve(self.leaves.len() + self.peers.len())?;
-        let mut kept = Vec::with_capacity(self.alloc, self.leaves.len())?;
-        self.context.leave_all(right, &self.leaves, &mut kept);
-        self.leaves = kept;
+        self.context
+            .reserve(self.due_leaves.len() + self.peers.len())?;
+        let mut kept = Vec::with_capacity(self.alloc, self.due_leaves.len())?;
+        self.context.leave_all(right, &self.due_leaves, &mut kept);
+        self.due_leaves = kept;
         self.context.look_at_all(&mut self.peers);
         Ok(())
     }

@@ -50,10 +50,10 @@ fn push_reserved(joints: &mut Vec<Joint>, joint: Joint)
 }
 
 /// Whether the connection in a place of the table has a name, if there is one.
-fn is_named(slot: &Option<Peer>) -> bool
-    ensures { result ≡ is_named slot.now }
+fn is_named(entry: &Option<Peer>) -> bool
+    ensures { result ≡ is_named entry.now }
 {
-    let Some(peer) = slot else {
+    let Some(peer) = entry else {
         return false;
     };
     match peer.stage() {
@@ -68,17 +68,17 @@ fn is_named(slot: &Option<Peer>) -> bool
 fn settle<V: BusView, G: Gate>(
     context: &mut Context<V, G>,
     key: usize,
-    slot: &mut Option<Peer>,
+    entry: &mut Option<Peer>,
     fate: PeerFate,
 )
-    requires named { is_named slot.old ≡ true }
+    requires named { is_named entry.old ≡ true }
     requires room { 0 < context.old.room }
-    ensures settled { IsSettled V.BusView G.Gate key fate slot.old context.old.world slot.new
+    ensures settled { IsSettled V.BusView G.Gate key fate entry.old context.old.world entry.new
         context.new.world }
     ensures room { context.old.room ≤ context.new.room + 1 }
     ensures crowds { context.new.crowds ≡ context.old.crowds }
 {
-    match slot {
+    match entry {
         Some(peer) => context.settle(key, peer, fate),
         None => unreachable!(),
     }
@@ -86,10 +86,10 @@ fn settle<V: BusView, G: Gate>(
 
 /// Takes one more message of the connection in a place of the table off its bytes. It stays as it
 /// was.
-fn read_in(slot: &mut Option<Peer>) -> Result<(), AllocError>
-    ensures { slot.new ≡ slot.old }
+fn read_in(entry: &mut Option<Peer>) -> Result<(), AllocError>
+    ensures { entry.new ≡ entry.old }
 {
-    match slot {
+    match entry {
         None => Ok(()),
         Some(peer) => peer.read_ahead(),
     }
@@ -109,11 +109,11 @@ enum Due {
 
 /// What is next of the connection in a place of the table. Without memory to read it nothing
 /// changes.
-fn due_in(slot: &mut Option<Peer>) -> Result<Due, AllocError>
-    ensures due { IfOk result (λ due. IsDue due slot.old slot.new) }
-    ensures err { OnErr result (slot.new ≡ slot.old) }
+fn due_in(entry: &mut Option<Peer>) -> Result<Due, AllocError>
+    ensures due { IfOk result (λ due. IsDue due entry.old entry.new) }
+    ensures err { OnErr result (entry.new ≡ entry.old) }
 {
-    let Some(peer) = slot else {
+    let Some(peer) = entry else {
         return Ok(Due::Nothing);
     };
     match peer.stage() {

@@ -352,7 +352,7 @@ noted (Some told) script = Noting told script
 -- A Leave that was refused is made later.
 abbrev pub left : Standing → ℕ → Heard Outcome → Stands
 left s number (Says o) = Announcing o.signals (Gives s)
-left s number (Refuses refusal) = Gives (record s { leaves = s.leaves ++ number ∷ [] })
+left s number (Refuses refusal) = Gives (record s { due_leaves = s.due_leaves ++ number ∷ [] })
 
 abbrev pub leave : Standing → ℕ → Stands
 leave s number = Changing (Leave number) (λ heard. left s number heard)
@@ -423,7 +423,7 @@ abbrev pub look_at_all : Standing → Stands
 look_at_all s = and_then (look_all [] s.peers) (λ peers. Gives (record s { peers = peers }))
 
 abbrev pub tick : Standing → Stands
-tick s = and_then (leave_all s.leaves (record s { leaves = [] })) look_at_all
+tick s = and_then (leave_all s.due_leaves (record s { due_leaves = [] })) look_at_all
 
 -- ## Starts that end
 

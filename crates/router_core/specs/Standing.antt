@@ -25,11 +25,11 @@ pub record Peer : Type 0 where
 -- The connections by their keys; the numbers of those that left, whose Leave is not made yet; and who may log in, if anyone may.
 pub record Standing : Type 0 where
   pub peers : List (Option Peer)
-  pub leaves : List ℕ
+  pub due_leaves : List ℕ
   pub login : Option Login
 
 abbrev pub fresh : Option Login → Standing
-fresh login = record { peers = []; leaves = []; login = login }
+fresh login = record { peers = []; due_leaves = []; login = login }
 
 abbrev pub peer_at : Standing → ℕ → Option Peer
 peer_at s key = slice_index_or s.peers key None

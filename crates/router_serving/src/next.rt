@@ -10,7 +10,7 @@ ghost use Rattle.router_steps.specs.Reading.{ComesOfNext};
 use crate::routing::serve;
 use bus_view::BusView;
 use router_core::{CloseCause, Gate};
-use router_steps::{Context, Front, HelloCall, Peer, Stage};
+use router_steps::{Context, HelloCall, Incoming, Peer, Stage};
 use seq_bus_core::Conn;
 use std::alloc::{AllocError, Global};
 
@@ -35,9 +35,9 @@ fn serve_next<V: BusView, G: Gate>(
     ensures world { OnErr result (context.new.world ≡ context.old.world) }
 {
     match peer.take_next()? {
-        Front::Waits => {}
-        Front::Faulty(fault) => context.close_peer(key, peer, CloseCause::Faulty(fault)),
-        Front::Whole(message) => {
+        Incoming::Waits => {}
+        Incoming::Faulty(fault) => context.close_peer(key, peer, CloseCause::Faulty(fault)),
+        Incoming::Whole(message) => {
             if peer.watches() {
                 context.close_peer(key, peer, CloseCause::MonitorSent);
                 return Ok(());
@@ -57,19 +57,19 @@ pub fn next_in<V: BusView, G: Gate>(
     context: &mut Context<V, G>,
     right: &V::Right,
     key: usize,
-    slot: &mut Option<Peer>,
+    entry: &mut Option<Peer>,
 ) -> Result<Option<HelloCall>, AllocError>
     requires room { MAX_TICKETS + 3 < context.old.room }
     requires crowds { 1 < context.old.crowds }
-    ensures next { IfOk result (λ call. ComesOfNext V.BusView G.Gate key call slot.old slot.new
+    ensures next { IfOk result (λ call. ComesOfNext V.BusView G.Gate key call entry.old entry.new
         context.old.world context.new.world) }
     ensures kept { IfOk result
         (λ call. IfSome call (λ _. (context.new.room ≡ context.old.room) ×
         (context.new.crowds ≡ context.old.crowds))) }
-    ensures err { OnErr result (slot.new ≡ slot.old) }
+    ensures err { OnErr result (entry.new ≡ entry.old) }
     ensures world { OnErr result (context.new.world ≡ context.old.world) }
 {
-    let Some(peer) = slot else {
+    let Some(peer) = entry else {
         return Ok(None);
     };
     match peer.stage() {

@@ -10,18 +10,18 @@ use Rattle.router_core.specs.Scripts.{World, RunsTo}
 use Rattle.router_core.specs.Standing.{Unnamed, Peer, Standing, peer_at, with_peer, next_serial}
 use Rattle.router_steps.specs.declared.first.First.{First}
 use Rattle.router_steps.specs.declared.first.First.TheVariants as first
-use Rattle.router_steps.specs.declared.front.Front.{Front}
-use Rattle.router_steps.specs.declared.front.Front.TheVariants as front
-use Rattle.router_steps.specs.declared.front.More.{More}
-use Rattle.router_steps.specs.declared.front.More.TheVariants as more
+use Rattle.router_steps.specs.declared.incoming.Incoming.{Incoming}
+use Rattle.router_steps.specs.declared.incoming.Incoming.TheVariants as incoming
+use Rattle.router_steps.specs.declared.incoming.More.{More}
+use Rattle.router_steps.specs.declared.incoming.More.TheVariants as more
 use Rattle.router_steps.specs.declared.first.HelloCall.{HelloCall}
 use Rattle.router_steps.specs.Refusing.{AreRefusals}
 
 -- Bytes have this front. A message is taken off them, and at a fault they are let go.
-abbrev pub HasFront : Front → List ℕ → List ℕ → Type 0
-HasFront front.Waits old new = IsFront old Waits × (new ≡ old)
-HasFront (front.Whole message) old new = IsFront old (Whole message new)
-HasFront (front.Faulty fault) old new = IsFront old (Faulty fault) × (new ≡ [])
+abbrev pub HasFront : Incoming → List ℕ → List ℕ → Type 0
+HasFront incoming.Waits old new = IsFront old Waits × (new ≡ old)
+HasFront (incoming.Whole message) old new = IsFront old (Whole message new)
+HasFront (incoming.Faulty fault) old new = IsFront old (Faulty fault) × (new ≡ [])
 
 -- what stands behind the messages that are pending
 abbrev pub HasMore : More → (pending : List (List ℕ)) → (unread : List ℕ) → Type 0

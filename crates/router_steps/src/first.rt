@@ -5,8 +5,8 @@ ghost use Rattle.router_core.specs.Standing.{Unnamed, SpeaksDBus};
 ghost use Rattle.router_steps.specs.Reading.{HasFront, HasFirst, IsRest, ComesOfNext};
 
 use crate::context::Context;
-use crate::front::{Front, More, fill, take_front};
 use crate::hello_errors::HelloErrors;
+use crate::incoming::{Incoming, More, fill, take_incoming};
 use crate::mail::serial_after;
 use crate::peer::Peer;
 use bus_view::BusView;
@@ -42,13 +42,13 @@ impl Peer {
     /// Takes its next message off its bytes; at a fault they are let go. Without memory nothing
     /// changes.
     #[tactic(auto, using(crate::proofs::Stages::messages_unread, crate::proofs::Stages::messages_silent))]
-    pub fn take_next(&mut self) -> Result<Front, AllocError>
+    pub fn take_next(&mut self) -> Result<Incoming, AllocError>
         requires { SpeaksDBus self.old.stage }
         ensures front { IfOk result (λ front. HasFront front self.old.unread self.new.unread) }
         ensures rest { OnOk result (IsRest self.old self.new) }
         ensures err { OnErr result (self.new ≡ self.old) }
     {
-        take_front(self.alloc, &mut self.pending, &mut self.unread)
+        take_incoming(self.alloc, &mut self.pending, &mut self.unread)
     }
 
     /// Takes its first message off its bytes. Without memory nothing changes.

@@ -35,8 +35,8 @@ impl<V: BusView, G: Gate> Context<V, G> {
         requires room { 0 < self.old.room }
         requires spare { vec_len leaves.old < vec_capacity leaves.old }
         ensures comes { (s : Standing) →
-            RunsTo V.BusView G.Gate (leaving (record s { leaves = leaves.old.items }) number)
-            self.old.world (record s { leaves = leaves.new.items }) self.new.world }
+            RunsTo V.BusView G.Gate (leaving (record s { due_leaves = leaves.old.items }) number)
+            self.old.world (record s { due_leaves = leaves.new.items }) self.new.world }
         ensures room { self.old.room ≤ self.new.room + 1 }
         ensures len { vec_len leaves.new ≤ vec_len leaves.old + 1 }
         ensures capacity { vec_capacity leaves.old ≤ vec_capacity leaves.new }
@@ -52,8 +52,8 @@ impl<V: BusView, G: Gate> Context<V, G> {
         requires room { 0 < self.old.room }
         requires spare { vec_len leaves.old < vec_capacity leaves.old }
         ensures comes { (s : Standing) →
-            RunsTo V.BusView G.Gate (leaving_of (record s { leaves = leaves.old.items }) conn)
-            self.old.world (record s { leaves = leaves.new.items }) self.new.world }
+            RunsTo V.BusView G.Gate (leaving_of (record s { due_leaves = leaves.old.items }) conn)
+            self.old.world (record s { due_leaves = leaves.new.items }) self.new.world }
     {
         match conn {
             None => {}
@@ -68,8 +68,8 @@ impl<V: BusView, G: Gate> Context<V, G> {
         requires spare { vec_len leaves.old + length numbers.now ≤ vec_capacity leaves.old }
         ensures comes { (s : Standing) →
             RunsTo V.BusView G.Gate
-            (leaving_each numbers.now (record s { leaves = leaves.old.items }))
-            self.old.world (record s { leaves = leaves.new.items }) self.new.world }
+            (leaving_each numbers.now (record s { due_leaves = leaves.old.items }))
+            self.old.world (record s { due_leaves = leaves.new.items }) self.new.world }
         ensures room { self.old.room ≤ self.new.room + length numbers.now }
         ensures len { vec_len leaves.new ≤ vec_len leaves.old + length numbers.now }
         ensures capacity { vec_capacity leaves.old ≤ vec_capacity leaves.new }
@@ -106,8 +106,8 @@ impl<V: BusView, G: Gate> Context<V, G> {
         requires spare { vec_len leaves.old + length numbers.now ≤ vec_capacity leaves.old }
         ensures comes { (s : Standing) →
             RunsTo V.BusView G.Gate
-            (leaving_if (record s { leaves = leaves.old.items }) numbers.now true)
-            self.old.world (record s { leaves = leaves.new.items }) self.new.world }
+            (leaving_if (record s { due_leaves = leaves.old.items }) numbers.now true)
+            self.old.world (record s { due_leaves = leaves.new.items }) self.new.world }
         ensures room { self.old.room ≤ self.new.room + length numbers.now }
         ensures len { vec_len leaves.new ≤ vec_len leaves.old + length numbers.now }
         ensures capacity { vec_capacity leaves.old ≤ vec_capacity leaves.new }
@@ -126,8 +126,8 @@ impl<V: BusView, G: Gate> Context<V, G> {
         requires spare { vec_len leaves.old + length numbers.now ≤ vec_capacity leaves.old }
         ensures comes { (s : Standing) →
             RunsTo V.BusView G.Gate
-            (leaving_together (record s { leaves = leaves.old.items }) numbers.now)
-            self.old.world (record s { leaves = leaves.new.items }) self.new.world }
+            (leaving_together (record s { due_leaves = leaves.old.items }) numbers.now)
+            self.old.world (record s { due_leaves = leaves.new.items }) self.new.world }
         ensures room { self.old.room ≤ self.new.room + length numbers.now }
         ensures len { vec_len leaves.new ≤ vec_len leaves.old + length numbers.now }
         ensures capacity { vec_capacity leaves.old ≤ vec_capacity leaves.new }
@@ -159,11 +159,11 @@ impl<V: BusView, G: Gate> Context<V, G> {
         ensures comes { (s end : Standing) (v : World V.Note G) →
             RunsTo V.BusView G.Gate
             (leaving_by (part numbers.now result (place + 1)) (drop (place + 1) numbers.now)
-            (record s { leaves = leaves.new.items }))
+            (record s { due_leaves = leaves.new.items }))
             self.new.world end v →
             RunsTo V.BusView G.Gate
             (leaving_by (part numbers.now start place) (drop place numbers.now)
-            (record s { leaves = leaves.old.items }))
+            (record s { due_leaves = leaves.old.items }))
             self.old.world end v }
         ensures start { start ≤ result }
         ensures within { result ≤ place }
@@ -186,8 +186,8 @@ impl<V: BusView, G: Gate> Context<V, G> {
         requires spare { vec_len leaves.old + length numbers.now ≤ vec_capacity leaves.old }
         ensures comes { (s : Standing) →
             RunsTo V.BusView G.Gate
-            (leaving_all numbers.now (record s { leaves = leaves.old.items }))
-            self.old.world (record s { leaves = leaves.new.items }) self.new.world }
+            (leaving_all numbers.now (record s { due_leaves = leaves.old.items }))
+            self.old.world (record s { due_leaves = leaves.new.items }) self.new.world }
         ensures room { self.old.room ≤ self.new.room + length numbers.now }
     {
         let mut start = 0;

@@ -10,7 +10,7 @@ ghost use Rattle.router_steps.specs.Quiet.{IsQuiet};
 ghost use Rattle.router_steps.specs.Stages.{stage_of, IsFirst};
 
 use crate::context::Context;
-use crate::front::read_more;
+use crate::incoming::read_more;
 use crate::mail::serial_after;
 use bus_view::BusView;
 use message::Framer;

@@ -9,7 +9,7 @@ ghost use Rattle.router_core.specs.Standing.{SpeaksDBus};
 ghost use Rattle.router_core.specs.Together.{is_rule_member as is_rule_member_in, may_join as may_join_in, rule_call};
 ghost use Rattle.router_steps.specs.Upcoming.{IsComing, IsUpcoming};
 
-use crate::front::{More, fill};
+use crate::incoming::{More, fill};
 use crate::peer::Peer;
 use driver::{Call, is_call_to_bus, read_call};
 use message_core::Message;

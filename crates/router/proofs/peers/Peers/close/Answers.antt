@@ -21,15 +21,15 @@ returns-clause-comes g c =
     let alone = g.V.BusView.alone in
     let key = c.args.key in
     let p : Peer = c.in-Some.peer in
-    let s : Standing = record { peers = c.self.inside.peers.items; leaves = c.self.inside.leaves.items; login = c.self.inside.login } in
+    let s : Standing = record { peers = c.self.inside.peers.items; due_leaves = c.self.inside.due_leaves.items; login = c.self.inside.login } in
     let n : Standing = record s { peers = c.take_peer.new.peers.items } in
-    let t : Standing = record n { leaves = c.leave_of.new.leaves.items } in
+    let t : Standing = record n { due_leaves = c.leave_of.new.leaves.items } in
     let w = c.self.inside.context.world in
     let v = c.leave_of.new.self.world in
     let conn : c.conn.result ≡ conn_of p.stage = c.conn.ensures ∙ ap conn_of c.stage.ensures in
     let gone : n ≡ with_peer s key None = λ i. record s { peers = c.take_peer.ensures.rest i } in
     let there : peer_at s key ≡ Some p = sym c.take_peer.ensures.taken ∙ c.in-Some.is in
-    let of_leaves = subst (λ (leaves : List ℕ). Comes told registry_of passes alone (leave_of (record n { leaves = leaves }) c.conn.result) c.reserve.new.self.world t v) c.reserve-2.ensures.items (c.leave_of.ensures.comes n) in
+    let of_leaves = subst (λ (leaves : List ℕ). Comes told registry_of passes alone (leave_of (record n { due_leaves = leaves }) c.conn.result) c.reserve.new.self.world t v) c.reserve-2.ensures.items (c.leave_of.ensures.comes n) in
     let of_world = subst (λ (k : World g.row.V-Note.Denot g.row.G.Denot). Comes told registry_of passes alone (leave_of n c.conn.result) k t v) c.reserve.ensures.world of_leaves in
     let of_conn = subst (λ (o : Option Conn). Comes told registry_of passes alone (leave_of n o) w t v) conn of_world in
     let of_peers = subst (λ (x : Standing). Comes told registry_of passes alone (leave_of x (conn_of p.stage)) w t v) gone of_conn in

@@ -18,10 +18,10 @@ returns-in-Some-clause-comes g c =
     let conn = c.args.conn in
     let test = has_slot conn.slot in
     let key = c.in-Some.key in
-    let s : Standing = record { peers = c.self.inside.peers.items; leaves = c.self.inside.leaves.items; login = c.self.inside.login } in
+    let s : Standing = record { peers = c.self.inside.peers.items; due_leaves = c.self.inside.due_leaves.items; login = c.self.inside.login } in
     let w = c.self.inside.context.world in
     let v = c.close_left.new.self.world in
-    let q = c.close_left.new.slot in
+    let q = c.close_left.new.entry in
     let some : position test s.peers ≡ Some key = sym (c.in-Some.ensures ∙ ap (position test) c.deref.ensures.value) in
     let there : c.index_mut.result.now ≡ peer_at s key = get_or_read s.peers key c.index_mut.result.now (position-Some test s.peers key None some).0 c.index_mut.ensures.value None in
     let found = subst (λ (o : Option Peer). Comes g.V.BusView.told g.V.BusView.registry_of g.G.Gate.passes g.V.BusView.alone (for_slot o (λ (p : Peer). closing key Left p)) w q v) there c.close_left.ensures.comes in
@@ -36,15 +36,15 @@ returns-in-Some-clause-vacant g c =
     let peers = c.self.inside.peers.items in
     let some : position test peers ≡ Some key = sym (c.in-Some.ensures ∙ ap (position test) c.deref.ensures.value) in
     let has = (position-Some test peers key None some).1 in
-    let gone = closed_has_none g.V.BusView.told g.V.BusView.registry_of g.G.Gate.passes g.V.BusView.alone c.self.inside.context.world c.close_left.new.self.world key Left c.index_mut.result.now c.close_left.new.slot c.close_left.ensures.comes in
-    vacant_closed conn.slot key c.close_left.new.slot peers c.self.inside.key_of_slot c.self.invariant has gone
+    let gone = closed_has_none g.V.BusView.told g.V.BusView.registry_of g.G.Gate.passes g.V.BusView.alone c.self.inside.context.world c.close_left.new.self.world key Left c.index_mut.result.now c.close_left.new.entry c.close_left.ensures.comes in
+    vacant_closed conn.slot key c.close_left.new.entry peers c.self.inside.key_of_slot c.self.invariant has gone
 
 pub returns-in-Some-clause-others : goal.returns-in-Some-clause-others
 returns-in-Some-clause-others g c key isnt =
     let test = has_slot c.args.conn.slot in
     let former = c.in-Some.key in
-    let s : Standing = record { peers = c.self.inside.peers.items; leaves = c.self.inside.leaves.items; login = c.self.inside.login } in
-    let q = c.close_left.new.slot in
+    let s : Standing = record { peers = c.self.inside.peers.items; due_leaves = c.self.inside.due_leaves.items; login = c.self.inside.login } in
+    let q = c.close_left.new.entry in
     let some : position test s.peers ≡ Some former = sym (c.in-Some.ensures ∙ ap (position test) c.deref.ensures.value) in
     let has : test (peer_at s former) ≡ true = (position-Some test s.peers former None some).1 in
     let isnt_here = subst (λ (k : Table g.row.V-Note.Denot g.row.G.Denot). test (peer_at k.standing key) ≡ false) (sym c.self.view_is) isnt in

@@ -15,7 +15,7 @@ invariant_of-self-2 g c =
     let key = c.args.key in
     let peers = c.self.inside.peers.items in
     let old = c.index_mut.result.now in
-    let new = c.hear_slot.new.slot in
+    let new = c.hear_slot.new.entry in
     let inside : key < length peers = omega (arith, c.if-key-len.false, c.len.ensures, c.self.inside.peers.ok.0) in
     let there = get_or_read peers key old inside c.index_mut.ensures.value None in
     let keeps =
@@ -32,10 +32,10 @@ returns-clause-comes g c =
     let alone = g.V.BusView.alone in
     let key = c.args.key in
     let work = λ (p : Peer). hear key c.args.piece.now.items p p.stage in
-    let s : Standing = record { peers = c.self.inside.peers.items; leaves = c.self.inside.leaves.items; login = c.self.inside.login } in
+    let s : Standing = record { peers = c.self.inside.peers.items; due_leaves = c.self.inside.due_leaves.items; login = c.self.inside.login } in
     let w = c.self.inside.context.world in
     let v = c.hear_slot.new.self.world in
-    let q = c.hear_slot.new.slot in
+    let q = c.hear_slot.new.entry in
     let t : Standing = record s { peers = slice_set s.peers key q } in
     let inside : key < length s.peers = omega (arith, c.if-key-len.false, c.len.ensures, c.self.inside.peers.ok.0) in
     let there : c.index_mut.result.now ≡ peer_at s key = get_or_read s.peers key c.index_mut.result.now inside c.index_mut.ensures.value None in

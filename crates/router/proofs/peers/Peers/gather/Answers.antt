@@ -15,7 +15,7 @@ invariant_of-self-in-Ok-Rule g c =
     let key = c.args.key in
     let peers = c.self-2.inside.peers.items in
     let old = c.index_mut.result.now in
-    let new = c.due_in.new.slot in
+    let new = c.due_in.new.entry in
     let long : length peers ≡ length c.self.inside.peers.items =
     ap (λ (k : Table g.row.V-Note.Denot g.row.G.Denot). length k.standing.peers) c.self-2.view_is ∙ ap (λ (s : Standing). length s.peers) c.make_room.ensures.standing ∙ sym (ap (λ (k : Table g.row.V-Note.Denot g.row.G.Denot). length k.standing.peers) c.self.view_is) in
     let inside : key < length peers = omega (arith, long, c.if-key-len.false, c.len.ensures, c.self.inside.peers.ok.0) in
@@ -30,12 +30,12 @@ returns-in-Ok-Rule-clause-comes g c =
     let alone = g.V.BusView.alone in
     let key = c.args.key in
     let joints = c.args.joints.now.items in
-    let s : Standing = record { peers = c.self-2.inside.peers.items; leaves = c.self-2.inside.leaves.items; login = c.self-2.inside.login } in
+    let s : Standing = record { peers = c.self-2.inside.peers.items; due_leaves = c.self-2.inside.due_leaves.items; login = c.self-2.inside.login } in
     let w = c.self-2.inside.context.world in
     let v = c.join_one.new.self.work.world in
     let end : Gathered = record { joints = c.join_one.new.joints.items; standing = c.join_one.new.self.standing; served = true } in
     let old = c.index_mut.result.now in
-    let new = c.due_in.new.slot in
+    let new = c.due_in.new.entry in
     let long : length s.peers ≡ length c.self.inside.peers.items =
     ap (λ (k : Table g.row.V-Note.Denot g.row.G.Denot). length k.standing.peers) c.self-2.view_is ∙ ap (λ (x : Standing). length x.peers) c.make_room.ensures.standing ∙ sym (ap (λ (k : Table g.row.V-Note.Denot g.row.G.Denot). length k.standing.peers) c.self.view_is) in
     let inside : key < length s.peers = omega (arith, long, c.if-key-len.false, c.len.ensures, c.self.inside.peers.ok.0) in

@@ -26,7 +26,7 @@ returns-in-Joins-clause-comes g c call is =
     let m = said c.args.message in
     let conn = c.args.conn in
     let joints = c.args.joints.now.items in
-    let s : Standing = record { peers = c.self.inside.peers.items; leaves = c.self.inside.leaves.items; login = c.self.inside.login } in
+    let s : Standing = record { peers = c.self.inside.peers.items; due_leaves = c.self.inside.due_leaves.items; login = c.self.inside.login } in
     let w = c.self.inside.context.world in
     let v = c.join.new.context.world in
     let joint = λ (r : RuleCall). let j : Joint = record { key = key; message = c.args.message; caller = conn; call = r } in j in
@@ -50,7 +50,7 @@ returns-in-Parts-clause-comes g c call is =
     let m = said c.args.message in
     let conn = c.args.conn in
     let joints = c.args.joints.now.items in
-    let s : Standing = record { peers = c.self.inside.peers.items; leaves = c.self.inside.leaves.items; login = c.self.inside.login } in
+    let s : Standing = record { peers = c.self.inside.peers.items; due_leaves = c.self.inside.due_leaves.items; login = c.self.inside.login } in
     let t = c.make_all.new.self.standing in
     let u = c.part_one.new.self.standing in
     let w = c.self.inside.context.world in

@@ -22,7 +22,7 @@ returns-in-None-clause-comes g c =
     let held = option_map told c.args.envelope.now.note in
     let said = said_of c.args.envelope.now.content in
     let test = is_conn c.args.slot c.args.envelope.now.number in
-    let s : Standing = record { peers = c.self.inside.peers.items; leaves = c.self.inside.leaves.items; login = c.self.inside.login } in
+    let s : Standing = record { peers = c.self.inside.peers.items; due_leaves = c.self.inside.due_leaves.items; login = c.self.inside.login } in
     let m = c.take_note_of.new.self.world in
     let none : position test s.peers ≡ None = sym (c.in-None.ensures ∙ ap (position test) c.deref.ensures.value) in
     let heeds = subst (λ k. IsHeeded alone held k m) c.reserve.ensures.world c.take_note_of.ensures.heeds in
@@ -39,10 +39,10 @@ returns-in-Some-clause-comes g c =
     let said = said_of c.args.envelope.now.content in
     let test = is_conn c.args.slot c.args.envelope.now.number in
     let key = c.in-Some.key in
-    let s : Standing = record { peers = c.self.inside.peers.items; leaves = c.self.inside.leaves.items; login = c.self.inside.login } in
+    let s : Standing = record { peers = c.self.inside.peers.items; due_leaves = c.self.inside.due_leaves.items; login = c.self.inside.login } in
     let w = c.self.inside.context.world in
     let v = c.deliver_to.new.self.world in
-    let q = c.deliver_to.new.slot in
+    let q = c.deliver_to.new.entry in
     let t : Standing = record s { peers = slice_set s.peers key q } in
     let some : position test s.peers ≡ Some key = sym (c.in-Some.ensures ∙ ap (position test) c.deref.ensures.value) in
     let there : c.index_mut.result.now ≡ peer_at s key = get_or_read s.peers key c.index_mut.result.now (position-Some test s.peers key None some).0 c.index_mut.ensures.value None in
@@ -60,7 +60,7 @@ invariant_of-self-in-Some g c =
     let peers = c.self.inside.peers.items in
     let test = is_conn c.args.slot c.args.envelope.now.number in
     let old = c.index_mut.result.now in
-    let new = c.deliver_to.new.slot in
+    let new = c.deliver_to.new.entry in
     let some : position test peers ≡ Some key = sym (c.in-Some.ensures ∙ ap (position test) c.deref.ensures.value) in
     let there = get_or_read peers key old (position-Some test peers key None some).0 c.index_mut.ensures.value None in
     let held = option_map g.V.BusView.told c.args.envelope.now.note in

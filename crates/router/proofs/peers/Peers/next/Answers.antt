@@ -21,9 +21,9 @@ returns-in-Some-clause-comes g c =
     let passes = g.G.Gate.passes in
     let alone = g.V.BusView.alone in
     let key = c.args.key in
-    let s : Standing = record { peers = c.self.inside.peers.items; leaves = c.self.inside.leaves.items; login = c.self.inside.login } in
+    let s : Standing = record { peers = c.self.inside.peers.items; due_leaves = c.self.inside.due_leaves.items; login = c.self.inside.login } in
     let w = c.self.inside.context.world in
-    let new = c.next_in.new.slot in
+    let new = c.next_in.new.entry in
     let t = c.greet.new.self.standing in
     let v = c.greet.new.self.work.world in
     let hello = c.in-Some.field-0 in
@@ -52,7 +52,7 @@ invariant_of-self-in-None g c =
     let key = c.args.key in
     let peers = c.self.inside.peers.items in
     let old = c.index_mut.result.now in
-    let new = c.next_in.new.slot in
+    let new = c.next_in.new.entry in
     let inside : key < length peers = omega (arith, c.if-key-len.false, c.len.ensures, c.self.inside.peers.ok.0) in
     let there = get_or_read peers key old inside c.index_mut.ensures.value None in
     let comes = subst (λ (o : Option HelloCall). ComesOfNext g.V.BusView g.G.Gate key o old new c.reserve_crowds.new.self.world c.next_in.new.context.world) c.in-None.is c.in_ok-next_in.ensures.next in
@@ -63,7 +63,7 @@ pub greet-requires-clause-nameless : goal.greet-requires-clause-nameless
 greet-requires-clause-nameless g c =
     let key = c.args.key in
     let peers = c.self.inside.peers.items in
-    let new = c.next_in.new.slot in
+    let new = c.next_in.new.entry in
     let within : key < length peers = omega (arith, c.if-key-len.false, c.len.ensures, c.self.inside.peers.ok.0) in
     let next_is = subst (λ (o : Option HelloCall). ComesOfNext g.V.BusView g.G.Gate key o c.index_mut.result.now new c.reserve_crowds.new.self.world c.next_in.new.context.world) (c.in-Some.is ∙ ap (λ x. Some x) c.in-Some.field-0-is) c.in_ok-next_in.ensures.next in
     let q = next_is.1 in
@@ -76,7 +76,7 @@ pub greet-requires-clause-written : goal.greet-requires-clause-written
 greet-requires-clause-written g c =
     let key = c.args.key in
     let peers = c.self.inside.peers.items in
-    let new = c.next_in.new.slot in
+    let new = c.next_in.new.entry in
     let within : key < length peers = omega (arith, c.if-key-len.false, c.len.ensures, c.self.inside.peers.ok.0) in
     let next_is = subst (λ (o : Option HelloCall). ComesOfNext g.V.BusView g.G.Gate key o c.index_mut.result.now new c.reserve_crowds.new.self.world c.next_in.new.context.world) (c.in-Some.is ∙ ap (λ x. Some x) c.in-Some.field-0-is) c.in_ok-next_in.ensures.next in
     let left : get_or (set peers key new) key None ≡ Some next_is.1 = get_or-set_same peers key new None within ∙ next_is.3 in
@@ -87,7 +87,7 @@ pub invariant_of-self-in-Some : goal.invariant_of-self-in-Some
 invariant_of-self-in-Some g c =
     let key = c.args.key in
     let peers = c.self.inside.peers.items in
-    let new = c.next_in.new.slot in
+    let new = c.next_in.new.entry in
     let within : key < length peers = omega (arith, c.if-key-len.false, c.len.ensures, c.self.inside.peers.ok.0) in
     let next_is = subst (λ (o : Option HelloCall). ComesOfNext g.V.BusView g.G.Gate key o c.index_mut.result.now new c.reserve_crowds.new.self.world c.next_in.new.context.world) (c.in-Some.is ∙ ap (λ x. Some x) c.in-Some.field-0-is) c.in_ok-next_in.ensures.next in
     let p = next_is.0 in

@@ -15,8 +15,8 @@ pub returns : goal.returns
 returns g c =
     let key = c.args.key in
     let old = c.index_mut.result.now in
-    let new = c.refuse_in.new.slot in
-    let s : Standing = record { peers = c.self.inside.peers.items; leaves = c.self.inside.leaves.items; login = c.self.inside.login } in
+    let new = c.refuse_in.new.entry in
+    let s : Standing = record { peers = c.self.inside.peers.items; due_leaves = c.self.inside.due_leaves.items; login = c.self.inside.login } in
     let w = c.self.inside.context.world in
     let v = c.refuse_in.new.self.world in
     let work = refuse_with key (said c.args.hello.now) (error_for (refusal_of c.args.why)) in
@@ -30,7 +30,7 @@ invariant_of-self g c =
     let key = c.args.key in
     let peers = c.self.inside.peers.items in
     let old = c.index_mut.result.now in
-    let new = c.refuse_in.new.slot in
+    let new = c.refuse_in.new.entry in
     let within : key < length peers = subst (λ (k : Table g.row.V-Note.Denot g.row.G.Denot). key < length k.standing.peers) (sym c.self.view_is) c.requires.key in
     let there = get_or_read peers key old within c.index_mut.ensures.value None in
     let keeps = refused_keeps g.V.BusView.told g.V.BusView.registry_of g.G.Gate.passes g.V.BusView.alone c.self.inside.context.world c.refuse_in.new.self.world key (said c.args.hello.now) (error_for (refusal_of c.args.why)) old new c.refuse_in.ensures in

@@ -29,11 +29,11 @@ returns-clause-comes g c work w served =
     let passes = g.G.Gate.passes in
     let alone = g.V.BusView.alone in
     let key = c.args.key in
-    let s : Standing = record { peers = c.self.inside.peers.items; leaves = c.self.inside.leaves.items; login = c.self.inside.login } in
+    let s : Standing = record { peers = c.self.inside.peers.items; due_leaves = c.self.inside.due_leaves.items; login = c.self.inside.login } in
     let m = c.self.inside.context.world in
     let v = c.settle.new.context.world in
     let old = c.index_mut.result.now in
-    let new = c.settle.new.slot in
+    let new = c.settle.new.entry in
     let named = subst (λ (k : Table g.row.V-Note.Denot g.row.G.Denot). is_named (peer_at k.standing key) ≡ true) (sym c.self.view_is) c.requires.named in
     let there : old ≡ peer_at s key = get_or_read s.peers key old (named_within s.peers key named) c.index_mut.ensures.value None in
     let begun = subst (λ (k : Table g.row.V-Note.Denot g.row.G.Denot). Comes told registry_of passes alone work w c.args.fate k.work.world) (sym c.self.view_is) served in
@@ -45,7 +45,7 @@ invariant_of-self g c =
     let key = c.args.key in
     let peers = c.self.inside.peers.items in
     let old = c.index_mut.result.now in
-    let new = c.settle.new.slot in
+    let new = c.settle.new.entry in
     let named = subst (λ (k : Table g.row.V-Note.Denot g.row.G.Denot). is_named (peer_at k.standing key) ≡ true) (sym c.self.view_is) c.requires.named in
     let there = get_or_read peers key old (named_within peers key named) c.index_mut.ensures.value None in
     index_at peers c.self.inside.key_of_slot key old new there (settled_keeps g.V.BusView g.G.Gate key c.args.fate old new c.self.inside.context.world c.settle.new.context.world c.settle.ensures.settled) c.self.invariant

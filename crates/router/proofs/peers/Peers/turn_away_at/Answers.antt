@@ -14,8 +14,8 @@ pub returns : goal.returns
 returns g c =
     let key = c.args.key in
     let old = c.index_mut.result.now in
-    let new = c.turn_away_in.new.slot in
-    let s : Standing = record { peers = c.self.inside.peers.items; leaves = c.self.inside.leaves.items; login = c.self.inside.login } in
+    let new = c.turn_away_in.new.entry in
+    let s : Standing = record { peers = c.self.inside.peers.items; due_leaves = c.self.inside.due_leaves.items; login = c.self.inside.login } in
     let w = c.self.inside.context.world in
     let v = c.turn_away_in.new.self.world in
     let work = turn_away key (said c.args.hello.now) in
@@ -26,6 +26,6 @@ returns g c =
 
 pub invariant_of-self : goal.invariant_of-self
 invariant_of-self g c =
-    let new = c.turn_away_in.new.slot in
+    let new = c.turn_away_in.new.entry in
     let without = turned_away_has_none g.V.BusView.told g.V.BusView.registry_of g.G.Gate.passes g.V.BusView.alone c.self.inside.context.world c.turn_away_in.new.self.world c.args.key (said c.args.hello.now) c.index_mut.result.now new c.turn_away_in.ensures in
     index_without c.self.inside.peers.items c.self.inside.key_of_slot c.args.key new without c.self.invariant

@@ -17,7 +17,7 @@ pub name_in-requires : goal.name_in-requires
 name_in-requires g c =
     let key = c.args.key in
     let peers = c.self.inside.peers.items in
-    let s : Standing = record { peers = c.self.inside.peers.items; leaves = c.self.inside.leaves.items; login = c.self.inside.login } in
+    let s : Standing = record { peers = c.self.inside.peers.items; due_leaves = c.self.inside.due_leaves.items; login = c.self.inside.login } in
     let old = c.index_mut.result.now in
     let within : key < length peers = subst (λ (k : Table g.row.V-Note.Denot g.row.G.Denot). key < length k.standing.peers) (sym c.self.view_is) c.requires.key in
     let there : old ≡ peer_at s key = get_or_read peers key old within c.index_mut.ensures.value None in
@@ -30,7 +30,7 @@ returns g c p is =
     let m = said c.args.hello.now in
     let o = c.args.outcome in
     let conn = c.args.conn in
-    let s : Standing = record { peers = c.self.inside.peers.items; leaves = c.self.inside.leaves.items; login = c.self.inside.login } in
+    let s : Standing = record { peers = c.self.inside.peers.items; due_leaves = c.self.inside.due_leaves.items; login = c.self.inside.login } in
     let old = c.index_mut.result.now in
     let within : key < length s.peers = subst (λ (k : Table g.row.V-Note.Denot g.row.G.Denot). key < length k.standing.peers) (sym c.self.view_is) c.requires.key in
     let there : old ≡ peer_at s key = get_or_read s.peers key old within c.index_mut.ensures.value None in
@@ -42,7 +42,7 @@ returns g c p is =
     comes_then g.V.BusView.told g.V.BusView.registry_of g.G.Gate.passes g.V.BusView.alone (λ (done : Unit {0}). Announcing o.signals (Gives (with_peer s key (Some named)))) tt c.reply_with.new.self.world (with_peer s key (Some named)) v (v, c.announce.ensures.announces, (refl, refl))
     (reply_with m conn (UniqueName conn.number)) w c.reply_with.ensures.comes
     in
-    subst (λ (k : Table g.row.V-Note.Denot g.row.G.Denot). RunsTo g.V.BusView g.G.Gate (welcome key m p o conn k.standing) k.work.world (with_peer s key c.name_in.new.slot) v) c.self.view_is
+    subst (λ (k : Table g.row.V-Note.Denot g.row.G.Denot). RunsTo g.V.BusView g.G.Gate (welcome key m p o conn k.standing) k.work.world (with_peer s key c.name_in.new.entry) v) c.self.view_is
     (subst (λ (q : Option Peer). RunsTo g.V.BusView g.G.Gate (welcome key m p o conn s) w (with_peer s key q) v) (sym (c.name_in.ensures p (there ∙ here))) done)
 
 pub invariant_of-self : goal.invariant_of-self
@@ -51,7 +51,7 @@ invariant_of-self g c =
     let conn = c.args.conn in
     let peers = c.self.inside.peers.items in
     let key_of_slot = c.self.inside.key_of_slot in
-    let s : Standing = record { peers = c.self.inside.peers.items; leaves = c.self.inside.leaves.items; login = c.self.inside.login } in
+    let s : Standing = record { peers = c.self.inside.peers.items; due_leaves = c.self.inside.due_leaves.items; login = c.self.inside.login } in
     let old = c.index_mut.result.now in
     let within : key < length peers = subst (λ (k : Table g.row.V-Note.Denot g.row.G.Denot). key < length k.standing.peers) (sym c.self.view_is) c.requires.key in
     let there : old ≡ peer_at s key = get_or_read peers key old within c.index_mut.ensures.value None in
@@ -60,4 +60,4 @@ invariant_of-self g c =
     let vacant = subst (λ (k : Table g.row.V-Note.Denot g.row.G.Denot). IsVacant conn.slot k.standing.peers) (sym c.self.view_is) c.requires.vacant in
     let indexed = index_named peers key_of_slot c.self.invariant key found.0 conn vacant c.keep_key.ensures.count in
     let here = subst (λ (q : Option Peer). IsIndexed (set peers key q) (set key_of_slot conn.slot key)) (sym (c.name_in.ensures found.0 (there ∙ found.1))) indexed in
-    subst (λ ns. IsIndexed (set peers key c.name_in.new.slot) ns) (sym c.keep_key.ensures.set) here
+    subst (λ ns. IsIndexed (set peers key c.name_in.new.entry) ns) (sym c.keep_key.ensures.set) here

@@ -15,7 +15,7 @@ loop-key-preserved g c =
     let peers = c.loop-key.peers in
     let w = c.loop-key.self.world in
     let m = c.look_into.new.self.world in
-    let q = c.look_into.new.slot in
+    let q = c.look_into.new.entry in
     let inside : key < length peers = omega arith in
     let read = get_or_default peers key c.index-peers-key.result None inside in
     record {

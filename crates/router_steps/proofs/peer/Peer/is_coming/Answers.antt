@@ -1,6 +1,6 @@
 use Rattle.std.proofs.Common.{◌++◌, List, ℕ, IfOk, sym, subst}
 use Rattle.router_core.specs.Fronts.{Waits, Faulty}
-use Rattle.router_steps.specs.declared.front.More.{More}
+use Rattle.router_steps.specs.declared.incoming.More.{More}
 use Rattle.router_steps.specs.Pending.{pending_bytes}
 use Rattle.router_steps.specs.Reading.{HasMore}
 use Rattle.router_steps.specs.Upcoming.{IsComing}

@@ -1,7 +1,7 @@
 use Rattle.std.proofs.Common.{◌≡◌, ◌++◌, List, ℕ, sym, ap, ◌∙◌, subst}
 use Rattle.router_core.specs.Fronts.{Whole, Faulty}
 use Rattle.router_core.specs.Standing.{Peer}
-use Rattle.router_steps.specs.declared.front.More.{More}
+use Rattle.router_steps.specs.declared.incoming.More.{More}
 use Rattle.router_steps.specs.Pending.{pending_bytes}
 use Rattle.router_steps.specs.Reading.{HasMore}
 use Rattle.router_steps.specs.Stages.{unread_at}

@@ -11,7 +11,7 @@ use std::collections::VecDeque;
 
 /// What stands at the front of the bytes of a connection.
 #[derive(Drop)]
-pub enum Front {
+pub enum Incoming {
     /// More bytes are wanted.
     Waits,
     /// A message.
@@ -34,11 +34,11 @@ pub(crate) enum More {
 /// Takes the next message off the bytes of a connection: the first that is pending, or else the one
 /// at the front of what is unread. At a fault they are let go: nothing is left but to close the
 /// connection. Without memory nothing changes.
-pub(crate) fn take_front(
+pub(crate) fn take_incoming(
     alloc: Global,
     pending: &mut VecDeque<Message>,
     unread: &mut Framer,
-) -> Result<Front, AllocError>
+) -> Result<Incoming, AllocError>
     requires fine { unread.old.fault ≡ None }
     requires within { AreWithin pending.old.items }
     ensures front { IfOk result (λ front.
@@ -50,16 +50,16 @@ pub(crate) fn take_front(
     ensures unread { OnErr result (unread.new ≡ unread.old) }
 {
     if let Some(message) = pending.pop_front() {
-        return Ok(Front::Whole(message));
+        return Ok(Incoming::Whole(message));
     }
     match unread.next() {
-        Ok(Some(message)) => Ok(Front::Whole(message)),
-        Ok(None) => Ok(Front::Waits),
+        Ok(Some(message)) => Ok(Incoming::Whole(message)),
+        Ok(None) => Ok(Incoming::Waits),
         Err(fault) => match fault {
             FrameFault::NoMemory => Err(AllocError),
             _ => {
                 *unread = Framer::new(alloc);
-                Ok(Front::Faulty(fault))
+                Ok(Incoming::Faulty(fault))
             }
         },
     }

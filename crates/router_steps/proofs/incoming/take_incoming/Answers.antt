@@ -4,7 +4,7 @@ use Rattle.message_core.specs.declared.announcement.TheConstants.{MAXIMUM_LENGTH
 use Rattle.router_steps.specs.Pending.{pending_bytes}
 use Rattle.router_steps.proofs.Judging.{judged}
 use Rattle.router_steps.proofs.Pendings.{none_taken}
-use Rattle.router_steps.proofs.front.take_front.Goals as goal
+use Rattle.router_steps.proofs.incoming.take_incoming.Goals as goal
 
 pub returns-in_default-fault-clause-front : goal.returns-in_default-fault-clause-front
 returns-in_default-fault-clause-front c =

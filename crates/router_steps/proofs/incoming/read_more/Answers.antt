@@ -4,7 +4,7 @@ use Rattle.message.specs.Framing.{Unread, IsWaiting, IsTaken, IsJudged}
 use Rattle.router_steps.specs.Pending.{pending_bytes}
 use Rattle.router_steps.proofs.Judging.{judged, bytes_kept}
 use Rattle.router_steps.proofs.Pendings.{bytes_read}
-use Rattle.router_steps.proofs.front.read_more.Goals as goal
+use Rattle.router_steps.proofs.incoming.read_more.Goals as goal
 
 pub returns-in-Ok-Some-clause-bytes : goal.returns-in-Ok-Some-clause-bytes
 returns-in-Ok-Some-clause-bytes c =

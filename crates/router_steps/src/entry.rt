@@ -27,18 +27,18 @@ impl<V: BusView, G: Gate> Context<V, G> {
     pub fn hear_slot(
         &mut self,
         key: usize,
-        slot: &mut Option<Peer>,
+        entry: &mut Option<Peer>,
         piece: &mut Vec<u8>,
     ) -> Result<(), AllocError>
         requires { 1 < self.old.room }
         ensures comes { OnOk result (RunsTo V.BusView G.Gate
-            (for_slot slot.old (λ p. hear key piece.old.items p p.stage))
-            self.old.world slot.new self.new.world) }
-        ensures err { OnErr result (slot.new ≡ slot.old) }
+            (for_slot entry.old (λ p. hear key piece.old.items p p.stage))
+            self.old.world entry.new self.new.world) }
+        ensures err { OnErr result (entry.new ≡ entry.old) }
         ensures world { OnErr result (self.new.world ≡ self.old.world) }
         ensures kept { OnErr result (piece.new ≡ piece.old) }
     {
-        match slot {
+        match entry {
             None => Ok(()),
             Some(peer) => self.hear(key, peer, piece),
         }
@@ -50,19 +50,19 @@ impl<V: BusView, G: Gate> Context<V, G> {
         &mut self,
         alloc: Global,
         key: usize,
-        slot: &mut Option<Peer>,
+        entry: &mut Option<Peer>,
         envelope: &Envelope<V::Note>,
     ) -> Result<(), AllocError>
         requires room { 0 < self.old.room }
         requires own { IsOwnNote V.registry_of self.old.world.view.registry envelope.now.note }
         ensures comes { OnOk result (RunsTo V.BusView G.Gate
             (once_noted (option_map V.told envelope.now.note)
-            (for_slot slot.old (writing key (said_of envelope.now.content))))
-            self.old.world slot.new self.new.world) }
-        ensures err { OnErr result (slot.new ≡ slot.old) }
+            (for_slot entry.old (writing key (said_of envelope.now.content))))
+            self.old.world entry.new self.new.world) }
+        ensures err { OnErr result (entry.new ≡ entry.old) }
         ensures world { OnErr result (self.new.world ≡ self.old.world) }
     {
-        match slot {
+        match entry {
             None => {
                 self.take_note_of(&envelope.note);
                 Ok(())
@@ -76,19 +76,19 @@ impl<V: BusView, G: Gate> Context<V, G> {
         &mut self,
         key: usize,
         hello: &Message,
-        slot: &mut Option<Peer>,
+        entry: &mut Option<Peer>,
         why: Cause,
         errors: HelloErrors,
     )
         requires room { 1 < self.old.room }
         requires crowds { 0 < self.old.crowds }
-        requires written { IfSome slot.old
+        requires written { IfSome entry.old
             (λ p. AreRefusals (said hello.now) (next_serial p.serial) errors) }
         ensures { RunsTo V.BusView G.Gate
-            (for_slot slot.old (refuse_with key (said hello.now) (error_for (refusal_of why))))
-            self.old.world slot.new self.new.world }
+            (for_slot entry.old (refuse_with key (said hello.now) (error_for (refusal_of why))))
+            self.old.world entry.new self.new.world }
     {
-        match slot {
+        match entry {
             None => {}
             Some(peer) => self.refuse_for(key, hello, peer, why, errors),
         }
@@ -100,44 +100,44 @@ impl<V: BusView, G: Gate> Context<V, G> {
         &mut self,
         key: usize,
         hello: &Message,
-        slot: &mut Option<Peer>,
+        entry: &mut Option<Peer>,
         bytes: WrittenBytes,
     )
         requires room { 2 < self.old.room }
         requires crowds { 0 < self.old.crowds }
-        requires written { IfSome slot.old (λ p. IsRefusal (said hello.now)
+        requires written { IfSome entry.old (λ p. IsRefusal (said hello.now)
             ErrorKind.LimitsExceeded (next_serial p.serial) bytes) }
-        ensures { RunsTo V.BusView G.Gate (for_slot slot.old (turn_away key (said hello.now)))
-            self.old.world slot.new self.new.world }
+        ensures { RunsTo V.BusView G.Gate (for_slot entry.old (turn_away key (said hello.now)))
+            self.old.world entry.new self.new.world }
     {
-        match slot {
+        match entry {
             None => {}
             Some(peer) => self.turn_away(key, hello, peer, bytes),
         }
     }
 
     /// Closes a connection that has left, if it is there.
-    pub fn close_left(&mut self, key: usize, slot: &mut Option<Peer>)
+    pub fn close_left(&mut self, key: usize, entry: &mut Option<Peer>)
         requires { 0 < self.old.room }
         ensures comes { RunsTo V.BusView G.Gate
-            (for_slot slot.old (λ p. closing key CloseCause.Left p))
-            self.old.world slot.new self.new.world }
+            (for_slot entry.old (λ p. closing key CloseCause.Left p))
+            self.old.world entry.new self.new.world }
         ensures room { self.old.room ≤ self.new.room + 1 }
         ensures crowds { self.new.crowds ≡ self.old.crowds }
     {
-        if let Some(peer) = slot {
+        if let Some(peer) = entry {
             self.close_peer(key, peer, CloseCause::Left);
         }
     }
 
     /// Closes the connection of a key, if it is there and has left.
-    fn look_into(&mut self, key: usize, slot: &mut Option<Peer>)
+    fn look_into(&mut self, key: usize, entry: &mut Option<Peer>)
         requires { 0 < self.old.room }
-        ensures comes { RunsTo V.BusView G.Gate (for_slot slot.old (λ p. look key p p.stage))
-            self.old.world slot.new self.new.world }
+        ensures comes { RunsTo V.BusView G.Gate (for_slot entry.old (λ p. look key p p.stage))
+            self.old.world entry.new self.new.world }
         ensures room { self.old.room ≤ self.new.room + 1 }
     {
-        match slot {
+        match entry {
             None => {}
             Some(peer) => self.look_after(key, peer),
         }
