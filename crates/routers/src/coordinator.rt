@@ -129,7 +129,7 @@ impl<W: Wake + Drop> Coordinator<W> {
 
     /// Whether there is mail for any place of a router. It is asked for once, before the places
     /// are.
-    pub(crate) fn takes_any_mail(&self, router: usize) -> bool {
+    pub(crate) fn take_any_mail(&self, router: usize) -> bool {
         match self.states.get(router) {
             Some(state) => lower(&state.mail),
             None => false,
@@ -137,7 +137,7 @@ impl<W: Wake + Drop> Coordinator<W> {
     }
 
     /// Whether there is mail for this place. It is asked for once.
-    pub(crate) fn takes_mail(&self, slot: usize) -> bool {
+    pub(crate) fn take_mail(&self, slot: usize) -> bool {
         match self.mail.get(slot) {
             Some(flag) => lower(flag),
             None => false,
@@ -153,7 +153,7 @@ impl<W: Wake + Drop> Coordinator<W> {
     }
 
     /// Connections that came for a router up to now are looked for.
-    pub(crate) fn looks_for_connections(&self, router: usize) {
+    pub(crate) fn look_for_connections(&self, router: usize) {
         if let Some(state) = self.states.get(router) {
             state.comes.store(false, Ordering::SeqCst);
         }
@@ -168,7 +168,7 @@ impl<W: Wake + Drop> Coordinator<W> {
     }
 
     /// Whether a connection of this router was full for another. It is asked for once.
-    pub(crate) fn takes_look(&self, router: usize) -> bool {
+    pub(crate) fn take_look(&self, router: usize) -> bool {
         match self.states.get(router) {
             Some(state) => lower(&state.looks),
             None => false,
@@ -176,7 +176,7 @@ impl<W: Wake + Drop> Coordinator<W> {
     }
 
     /// A router is about to wait. It is not to, where something came for it meanwhile.
-    pub(crate) fn falls_asleep(&self, router: usize) -> bool {
+    pub(crate) fn try_sleep(&self, router: usize) -> bool {
         let Some(state) = self.states.get(router) else {
             return false;
         };
@@ -188,7 +188,7 @@ impl<W: Wake + Drop> Coordinator<W> {
     }
 
     /// A router waits no more.
-    pub(crate) fn wakes_up(&self, router: usize) {
+    pub(crate) fn wake_up(&self, router: usize) {
         if let Some(state) = self.states.get(router) {
             state.sleeps.store(false, Ordering::SeqCst);
         }

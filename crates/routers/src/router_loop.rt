@@ -1,5 +1,8 @@
 //! One router, as long as it serves.
 
+ghost use Rattle.std.specs.Prelude.{◌≡◌};
+ghost use Rattle.routers.specs.Serving.{WorksOn};
+
 use crate::coordinator::{Coordinator, Wake};
 use crate::fault::Fault;
 use crate::source::{Source, SourceEvent, Timeout};
@@ -7,9 +10,11 @@ use crate::trace_sink::Recorder;
 use bus_view::BusView;
 use router_core::Gate;
 use router_host::{Host, Post, Socket};
+use std::alloc::AllocError;
+use std::marker::Model;
 use std::sync::Wait;
 
-/// A router: a host, and where it hears of what happens.
+/// A router: a host, and where it hears of what happens. Contracts see the host.
 #[derive(Drop)]
 pub struct Router<'a, V: BusView, G: Gate, P: Post<V>, S: Socket, E: Source<S>, W: Wake + Drop> {
     me: usize,
@@ -20,31 +25,17 @@ pub struct Router<'a, V: BusView, G: Gate, P: Post<V>, S: Socket, E: Source<S>, 
     is_short_of_memory: bool,
 }
 
-impl<
-    'a,
-    V: BusView + Drop,
-    G: Gate + Drop,
-    P: Post<V>,
-    S: Socket,
-    E: Source<S> + Drop,
-    W: Wake + Drop,
-> Router<'a, V, G, P, S, E, W> {
-    /// Serves until all are to end, or nothing happens any more. What a turn recorded is written at
-    /// its end: so all of it is written while the router waits.
-    ///
-    /// # Errors
-    ///
-    /// Its source fails, or what it recorded can't be written.
-    pub fn run<R: Wait, T: Recorder<V, G, P, S>>(
-        mut self,
-        rt: &R,
-        right: &V::Right,
-        recorder: &mut T,
-    ) -> Result<(), Fault> {
-        let ended = self.serve(rt, right, recorder);
-        drop(self);
-        ended
-    }
+fn any_failed(one: Result<(), AllocError>, other: Result<(), AllocError>) -> bool {
+    one.is_err() || other.is_err()
+}
+
+impl<'a, V: BusView, G: Gate, P: Post<V>, S: Socket, E: Source<S>, W: Wake + Drop> Model
+    for Router<'a, V, G, P, S, E, W> {
+    ghost use Rattle.router_host.specs.States.{Hosted};
+
+    ghost Value = { Hosted P G V.Note };
+
+    ghost view = { λ r. r.host };
 }
 
 impl<'a, V: BusView, G: Gate, P: Post<V>, S: Socket, E: Source<S>, W: Wake + Drop> Router<
@@ -62,7 +53,9 @@ impl<'a, V: BusView, G: Gate, P: Post<V>, S: Socket, E: Source<S>, W: Wake + Dro
         coordinator: &'a Coordinator<W>,
         host: Host<V, G, P, S>,
         source: E,
-    ) -> Router<'a, V, G, P, S, E, W> {
+    ) -> Router<'a, V, G, P, S, E, W>
+        ensures { result ≡ host }
+    {
         Router {
             me,
             coordinator,
@@ -72,16 +65,26 @@ impl<'a, V: BusView, G: Gate, P: Post<V>, S: Socket, E: Source<S>, W: Wake + Dro
         }
     }
 
-    /// Takes turn after turn, until all are to end or nothing happens any more.
-    fn serve<R: Wait, T: Recorder<V, G, P, S>>(
+    /// Serves until all are to end, or nothing happens any more. What a turn recorded is written at
+    /// its end: so all of it is written while the router waits.
+    ///
+    /// # Errors
+    ///
+    /// Its source fails, or what it recorded can't be written.
+    pub fn run<R: Wait, T: Recorder<V, G, P, S>>(
         &mut self,
         rt: &R,
         right: &V::Right,
         recorder: &mut T,
-    ) -> Result<(), Fault> {
+    ) -> Result<(), Fault>
+        ensures serves { WorksOn V.told G.passes V.alone P.puts P.starts P.takes self.old self.new }
+    {
         for _ in rt.forever() {
             self.rest()?;
-            if self.coordinator.is_over() || self.take_events(rt, right) {
+            if self.coordinator.is_over() {
+                return Ok(());
+            }
+            if self.take_events(rt, right) {
                 return Ok(());
             }
             self.turn(right);
@@ -91,16 +94,18 @@ impl<'a, V: BusView, G: Gate, P: Post<V>, S: Socket, E: Source<S>, W: Wake + Dro
     }
 
     /// Waits for what happens next, unless there is something to do.
-    fn rest(&mut self) -> Result<(), Fault> {
+    fn rest(&mut self) -> Result<(), Fault>
+        ensures same { self.new ≡ self.old }
+    {
         let timeout = self.timeout();
         if timeout == Timeout::Zero {
             return self.source.wait(Timeout::Zero);
         }
-        let may_sleep = self.coordinator.falls_asleep(self.me);
+        let may_sleep = self.coordinator.try_sleep(self.me);
         let waited = self
             .source
             .wait(if may_sleep { timeout } else { Timeout::Zero });
-        self.coordinator.wakes_up(self.me);
+        self.coordinator.wake_up(self.me);
         waited
     }
 
@@ -118,8 +123,10 @@ impl<'a, V: BusView, G: Gate, P: Post<V>, S: Socket, E: Source<S>, W: Wake + Dro
     }
 
     /// Tells the host what happened, and whether nothing happens any more.
-    fn take_events<R: Wait>(&mut self, rt: &R, right: &V::Right) -> bool {
-        self.coordinator.looks_for_connections(self.me);
+    fn take_events<R: Wait>(&mut self, rt: &R, right: &V::Right) -> bool
+        ensures serves { WorksOn V.told G.passes V.alone P.puts P.starts P.takes self.old self.new }
+    {
+        self.coordinator.look_for_connections(self.me);
         for _ in rt.forever() {
             let Some(event) = self.source.next(rt) else {
                 return false;
@@ -132,53 +139,86 @@ impl<'a, V: BusView, G: Gate, P: Post<V>, S: Socket, E: Source<S>, W: Wake + Dro
     }
 
     /// Tells the host of an event, and whether it is the last.
-    fn take_event(&mut self, right: &V::Right, event: SourceEvent<S>) -> bool {
+    fn take_event(&mut self, right: &V::Right, event: SourceEvent<S>) -> bool
+        ensures serves { WorksOn V.told G.passes V.alone P.puts P.starts P.takes self.old self.new }
+    {
         match event {
-            SourceEvent::Accepted { socket, challenge } => self.open(right, socket, challenge),
-            SourceEvent::Readable { key, closing } => self.host.readable(key, closing),
-            SourceEvent::Writable { key } => self.host.writable(key),
-            SourceEvent::Ended => return true,
+            SourceEvent::Accepted { socket, challenge } => {
+                self.open(right, socket, challenge);
+                false
+            }
+            SourceEvent::Readable { key, closing } => {
+                self.host.readable(key, closing);
+                false
+            }
+            SourceEvent::Writable { key } => {
+                self.host.writable(key);
+                false
+            }
+            SourceEvent::Ended => true,
         }
-        false
     }
 
     /// A connection came. It is dropped where there is no room for it.
-    fn open(&mut self, right: &V::Right, mut socket: S, challenge: Option<[u8; 16]>) {
-        if self.source.watch(self.host.free_key(), &mut socket) {
-            let _refused = self.host.open(right, socket, challenge);
+    fn open(&mut self, right: &V::Right, mut socket: S, challenge: Option<[u8; 16]>)
+        ensures serves { WorksOn V.told G.passes V.alone P.puts P.starts P.takes self.old self.new }
+    {
+        if !self.source.watch(self.host.free_key(), &mut socket) {
+            return;
         }
+        let _refused = self.host.open(right, socket, challenge);
     }
 
     /// Does what there is to do.
-    fn turn(&mut self, right: &V::Right) {
+    fn turn(&mut self, right: &V::Right)
+        ensures serves { WorksOn V.told G.passes V.alone P.puts P.starts P.takes self.old self.new }
+    {
         self.take_flags();
-        let ticked = match self.host.wants_tick() {
-            true => self.host.tick(right),
-            false => Ok(()),
-        };
+        let ticked = self.tick(right);
         let turned = self.host.turn(right);
-        self.is_short_of_memory = ticked.is_err() || turned.is_err();
+        self.is_short_of_memory = any_failed(ticked, turned);
+        self.tell_ended();
+    }
+
+    /// Time has passed, where a tick is wanted.
+    fn tick(&mut self, right: &V::Right) -> Result<(), AllocError>
+        ensures serves { WorksOn V.told G.passes V.alone P.puts P.starts P.takes self.old self.new }
+    {
+        if !self.host.wants_tick() {
+            return Ok(());
+        }
+        self.host.tick(right)
+    }
+
+    /// Tells the source which connections are over.
+    fn tell_ended(&mut self)
+        ensures same { self.new ≡ self.old }
+    {
         for ended in self.host.take_ended() {
             self.source.tell(ended);
         }
     }
 
     /// Tells the host what other routers brought.
-    fn take_flags(&mut self) {
-        if self.coordinator.takes_any_mail(self.me) {
+    fn take_flags(&mut self)
+        ensures same { self.new ≡ self.old }
+    {
+        if self.coordinator.take_any_mail(self.me) {
             self.take_mail_flags();
         }
-        if self.coordinator.takes_look(self.me) {
+        if self.coordinator.take_look(self.me) {
             self.host.look_came();
         }
     }
 
     /// Tells the host which of its places have mail from other routers.
-    fn take_mail_flags(&mut self) {
+    fn take_mail_flags(&mut self)
+        ensures same { self.new ≡ self.old }
+    {
         let places = self.coordinator.places();
         let first = self.me.saturating_mul(places);
         for slot in first..first.saturating_add(places) {
-            if self.coordinator.takes_mail(slot) {
+            if self.coordinator.take_mail(slot) {
                 if let Ok(slot) = u16::try_from(slot) {
                     self.host.mail_came(slot);
                 }

@@ -83,8 +83,10 @@ fn serve_as_router<
     let Ok(host) = made else {
         return Err(Fault::Memory);
     };
-    let router = Router::new(me, coordinator, host, source);
-    router.run(rt, rt, &mut trace)
+    let mut router = Router::new(me, coordinator, host, source);
+    let ended = router.run(rt, rt, &mut trace);
+    drop(router);
+    ended
 }
 
 /// What one thread does.

@@ -43,7 +43,8 @@ pub trait Recorder<V: BusView, G: Gate, P: Post<V>, S: Socket> {
     /// # Errors
     ///
     /// It can't be written, or there was no memory for a part of it.
-    fn record(&mut self, host: &mut Host<V, G, P, S>) -> Result<(), Fault>;
+    fn record(&mut self, host: &mut Host<V, G, P, S>) -> Result<(), Fault>
+        ensures same { host.new ≡ host.old };
 }
 
 impl<'a, J: Naming, W: Wake + Drop, R: Wait, G: Gate, S: Socket, T: TraceSink> Recorder<

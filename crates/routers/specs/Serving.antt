@@ -1,0 +1,46 @@
+-- What a router's thread does to its host.
+use Rattle.std.specs.Prelude.{◌≡◌, ◌⊎◌, ℕ, Bool, Option, List}
+use Rattle.seq_bus_core.specs.Histories.{History}
+use Rattle.seq_bus_core.specs.declared.connection.Conn.{Conn}
+use Rattle.outbox_core.specs.declared.envelope.Envelope.{Envelope}
+use Rattle.router_core.specs.declared.event.Event.TheVariants.{Tick}
+use Rattle.router_core.specs.Deeds.{GatedCall}
+use Rattle.router_host_core.specs.declared.post.StartRequest.{StartRequest}
+use Rattle.router_host_core.specs.Carrying.{Each, line_at}
+use Rattle.router_host_core.specs.Sockets.{unblocked_at}
+use Rattle.router_host.specs.Doing.{Does, with_lines}
+use Rattle.router_host.specs.Happening.{CatchesUp, Happens}
+use Rattle.router_host.specs.Opening.{MakesRoom, Opens}
+use Rattle.router_host.specs.States.{Hosted}
+
+-- What happens to a host.
+pub data Happening : Type 0 where
+  -- A connection comes, with this challenge. It may be refused.
+  Comes : Option (List ℕ) → Happening
+  -- The socket of the connection of this key takes bytes again.
+  Unblocks : ℕ → Happening
+  -- Time passes. There may be no memory for that.
+  Ticks : Happening
+  -- A turn.
+  Turns : Happening
+
+module _ {P N G : Type 0} (told : N → History) (passes : G → GatedCall → G → Type 0)
+    (alone : Bool) (puts : P → Conn → Envelope N → P → Type 0)
+    (starts : P → StartRequest → P → Type 0)
+    (takes : P → ℕ → Envelope N → P → Type 0) where
+  abbrev pub HasHappened : Happening → Hosted P G N → Hosted P G N → Type 0
+  HasHappened (Comes challenge) before after =
+      ((key : ℕ) × Opens told passes alone puts starts before key challenge after)
+      ⊎ MakesRoom puts starts before after
+  HasHappened (Unblocks key) before after =
+      after ≡ with_lines before
+      (unblocked_at before.carried.lines key (line_at before.carried.lines key))
+  HasHappened Ticks before after =
+      Happens told passes alone puts starts before Tick after
+      ⊎ CatchesUp puts starts before after
+  HasHappened Turns before after = Does told passes alone puts starts takes before after
+
+  -- Such things happen, one after the other, and nothing else.
+  pub record WorksOn (before after : Hosted P G N) : Type 0 where
+    pub happenings : List Happening
+    pub happened : Each HasHappened happenings before after
