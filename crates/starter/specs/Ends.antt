@@ -1,5 +1,5 @@
 -- How starts end, as the bus is told of it.
-use Rattle.std.specs.Prelude.{◌≡◌, ◌⊎◌, ◌++◌, Bool, List, Option, Some, None, Box}
+use Rattle.std.specs.Prelude.{◌≡◌, ◌⊎◌, ◌++◌, ℕ, Bool, List, Option, Some, None, Box}
 use Rattle.std.specs.declared.alloc.Global.{Global}
 use Rattle.seq_bus_core.specs.Histories.{History}
 use Rattle.seq_bus_core.specs.declared.connection.Conn.{Conn}
@@ -14,6 +14,7 @@ use Rattle.router_host_core.specs.declared.post.StartRequest.{StartRequest}
 use Rattle.router_host_core.specs.Carrying.{Each}
 use Rattle.router_host.specs.States.{Hosted}
 use Rattle.router_host.specs.Happening.{CatchesUp, Happens}
+use Rattle.routers.specs.Serving.{Happening, HasHappened}
 use Rattle.supervisor.specs.declared.deed.Deed.{Deed}
 use Rattle.supervisor.specs.declared.deed.Deed.TheVariants.{Run, Report}
 
@@ -52,3 +53,26 @@ module _ {P N G : Type 0} (told : N → History) (passes : G → GatedCall → G
     pub between : Hosted P G N
     pub happens : Each IsDone done before between
     pub catches_up : MayCatchUp between after
+
+-- What a starter does to its host.
+pub data Step : Type 0 where
+  -- What the supervisor decided is done.
+  Acts : Deed → Step
+  -- What events before brought may go on.
+  GoesOn : Step
+  -- What happens to the host of a router happens.
+  Has : Happening → Step
+
+module _ {P N G : Type 0} (told : N → History) (passes : G → GatedCall → G → Type 0)
+    (alone : Bool) (puts : P → Conn → Envelope N → P → Type 0)
+    (starts : P → StartRequest → P → Type 0)
+    (takes : P → ℕ → Envelope N → P → Type 0) where
+  abbrev pub IsStep : Step → Hosted P G N → Hosted P G N → Type 0
+  IsStep (Acts deed) before after = IsDone told passes alone puts starts deed before after
+  IsStep GoesOn before after = MayCatchUp told passes alone puts starts before after
+  IsStep (Has h) before after = HasHappened told passes alone puts starts takes h before after
+
+  -- Such steps are made, one after the other, and nothing else is done.
+  pub record MakesSteps (before after : Hosted P G N) : Type 0 where
+    pub steps : List Step
+    pub made : Each IsStep steps before after

@@ -1,7 +1,7 @@
 //! The programs of services: which are run, and what routers are told of them.
 
 ghost use Rattle.std.specs.Prelude.{◌≡◌, ◌<◌, ◌++◌, ◌∷◌, [], IfErr, OnOk, OnErr, reverse, vec_capacity, vec_len};
-ghost use Rattle.starter.specs.Ends.{AreDone, HasEnded, IsDone, MayCatchUp, end_of};
+ghost use Rattle.starter.specs.Ends.{AreDone, HasEnded, IsDone, MakesSteps, MayCatchUp, end_of};
 
 use bus_view::BusView;
 use names::BusName;
@@ -85,18 +85,35 @@ impl<V: BusView, G: Gate, P: Post<V>, S: Socket, Q: Programs + Drop> Starter<V, 
     ///
     /// There was no memory for something. It is done first in the next turn, which is to come some
     /// time later.
-    pub fn turn<R: Wait>(
-        &mut self,
-        rt: &R,
-        right: &V::Right,
-        now: u64,
-    ) -> Result<bool, AllocError> {
+    pub fn turn<R: Wait>(&mut self, rt: &R, right: &V::Right, now: u64) -> Result<bool, AllocError>
+        ensures steps { MakesSteps V.told G.passes V.alone P.puts P.starts P.takes
+            self.old.host self.new.host }
+    {
         let told = self.tell_all(rt, right, now);
-        let ticked = match self.host.wants_tick() {
-            true => self.host.tick(right),
-            false => Ok(()),
-        };
-        self.host.turn(right)?;
+        let ticked = self.tick(right);
+        let turned = self.host.turn(right);
+        self.outcome(told, ticked, turned)
+    }
+
+    /// Time has passed, where a tick is wanted.
+    fn tick(&mut self, right: &V::Right) -> Result<(), AllocError>
+        ensures steps { MakesSteps V.told G.passes V.alone P.puts P.starts P.takes
+            self.old.host self.new.host }
+    {
+        if !self.host.wants_tick() {
+            return Ok(());
+        }
+        self.host.tick(right)
+    }
+
+    /// What a turn came to.
+    fn outcome(
+        &self,
+        told: Result<bool, AllocError>,
+        ticked: Result<(), AllocError>,
+        turned: Result<(), AllocError>,
+    ) -> Result<bool, AllocError> {
+        turned?;
         ticked?;
         match self.host.wants_tick() {
             true => Err(AllocError),
@@ -113,12 +130,10 @@ impl<V: BusView, G: Gate, P: Post<V>, S: Socket, Q: Programs + Drop> Starter<V, 
         recorder.record(&mut self.host)
     }
 
-    fn tell_all<R: Wait>(
-        &mut self,
-        rt: &R,
-        right: &V::Right,
-        now: u64,
-    ) -> Result<bool, AllocError> {
+    fn tell_all<R: Wait>(&mut self, rt: &R, right: &V::Right, now: u64) -> Result<bool, AllocError>
+        ensures steps { MakesSteps V.told G.passes V.alone P.puts P.starts P.takes
+            self.old.host self.new.host }
+    {
         self.go_on(right)?;
         self.tell(right, Event::Tick { now })?;
         for _ in 0..HANDFUL {
@@ -131,20 +146,29 @@ impl<V: BusView, G: Gate, P: Post<V>, S: Socket, Q: Programs + Drop> Starter<V, 
     }
 
     /// Something happened to a program, or is asked for.
-    fn tell(&mut self, right: &V::Right, event: Event) -> Result<(), AllocError> {
+    fn tell(&mut self, right: &V::Right, event: Event) -> Result<(), AllocError>
+        ensures steps { MakesSteps V.told G.passes V.alone P.puts P.starts P.takes
+            self.old.host self.new.host }
+    {
         self.happened = Some(event);
         self.go_on(right)
     }
 
     /// Does what is left to be done. A program that can't be run is one more thing that happened.
-    fn go_on(&mut self, right: &V::Right) -> Result<(), AllocError> {
+    fn go_on(&mut self, right: &V::Right) -> Result<(), AllocError>
+        ensures steps { MakesSteps V.told G.passes V.alone P.puts P.starts P.takes
+            self.old.host self.new.host }
+    {
         self.do_all(right)?;
         self.supervise(right)?;
         self.supervise(right)
     }
 
     /// Tells the supervisor what happened, and does what it decides.
-    fn supervise(&mut self, right: &V::Right) -> Result<(), AllocError> {
+    fn supervise(&mut self, right: &V::Right) -> Result<(), AllocError>
+        ensures steps { MakesSteps V.told G.passes V.alone P.puts P.starts P.takes
+            self.old.host self.new.host }
+    {
         let Some(event) = self.happened else {
             return Ok(());
         };
