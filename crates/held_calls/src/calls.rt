@@ -64,8 +64,8 @@ impl HeldCalls {
     /// Settles a change: calls that it lets go wait no longer, and a call that it makes wait does
     /// from now on. Gives what the change is told, each of its tickets with what it carries.
     ///
-    /// The caller is the connection of [`caller_of`], and what the change is told is what the bus
-    /// says of it. It takes no memory, and can't be refused.
+    /// The caller is where the connection of a Start or a Hold is reached, and what the change is
+    /// told is what the bus says of it. It takes no memory, and can't be refused.
     pub fn settle(
         &mut self,
         change: &Change,
@@ -95,18 +95,6 @@ impl HeldCalls {
             tickets: settled.into_tickets(),
             start,
         }
-    }
-}
-
-/// The connection that a change may make wait for a reply: the caller, where it is a call that may
-/// have to wait.
-pub fn caller_of(change: &Change) -> Option<u64>
-    ensures { result ≡ caller_of change.now }
-{
-    match change {
-        Change::Start { connection, .. } => Some(*connection),
-        Change::Hold { connection, .. } => Some(*connection),
-        _ => None,
     }
 }
 

@@ -35,5 +35,5 @@
 mod calls;
 mod room;
 
-pub use calls::{HeldCalls, caller_of};
+pub use calls::HeldCalls;
 pub use room::CallRoom;

@@ -1,21 +1,19 @@
 //! A bus that is stepped through a history.
 
-ghost use Rattle.std.specs.Prelude.{◌≡◌, IfOk, OnOk, option_and_then, option_map};
+ghost use Rattle.std.specs.Prelude.{◌≡◌, IfOk, OnOk};
 ghost use Rattle.owner_queues.specs.declared.request.Profile.TheVariants.{Two};
 ghost use Rattle.seq_bus_core.specs.Histories.{CanOpen};
-ghost use Rattle.seq_bus_core.specs.BusState.{conn_of, connection_of};
-ghost use Rattle.held_calls.specs.Settling.{caller_of};
 ghost use Rattle.seq_bus_core.specs.Tickets.{opening_bus, bus_step};
 ghost use Rattle.interleave_core.specs.Worlds.{said_of};
 ghost use Rattle.interleave.specs.Logs.{Says};
 
 use crate::log::Answer;
-use held_calls::{HeldCalls, caller_of};
+use held_calls::HeldCalls;
 use interleave_core::Question;
 use names::WellKnown;
 use owner_queues::Profile;
 use registry::Registry;
-use seq_bus_core::{Change, Conn, Outcome};
+use seq_bus_core::{Change, Outcome};
 use std::alloc::{AllocError, Global};
 use std::marker::Model;
 
@@ -66,7 +64,7 @@ impl SteppedBus {
     {
         let mut prepared = self.registry.prepare(alloc, seat, change)?;
         let room = HeldCalls::room_for(alloc, change, prepared.outcome())?;
-        let caller = caller_in(&self.registry, change);
+        let caller = prepared.caller();
         let told = prepared.take_outcome(alloc);
         self.registry.absorb(&prepared);
         Ok(self.calls.settle(change, caller, told, room))
@@ -104,16 +102,5 @@ impl SteppedBus {
                 present: self.registry.present(*number),
             }),
         }
-    }
-}
-
-/// The connection that a change may make wait, where it is there.
-fn caller_in(registry: &Registry, change: &Change) -> Option<Conn>
-    ensures { result ≡ option_map conn_of
-        (option_and_then (connection_of registry.now) (caller_of change.now)) }
-{
-    match caller_of(change) {
-        Some(number) => registry.conn(number),
-        None => None,
     }
 }

@@ -1,16 +1,30 @@
 -- Changes that are made one after the other.
-use Rattle.std.proofs.Common.{◌≡◌, ℕ, ◌+◌, List, [], ◌∷◌, ◌++◌, refl, ap, ◌∙◌}
+use Rattle.std.proofs.Common.{◌≡◌, ℕ, ◌+◌, List, [], ◌∷◌, ◌++◌, refl, ap, sym, ◌∙◌}
 use Rattle.seq_bus_core.specs.BusState.{BusState}
 use Rattle.seq_bus_core.specs.Steps.{Stepped, step}
 use Rattle.seq_bus_core.specs.Batches.{entries_of}
 use Rattle.seq_bus_core.specs.Tickets.{WholeBus, bus_step, bus_after}
 use Rattle.seq_bus_core.specs.declared.change.Change.{Change}
 use Rattle.seq_bus_core.proofs.ChangeLaws.{steps_see_no_more}
-use Rattle.registry.specs.PreparedChanges.{PreparedChange, IsPreparedFor, ArePreparedFor, absorbed_along, state_along}
+use Rattle.registry.specs.PreparedChanges.{PreparedChange, IsPreparedFor, ArePreparedFor, absorbed_along, prepared_along, prepared_on, state_along}
 
 pub state_more : (s : BusState) (seat : ℕ) (changes : List Change) (change : Change) → state_along s seat (changes ++ change ∷ []) ≡ (step (state_along s seat changes) seat change).0
 state_more s seat [] change = refl
 state_more s seat (first ∷ changes) change = state_more (step s seat first).0 seat changes change
+
+-- ## Changes that are prepared and made
+
+pub prepared_more : (s : BusState) (seat : ℕ) (changes : List Change) (change : Change)
+    → prepared_along s seat (changes ++ change ∷ []) ≡ prepared_along s seat changes ++ prepared_on (state_along s seat changes) seat change ∷ []
+prepared_more s seat [] change = refl
+prepared_more s seat (first ∷ changes) change = ap (λ rest. prepared_on s seat first ∷ rest) (prepared_more (step s seat first).0 seat changes change)
+
+-- the state once one more is made, which was prepared where those before it were made
+pub made_next : (s : BusState) (seat : ℕ) (changes : List Change) (change : Change) (before after : BusState) (p : PreparedChange) → before ≡ state_along s seat changes → p ≡ prepared_on before seat change
+    → after ≡ (step before p.seat p.change).0 → after ≡ state_along s seat (changes ++ change ∷ [])
+made_next s seat changes change before after p so_far prepared made =
+    made ∙ ap (λ (q : PreparedChange). (step before q.seat q.change).0) prepared ∙ ap (λ (r : Stepped). r.0) (steps_see_no_more before seat change)
+    ∙ ap (λ (t : BusState). (step t seat change).0) so_far ∙ sym (state_more s seat changes change)
 
 -- ## Changes that are prepared for a batch
 

@@ -34,6 +34,7 @@ impl Registry {
                 rules: rules.copy(alloc)?,
             },
             outcome: self.outcome_of_monitor(alloc, seat, connection, rules)?,
+            caller: None,
         })
     }
 

@@ -29,6 +29,7 @@ impl Registry {
             seat,
             act: Act::Hello { privileged },
             outcome: self.outcome_of_hello(alloc, seat, privileged)?,
+            caller: None,
         })
     }
 

@@ -44,6 +44,7 @@ impl Registry {
             seat,
             act: Act::Leave { connection },
             outcome: self.outcome_of_leave(alloc, seat, connection)?,
+            caller: None,
         })
     }
 

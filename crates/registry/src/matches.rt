@@ -31,6 +31,7 @@ impl Registry {
                 rule: Box::new(alloc, *rule)?,
             },
             outcome: replied(alloc, self.reply_to_add(connection)),
+            caller: None,
         })
     }
 
@@ -51,6 +52,7 @@ impl Registry {
                 rule: Box::new(alloc, *rule)?,
             },
             outcome: replied(alloc, self.reply_to_remove(connection, rule)),
+            caller: None,
         })
     }
 

@@ -5,7 +5,7 @@ ghost use Rattle.std.specs.Prelude.{◌≡◌, [], None};
 use match_rules::Rule;
 use names::BusName;
 use owner_queues::RequestFlags;
-use seq_bus_core::{Ending, MonitorRules, NumberedOutcome, Reply, Signals, TicketNumbers};
+use seq_bus_core::{Conn, Ending, MonitorRules, NumberedOutcome, Reply, Signals, TicketNumbers};
 use std::alloc::Global;
 use std::marker::Model;
 use std::mem::replace;
@@ -62,12 +62,14 @@ pub enum Act {
 
 /// A change that a seat makes, with all that it needs of memory. It can be made on any registry.
 ///
-/// Contracts see the seat, the change by what its step looks at, and the outcome.
+/// Contracts see the seat, the change by what its step looks at, the outcome and the caller.
 #[derive(Drop)]
 pub struct Prepared {
     pub(crate) seat: u8,
     pub(crate) act: Act,
     pub(crate) outcome: NumberedOutcome,
+    /// Where the caller is reached, if the change is a call that may have to wait.
+    pub(crate) caller: Option<Conn>,
 }
 
 impl Model for Prepared {
@@ -76,7 +78,12 @@ impl Model for Prepared {
 
     ghost Value = { PreparedChange };
 
-    ghost view = { λ p. record { seat = p.seat; change = change_of p.act; outcome = p.outcome } };
+    ghost view = { λ p. record {
+      seat = p.seat;
+      change = change_of p.act;
+      outcome = p.outcome;
+      caller = p.caller;
+    } };
 }
 
 impl Prepared {
@@ -85,6 +92,14 @@ impl Prepared {
         ensures { result.now ≡ self.now.outcome }
     {
         &self.outcome
+    }
+
+    /// Where the caller of the change was reached when it was prepared, if it is a call that may have to wait: a Start or
+    /// a Hold.
+    pub fn caller(&self) -> Option<Conn>
+        ensures { result ≡ self.now.caller }
+    {
+        self.caller
     }
 
     /// Takes the outcome out. What is left of it is its reply.

@@ -137,6 +137,7 @@ impl Registry {
                 flags,
             },
             outcome: self.outcome_of_request(alloc, name, owner, queue, change)?,
+            caller: None,
         };
         Ok(Asked {
             prepared,
@@ -171,6 +172,7 @@ impl Registry {
                 name: Box::new(alloc, *name)?,
             },
             outcome: self.outcome_of_requeue(alloc, name, owner, queue, change)?,
+            caller: None,
         };
         Ok(Asked {
             prepared,

@@ -37,6 +37,7 @@ impl Registry {
                 name: Box::new(alloc, *name)?,
             },
             outcome: self.told_to_wait(alloc, name, reply),
+            caller: self.conn(connection),
         })
     }
 
@@ -58,6 +59,7 @@ impl Registry {
                 name: Box::new(alloc, *name)?,
             },
             outcome: self.told_to_wait(alloc, name, reply),
+            caller: self.conn(connection),
         })
     }
 
@@ -81,6 +83,7 @@ impl Registry {
                 how,
             },
             outcome,
+            caller: None,
         })
     }
 
@@ -102,6 +105,7 @@ impl Registry {
                 start,
             },
             outcome,
+            caller: None,
         })
     }
 

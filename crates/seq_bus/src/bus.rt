@@ -1,9 +1,9 @@
 //! The plain bus.
 
 ghost use Rattle.std.specs.List.{AllByRecursion};
-ghost use Rattle.std.specs.Prelude.{◌≡◌, ◌≤◌, ◌+◌, ◌++◌, [], length, is_some, option_and_then, option_map, vec_capacity, IfOk, OnOk, OnErr, IfErr};
+ghost use Rattle.std.specs.Prelude.{◌≡◌, ◌≤◌, ◌+◌, ◌++◌, [], length, is_some, vec_capacity, IfOk, OnOk, OnErr, IfErr};
 ghost use Rattle.seq_bus_core.specs.Batches.{IsBatch, entries_of};
-ghost use Rattle.seq_bus_core.specs.BusState.{conn_of, connection_of};
+ghost use Rattle.seq_bus_core.specs.BusState.{connection_of};
 ghost use Rattle.seq_bus_core.specs.Answers.{answer};
 ghost use Rattle.seq_bus_core.specs.Recipients.{recipients};
 ghost use Rattle.seq_bus_core.specs.Histories.{CanOpen, IsLegal};
@@ -12,18 +12,17 @@ ghost use Rattle.seq_bus_core.specs.declared.limits.TheConstants.{MAX_BATCH, MAX
 ghost use Rattle.bus_view.specs.Bodies.{Answers};
 ghost use Rattle.bus_view.specs.declared.refusal.Cause.TheVariants.{NoMemory};
 ghost use Rattle.bus_view.specs.declared.answer.AskFault.TheVariants.{NoMemory as AskNoMemory};
-ghost use Rattle.held_calls.specs.Settling.{caller_of};
 ghost use Rattle.seq_bus.specs.PlainBus.{bus_now, AreMade, IsMade};
 
 use crate::SEAT;
 use bus_view::{AskFault, Asked, BatchCause, Cause, Refused, RefusedAll};
-use held_calls::{HeldCalls, caller_of};
+use held_calls::HeldCalls;
 use match_rules::Facts;
 use names::WellKnown;
 use owner_queues::Profile;
 use registry::Registry;
 use seq_bus_core::limits::MAX_BATCH;
-use seq_bus_core::{Change, Conn, Entry, Outcome, Query, Verdict};
+use seq_bus_core::{Change, Entry, Outcome, Query, Verdict};
 use settling::prepare_all;
 use std::alloc::{AllocError, Global};
 use std::marker::Model;
@@ -98,7 +97,7 @@ impl SeqBus {
         let Ok(room) = HeldCalls::room_for(self.alloc, &change, prepared.outcome()) else {
             return Err(without_memory(change));
         };
-        let caller = caller_in(&self.registry, &change);
+        let caller = prepared.caller();
         let told = prepared.take_outcome(self.alloc);
         self.registry.absorb(&prepared);
         let outcome = self.calls.settle(&change, caller, told, room);
@@ -200,17 +199,6 @@ impl SeqBus {
         ensures { result ≡ SEAT }
     {
         SEAT
-    }
-}
-
-/// Where the caller of a change is reached, if it is one that may make a call wait.
-fn caller_in(registry: &Registry, change: &Change) -> Option<Conn>
-    ensures { result ≡ option_map conn_of
-        (option_and_then (connection_of registry.now) (caller_of change.now)) }
-{
-    match caller_of(change) {
-        Some(number) => registry.conn(number),
-        None => None,
     }
 }
 

@@ -1,9 +1,10 @@
 -- The changes of a batch, one after the other.
-use Rattle.std.proofs.Common.{◌≡◌, ℕ, ◌+◌, ◌≤◌, List, [], ◌∷◌, ◌++◌, length, refl, ap, sym, ◌∙◌, subst}
+use Rattle.std.proofs.Common.{◌≡◌, ℕ, suc, ◌+◌, ◌≤◌, List, [], ◌∷◌, ◌++◌, length, drop, get_or, refl, ap, sym, ◌∙◌, subst}
 use Rattle.std.specs.List.{AllByRecursion}
 use Rattle.held_calls.specs.Holdings.{Calls, IsHolding}
 use Rattle.held_calls.proofs.FewTickets.{few_settled}
-use Rattle.registry.specs.PreparedChanges.{state_along}
+use Rattle.registry.specs.PreparedChanges.{ArePreparedFor, IsPreparedFor, PreparedChange, prepared_along, prepared_on, state_along}
+use Rattle.registry.proofs.Along.{prepared_for_more, state_more}
 use Rattle.seq_bus_core.specs.Batches.{entries_of, outcomes_of}
 use Rattle.seq_bus_core.specs.BusState.{BusState}
 use Rattle.seq_bus_core.specs.Consistency.{IsConsistent, IsWithinLimits}
@@ -14,7 +15,7 @@ use Rattle.seq_bus_core.specs.declared.outcome.Outcome.{Outcome}
 use Rattle.seq_bus_core.proofs.ConsistencyLaws.{steps_keep_consistency}
 use Rattle.seq_bus_core.proofs.LimitLaws.{steps_keep_limits}
 use Rattle.settling.specs.Batches.{AreSettledTo, SettleAlong, bus_along}
-use Rattle.settling.specs.Settlings.{IsSettled, Settling, SettlesAt}
+use Rattle.settling.specs.Settlings.{IsSettled, Settles, Settling, SettlesAt}
 
 -- ## One change more
 
@@ -44,6 +45,30 @@ settled_more b seat done change left before after x later outcomes outcome so_fa
       holding = subst (λ (w : WholeBus). IsHolding w after) (sym grown) one.0;
       along = subst (λ (w : WholeBus). SettleAlong w.state seat left later) (sym grown) so_far.along.1;
       told = (λ k. so_far.told k ++ one.1 k ∷ []) ∙ sym (told_more b seat done change);
+    }
+
+-- ## What is taken out of a batch
+
+pub as_many_along : (s : BusState) (seat : ℕ) (changes : List Change) → length (prepared_along s seat changes) ≡ length changes
+as_many_along s seat [] = refl
+as_many_along s seat (change ∷ changes) = ap suc (as_many_along (step s seat change).0 seat changes)
+
+-- These are taken out of what was prepared for the changes that are done, and it is prepared for them yet; the rest is as it was.
+pub record AreTakenTo (s : BusState) (seat : ℕ) (done left : List Change) (first rest : List PreparedChange) (settlings : List Settling) : Type 0 where
+  pub prepared : ArePreparedFor seat done first
+  pub along : rest ≡ prepared_along (state_along s seat done) seat left
+  pub settles : SettleAlong s seat done settlings
+
+pub taken_more : (s : BusState) (seat : ℕ) (done : List Change) (change : Change) (left : List Change) (first : List PreparedChange) (p q : PreparedChange) (later : List PreparedChange) (settlings : List Settling) (x : Settling)
+    → AreTakenTo s seat done (change ∷ left) first (p ∷ later) settlings → q.seat ≡ p.seat → q.change ≡ p.change → Settles p change x → AreTakenTo s seat (done ++ change ∷ []) left (first ++ q ∷ []) later (settlings ++ x ∷ [])
+taken_more s seat done change left first p q later settlings x so_far same_seat same_change settles =
+    let now : BusState = state_along s seat done in
+    let here : p ≡ prepared_on now seat change = ap (λ (ps : List PreparedChange). get_or ps 0 p) so_far.along in
+    let one : IsPreparedFor seat change q = record { seat_is = same_seat ∙ ap (λ (r : PreparedChange). r.seat) here; change_is = same_change ∙ ap (λ (r : PreparedChange). r.change) here } in
+    record {
+      prepared = prepared_for_more seat done change first q so_far.prepared one;
+      along = ap (λ (ps : List PreparedChange). drop 1 ps) so_far.along ∙ ap (λ (t : BusState). prepared_along t seat left) (sym (state_more s seat done change));
+      settles = settle_more s seat done change settlings x so_far.settles (settles now seat here);
     }
 
 -- ## Batches in a history

@@ -1,6 +1,7 @@
 -- What settles the changes of a batch.
 use Rattle.std.specs.Prelude.{◌≡◌, ℕ, List, [], ◌∷◌}
 use Rattle.held_calls.specs.Holdings.{Calls, IsHolding}
+use Rattle.registry.specs.PreparedChanges.{PreparedChange, ArePreparedFor, prepared_along}
 use Rattle.seq_bus_core.specs.Batches.{outcomes_of}
 use Rattle.seq_bus_core.specs.BusState.{BusState}
 use Rattle.seq_bus_core.specs.Steps.{step}
@@ -15,6 +16,11 @@ SettleAlong s seat [] [] = Unit {0}
 SettleAlong s seat [] (settling ∷ settlings) = ⊥
 SettleAlong s seat (change ∷ changes) [] = ⊥
 SettleAlong s seat (change ∷ changes) (settling ∷ settlings) = SettlesAt s seat change settling × SettleAlong (step s seat change).0 seat changes settlings
+
+-- These are taken out of what was prepared for a batch: they settle it wherever it was prepared, and what is left is prepared for it.
+abbrev pub AreTaken : List Change → List PreparedChange → List PreparedChange → List Settling → Type 0
+AreTaken changes before after settlings = (s : BusState) (seat : ℕ) → before ≡ prepared_along s seat changes →
+    ArePreparedFor seat changes after × SettleAlong s seat changes settlings
 
 -- the bus after the changes of a seat
 abbrev pub bus_along : WholeBus → ℕ → List Change → WholeBus

@@ -1,9 +1,9 @@
 -- What settles a change.
-use Rattle.std.specs.Prelude.{◌≡◌, ℕ, Option, option_map, option_and_then}
+use Rattle.std.specs.Prelude.{◌≡◌, ℕ, Option}
 use Rattle.held_calls.specs.Holdings.{Calls, IsHolding}
 use Rattle.held_calls.specs.Rooms.{CallRoom, IsRoomFor}
-use Rattle.held_calls.specs.Settling.{caller_of}
-use Rattle.seq_bus_core.specs.BusState.{BusState, conn_of, connection_of}
+use Rattle.registry.specs.PreparedChanges.{PreparedChange, caller_in, prepared_on}
+use Rattle.seq_bus_core.specs.BusState.{BusState}
 use Rattle.seq_bus_core.specs.Steps.{step}
 use Rattle.seq_bus_core.specs.Tickets.{WholeBus, bus_step}
 use Rattle.seq_bus_core.specs.declared.change.Change.{Change}
@@ -20,8 +20,12 @@ pub record Settling : Type 0 where
 -- it settles the change of a seat that is made in this state
 pub record SettlesAt (s : BusState) (seat : ℕ) (change : Change) (settling : Settling) : Type 0 where
   pub told : settling.told ≡ (step s seat change).1
-  pub called : settling.caller ≡ option_map conn_of (option_and_then (connection_of s) (caller_of change))
+  pub called : settling.caller ≡ caller_in s change
   pub room : IsRoomFor change settling.told settling.room
+
+-- it settles the change wherever this was prepared for it
+abbrev pub Settles : PreparedChange → Change → Settling → Type 0
+Settles prepared change settling = (s : BusState) (seat : ℕ) → prepared ≡ prepared_on s seat change → SettlesAt s seat change settling
 
 -- some bus holds these calls, and it settles the change there
 abbrev pub IsSomeBus : Change → Settling → Calls → Type 0

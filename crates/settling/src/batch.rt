@@ -2,11 +2,10 @@
 
 ghost use Rattle.std.specs.Prelude.{◌≡◌, ◌<◌, ◌≤◌, ◌+◌, ◌++◌, ◌∷◌, [], length, vec_capacity, IfOk, OnOk};
 ghost use Rattle.registry.specs.PreparedChanges.{ArePreparedFor, state_along};
-ghost use Rattle.settling.specs.Batches.{AreSettled, IsSomeBusAlong, SettleAlong};
+ghost use Rattle.settling.specs.Batches.{AreSettled, AreTaken, IsSomeBusAlong, SettleAlong};
 
-use crate::settling::{Settling, prepare};
+use crate::settling::Settling;
 use held_calls::HeldCalls;
-use owner_queues::Queue;
 use registry::{Prepared, Registry};
 use seq_bus_core::{Change, Outcome};
 use std::alloc::{AllocError, Global};
@@ -46,19 +45,31 @@ pub fn prepare_all(
     ensures settles { IfOk result (λ r. SettleAlong registry.old seat changes.now r.1) }
     ensures made { OnOk result (registry.new ≡ state_along registry.old seat changes.now) }
 {
-    let mut all = Vec::with_capacity(alloc, changes.len())?;
-    let mut each = VecDeque::with_capacity(alloc, changes.len())?;
-    let outcomes = Vec::with_capacity(alloc, changes.len())?;
-    let mut queue = Queue::new();
-    for change in changes {
-        let (prepared, settling) = prepare(alloc, registry, &mut queue, seat, change)?;
-        all.push_reserved(prepared);
-        each.push_back_reserved(settling);
-    }
-    Ok((all, Settlings { each, outcomes }))
+    let mut prepared = registry.prepare_all(alloc, seat, changes)?;
+    let settlings = Settlings::take(alloc, changes, &mut prepared)?;
+    Ok((prepared, settlings))
 }
 
 impl Settlings {
+    /// Takes out of the prepared changes of a batch what settles them once they are made, and makes what that needs of
+    /// memory.
+    fn take(
+        alloc: Global,
+        changes: &[Change],
+        prepared: &mut [Prepared],
+    ) -> Result<Settlings, AllocError>
+        requires { length prepared.old ≡ length changes.now }
+        ensures { IfOk result (λ settlings.
+            AreTaken changes.now prepared.old prepared.new settlings) }
+    {
+        let mut each = VecDeque::with_capacity(alloc, changes.len())?;
+        let outcomes = Vec::with_capacity(alloc, changes.len())?;
+        for (i, next) in prepared.iter_mut().enumerate() {
+            each.push_back_reserved(Settling::take(alloc, &changes[i], next)?);
+        }
+        Ok(Settlings { each, outcomes })
+    }
+
     /// Settles the changes, in order: the calls that they let go wait no longer, those that they make wait do, and each is
     /// told what its tickets carry. It takes no memory, and can't be refused.
     pub fn settle(self, calls: &mut HeldCalls, changes: &[Change]) -> Vec<Outcome>

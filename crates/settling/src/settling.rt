@@ -1,13 +1,11 @@
 //! What settles a change once it is made.
 
-ghost use Rattle.std.specs.Prelude.{◌≡◌, ◌⊎◌, option_and_then, option_map, IfOk, OnErr};
-ghost use Rattle.seq_bus_core.specs.BusState.{conn_of, connection_of};
+ghost use Rattle.std.specs.Prelude.{◌≡◌, ◌⊎◌, IfOk, OnErr};
 ghost use Rattle.seq_bus_core.specs.Steps.{step};
-ghost use Rattle.held_calls.specs.Settling.{caller_of};
 ghost use Rattle.registry.specs.PreparedChanges.{IsPreparedFor};
-ghost use Rattle.settling.specs.Settlings.{IsSettled, IsSomeBus, SettlesAt};
+ghost use Rattle.settling.specs.Settlings.{IsSettled, IsSomeBus, Settles, SettlesAt};
 
-use held_calls::{CallRoom, HeldCalls, caller_of};
+use held_calls::{CallRoom, HeldCalls};
 use owner_queues::Queue;
 use registry::{Prepared, Registry};
 use seq_bus_core::{Change, Conn, NumberedOutcome, Outcome};
@@ -48,26 +46,29 @@ pub fn prepare(
     ensures refused { OnErr result ((registry.new ≡ registry.old)
         ⊎ (registry.new ≡ (step registry.old seat change.now).0)) }
 {
-    let caller = caller_in(registry, change);
     let mut prepared = registry.make(queue, alloc, seat, change)?;
-    let room = HeldCalls::room_for(alloc, change, prepared.outcome())?;
-    let told = prepared.take_outcome(alloc);
-    let settling = Settling { told, caller, room };
+    let settling = Settling::take(alloc, change, &mut prepared)?;
     Ok((prepared, settling))
 }
 
-/// Where the caller of a change is reached, if it is one that may have to wait.
-fn caller_in(registry: &Registry, change: &Change) -> Option<Conn>
-    ensures { result ≡ option_map conn_of
-        (option_and_then (connection_of registry.now) (caller_of change.now)) }
-{
-    match caller_of(change) {
-        Some(number) => registry.conn(number),
-        None => None,
-    }
-}
-
 impl Settling {
+    /// Takes out of a prepared change what settles it once it is made, and makes what that needs of memory. What is left of
+    /// it is made on a registry as before.
+    pub(crate) fn take(
+        alloc: Global,
+        change: &Change,
+        prepared: &mut Prepared,
+    ) -> Result<Settling, AllocError>
+        ensures settles { IfOk result (λ settling. Settles prepared.old change.now settling) }
+        ensures same_seat { prepared.new.seat ≡ prepared.old.seat }
+        ensures same_change { prepared.new.change ≡ prepared.old.change }
+    {
+        let room = HeldCalls::room_for(alloc, change, prepared.outcome())?;
+        let caller = prepared.caller();
+        let told = prepared.take_outcome(alloc);
+        Ok(Settling { told, caller, room })
+    }
+
     /// Settles the change: the calls that it lets go wait no longer, one that it makes wait does, and it is told what its
     /// tickets carry. It takes no memory, and can't be refused.
     pub fn settle(self, calls: &mut HeldCalls, change: &Change) -> Outcome

@@ -17,7 +17,7 @@ settle-outcome-requires-clause-step c =
     let before = c.self.inside in
     let told_is = c.take_outcome-told.ensures.taken ∙ ap (λ (q : PreparedChange). q.outcome) c.in-Ok.ensures in (
       bus_after (opened_as before.registry) before.seen.items,
-      (1, at_step before.registry before.calls before.seen.items c.args.change c.caller_in-caller.result c.take_outcome-told.result c.self.invariant c.caller_in-caller.ensures told_is),
+      (1, at_step before.registry before.calls before.seen.items c.args.change c.caller-caller.result c.take_outcome-told.result c.self.invariant (c.caller-caller.ensures ∙ ap (λ (q : PreparedChange). q.caller) c.in-Ok.ensures) told_is),
     )
 
 pub settle-outcome-requires-clause-room : goal.settle-outcome-requires-clause-room
@@ -31,7 +31,7 @@ invariant_of-self-2 c =
     let seen : PreparedChange → BusState = λ q. (step s q.seat q.change).0 in
     let t_is : t ≡ (step s 1 (as_seen c.args.change)).0 = c.absorb.ensures ∙ ap seen c.take_outcome-told.ensures.kept ∙ ap seen c.in-Ok.ensures in
     let told_is = c.take_outcome-told.ensures.taken ∙ ap (λ (q : PreparedChange). q.outcome) c.in-Ok.ensures in
-    let here = at_step s before.calls before.seen.items c.args.change c.caller_in-caller.result c.take_outcome-told.result c.self.invariant c.caller_in-caller.ensures told_is in
+    let here = at_step s before.calls before.seen.items c.args.change c.caller-caller.result c.take_outcome-told.result c.self.invariant (c.caller-caller.ensures ∙ ap (λ (q : PreparedChange). q.caller) c.in-Ok.ensures) told_is in
     let settled = c.settle-outcome.ensures (bus_after (opened_as s) before.seen.items) 1 here in
     let entry : Entry = record { seat = 1; number = c.len.result + 1; change = c.args.change; left = 0 } in
     let stored : is_ok c.push.result ≡ true = search rules in
@@ -46,7 +46,7 @@ returns-clause-made c =
     let seen : PreparedChange → BusState = λ q. (step s q.seat q.change).0 in
     let t_is : t ≡ (step s 1 (as_seen c.args.change)).0 = c.absorb.ensures ∙ ap seen c.take_outcome-told.ensures.kept ∙ ap seen c.in-Ok.ensures in
     let told_is = c.take_outcome-told.ensures.taken ∙ ap (λ (q : PreparedChange). q.outcome) c.in-Ok.ensures in
-    let here = at_step s before.calls before.seen.items c.args.change c.caller_in-caller.result c.take_outcome-told.result c.self.invariant c.caller_in-caller.ensures told_is in
+    let here = at_step s before.calls before.seen.items c.args.change c.caller-caller.result c.take_outcome-told.result c.self.invariant (c.caller-caller.ensures ∙ ap (λ (q : PreparedChange). q.caller) c.in-Ok.ensures) told_is in
     let settled = c.settle-outcome.ensures (bus_after (opened_as s) before.seen.items) 1 here in
     let stored : is_ok c.push.result ≡ true = search rules in
     let count : c.len.result ≡ length before.seen.items = search rules in
@@ -66,6 +66,6 @@ returns-clause-few c =
     let before = c.self.inside in
     let s : BusState = before.registry in
     let told_is = c.take_outcome-told.ensures.taken ∙ ap (λ (q : PreparedChange). q.outcome) c.in-Ok.ensures in
-    let here = at_step s before.calls before.seen.items c.args.change c.caller_in-caller.result c.take_outcome-told.result c.self.invariant c.caller_in-caller.ensures told_is in
+    let here = at_step s before.calls before.seen.items c.args.change c.caller-caller.result c.take_outcome-told.result c.self.invariant (c.caller-caller.ensures ∙ ap (λ (q : PreparedChange). q.caller) c.in-Ok.ensures) told_is in
     let settled = c.settle-outcome.ensures (bus_after (opened_as s) before.seen.items) 1 here in
     subst (λ (o : Outcome). length o.tickets ≤ 512) (sym settled.1) (few_settled_at s before.calls before.seen.items c.args.change c.self.invariant)
