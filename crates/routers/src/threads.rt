@@ -1,18 +1,20 @@
 //! A thread for each router.
 
 ghost use denote.Param.Send.{IsSend};
+ghost use Rattle.std.specs.Prelude.{◌≡◌};
 
 use crate::coordinator::{Coordinator, Wake};
 use crate::fault::Fault;
 use crate::post::LanePost;
 use crate::router_loop::Router;
 use crate::source::Source;
-use crate::trace_sink::{TraceSink, traced};
+use crate::trace_sink::{Recorder, TraceSink, traced};
+use bus_view::BusView;
 use outbox::{EnvelopeOf, Lane, Tap};
 use registry_snapshots::{Desk, Naming, Seat, Shared};
 use router::{Engine, Login};
 use router_core::Gate;
-use router_host::{Host, Socket};
+use router_host::{Host, Post, Socket};
 use std::alloc::{AllocError, Global};
 use std::marker::PhantomData;
 use std::sync::Wait;
@@ -44,7 +46,19 @@ fn no_memory(_refused: AllocError) -> Fault {
     Fault::Memory
 }
 
-/// Serves as one router.
+/// What a router is made of: a view of the bus, a way to the other routers, and where it hears of
+/// what happens.
+#[derive(Drop)]
+struct RouterParts<V, P, E, G, T> {
+    view: V,
+    post: P,
+    source: E,
+    gate: G,
+    login: Option<Login>,
+    recorder: T,
+}
+
+/// Serves as one router, over the desk of its seat and its lane.
 fn serve_as_router<
     J: Naming,
     S: Socket,
@@ -68,23 +82,60 @@ fn serve_as_router<
         source,
         gate,
         login,
-        mut trace,
+        trace,
     } = setup;
     let desk: Desk<'_, J, R> = Desk::new(seat, shared);
-    let view = traced(alloc, desk, trace.records());
+    let parts = RouterParts {
+        view: traced(alloc, desk, trace.records()),
+        post: LanePost::new(me, lane, taps, coordinator),
+        source,
+        gate,
+        login,
+        recorder: trace,
+    };
+    serve_with::<_, _, _, S, _, _, _, _>(rt, rt, alloc, me, coordinator, parts)
+}
+
+/// Serves as one router, over any view of the bus and any post.
+fn serve_with<
+    V: BusView + Drop,
+    P: Post<V> + Drop,
+    G: Gate + Drop,
+    S: Socket,
+    E: Source<S> + Drop,
+    W: Wake + Drop,
+    T: Recorder<V, G, P, S> + Drop,
+    R: Wait,
+>(
+    rt: &R,
+    right: &V::Right,
+    alloc: Global,
+    me: usize,
+    coordinator: &Coordinator<W>,
+    parts: RouterParts<V, P, E, G, T>,
+) -> Result<(), Fault>
+    requires { P.registry parts.post ≡ (V.knows parts.view).registry }
+{
+    let RouterParts {
+        view,
+        post,
+        source,
+        gate,
+        login,
+        mut recorder,
+    } = parts;
     let Ok(engine) = Engine::new(alloc, view, gate, login) else {
         return Err(Fault::Memory);
     };
-    let post = LanePost::new(me, lane, taps, coordinator);
     let places = coordinator.places();
     let first = u16::try_from(me.saturating_mul(places)).unwrap_or(u16::MAX);
     let count = u16::try_from(places).unwrap_or(0);
-    let made: Result<Host<_, _, _, S>, AllocError> = Host::new(alloc, engine, post, first, count);
+    let made: Result<Host<V, G, P, S>, AllocError> = Host::new(alloc, engine, post, first, count);
     let Ok(host) = made else {
         return Err(Fault::Memory);
     };
     let mut router = Router::new(me, coordinator, host, source);
-    let ended = router.run(rt, rt, &mut trace);
+    let ended = router.run(rt, right, &mut recorder);
     drop(router);
     ended
 }
