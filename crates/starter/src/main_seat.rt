@@ -1,11 +1,13 @@
 //! The seat of the thread that started the routers.
 
+ghost use Rattle.starter.specs.MainSeats.{MakesMainSteps};
+
 use crate::starter::{Programs, Starter};
 use outbox::{EnvelopeOf, Lane};
 use registry_snapshots::{Desk, Naming, Seat, Shared};
-use router::{Engine, Traced};
+use router::Traced;
 use router_core::OpenGate;
-use router_host::{Host, Socket};
+use router_host::Socket;
 use routers::{Coordinator, Fault, LanePost, Recorder, TraceSink, Wake, traced};
 use std::alloc::{AllocError, Global};
 use std::marker::Model;
@@ -18,7 +20,7 @@ const LATER: u64 = 100;
 /// It serves no connection: it runs the programs of services, tells the bus how starts end, and
 /// writes what it recorded.
 ///
-/// Contracts see nothing of it.
+/// Contracts see its host.
 #[derive(Drop)]
 pub struct MainSeat<'a, J: Naming, S: Socket, W: Wake + Drop, Q: Programs + Drop, T, R: Wait> {
     rt: &'a R,
@@ -28,11 +30,11 @@ pub struct MainSeat<'a, J: Naming, S: Socket, W: Wake + Drop, Q: Programs + Drop
 
 impl<'a, J: Naming, S: Socket, W: Wake + Drop, Q: Programs + Drop, T, R: Wait> Model
     for MainSeat<'a, J, S, W, Q, T, R> {
-    ghost use Rattle.std.specs.Prelude.{ℕ};
+    ghost use Rattle.starter.specs.MainSeats.{MainHost};
 
-    ghost Value = { ℕ };
+    ghost Value = { MainHost };
 
-    ghost view = { λ _. 0 };
+    ghost view = { λ m. m.starter.host };
 }
 
 impl<
@@ -57,14 +59,9 @@ impl<
     ) -> Option<MainSeat<'a, J, S, W, Q, T, R>> {
         let desk: Desk<'_, J, R> = Desk::new(seat, shared);
         let view = traced(alloc, desk, trace.records());
-        let engine = Engine::new(alloc, view, OpenGate, None).ok()?;
         let post = LanePost::new(usize::MAX, lane, Vec::new(alloc), coordinator);
-        let host = Host::new(alloc, engine, post, 0, 0).ok()?;
-        Some(MainSeat {
-            rt,
-            starter: Starter::new(alloc, host, programs),
-            trace,
-        })
+        let starter = Starter::over(alloc, view, post, programs)?;
+        Some(MainSeat { rt, starter, trace })
     }
 
     /// Runs what is asked for, tells the bus how starts ended, and writes what it recorded, at this
@@ -74,7 +71,9 @@ impl<
     /// # Errors
     ///
     /// What it recorded can't be written.
-    pub fn turn<X: Wait>(&mut self, rt: &X, now: u64) -> Result<Option<u64>, Fault> {
+    pub fn turn<X: Wait>(&mut self, rt: &X, now: u64) -> Result<Option<u64>, Fault>
+        ensures steps { MakesMainSteps self.old self.new }
+    {
         let turned = self.starter.turn(rt, self.rt, now);
         self.starter.record(&mut self.trace)?;
         Ok(match turned {

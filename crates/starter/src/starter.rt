@@ -5,7 +5,8 @@ ghost use Rattle.starter.specs.Ends.{AreDone, HasEnded, IsDone, MakesSteps, MayC
 
 use bus_view::BusView;
 use names::BusName;
-use router_core::{Gate, HowEnded, StartEnd};
+use router::Engine;
+use router_core::{Gate, HowEnded, OpenGate, StartEnd};
 use router_host::{Host, Post, Socket};
 use routers::{Fault, Recorder};
 use seq_bus_core::Change;
@@ -57,6 +58,18 @@ fn end_of(change: &Change) -> Option<StartEnd>
             how: HowEnded::TimedOut,
         }),
         _ => None,
+    }
+}
+
+impl<V: BusView + Drop, P: Post<V>, S: Socket, Q: Programs + Drop> Starter<V, OpenGate, P, S, Q> {
+    /// A starter over a view of the bus, which tells it by a host without connections. There is none
+    /// where there is no memory for it.
+    pub fn over(alloc: Global, view: V, post: P, programs: Q) -> Option<Self>
+        requires { P.registry post ≡ (V.knows view).registry }
+    {
+        let engine = Engine::new(alloc, view, OpenGate, None).ok()?;
+        let host = Host::new(alloc, engine, post, 0, 0).ok()?;
+        Some(Starter::new(alloc, host, programs))
     }
 }
 
@@ -126,7 +139,9 @@ impl<V: BusView, G: Gate, P: Post<V>, S: Socket, Q: Programs + Drop> Starter<V, 
     /// # Errors
     ///
     /// It can't be written, or there was no memory for a part of it.
-    pub fn record<T: Recorder<V, G, P, S>>(&mut self, recorder: &mut T) -> Result<(), Fault> {
+    pub fn record<T: Recorder<V, G, P, S>>(&mut self, recorder: &mut T) -> Result<(), Fault>
+        ensures same { self.new.host ≡ self.old.host }
+    {
         recorder.record(&mut self.host)
     }
 
