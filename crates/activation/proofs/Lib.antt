@@ -1,1 +1,5 @@
 pub mod Rounds
+pub mod CallLists
+pub mod Settlings
+pub mod Following
+pub mod FewTickets

@@ -13,8 +13,8 @@ use Rattle.seq_bus_core.specs.declared.connection.Conn.{Conn}
 use Rattle.seq_bus_core.specs.declared.outcome.NumberedOutcome.{NumberedOutcome}
 use Rattle.seq_bus_core.proofs.ChangeLaws.{steps_see_no_more}
 use Rattle.seq_bus_core.proofs.ConsistencyLaws.{buses_are_consistent}
-use Rattle.held_calls.specs.Holdings.{Calls, IsHolding}
-use Rattle.held_calls.specs.Settling.{IsAtStep, caller_of}
+use Rattle.activation.specs.Holdings.{Calls, IsHolding}
+use Rattle.activation.specs.Settling.{IsAtStep, caller_of}
 use Rattle.interleave.specs.Stepping.{whole_of}
 
 -- a bus that was just opened holds no calls

@@ -8,7 +8,7 @@ ghost use Rattle.interleave_core.specs.Worlds.{said_of};
 ghost use Rattle.interleave.specs.Logs.{Says};
 
 use crate::log::Answer;
-use held_calls::HeldCalls;
+use activation::HeldCalls;
 use interleave_core::Question;
 use names::WellKnown;
 use owner_queues::Profile;
@@ -26,7 +26,7 @@ pub(crate) struct SteppedBus {
 
 impl Model for SteppedBus {
     ghost use Rattle.seq_bus_core.specs.Tickets.{WholeBus};
-    ghost use Rattle.held_calls.specs.Holdings.{IsHolding};
+    ghost use Rattle.activation.specs.Holdings.{IsHolding};
     ghost use Rattle.interleave.specs.Stepping.{whole_of};
 
     ghost Value = { WholeBus };

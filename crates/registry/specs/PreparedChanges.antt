@@ -1,6 +1,6 @@
 -- Changes that are prepared: what their steps look at, and what they are told.
 use Rattle.std.specs.Prelude.{◌≡◌, ℕ, Option, option_and_then, option_map, List, [], ◌∷◌}
-use Rattle.held_calls.specs.Settling.{caller_of}
+use Rattle.activation.specs.Settling.{caller_of}
 use Rattle.seq_bus_core.specs.BusState.{BusState, conn_of, connection_of}
 use Rattle.seq_bus_core.specs.Changes.{as_seen}
 use Rattle.seq_bus_core.specs.Steps.{step}

@@ -4,8 +4,8 @@ use Rattle.std.specs.List.{AllByRecursion, range_with_len}
 use Rattle.logbook.specs.Pages.{Book}
 use Rattle.names.specs.Texts.{Text}
 use Rattle.owner_queues.specs.declared.request.Profile.{Profile}
-use Rattle.held_calls.specs.Holdings.{Calls, IsHolding}
-use Rattle.held_calls.proofs.FewTickets.{few_settled}
+use Rattle.activation.specs.Holdings.{Calls, IsHolding}
+use Rattle.activation.proofs.FewTickets.{few_settled}
 use Rattle.seq_bus_core.specs.Batches.{entries_of, outcomes_of}
 use Rattle.seq_bus_core.specs.BusState.{BusState}
 use Rattle.seq_bus_core.specs.Changes.{as_seen}

@@ -1,6 +1,6 @@
 -- What a registrar keeps of the calls that wait, and of its own copy of the bus.
 use Rattle.std.specs.Prelude.{◌≡◌, Bool, false}
-use Rattle.held_calls.specs.Holdings.{Calls, IsHolding}
+use Rattle.activation.specs.Holdings.{Calls, IsHolding}
 use Rattle.seq_bus_core.specs.BusState.{BusState}
 use Rattle.seq_bus_core.specs.Consistency.{IsWithinLimits}
 use Rattle.seq_bus_core.specs.Histories.{History}

@@ -13,8 +13,8 @@ ghost use Rattle.bus_view.specs.declared.refusal.Cause.{Cause};
 ghost use Rattle.bus_view.specs.declared.refusal.Cause.TheVariants.{ForeignSeat, HistoryFull, Gone};
 
 use crate::copies::{Copies, SnapReader};
+use activation::HeldCalls;
 use bus_view::{BatchCause, Cause, RefusedAll};
-use held_calls::HeldCalls;
 use names::WellKnown;
 use owner_queues::{Profile, Queue};
 use registry::Registry;

@@ -20,9 +20,9 @@ use Rattle.seq_bus_core.proofs.ConsistencyLaws.{buses_are_consistent}
 use Rattle.seq_bus_core.proofs.ChangeLaws.{steps_see_no_more}
 use Rattle.seq_bus_core.proofs.Extending.{after_more, legal_more}
 use Rattle.seq_bus_core.proofs.LimitLaws.{steps_keep_limits, buses_are_within_limits}
-use Rattle.held_calls.proofs.FewTickets.{few_settled}
-use Rattle.held_calls.specs.Holdings.{Calls, IsHolding}
-use Rattle.held_calls.specs.Settling.{IsAtStep, caller_of}
+use Rattle.activation.proofs.FewTickets.{few_settled}
+use Rattle.activation.specs.Holdings.{Calls, IsHolding}
+use Rattle.activation.specs.Settling.{IsAtStep, caller_of}
 use Rattle.registry.specs.PreparedChanges.{state_along}
 use Rattle.registry.proofs.Along.{entries_along}
 use Rattle.registry.proofs.Openings.{opened_still}

@@ -10,7 +10,7 @@ use Rattle.seq_bus_core.specs.Tickets.{WholeBus, bus_step, bus_after}
 use Rattle.seq_bus_core.specs.declared.change.Change.{Change}
 use Rattle.seq_bus_core.specs.declared.entry.Entry.{Entry}
 use Rattle.seq_bus_core.specs.declared.outcome.Outcome.{Outcome}
-use Rattle.held_calls.specs.Holdings.{Calls, IsHolding}
+use Rattle.activation.specs.Holdings.{Calls, IsHolding}
 use Rattle.registry.specs.Openings.{as_opened}
 
 pub record PlainBus : Type 0 where

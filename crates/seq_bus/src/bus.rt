@@ -15,8 +15,8 @@ ghost use Rattle.bus_view.specs.declared.answer.AskFault.TheVariants.{NoMemory a
 ghost use Rattle.seq_bus.specs.PlainBus.{bus_now, AreMade, IsMade};
 
 use crate::SEAT;
+use activation::HeldCalls;
 use bus_view::{AskFault, Asked, BatchCause, Cause, Refused, RefusedAll};
-use held_calls::HeldCalls;
 use match_rules::Facts;
 use names::WellKnown;
 use owner_queues::Profile;

@@ -1,8 +1,8 @@
 -- The changes of a batch, one after the other.
 use Rattle.std.proofs.Common.{◌≡◌, ℕ, suc, ◌+◌, ◌≤◌, List, [], ◌∷◌, ◌++◌, length, drop, get_or, refl, ap, sym, ◌∙◌, subst}
 use Rattle.std.specs.List.{AllByRecursion}
-use Rattle.held_calls.specs.Holdings.{Calls, IsHolding}
-use Rattle.held_calls.proofs.FewTickets.{few_settled}
+use Rattle.activation.specs.Holdings.{Calls, IsHolding}
+use Rattle.activation.proofs.FewTickets.{few_settled}
 use Rattle.registry.specs.PreparedChanges.{ArePreparedFor, IsPreparedFor, PreparedChange, prepared_along, prepared_on, state_along}
 use Rattle.registry.proofs.Along.{prepared_for_more, state_more}
 use Rattle.seq_bus_core.specs.Batches.{entries_of, outcomes_of}

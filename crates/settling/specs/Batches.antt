@@ -1,6 +1,6 @@
 -- What settles the changes of a batch.
 use Rattle.std.specs.Prelude.{◌≡◌, ℕ, List, [], ◌∷◌}
-use Rattle.held_calls.specs.Holdings.{Calls, IsHolding}
+use Rattle.activation.specs.Holdings.{Calls, IsHolding}
 use Rattle.registry.specs.PreparedChanges.{PreparedChange, ArePreparedFor, prepared_along}
 use Rattle.seq_bus_core.specs.Batches.{outcomes_of}
 use Rattle.seq_bus_core.specs.BusState.{BusState}

@@ -1,7 +1,7 @@
 -- What settles a change.
 use Rattle.std.specs.Prelude.{◌≡◌, ℕ, Option}
-use Rattle.held_calls.specs.Holdings.{Calls, IsHolding}
-use Rattle.held_calls.specs.Rooms.{CallRoom, IsRoomFor}
+use Rattle.activation.specs.Holdings.{Calls, IsHolding}
+use Rattle.activation.specs.Rooms.{CallRoom, IsRoomFor}
 use Rattle.registry.specs.PreparedChanges.{PreparedChange, caller_in, prepared_on}
 use Rattle.seq_bus_core.specs.BusState.{BusState}
 use Rattle.seq_bus_core.specs.Steps.{step}

@@ -5,7 +5,7 @@ ghost use Rattle.registry.specs.PreparedChanges.{ArePreparedFor, state_along};
 ghost use Rattle.settling.specs.Batches.{AreSettled, AreTaken, IsSomeBusAlong, SettleAlong};
 
 use crate::settling::Settling;
-use held_calls::HeldCalls;
+use activation::HeldCalls;
 use registry::{Prepared, Registry};
 use seq_bus_core::{Change, Outcome};
 use std::alloc::{AllocError, Global};

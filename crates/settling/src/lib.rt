@@ -9,7 +9,7 @@
 //! ```
 //! ghost use Rattle.settling.specs.Settlings.{IsSomeBus, SettlesAt};
 //!
-//! use held_calls::HeldCalls;
+//! use activation::HeldCalls;
 //! use owner_queues::Queue;
 //! use registry::Registry;
 //! use seq_bus_core::{Change, Outcome};

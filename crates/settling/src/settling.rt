@@ -5,7 +5,7 @@ ghost use Rattle.seq_bus_core.specs.Steps.{step};
 ghost use Rattle.registry.specs.PreparedChanges.{IsPreparedFor};
 ghost use Rattle.settling.specs.Settlings.{IsSettled, IsSomeBus, Settles, SettlesAt};
 
-use held_calls::{CallRoom, HeldCalls};
+use activation::{CallRoom, HeldCalls};
 use owner_queues::Queue;
 use registry::{Prepared, Registry};
 use seq_bus_core::{Change, Conn, NumberedOutcome, Outcome};

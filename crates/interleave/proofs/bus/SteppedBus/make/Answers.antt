@@ -4,8 +4,8 @@ use Rattle.seq_bus_core.specs.Changes.{as_seen}
 use Rattle.seq_bus_core.specs.Steps.{step}
 use Rattle.seq_bus_core.specs.Tickets.{WholeBus, bus_step}
 use Rattle.seq_bus_core.specs.declared.outcome.NumberedOutcome.{NumberedOutcome}
-use Rattle.held_calls.specs.Holdings.{IsHolding}
-use Rattle.held_calls.specs.Rooms.{IsRoomFor}
+use Rattle.activation.specs.Holdings.{IsHolding}
+use Rattle.activation.specs.Rooms.{IsRoomFor}
 use Rattle.registry.specs.PreparedChanges.{PreparedChange}
 use Rattle.interleave.specs.Stepping.{whole_of}
 use Rattle.interleave.proofs.Stepping.{at_step, stepped}

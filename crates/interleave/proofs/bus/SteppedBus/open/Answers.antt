@@ -1,6 +1,6 @@
 use Rattle.std.proofs.Common.{sym, subst}
 use Rattle.owner_queues.specs.declared.request.Profile.TheVariants.{Two}
-use Rattle.held_calls.specs.Holdings.{Calls, IsHolding}
+use Rattle.activation.specs.Holdings.{Calls, IsHolding}
 use Rattle.interleave.specs.Stepping.{whole_of}
 use Rattle.interleave.proofs.Stepping.{opened_holding}
 use Rattle.interleave.proofs.bus.SteppedBus.open.Goals as goal

@@ -6,7 +6,7 @@ use Rattle.seq_bus_core.specs.Tickets.{WholeBus, bus_step, bus_after}
 use Rattle.seq_bus_core.specs.declared.entry.Entry.{Entry}
 use Rattle.seq_bus_core.specs.declared.outcome.NumberedOutcome.{NumberedOutcome}
 use Rattle.seq_bus_core.specs.declared.outcome.Outcome.{Outcome}
-use Rattle.held_calls.specs.Rooms.{IsRoomFor}
+use Rattle.activation.specs.Rooms.{IsRoomFor}
 use Rattle.registry.specs.PreparedChanges.{PreparedChange}
 use Rattle.seq_bus.specs.PlainBus.{PlainBus, bus_now, next_entry, opened_as}
 use Rattle.seq_bus.proofs.HistoryLemmas.{at_step, few_settled_at, kept_more, opened_after}

@@ -1,6 +1,6 @@
 use Rattle.std.proofs.Common.{◌≡◌, ◌∙◌, ◌<◌, ◌+◌, ◌++◌, ◌∷◌, [], ℕ, List, length, get_or, take, drop, refl, ap, sym, subst, arith, length-append, length-drop}
 use Rattle.std.proofs.lemmas.List.{take_all}
-use Rattle.held_calls.specs.Holdings.{Calls, IsHolding}
+use Rattle.activation.specs.Holdings.{Calls, IsHolding}
 use Rattle.registry_core.proofs.Places.{done_is, next_is}
 use Rattle.seq_bus_core.specs.Batches.{outcomes_of}
 use Rattle.seq_bus_core.specs.Tickets.{WholeBus}

@@ -1,5 +1,5 @@
 use Rattle.std.proofs.Common.{◌≤◌, ◌+◌, ℕ, length, take, drop, vec_capacity}
-use Rattle.held_calls.specs.Holdings.{IsHolding}
+use Rattle.activation.specs.Holdings.{IsHolding}
 use Rattle.seq_bus_core.specs.Tickets.{WholeBus}
 use Rattle.settling.specs.Batches.{AreSettledTo, SettleAlong}
 use Rattle.settling.proofs.batch.Settlings.settle.Given as goal

@@ -1,6 +1,6 @@
 use Rattle.std.proofs.Common.{◌∙◌, ap, sym, subst}
 use Rattle.seq_bus_core.specs.declared.outcome.NumberedOutcome.{NumberedOutcome}
-use Rattle.held_calls.specs.Rooms.{IsRoomFor}
+use Rattle.activation.specs.Rooms.{IsRoomFor}
 use Rattle.registry.specs.PreparedChanges.{PreparedChange}
 use Rattle.settling.proofs.settling.Settling.take.Goals as goal
 

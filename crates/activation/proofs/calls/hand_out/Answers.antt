@@ -1,9 +1,9 @@
 use Rattle.std.proofs.Common.{◌≡◌, ◌<◌, List, [], ◌∷◌, Some, length, sym, ap, arith, length-append}
 use Rattle.std.specs.Prelude.{slice_get}
 use Rattle.seq_bus_core.specs.declared.ticket.SettledTicket.{SettledTicket}
-use Rattle.held_calls.specs.Settling.{settled_as}
-use Rattle.held_calls.proofs.calls.hand_out.Goals as goal
-use Rattle.held_calls.proofs.CallLists.{length_map}
+use Rattle.activation.specs.Settling.{settled_as}
+use Rattle.activation.proofs.calls.hand_out.Goals as goal
+use Rattle.activation.proofs.CallLists.{length_map}
 
 some_left : {X : Type 0} (xs : List X) (x : X) → slice_get xs 0 ≡ Some x → 0 < length xs
 some_left [] x e = cc

@@ -24,10 +24,10 @@ use Rattle.seq_bus_core.proofs.ClientLemmas.{client_found}
 use Rattle.seq_bus_core.proofs.ConsistencyLaws.{steps_keep_consistency}
 use Rattle.seq_bus_core.proofs.Lists.{each_weaker, find_none}
 use Rattle.seq_bus_core.proofs.OwnedLemmas.{client_is_connection}
-use Rattle.held_calls.specs.Holdings.{Calls, IsHolding}
-use Rattle.held_calls.specs.Settling.{IsAtStep, IsSomeStep, calls_after, caller_of, let_go, new_call, once_told, told_whole}
-use Rattle.held_calls.proofs.CallLists.{filter_every}
-use Rattle.held_calls.proofs.Settlings.{Follows, IsWait, quiet, settles, first_ticket, later_ticket}
+use Rattle.activation.specs.Holdings.{Calls, IsHolding}
+use Rattle.activation.specs.Settling.{IsAtStep, IsSomeStep, calls_after, caller_of, let_go, new_call, once_told, told_whole}
+use Rattle.activation.proofs.CallLists.{filter_every}
+use Rattle.activation.proofs.Settlings.{Follows, IsWait, quiet, settles, first_ticket, later_ticket}
 
 -- the step leaves the starts alone
 abbrev IsQuiet : BusState → Stepped → Type 0

@@ -21,9 +21,9 @@ use Rattle.seq_bus_core.specs.declared.ticket.SettledNumber.{SettledNumber}
 use Rattle.seq_bus_core.specs.declared.ticket.Ticket.{Ticket}
 use Rattle.seq_bus_core.proofs.Lists.{each_weaker, each_both, each_push, each_filter, each_passing, each_map, each_always, any_passing, any_append, any_append_right, any_map, none_any, found_having, find_any, find_none, find_passes, pairs_filter, pairs_push}
 use Rattle.seq_bus_core.proofs.TextLemmas.{text_eq-true, text_eq-swapped}
-use Rattle.held_calls.specs.Holdings.{Calls, IsHolding, numbers_for, has_start}
-use Rattle.held_calls.specs.Settling.{calls_after, let_go, new_call, once_told, settled_as, fate_of, told_whole, caller_of}
-use Rattle.held_calls.proofs.CallLists.{length_map, text_eq-itself, filter_alike, filter_map_before, filter_every, apart_from_found, numbers_apart, numbers_more, unstarted_numbers, IsNumbered, finds_itself, among_its_own, few_calls}
+use Rattle.activation.specs.Holdings.{Calls, IsHolding, numbers_for, has_start}
+use Rattle.activation.specs.Settling.{calls_after, let_go, new_call, once_told, settled_as, fate_of, told_whole, caller_of}
+use Rattle.activation.proofs.CallLists.{length_map, text_eq-itself, filter_alike, filter_map_before, filter_every, apart_from_found, numbers_apart, numbers_more, unstarted_numbers, IsNumbered, finds_itself, among_its_own, few_calls}
 
 -- the calls are those of a state, and carry what these tickets do
 pub record Keeps (s : BusState) (waiting : List Ticket) (calls : Calls) : Type 0 where

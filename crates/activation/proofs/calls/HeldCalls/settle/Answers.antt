@@ -2,11 +2,11 @@ use Rattle.std.proofs.Common.{◌≡◌, ◌<◌, ◌≤◌, ◌++◌, List, len
 use Rattle.activation.specs.Holding.{Holding}
 use Rattle.seq_bus_core.specs.declared.ticket.SettledTicket.{SettledTicket}
 use Rattle.seq_bus_core.specs.declared.ticket.Ticket.{Ticket}
-use Rattle.held_calls.specs.Holdings.{Calls}
-use Rattle.held_calls.specs.Rooms.{CallRoom}
-use Rattle.held_calls.specs.Settling.{calls_after, new_call, once_told, settled_as}
-use Rattle.held_calls.proofs.Following.{holds_on, told_so, few_let_go, one_fits}
-use Rattle.held_calls.proofs.calls.HeldCalls.settle.Goals as goal
+use Rattle.activation.specs.Holdings.{Calls}
+use Rattle.activation.specs.Rooms.{CallRoom}
+use Rattle.activation.specs.Settling.{calls_after, new_call, once_told, settled_as}
+use Rattle.activation.proofs.Following.{holds_on, told_so, few_let_go, one_fits}
+use Rattle.activation.proofs.calls.HeldCalls.settle.Goals as goal
 
 pub let_go_told-requires-clause-room : goal.let_go_told-requires-clause-room
 let_go_told-requires-clause-room c =

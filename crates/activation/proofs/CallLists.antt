@@ -13,7 +13,7 @@ use Rattle.seq_bus_core.specs.Consistency.{Pairwise}
 use Rattle.seq_bus_core.specs.declared.ticket.Ticket.{Ticket}
 use Rattle.seq_bus_core.proofs.Lists.{each_weaker, each_both, each_map, each_filter, each_passing, each_always, found_having, none_any}
 use Rattle.seq_bus_core.proofs.TextLemmas.{text_eq-true, text_eq-swapped}
-use Rattle.held_calls.specs.Holdings.{Calls, numbers_for, has_start}
+use Rattle.activation.specs.Holdings.{Calls, numbers_for, has_start}
 
 pub length_map : {X Y : Type 0} (f : X → Y) (xs : List X) → length (map f xs) ≡ length xs
 length_map f [] = refl

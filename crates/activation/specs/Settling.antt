@@ -19,7 +19,7 @@ use Rattle.seq_bus_core.specs.declared.ticket.Fate.TheVariants.{Served, Failed}
 use Rattle.seq_bus_core.specs.declared.ticket.SettledNumber.{SettledNumber}
 use Rattle.seq_bus_core.specs.declared.ticket.SettledTicket.{SettledTicket}
 use Rattle.seq_bus_core.specs.declared.ticket.Ticket.{Ticket}
-use Rattle.held_calls.specs.Holdings.{Calls, IsHolding}
+use Rattle.activation.specs.Holdings.{Calls, IsHolding}
 
 -- ## What a caller knows
 

@@ -1,7 +1,7 @@
 //! What settling a change needs of memory.
 
 ghost use Rattle.std.specs.Prelude.{◌≡◌, IfOk};
-ghost use Rattle.held_calls.specs.Rooms.{IsRoomFor, message_of};
+ghost use Rattle.activation.specs.Rooms.{IsRoomFor, message_of};
 
 use seq_bus_core::{Change, NumberedOutcome, SharedBytes, TicketRoom};
 use std::alloc::{AllocError, Global};
@@ -16,7 +16,7 @@ pub struct CallRoom {
 }
 
 impl Model for CallRoom {
-    ghost use Rattle.held_calls.specs.Rooms.{CallRoom as Made};
+    ghost use Rattle.activation.specs.Rooms.{CallRoom as Made};
 
     ghost Value = { Made };
 

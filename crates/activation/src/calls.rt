@@ -4,12 +4,12 @@ ghost use Rattle.std.specs.Prelude.{◌≡◌, ℕ, ◌<◌, ◌≤◌, ◌+◌,
 ghost use Rattle.activation.specs.Holding.{Holding};
 ghost use Rattle.activation.specs.declared.holder.TheConstants.{MAX_HELD};
 ghost use Rattle.seq_bus_core.specs.declared.ticket.Ticket.{Ticket};
-ghost use Rattle.held_calls.specs.Rooms.{IsRoomFor, message_of};
-ghost use Rattle.held_calls.specs.Settling.{IsSettled, IsSomeStep, caller_of, fate_of, let_go, new_call, once_told, settled_as};
+ghost use Rattle.activation.specs.Rooms.{IsRoomFor, message_of};
+ghost use Rattle.activation.specs.Settling.{IsSettled, IsSomeStep, caller_of, fate_of, let_go, new_call, once_told, settled_as};
 ghost use Rattle.seq_bus_core.specs.declared.outcome.Reply.TheVariants.{Held};
 
 use crate::room::CallRoom;
-use activation::{Fate as Release, Holder};
+use crate::{Fate as Release, Holder};
 use seq_bus_core::{
     Change, Conn, Fate, NumberedOutcome, Outcome, Reply, SettledTicket, SharedBytes, Ticket,
     TicketNumbers, TicketRoom,
@@ -28,7 +28,7 @@ pub struct HeldCalls {
 
 impl Model for HeldCalls {
     ghost use Rattle.std.specs.Prelude.{◌≡◌, []};
-    ghost use Rattle.held_calls.specs.Holdings.{Calls};
+    ghost use Rattle.activation.specs.Holdings.{Calls};
 
     ghost Value = { Calls };
 

@@ -1,6 +1,6 @@
 use Rattle.std.proofs.Common.{◌≡◌, ◌++◌, length, map}
-use Rattle.held_calls.specs.Settling.{settled_as}
-use Rattle.held_calls.proofs.calls.hand_out.Given as goal
+use Rattle.activation.specs.Settling.{settled_as}
+use Rattle.activation.proofs.calls.hand_out.Given as goal
 
 abbrev pub invariant-loop-given : goal.invariant-loop-given
 invariant-loop-given l = record {

@@ -1,4 +1,0 @@
-pub mod CallLists
-pub mod Settlings
-pub mod Following
-pub mod FewTickets

@@ -1,3 +1,0 @@
-pub mod Holdings
-pub mod Rooms
-pub mod Settling
