@@ -1,9 +1,9 @@
 //! The outboxes of a registry.
 
 ghost use Rattle.std.specs.Prelude.{◌≡◌, ◌+◌, ◌/◌, IfOk, All};
-ghost use Rattle.lanes.specs.Lanes.{HasGiven, lanes_of, all_of, AreGrouped};
+ghost use Rattle.outbox.specs.Lanes.{HasGiven, lanes_of, all_of, AreGrouped};
 
-use lanes::{Lane, Tap, open_lanes};
+use crate::{Lane, Tap, open_lanes};
 use outbox_core::Envelope;
 use registry_snapshots::{Naming, Note, Shared};
 use std::alloc::{AllocError, Global};

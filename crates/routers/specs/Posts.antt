@@ -1,6 +1,6 @@
 -- What a router puts into an outbox.
 use Rattle.std.specs.Prelude.{◌≡◌, ℕ, List, Some, slice_get, slice_set}
-use Rattle.lanes.specs.Lanes.{End, sent, with}
+use Rattle.outbox.specs.Lanes.{End, sent, with}
 
 -- The item stands behind what the lane put for this slot before, and nothing else is put.
 abbrev pub Puts : {E : Type 0} → List (End E) → ℕ → E → List (End E) → Type 0

@@ -29,7 +29,7 @@ pub struct LanePost<'a, J: Naming, W: Wake + Drop> {
 impl<'a, J: Naming, W: Wake + Drop> Model for LanePost<'a, J, W> {
     ghost use Rattle.std.specs.Prelude.{List};
     ghost use Rattle.outbox_core.specs.declared.envelope.Envelope.{Envelope};
-    ghost use Rattle.lanes.specs.Lanes.{End};
+    ghost use Rattle.outbox.specs.Lanes.{End};
     ghost use Rattle.seq_bus_core.specs.Histories.{History};
 
     ghost Value = { List (End (Envelope History)) };

@@ -1,6 +1,6 @@
 -- What the main thread does to its host.
 use Rattle.std.specs.Prelude.{◌≡◌, false, List}
-use Rattle.lanes.specs.Lanes.{End}
+use Rattle.outbox.specs.Lanes.{End}
 use Rattle.seq_bus_core.specs.Histories.{History}
 use Rattle.outbox_core.specs.declared.envelope.Envelope.{Envelope}
 use Rattle.router_core.specs.declared.gate.OpenGate.{OpenGate}

@@ -2,8 +2,7 @@
 
 ghost use Rattle.std.specs.Prelude.{◌≡◌};
 
-use lanes::open_lanes;
-use outbox::{EnvelopeOf, Outboxes};
+use outbox::{EnvelopeOf, Outboxes, open_lanes};
 use outbox_core::Deliveries;
 use registry_snapshots::{Naming, Shared};
 use seq_bus_core::Conn;

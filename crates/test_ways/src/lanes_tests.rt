@@ -1,9 +1,9 @@
 //! What comes out of a queue is what was put into it.
 
 ghost use Rattle.std.specs.Prelude.{◌≡◌, ◌∷◌, ◌≤◌, [], IfOk, IfSome};
-ghost use Rattle.lanes.specs.Lanes.{lane_end};
+ghost use Rattle.outbox.specs.Lanes.{lane_end};
 
-use lanes::{Full, Lane, Tap, open_lanes};
+use outbox::{Full, Lane, Tap, open_lanes};
 use std::alloc::{AllocError, Global};
 use std::sync::Wait;
 use std::test::*;

@@ -1,5 +1,5 @@
 use Rattle.std.proofs.Common.{rules, ◌≡◌, ◌∷◌, [], refl}
-use Rattle.lanes.specs.Lanes.{lane_end}
+use Rattle.outbox.specs.Lanes.{lane_end}
 use Rattle.test_ways.proofs.lanes_tests.what_was_taken_begins_what_was_put.Goals as goal
 
 -- src/lanes_tests.rt: the end that put is of the tap's queue still
