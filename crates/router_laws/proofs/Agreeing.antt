@@ -7,8 +7,8 @@ use Rattle.router_core.specs.Events.{Occasion}
 use Rattle.router_core.specs.OneThread.{AreReadBy, Readers, Rest, bus_bytes, given, rest_after}
 use Rattle.router_core.proofs.Functions.{bytes_are_a_function, one_thread_is_a_function}
 use Rattle.router.proofs.Grants.{granted_parts, read_parts}
-use Rattle.router_runs.specs.Turns.{AreServedBy, Turn, asked_in, keys_of, written_by}
-use Rattle.router_runs.proofs.Granting.{is_run}
+use Rattle.router_laws.specs.Turns.{AreServedBy, Turn, asked_in, keys_of, written_by}
+use Rattle.router_laws.proofs.Granting.{is_run}
 use Rattle.router_laws.specs.GrantedRuns.{AlikeRunsAgree, IsGrantedRun, RunsAgree, RunsAreOne, bytes_of, deeds_of}
 use Rattle.router_laws.proofs.Readers.{AreRight, read_so, readers_of, right_append, right_lawful}
 

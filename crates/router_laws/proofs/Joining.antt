@@ -6,7 +6,7 @@ use Rattle.router_core.specs.Answers.{Says, Refuses}
 use Rattle.router_core.specs.Events.{Occasion}
 use Rattle.router_core.specs.OneThread.{Rest, keys_after, written_to}
 use Rattle.router.proofs.Grants.{granted_parts}
-use Rattle.router_runs.specs.Turns.{Turn, asked_in, keys_of, written_by}
+use Rattle.router_laws.specs.Turns.{Turn, asked_in, keys_of, written_by}
 use Rattle.router_laws.specs.GrantedRuns.{ComeToTheSame, IsGrantedRun}
 
 pub granted_append : (first later : List Exchange) → IsGranted first → IsGranted later → IsGranted (first ++ later)

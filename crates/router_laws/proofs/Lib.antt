@@ -1,3 +1,10 @@
+pub mod Keeping
+pub mod Appending
+pub mod Granting
+pub mod Places
+pub mod Writes
+pub mod Courses
+pub mod Counting
 pub mod FieldFaults
 pub mod Faults
 pub mod Fronts

@@ -19,7 +19,7 @@ use Rattle.router.proofs.Conversations.{hears_joined}
 use Rattle.router.proofs.Feeding.{bytes_given, closed_more, more, more_if, peer_with_more, pieces_joined, rest_more, seen_as, serve_more, with_more}
 use Rattle.router.proofs.Grants.{granted_parts, read_parts}
 use Rattle.router.proofs.Speaking.{Speaks, SpeaksAt, more_speaks, next_speaks}
-use Rattle.router_runs.specs.Turns.{Turn, asked_in}
+use Rattle.router_laws.specs.Turns.{Turn, asked_in}
 use Rattle.router_laws.specs.Cuts.{HasCome, LinesAreNotServed, PiecesAreJoined, ShortMessagesWait, WholeMessagesComeFirst}
 use Rattle.router_laws.specs.GrantedRuns.{IsGrantedRun}
 use Rattle.router_laws.specs.Readings.{with_behind}

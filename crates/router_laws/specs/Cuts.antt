@@ -4,7 +4,7 @@ use Rattle.router_core.specs.Events.{Occasion, Bytes, Next}
 use Rattle.router_core.specs.Fronts.{Front, Waits, IsFront}
 use Rattle.router_core.specs.OneThread.{Rest}
 use Rattle.router_core.specs.Standing.{Peer, SpeaksDBus, peer_at}
-use Rattle.router_runs.specs.Turns.{Turn}
+use Rattle.router_laws.specs.Turns.{Turn}
 use Rattle.router_laws.specs.GrantedRuns.{ComeToTheSame, IsGrantedRun}
 
 -- Bytes that come one after the other, and bytes that come at once, are the same: those of messages, and those of the lines in which a

@@ -4,8 +4,8 @@ use Rattle.router_core.specs.Acts.{IsGranted}
 use Rattle.router_core.specs.Deeds.{Deed, GatedCall}
 use Rattle.router_core.specs.Events.{Occasion}
 use Rattle.router_core.specs.OneThread.{Rest}
-use Rattle.router_runs.specs.Runs.{IsRunOf, for_each}
-use Rattle.router_runs.specs.Turns.{AreServedBy, Turn, asked_in, written_by}
+use Rattle.router_laws.specs.Runs.{IsRunOf, for_each}
+use Rattle.router_laws.specs.Turns.{AreServedBy, Turn, asked_in, written_by}
 
 -- The occasions come one after the other, each is served so, and nothing is refused.
 pub record IsGrantedRun (before : Rest) (occasions : List Occasion) (turns : List Turn) (after : Rest) : Type 0 where

@@ -1,3 +1,6 @@
+pub mod Turns
+pub mod Runs
+pub mod Outputs
 pub mod Readings
 pub mod GrantedRuns
 pub mod Cuts

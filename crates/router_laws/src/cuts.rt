@@ -17,7 +17,7 @@ pub fn cuts_make_no_difference()
     ensures whole { WholeMessagesComeFirst }
 {}
 
-/// So two calls of [`router_runs::run`] with the same bus give the same bytes, where their events
+/// So two calls of [`router_laws::run`] with the same bus give the same bytes, where their events
 /// differ in such cuts alone, one after the other, and nothing is refused.
 pub fn recut_runs_agree<G: Gate, H: Gate>()
     ensures { AlikeRunsAgree G.passes H.passes }

@@ -1,10 +1,35 @@
-//! Laws of a router's engine over a bus of one thread.
+//! Runs of a router's engine over a bus of one thread, and their laws.
+//!
+//! [`run`] serves a list of events, one after the other, and gives the bytes that go to each
+//! connection.
+//!
+//! ```
+//! use router_core::{Event, OpenGate};
+//! use router_laws::run;
+//! use seq_bus::SeqBus;
+//! use std::alloc::Global;
+//!
+//! /// What goes to a connection that sends one message.
+//! fn answer_to(alloc: Global, bus: SeqBus, message: Vec<u8>) -> Option<Vec<u8>> {
+//!     let opened = Event::Opened {
+//!         key: 0,
+//!         challenge: None,
+//!     };
+//!     let bytes = Event::Bytes {
+//!         key: 0,
+//!         piece: message,
+//!     };
+//!     let events = vec![in alloc; opened, bytes, Event::Next { key: 0 }].ok()?;
+//!     let mut written = run(alloc, bus, OpenGate, None, events).ok()?;
+//!     written.pop()
+//! }
+//! ```
 //!
 //! Where no call of the bus and no memory is refused, everything that an engine does is a function
 //! of its events: any two runs of the same events write the same bytes to each connection
 //! ([`runs`]), and it does not matter how those bytes were cut that came ([`cuts`]). This is so
-//! since what is read is read in one way ([`readings`]). Each function does nothing: what it
-//! ensures is the law, for the proof of whoever calls it.
+//! since what is read is read in one way ([`readings`]). Each function of these modules does
+//! nothing: what it ensures is the law, for the proof of whoever calls it.
 //!
 //! ```
 //! ghost use Rattle.router_laws.specs.GrantedRuns.{RunsAgree};
@@ -22,5 +47,11 @@
 #![tactic(auto)]
 
 pub mod cuts;
+mod fault;
+mod outlets;
 pub mod readings;
 pub mod runs;
+mod session;
+
+pub use fault::RunFault;
+pub use session::run;

@@ -10,7 +10,7 @@ pub fn runs_are_one()
     ensures { RunsAreOne }
 {}
 
-/// Two calls of [`router_runs::run`] with the same bus and the same events, in which nothing is
+/// Two calls of [`router_laws::run`] with the same bus and the same events, in which nothing is
 /// refused, give the same bytes, whatever gates they have.
 pub fn runs_agree<G: Gate, H: Gate>()
     ensures { RunsAgree G.passes H.passes }

@@ -39,7 +39,7 @@ use outbox_core::{BusMessage, Content, Deliveries};
 use owner_queues::Profile;
 use router::Engine;
 use router_core::{Action, Addressees, Event, OpenGate};
-use router_runs::{RunFault, run};
+use router_laws::{RunFault, run};
 use seq_bus::SeqBus;
 use seq_bus_core::limits::MAX_BATCH;
 use seq_bus_core::{Conn, Recipients, Verdict};

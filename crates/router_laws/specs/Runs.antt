@@ -1,0 +1,71 @@
+-- The run of a list of events over a plain bus.
+use Rattle.std.specs.Prelude.{◌≡◌, ℕ, true, Some, List, [], length, map, take, slice_get, Option}
+use Rattle.std.specs.List.{range_with_len}
+use Rattle.sasl.specs.Settings.{Login}
+use Rattle.seq_bus.specs.PlainBus.{PlainBus}
+use Rattle.seq_bus.specs.PlainViews.{knowledge_of}
+use Rattle.router_core.specs.declared.event.Event.{Event}
+use Rattle.router_core.specs.declared.event.Event.TheVariants as event
+use Rattle.router_core.specs.Acts.{gated_in}
+use Rattle.router_core.specs.Deeds.{GatedCall, PassesAll}
+use Rattle.router_core.specs.Events.{Occasion, CanBeAsked, IsFree, occasion_of, IsTurnOf}
+use Rattle.router_core.specs.OneThread.{Rest}
+use Rattle.router_core.specs.Standing.{Standing, fresh}
+use Rattle.router_laws.specs.declared.fault.RunFault.{RunFault}
+use Rattle.router_laws.specs.declared.fault.RunFault.TheVariants.{WrongKey, NoLogin, NoTurn, NoMemory}
+use Rattle.router_laws.specs.Turns.{AreServedBy, Turn, asked_in, keys_of, written_by}
+
+-- no connection, over a plain bus
+abbrev pub fresh_over : Option Login → PlainBus → Rest
+fresh_over login bus = record { standing = fresh login; view = knowledge_of bus }
+
+-- a note over a plain bus tells nothing
+abbrev pub happening : Event (Unit {0}) → Occasion
+happening event = occasion_of (λ _. []) event
+
+abbrev pub occasions_of : List (Event (Unit {0})) → List Occasion
+occasions_of events = map happening events
+
+-- the bytes of each connection that comes, by its opening
+abbrev pub for_each : List Occasion → (ℕ → List ℕ) → List (List ℕ)
+for_each occasions bytes = map bytes (range_with_len 1 (length (keys_of occasions [])))
+
+-- The occasions come one after the other over a bus of one thread, and these bytes go to the connections, in the order in which they came.
+pub record IsRunOf {G : Type 0} (passes : G → GatedCall → G → Type 0) (gate : G) (before : Rest) (occasions : List Occasion) (bytes : List (List ℕ)) : Type 0 where
+  pub turns : List Turn
+  pub after : Rest
+  pub left : G
+  pub served : AreServedBy true before occasions turns after
+  pub shown : PassesAll passes gate (gated_in before.view.seat (asked_in turns)) left
+  pub written : bytes ≡ for_each occasions (λ opening. written_by opening [] occasions turns)
+
+-- A connection comes, and its key is not the least that none has.
+abbrev pub LacksKey : Standing → Event (Unit {0}) → Type 0
+LacksKey s (event.Opened key challenge) = IsFree s key → ⊥
+LacksKey s other = ⊥
+
+-- A connection comes that is to say who it is, and no one may log in.
+abbrev pub LacksLogin : Standing → Event (Unit {0}) → Type 0
+LacksLogin s (event.Opened key challenge) = CanBeAsked s.login challenge → ⊥
+LacksLogin s other = ⊥
+
+-- It is a turn of no keys, or of too many.
+abbrev pub LacksTurn : Standing → Event (Unit {0}) → Type 0
+LacksTurn s (event.Turn keys) = IsTurnOf keys.items → ⊥
+LacksTurn s other = ⊥
+
+-- The events before that of this index come, and this one cannot happen then, since it lacks this.
+pub record IsStopped (lacks : Standing → Event (Unit {0}) → Type 0) (before : Rest) (events : List (Event (Unit {0}))) (index : ℕ) : Type 0 where
+  pub turns : List Turn
+  pub now : Rest
+  pub served : AreServedBy true before (occasions_of (take index events)) turns now
+  pub event : Event (Unit {0})
+  pub reached : slice_get events index ≡ Some event
+  pub impossible : lacks now.standing event
+
+-- why a run ends before its events do
+abbrev pub IsFaultOf : Rest → List (Event (Unit {0})) → RunFault → Type 0
+IsFaultOf before events (WrongKey index) = IsStopped LacksKey before events index
+IsFaultOf before events (NoLogin index) = IsStopped LacksLogin before events index
+IsFaultOf before events (NoTurn index) = IsStopped LacksTurn before events index
+IsFaultOf before events NoMemory = Unit {0}

@@ -1,0 +1,32 @@
+//! Why a run ends early.
+
+use std::alloc::AllocError;
+use thiserror::Error;
+
+/// Why a run ends before its events do.
+#[derive(Clone, Copy, Debug, PartialEq, Eq, Error)]
+pub enum RunFault {
+    /// A connection comes at the event of this index, and its key is not the least that none has.
+    #[error("event {0}: the key is not the least that is free")]
+    WrongKey(usize),
+    /// A connection that is to say who it is comes at the event of this index, and no one may log
+    /// in.
+    #[error("event {0}: no one may log in")]
+    NoLogin(usize),
+    /// The event of this index is a turn of no keys, or of more than 64.
+    #[error("event {0}: a turn has 1 to 64 keys")]
+    NoTurn(usize),
+    #[error("out of memory")]
+    NoMemory,
+}
+
+impl From<AllocError> for RunFault {
+    ghost use Rattle.std.specs.Prelude.{◌≡◌};
+    ghost use Rattle.router_laws.specs.declared.fault.RunFault.TheVariants.{NoMemory};
+
+    ghost from_gives = { λ _ fault. fault ≡ NoMemory };
+
+    fn from(_error: AllocError) -> RunFault {
+        RunFault::NoMemory
+    }
+}
