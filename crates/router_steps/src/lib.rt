@@ -47,7 +47,7 @@ mod upcoming;
 mod verdicts;
 
 pub use context::Context;
-pub use first::{First, HelloCall};
+pub use first::HelloCall;
 pub use hello_errors::HelloErrors;
 pub use incoming::Incoming;
 pub use mail::{bytes_of, serial_after};
