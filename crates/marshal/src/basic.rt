@@ -10,6 +10,48 @@ use crate::text::{path, signature, string};
 use marshal_core::{BasicType, BasicValue, MarshalFault, Order};
 use std::alloc::Global;
 
+/// A string, with memory of its own.
+#[tactic(auto, unfolding(marshal_core::specs::Reading::basic_at))]
+fn string_value(
+    alloc: Global,
+    order: Order,
+    short: MarshalFault,
+    at: usize,
+    bytes: &[u8],
+) -> Result<(BasicValue, usize, &[u8]), MarshalFault>
+    requires room { at + length bytes.now < 2 ^ 64 }
+    ensures reads { Gives (λ x. (basic_of x.0, x.1, x.2.now)) result
+        (basic_at order short BasicType.String at bytes.now) }
+    ensures place { IfOk result (λ x. x.1 + length x.2.now ≡ at + length bytes.now) }
+    ensures shorter { IfOk result (λ x. length x.2.now < length bytes.now) }
+{
+    let (text, at, rest) = string(order, short, at, bytes)?;
+    Ok((BasicValue::String(String::from_str(alloc, text)?), at, rest))
+}
+
+/// An object path, with memory of its own.
+#[tactic(auto, unfolding(marshal_core::specs::Reading::basic_at))]
+fn path_value(
+    alloc: Global,
+    order: Order,
+    short: MarshalFault,
+    at: usize,
+    bytes: &[u8],
+) -> Result<(BasicValue, usize, &[u8]), MarshalFault>
+    requires room { at + length bytes.now < 2 ^ 64 }
+    ensures reads { Gives (λ x. (basic_of x.0, x.1, x.2.now)) result
+        (basic_at order short BasicType.ObjectPath at bytes.now) }
+    ensures place { IfOk result (λ x. x.1 + length x.2.now ≡ at + length bytes.now) }
+    ensures shorter { IfOk result (λ x. length x.2.now < length bytes.now) }
+{
+    let (text, at, rest) = path(order, short, at, bytes)?;
+    Ok((
+        BasicValue::ObjectPath(String::from_str(alloc, text)?),
+        at,
+        rest,
+    ))
+}
+
 /// A value of a basic type.
 #[tactic(auto, unfolding(marshal_core::specs::Reading::basic_at))]
 pub fn basic(
@@ -63,18 +105,8 @@ pub fn basic(
             let (eight, at, rest) = eight_bytes(short, at, bytes)?;
             Ok((BasicValue::Double(eight), at, rest))
         }
-        BasicType::String => {
-            let (text, at, rest) = string(order, short, at, bytes)?;
-            Ok((BasicValue::String(String::from_str(alloc, text)?), at, rest))
-        }
-        BasicType::ObjectPath => {
-            let (text, at, rest) = path(order, short, at, bytes)?;
-            Ok((
-                BasicValue::ObjectPath(String::from_str(alloc, text)?),
-                at,
-                rest,
-            ))
-        }
+        BasicType::String => string_value(alloc, order, short, at, bytes),
+        BasicType::ObjectPath => path_value(alloc, order, short, at, bytes),
         BasicType::Signature => {
             let (signature, at, rest) = signature(alloc, short, at, bytes)?;
             Ok((BasicValue::Signature(signature), at, rest))
