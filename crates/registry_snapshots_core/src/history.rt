@@ -214,7 +214,8 @@ impl Prefix {
         requires book { head.now ≡ self.now.book }
         requires room { length self.now.log < 2 ^ 63 }
         requires legal { IsLegal (self.now.log ++ entry.now ∷ []) }
-        ensures { IfSome result (λ f. f ≡ prefix_of self.now.book (self.now.log ++ entry.now ∷ [])) }
+        ensures { IfSome result (λ f.
+            f ≡ prefix_of self.now.book (self.now.log ++ entry.now ∷ [])) }
     {
         let mut seen = self.seen.again();
         let mut offer: Offer<Publication, u64, HistoryRule, NoTrade> = seen.plain::<

@@ -15,7 +15,7 @@ pub data Front : Type 0 where
   -- no message
   Faulty : FrameFault → Front
 
--- The bytes have this front. Of several faults any that stands in them may be told.
+-- The bytes have this front, and no other.
 abbrev pub IsFront : List ℕ → Front → Type 0
 IsFront bytes Waits = IsWaiting MAXIMUM_LENGTH bytes
 IsFront bytes (Whole message rest) = IsMessage message (said message) × (length message ≤ MAXIMUM_LENGTH) × (bytes ≡ message ++ rest)
