@@ -493,6 +493,16 @@ traces() {
     told_to "$bus_name :1.1" flood 600
     waits says "yes 613" || wrong "puts out who does not read: $(joined | "$checker" --explain - 2>&1)"
     finish
+    # The main thread tells callers that a start failed. Whoever has no room for that is put out, too: its seat, 0, makes
+    # the change, and the router of the one that is out closes its socket.
+    printf 'sleep 1; exit 1\n' > fails_late.sh
+    service fails_late 1 "$group" 'Name=com.example.Late' "Exec=/bin/sh $room/fails_late.sh"
+    begin routers=2 services=fails_late --anonymous --verbose --trace trace
+    told_to "$bus_name :1.1" starts com.example.Late 300
+    waits grep -q '^c [0-9]* 0 2 leave 2 => r=ok ' trace/main.trace || wrong "the main thread puts nobody out: $(< trace/main.trace)"
+    waits grep -q . said || wrong "tells of nobody that was put out"
+    [ "$(joined | "$checker" - | cut -d ' ' -f 1)" = yes ] || wrong "puts out who does not read answers: $(joined | "$checker" --explain - 2>&1)"
+    finish "busd: :1.2: closed: 66: it didn't read its messages"
 }
 
 # session STATUS ARGUMENT..: a session ends so, and leaves nothing

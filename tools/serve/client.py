@@ -7,6 +7,7 @@ client.py ADDRESS start NAME      calls StartServiceByName
 client.py ADDRESS ask MEMBER      calls a method of the bus that takes nothing
 client.py ADDRESS calls PREFIX N  calls the owners of N names at once, and prints how often each answer came
 client.py ADDRESS flood N         sends N signals to a listener that does not read, and asks for the names then
+client.py ADDRESS starts NAME N   calls StartServiceByName N times and reads nothing, and asks for the names once it is out
 client.py ADDRESS own NAME        owns a name, and answers every call until the bus is gone
 client.py ADDRESS bytes HEX       sends bytes in place of a conversation, and waits for the end
 client.py ADDRESS crowd N         connects N times for a second and says nothing, and asks for the names after that
@@ -107,7 +108,7 @@ class Client:
         if told[0] != "OK":
             sys.exit("it isn't let in")
         self.socket.sendall(b"BEGIN\r\n")
-        self.answer(self.call(BUS, "Hello"))
+        self.name = self.answer(self.call(BUS, "Hello"))
 
     def said(self, line):
         """What a line is answered, in words."""
@@ -164,6 +165,10 @@ class Client:
                 self.send(RETURN, 0, reply, text("here"))
 
 
+def start(client, name):
+    return client.call(BUS, "StartServiceByName", "su", padded(text(name), 4) + bytes(4))
+
+
 def main(address, what, name, count="0"):
     if what == "bytes":
         to = connected(address)
@@ -179,7 +184,7 @@ def main(address, what, name, count="0"):
     if what == "own":
         client.own(name)
     elif what == "start":
-        print(client.answer(client.call(BUS, "StartServiceByName", "su", padded(text(name), 4) + bytes(4))))
+        print(client.answer(start(client, name)))
     elif what == "ask":
         print(client.answer(client.call(BUS, name)))
     elif what == "flood":
@@ -189,6 +194,17 @@ def main(address, what, name, count="0"):
         for _ in range(int(name)):
             client.send(SIGNAL, 0, fields, text("x" * 4000))
         print(client.answer(client.call(BUS, "ListNames")))
+    elif what == "starts":
+        deaf = Client(address)
+        # More than its socket takes, so that what comes behind waits in its outbox.
+        fields = [(PATH, "/"), (INTERFACE, "com.example.Test"), (MEMBER, "Noise"), (DESTINATION, deaf.name)]
+        for _ in range(20):
+            client.send(SIGNAL, 0, fields + [(SIGNATURE, "s")], text("x" * 60000))
+        for _ in range(int(count)):
+            start(deaf, name)
+        while deaf.name in (names := client.answer(client.call(BUS, "ListNames"))):
+            time.sleep(0.05)
+        print(names)
     elif what == "calls":
         calls = {client.call(f"{name}{i}", "Ask") for i in range(int(count))}
         told = collections.Counter()
