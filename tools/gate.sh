@@ -4,6 +4,12 @@
 set -uo pipefail
 cd "$(dirname "$0")/.."
 
+# As many checks at once as there are processors and 5 GB for each: left to itself `rt ci` keeps back what it takes to need
+# more memory than is free, and what takes longest waits.
+available=$(awk '/^MemAvailable/ { print int($2 / 5000000) }' /proc/meminfo)
+processors=$(nproc)
+export RT_JOBS=${RT_JOBS:-$((available < 1 ? 1 : available < processors ? available : processors))}
+
 passed=0
 failed=1
 bad=()

@@ -8,6 +8,8 @@ room=$(mktemp -d)
 trap 'rm -rf "$room"' EXIT
 cc -O2 -shared -fPIC -o "$room/refuse.so" tools/memory/refuse.c
 workers=$(nproc)
+# What a run lets go of stays with it: to give large blocks back to the system takes a quarter of the time.
+export MALLOC_MMAP_THRESHOLD_=1073741824 MALLOC_TRIM_THRESHOLD_=1073741824
 
 # with NUMBER PROGRAM ARGUMENT..: runs a program whose allocation of that number is refused; each worker has a folder.
 with() {
