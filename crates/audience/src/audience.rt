@@ -8,7 +8,8 @@ ghost use Rattle.match_rules.specs.Facts.{Facts as Parts};
 use match_rules::{Facts, Owners};
 use seq_bus_core::{Conn, Recipients};
 
-/// A bus, as far as it is asked who gets a message: as it is, or as it will be once a change is made.
+/// A bus, as far as it is asked who gets a message: as it is, or as it will be once a change is
+/// made.
 pub trait Audience: Owners {
     ghost use Rattle.std.specs.Prelude.{◌≡◌};
 

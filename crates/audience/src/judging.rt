@@ -11,8 +11,8 @@ use seq_bus_core::{Recipients, Verdict, VerdictKind};
 /// The name of the bus itself.
 const BUS: &str = "org.freedesktop.DBus";
 
-/// Where a message goes, and which monitors are shown it, told where nothing was told yet. Rules are
-/// looked at only where it goes to all that want it.
+/// Where a message goes, and which monitors are shown it, told where nothing was told yet. Rules
+/// are looked at only where it goes to all that want it.
 pub fn judge<A: Audience>(audience: &A, facts: &Facts<'_>, told: &mut Verdict, count: &mut A::Count)
     requires { told.old ≡ verdict Absent [] [] }
     ensures verdict { told.new ≡ verdict_of (A.state audience.now) facts.now }

@@ -1,10 +1,10 @@
 //! Who gets a message of a bus, and a signal of a change.
 //!
 //! An [`Audience`] is a bus as it is, or as it will be once a change is made: whoever can say who
-//! wants a message, and who is shown it. [`judge`] says where a message goes, and [`address`] to whom
-//! a signal of the bus goes. The signals of a name that has another owner are put together by
-//! [`push_owner_signals`], and those of a connection that leaves by [`push_left_name`].
-//! (D-Bus Specification: "Message Bus Message Routing", "Message Bus Messages".)
+//! wants a message, and who is shown it. [`judge`] says where a message goes, and [`address`] to
+//! whom a signal of the bus goes. The signals of a name that has another owner are put together by
+//! [`push_owner_signals`], and those of a connection that leaves by [`push_left_name`]. (D-Bus
+//! Specification: "Message Bus Message Routing", "Message Bus Messages".)
 //!
 //! ```
 //! use audience::{Audience, judge};

@@ -80,8 +80,8 @@ fn address_one<A: Audience>(
     }
 }
 
-/// A signal that goes to all that want it, and is shown to no monitor. Where there are no rules, nobody is
-/// looked for.
+/// A signal that goes to all that want it, and is shown to no monitor. Where there are no rules,
+/// nobody is looked for.
 fn address_any<A: Audience>(
     audience: &A,
     alloc: Global,
@@ -98,8 +98,8 @@ fn address_any<A: Audience>(
     }
 }
 
-/// A signal that goes to all that want it, and is shown to no monitor. Its room for them is large, and is
-/// kept out of the way of the others.
+/// A signal that goes to all that want it, and is shown to no monitor. Its room for them is large,
+/// and is kept out of the way of the others.
 #[inline(never)]
 fn address_all<A: Audience>(
     audience: &A,
@@ -118,8 +118,8 @@ fn address_all<A: Audience>(
     addressed_to(alloc, signal, to.as_slice(), &[])
 }
 
-/// The same as `address`, where monitors may be shown the signal. Its room for them is large, and is kept
-/// out of the way of those that nobody watches.
+/// The same as `address`, where monitors may be shown the signal. Its room for them is large, and
+/// is kept out of the way of those that nobody watches.
 #[inline(never)]
 fn address_watched<A: Audience>(
     audience: &A,

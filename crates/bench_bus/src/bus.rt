@@ -97,8 +97,8 @@ impl<J: Naming, R: Wait> Bus<'_, J, R> {
         Some(is_told(&watches, Reply::Done).wrapping_add(is_told(&left, Reply::Done)))
     }
 
-    /// 100 StartServiceByName of connection 1, RequestName of connection 2, and its ReleaseName: 1,000 for each call that
-    /// waits, and one for each that RequestName releases.
+    /// 100 StartServiceByName of connection 1, RequestName of connection 2, and its ReleaseName:
+    /// 1,000 for each call that waits, and one for each that RequestName releases.
     pub fn start(&mut self, name: BusName) -> Option<u64> {
         let (connection, call) = (
             1,

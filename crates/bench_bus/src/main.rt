@@ -1,7 +1,8 @@
-//! How fast the registry is that several routers share, by its seats: what is routed, what is changed, and both at once in
-//! threads.
+//! How fast the registry is that several routers share, by its seats: what is routed, what is
+//! changed, and both at once in threads.
 //!
-//! `plain`, those works that tables behind a lock do too (`rust/`), prints the same checksums. `make` in `rust/` runs both.
+//! `plain`, those works that tables behind a lock do too (`rust/`), prints the same checksums.
+//! `make` in `rust/` runs both.
 #![tactic(auto)]
 
 ghost use Rattle.std.specs.Prelude.{◌≡◌, [], ◌∷◌};

@@ -1,4 +1,5 @@
-//! The registry that is measured: its connections, rules and names, and messages that are routed by it.
+//! The registry that is measured: its connections, rules and names, and messages that are routed by
+//! it.
 
 use match_rules::{Argument, Facts, MessageKind, Rule};
 use names::BusName;

@@ -17,7 +17,8 @@ use std::time::{Clock, Instant};
 /// How many routes a seat makes in a turn.
 const ROUTES: u64 = 4_000;
 
-/// How many pairs of changes are made in a turn where they are timed. Where not, there are as many as there are rounds.
+/// How many pairs of changes are made in a turn where they are timed. Where not, there are as many
+/// as there are rounds.
 const PAIRS: u64 = 2_000;
 
 /// The best of so many turns is told.
@@ -26,7 +27,8 @@ const TURNS: u64 = 10;
 /// As often it is done at most while others are measured.
 const MOST: u64 = 100_000_000;
 
-/// What is measured: changes, while so many seats read, or as many seats that read, while one makes changes.
+/// What is measured: changes, while so many seats read, or as many seats that read, while one makes
+/// changes.
 const RUNS: [(&str, bool, usize); 5] = [
     ("changes: AddMatch or RemoveMatch, no seat reads", true, 0),
     ("changes: AddMatch or RemoveMatch, 7 seats read", true, 7),
@@ -42,9 +44,10 @@ pub struct Reader<J: Naming> {
     pub found: u64,
 }
 
-/// The checksum of changes has 1,000,003 for each that is made, and 1 for each seat that reads meanwhile: with 64 rounds
-/// 128,000,384, and 7 more with seven seats. That of routes has 1 for each call that arrives, 4,000 for each seat, and
-/// 1,000,003 for the seat that makes changes meanwhile.
+/// The checksum of changes has 1,000,003 for each that is made, and 1 for each seat that reads
+/// meanwhile: with 64 rounds 128,000,384, and 7 more with seven seats. That of routes has 1 for
+/// each call that arrives, 4,000 for each seat, and 1,000,003 for the seat that makes changes
+/// meanwhile.
 pub fn measure<J: Naming + Send + Sync, R: Print + Clock + Threads + Wait + Sync>(
     report: &Report<'_, R>,
     bus: &mut Bus<'_, J, R>,
@@ -93,8 +96,8 @@ fn turn<J: Naming + Send + Sync, R: Clock + Threads + Wait + Sync>(
     (made.wrapping_mul(1_000_003).wrapping_add(found), took)
 }
 
-/// So many times, or until others are done, gives connection 1 a rule and takes it away: how many changes are made, or 1 where
-/// they are, and the nanoseconds.
+/// So many times, or until others are done, gives connection 1 a rule and takes it away: how many
+/// changes are made, or 1 where they are, and the nanoseconds.
 fn change<J: Naming, R: Clock + Wait>(
     done: &AtomicBool,
     pairs: u64,

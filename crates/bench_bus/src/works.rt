@@ -12,10 +12,11 @@ use std::time::Clock;
 
 /// What is done once.
 ///
-/// It finds the same each time, which the checksum folds 64 times, and which follows from what is done: a call gets to one
-/// connection, and a signal to the 16 that have a rule that it fits, to the one that asks for its first argument or to none, and
-/// one is added; of rules 2 or 128 changes are
-/// done; a name is owned and released, 2; a monitor comes and leaves, 2; of starts 100 wait and 100 are released, 100,100.
+/// It finds the same each time, which the checksum folds 64 times, and which follows from what is
+/// done: a call gets to one connection, and a signal to the 16 that have a rule that it fits, to
+/// the one that asks for its first argument or to none, and one is added; of rules 2 or 128 changes
+/// are done; a name is owned and released, 2; a monitor comes and leaves, 2; of starts 100 wait and
+/// 100 are released, 100,100.
 #[derive(Drop)]
 enum Task {
     Route(Facts<'static>),
@@ -85,7 +86,8 @@ fn change_rules<J: Naming, R: Wait>(
     }
 }
 
-/// The connections add rules in turn, so many in all, that ask for a first argument of their own, `com.example.N` and a number.
+/// The connections add rules in turn, so many in all, that ask for a first argument of their own,
+/// `com.example.N` and a number.
 fn add_argument_rules<J: Naming, R: Wait>(bus: &mut Bus<'_, J, R>, count: u64) -> Result<()> {
     for number in 0..count {
         let text = format!(in bus.alloc; "{OWN_RULE},arg0='com.example.N{number}'")?;

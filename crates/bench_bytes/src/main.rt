@@ -1,6 +1,7 @@
 //! How fast the byte layer of the bus is: names, match rules, the codec, messages.
 //!
-//! `plain`, the same works in plain Rust (`rust/`), prints the same checksums. `make` in `rust/` runs both.
+//! `plain`, the same works in plain Rust (`rust/`), prints the same checksums. `make` in `rust/`
+//! runs both.
 #![tactic(auto)]
 
 mod codec_works;

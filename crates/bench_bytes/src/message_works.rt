@@ -178,7 +178,8 @@ fn weight_with(message: &Message, arguments: &[Argument<'_>]) -> u64 {
         .wrapping_add(facts.arguments.len() as u64)
 }
 
-/// A number that depends on what is seen of a message, whose arguments are found as a router finds them.
+/// A number that depends on what is seen of a message, whose arguments are found as a router finds
+/// them.
 fn weight(message: &Message) -> u64 {
     let mut few = ArrayVec::<Argument<'_>, 8>::new();
     put_arguments(message, &mut few);

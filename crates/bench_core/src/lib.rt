@@ -1,8 +1,10 @@
 //! What the programs that measure the crates of the bus have in common.
 //!
-//! What is done once is a [`Work`]; what it finds is folded into a checksum, so that nothing is left out and two programs can
-//! be compared. A [`Report`] tells of works: without options their checksums, of as many rounds as `--rounds` says; with `--time` what one turn takes, and
-//! with `--plain FILE` the ratio to the times in that file, which the same works in plain Rust have written.
+//! What is done once is a [`Work`]; what it finds is folded into a checksum, so that nothing is
+//! left out and two programs can be compared. A [`Report`] tells of works: without options their
+//! checksums, of as many rounds as `--rounds` says; with `--time` what one turn takes, and with
+//! `--plain FILE` the ratio to the times in that file, which the same works in plain Rust have
+//! written.
 #![tactic(auto)]
 
 mod plain_times;

@@ -92,7 +92,8 @@ fn report<'a, R: Files + AllocGlobal>(
     })
 }
 
-/// Reads the command line of a program of this name, whose works have these parts. A word chooses one of them.
+/// Reads the command line of a program of this name, whose works have these parts. A word chooses
+/// one of them.
 pub fn open<'a, R: Print + Eprint + Env + Files + AllocGlobal>(
     rt: &'a R,
     name: &str,

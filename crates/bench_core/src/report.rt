@@ -5,7 +5,8 @@ use crate::work::{Work, checksum};
 use std::io;
 use std::time::{Clock, Instant};
 
-/// A run has at least so many nanoseconds: the clock's own time does not count, and most runs are not interrupted.
+/// A run has at least so many nanoseconds: the clock's own time does not count, and most runs are
+/// not interrupted.
 const LONG_ENOUGH: u64 = 1_000_000;
 
 /// The best of so many runs is told.
@@ -47,7 +48,8 @@ impl<R: Print + Clock> Report<'_, R> {
         self.print_time(work.name(), time)
     }
 
-    /// Prints a time, in tenths of a nanosecond, and what plain Rust takes for it, if that is known.
+    /// Prints a time, in tenths of a nanosecond, and what plain Rust takes for it, if that is
+    /// known.
     fn print_time(&self, name: &str, time: u64) -> io::Result<()> {
         match self.plain.of(name) {
             Some(plain) => {
@@ -66,8 +68,8 @@ impl<R: Print + Clock> Report<'_, R> {
         }
     }
 
-    /// Tells of a run that was made by others: its checksum, or the time of one of its rounds, of which it took so many
-    /// nanoseconds in all.
+    /// Tells of a run that was made by others: its checksum, or the time of one of its rounds, of
+    /// which it took so many nanoseconds in all.
     pub fn tell_run(&self, name: &str, sum: u64, rounds: u64, took: u64) -> io::Result<()> {
         if self.timed {
             return self.print_time(name, took.saturating_mul(10) / rounds.max(1));

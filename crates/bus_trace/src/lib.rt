@@ -1,7 +1,8 @@
 //! A view of a bus that keeps a line of each change, query and route.
 //!
-//! [`Traced`] is a [`BusView`](bus_view::BusView) over another one. It passes each call on, and keeps the lines of a trace,
-//! as `trace_lines` writes them, until they are taken. What each call keeps is said by `specs/Recordings.antt`.
+//! [`Traced`] is a [`BusView`](bus_view::BusView) over another one. It passes each call on, and
+//! keeps the lines of a trace, as `trace_lines` writes them, until they are taken. What each call
+//! keeps is said by `specs/Recordings.antt`.
 //!
 //! ```
 //! use bus_trace::Traced;

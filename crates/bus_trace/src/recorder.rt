@@ -68,7 +68,8 @@ impl Recorder {
         std::mem::replace(&mut self.lines, Vec::new(self.alloc))
     }
 
-    /// The words of a change, before it is made; none where there is no memory for them, or nothing is recorded.
+    /// The words of a change, before it is made; none where there is no memory for them, or nothing
+    /// is recorded.
     pub fn words_of(&self, change: &Change) -> Option<ChangeWords>
         ensures { IfSome result (λ words. words ≡ change_text change.now) }
     {
@@ -122,7 +123,8 @@ impl Recorder {
         }
     }
 
-    /// Keeps the lines of changes of these words, which stand behind one another from this place and this number on.
+    /// Keeps the lines of changes of these words, which stand behind one another from this place
+    /// and this number on.
     pub fn keep_changes(
         &mut self,
         words: &Option<Vec<ChangeWords>>,

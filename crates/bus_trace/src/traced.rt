@@ -22,7 +22,8 @@ use std::marker::Model;
 
 /// A view of a bus that keeps a line of each change, query and route.
 ///
-/// Each call is passed on, and answers what the view answers, whether there is memory for its line or not.
+/// Each call is passed on, and answers what the view answers, whether there is memory for its line
+/// or not.
 #[derive(Drop)]
 pub struct Traced<V: BusView> {
     view: V,
@@ -62,7 +63,8 @@ impl<V: BusView> Traced<V> {
         }
     }
 
-    /// Hands out the lines that are kept, each ended by a line feed, and keeps none. It takes no memory.
+    /// Hands out the lines that are kept, each ended by a line feed, and keeps none. It takes no
+    /// memory.
     pub fn take_lines(&mut self) -> Vec<u8>
         ensures lines { result.items ≡ self.old.recording.lines }
         ensures kept { self.new ≡ record self.old {

@@ -164,7 +164,8 @@ pub(crate) fn add_change(
     lines.extend_from_slice(draft.as_str().as_bytes())
 }
 
-/// Adds the lines of changes that stand behind one another, from this place and this number on: all of them or none.
+/// Adds the lines of changes that stand behind one another, from this place and this number on: all
+/// of them or none.
 pub(crate) fn add_changes(
     draft: &mut Draft,
     lines: &mut Vec<u8>,

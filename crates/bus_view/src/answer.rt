@@ -11,7 +11,8 @@ use thiserror::Error;
 pub enum Asked {
     /// The body of the reply was appended.
     Body,
-    /// The name has no owner: the call is answered by the error `org.freedesktop.DBus.Error.NameHasNoOwner`.
+    /// The name has no owner: the call is answered by the error
+    /// `org.freedesktop.DBus.Error.NameHasNoOwner`.
     NameHasNoOwner,
 }
 

@@ -44,9 +44,11 @@ fn append_boolean(body: &mut Vec<u8>, value: bool) -> Result<(), AllocError>
     Ok(())
 }
 
-/// Begins an array of names behind what stands in the body, and says at which place. Its length is written when it ends.
+/// Begins an array of names behind what stands in the body, and says at which place. Its length is
+/// written when it ends.
 ///
-/// The array is the whole body of a reply, which begins where it does. Its names are written by `push_name`.
+/// The array is the whole body of a reply, which begins where it does. Its names are written by
+/// `push_name`.
 pub fn begin_names(body: &mut Vec<u8>) -> Result<usize, AllocError>
     ensures place { IfOk result (λ start. start ≡ length body.old.items) }
     ensures begun { OnOk result (AreListed body.old.items [] body.new.items) }
@@ -58,8 +60,8 @@ pub fn begin_names(body: &mut Vec<u8>) -> Result<usize, AllocError>
     Ok(start)
 }
 
-/// Writes a name of an array that begins at this place of the body. Where there is no memory for it, a part of it may
-/// stand behind what was there, which `undo_names` takes away.
+/// Writes a name of an array that begins at this place of the body. Where there is no memory for
+/// it, a part of it may stand behind what was there, which `undo_names` takes away.
 pub fn push_name(body: &mut Vec<u8>, start: usize, name: &BusName) -> Result<(), AllocError>
     requires { start ≤ length body.old.items }
     ensures listed { OnOk result ((before : List ℕ) (names : List Text) → length before ≡ start →
@@ -87,7 +89,8 @@ pub fn push_connection(
     push_string(body, start, name.as_str())
 }
 
-/// Ends an array of names that begins at this place of the body: writes its length. They take at most 2^20 bytes.
+/// Ends an array of names that begins at this place of the body: writes its length. They take at
+/// most 2^20 bytes.
 pub fn end_names(body: &mut Vec<u8>, start: usize) -> Asked
     requires begun { start + 4 ≤ length body.old.items }
     requires few { length body.old.items ≤ start + 4 + 2 ^ 20 }
@@ -128,7 +131,8 @@ fn push_string(body: &mut Vec<u8>, start: usize, text: &str) -> Result<(), Alloc
     append_string(body, text)
 }
 
-/// Appends the zero bytes that stand before a string of an array that begins at this place of the body.
+/// Appends the zero bytes that stand before a string of an array that begins at this place of the
+/// body.
 fn push_padding(body: &mut Vec<u8>, start: usize) -> Result<(), AllocError>
     requires { start ≤ length body.old.items }
     ensures ok { OnOk result (body.new.items ≡

@@ -22,8 +22,9 @@ use seq_bus_core::{Change, Outcome, Query, Verdict};
 
 /// A bus, as one of those sees it that make changes of it.
 ///
-/// What it `knows` is a beginning of the one history of the bus, which only grows. Where it is `alone`, nobody else makes
-/// changes: then each answer is what the bus says after all that was seen, and notes tell nothing.
+/// What it `knows` is a beginning of the one history of the bus, which only grows. Where it is
+/// `alone`, nobody else makes changes: then each answer is what the bus says after all that was
+/// seen, and notes tell nothing.
 pub trait BusView {
     ghost use Rattle.std.specs.Prelude.{Bool, ℕ};
 
@@ -46,8 +47,8 @@ pub trait BusView {
 
     /// Makes a change, and tells of it in a note.
     ///
-    /// A change that is refused is handed back, and is not made, then or later. One that is made settles 512 tickets at
-    /// most, which is how many can wait.
+    /// A change that is refused is handed back, and is not made, then or later. One that is made
+    /// settles 512 tickets at most, which is how many can wait.
     fn change(
         &mut self,
         right: &Self::Right,
@@ -63,11 +64,11 @@ pub trait BusView {
         ensures cause { alone ≡ true → IfErr result (λ refused. refused.cause ≡ NoMemory) }
         ensures unchanged { OnErr result (knows self.new ≡ knows self.old) };
 
-    /// Makes a batch of 1 to 64 changes, all in one publication, and tells of them in a note. Nobody ever sees some of them
-    /// without the others.
+    /// Makes a batch of 1 to 64 changes, all in one publication, and tells of them in a note.
+    /// Nobody ever sees some of them without the others.
     ///
-    /// Where one of them is refused, as `change` refuses it, or there are too many or none, all are handed back, and none is
-    /// made, then or later.
+    /// Where one of them is refused, as `change` refuses it, or there are too many or none, all are
+    /// handed back, and none is made, then or later.
     fn change_all(
         &mut self,
         right: &Self::Right,
@@ -88,11 +89,11 @@ pub trait BusView {
             refused.cause ≡ BatchCause.Refused NoMemory) }
         ensures unchanged { OnErr result (knows self.new ≡ knows self.old) };
 
-    /// Answers a query: appends the body of the reply, in little-endian order as from offset 0 on, or says that the name
-    /// has no owner. After a fault nothing is appended.
+    /// Answers a query: appends the body of the reply, in little-endian order as from offset 0 on,
+    /// or says that the name has no owner. After a fault nothing is appended.
     ///
-    /// It makes no change, whatever it says. For want of memory it may have read the bus all the same; where the bus has
-    /// ended, nothing was read.
+    /// It makes no change, whatever it says. For want of memory it may have read the bus all the
+    /// same; where the bus has ended, nothing was read.
     fn ask(&mut self, query: &Query, body: &mut Vec<u8>) -> Result<Asked, AskFault>
         ensures answered { IfOk result (λ asked.
             Answers asked (answer (bus_seen (knows self.new)).state query.now)
@@ -105,7 +106,8 @@ pub trait BusView {
         ensures gone { IfErr result (λ fault. fault ≡ AskGone → knows self.new ≡ knows self.old) }
         ensures there { alone ≡ true → IfErr result (λ fault. fault ≡ AskGone → ⊥) };
 
-    /// Where a message from a connection goes, and which monitors are shown it. 0 is the bus. It takes no memory.
+    /// Where a message from a connection goes, and which monitors are shown it. 0 is the bus. It
+    /// takes no memory.
     ///
     /// The sender that the facts name is not looked at.
     fn route(&mut self, from: u64, facts: &Facts<'_>) -> Result<Verdict, Gone>
@@ -115,8 +117,8 @@ pub trait BusView {
         ensures gone { OnErr result (knows self.new ≡ knows self.old) }
         ensures there { alone ≡ true → OnErr result ⊥ };
 
-    /// The same as `route`, told where there is room for it: a verdict is large, and is not moved. Where the bus does not
-    /// say, it stays as it is.
+    /// The same as `route`, told where there is room for it: a verdict is large, and is not moved.
+    /// Where the bus does not say, it stays as it is.
     fn route_into(&mut self, from: u64, facts: &Facts<'_>, found: &mut Verdict) -> Result<(), Gone>
         ensures verdict { OnOk result
             (found.new ≡ recipients (bus_seen (knows self.new)).state from facts.now) }
@@ -133,19 +135,22 @@ pub trait BusView {
         ensures gone { OnErr result (knows self.new ≡ knows self.old) }
         ensures there { alone ≡ true → OnErr result ⊥ };
 
-    /// Whether a monitor may be shown messages, as far as this one has seen. Where not, the bus had none when it was read
-    /// last, which was at the end of what was seen. It reads nothing, and takes no memory.
+    /// Whether a monitor may be shown messages, as far as this one has seen. Where not, the bus had
+    /// none when it was read last, which was at the end of what was seen. It reads nothing, and
+    /// takes no memory.
     fn is_watched(&self) -> bool
         ensures read { result ≡ false → IsRead alone (knows self.now) (knows self.now) }
         ensures none { result ≡ false →
             list_any is_monitor (bus_seen (knows self.now)).state.connections ≡ false };
 
-    /// Takes in what another view of the same bus told: from now on this one sees no less. It takes no memory.
+    /// Takes in what another view of the same bus told: from now on this one sees no less. It takes
+    /// no memory.
     fn take_note(&mut self, note: &Self::Note)
         requires own { registry_of note.now ≡ (knows self.old).registry }
         ensures { IsNoted alone (knows self.old) (told note.now) (knows self.new) };
 
-    /// The furthest note that it made or took; none where it made and took none. It takes no memory.
+    /// The furthest note that it made or took; none where it made and took none. It takes no
+    /// memory.
     fn note(&self) -> Option<Self::Note>
         ensures some { is_some result ≡ is_some (knows self.now).held }
         ensures own { IfSome result (λ note. registry_of note ≡ (knows self.now).registry) }
@@ -160,7 +165,8 @@ pub trait BusView {
     fn made(&self) -> u64
         ensures { result ≡ (knows self.now).made };
 
-    /// The place in the history of the last change that it made, from 1; 0 where it made none. It takes no memory.
+    /// The place in the history of the last change that it made, from 1; 0 where it made none. It
+    /// takes no memory.
     fn last(&self) -> u64
         ensures { result ≡ (knows self.now).last };
 

@@ -9,7 +9,8 @@ use std::fmt;
 /// The longest path of a socket, in bytes.
 const LONGEST: usize = 107;
 
-/// The path of the bus's socket: 1 to 107 bytes of letters, digits, `-`, `_`, `/` and `.`, none of which an address escapes.
+/// The path of the bus's socket: 1 to 107 bytes of letters, digits, `-`, `_`, `/` and `.`, none of
+/// which an address escapes.
 ///
 /// It is shown as the address that clients connect to. (D-Bus Specification: "Server Addresses".)
 #[derive(Clone, Copy)]

@@ -41,7 +41,8 @@ impl fmt::Display for Device {
 /// Why a bus isn't served, or is served no more.
 #[derive(Clone, Copy, Debug, PartialEq, Eq, Error)]
 pub enum ServeFault {
-    /// The path of the socket has other bytes than those that stand for themselves in an address, or too many or none.
+    /// The path of the socket has other bytes than those that stand for themselves in an address,
+    /// or too many or none.
     #[error("address")]
     Address,
     /// The keyring has no cookie.

@@ -29,7 +29,8 @@ fn cookie_of(alloc: Global, bytes: &[u8]) -> Result<Cookie, ServeFault> {
 ///
 /// # Errors
 ///
-/// `Device(Input)` where the file can't be read, `Keyring` where one of its lines isn't that of a cookie or there is none.
+/// `Device(Input)` where the file can't be read, `Keyring` where one of its lines isn't that of a
+/// cookie or there is none.
 pub fn read_cookie<R: Files + AllocGlobal>(rt: &R, path: &str) -> Result<Cookie, ServeFault> {
     match fs::read(rt, path) {
         Ok(bytes) => cookie_of(rt.alloc(), bytes.as_slice()),

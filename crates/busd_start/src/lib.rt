@@ -1,5 +1,5 @@
-//! What `busd serve` needs before it serves: its command line, the keyring, the services of a folder, the files of a trace, and
-//! random bytes; and why it can't begin, or ends.
+//! What `busd serve` needs before it serves: its command line, the keyring, the services of a
+//! folder, the files of a trace, and random bytes; and why it can't begin, or ends.
 //!
 //! ```
 //! use busd_start::{Options, ServeFault, serve_command};

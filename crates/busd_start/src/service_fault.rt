@@ -11,7 +11,8 @@ pub struct FileName {
 }
 
 impl FileName {
-    /// The name of a file of the system, where none has more than 255 bytes; of a longer one nothing.
+    /// The name of a file of the system, where none has more than 255 bytes; of a longer one
+    /// nothing.
     pub(crate) fn new(name: &str) -> FileName {
         FileName {
             text: ArrayString::from(name).unwrap_or(ArrayString::new()),
@@ -25,7 +26,8 @@ impl fmt::Display for FileName {
     }
 }
 
-/// Why a service file is refused, shown as its number, and that of the line where it has one: `52`, `55/3`.
+/// Why a service file is refused, shown as its number, and that of the line where it has one: `52`,
+/// `55/3`.
 #[derive(Clone, Copy, Debug, PartialEq, Eq)]
 pub enum ServiceCode {
     /// It describes no service.

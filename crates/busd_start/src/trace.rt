@@ -90,9 +90,10 @@ fn begin<R: Files + AllocGlobal>(
     seats(rt, folder, routers)
 }
 
-/// Begins the trace of a bus with so many routers and these services, whose names rise, in a folder: writes `head.trace`, and makes
-/// `main.trace` and `router-K.trace` for each router, from 1. Of an earlier trace nothing is left in these files. Hands out those
-/// that lines are to be written to, that of the main thread first.
+/// Begins the trace of a bus with so many routers and these services, whose names rise, in a
+/// folder: writes `head.trace`, and makes `main.trace` and `router-K.trace` for each router, from
+/// 1. Of an earlier trace nothing is left in these files. Hands out those that lines are to be
+/// written to, that of the main thread first.
 ///
 /// # Errors
 ///

@@ -19,7 +19,8 @@ use owner_queues::RequestFlags;
 use seq_bus_core::MonitorRules;
 use std::alloc::Global;
 
-/// A call of a method of the bus, with its arguments ("Message Bus Messages" of the D-Bus Specification).
+/// A call of a method of the bus, with its arguments ("Message Bus Messages" of the D-Bus
+/// Specification).
 #[derive(Drop)]
 pub enum Call {
     Hello,
@@ -98,7 +99,8 @@ fn rule_of(text: &str) -> Result<Rule, DriverFault>
 }
 
 /// The match rule whose text is the one argument.
-// A rule is large, and what a function holds is cleared at its entry: whoever reads other calls does not hold one.
+// A rule is large, and what a function holds is cleared at its entry: whoever reads other calls
+// does not hold one.
 #[inline(never)]
 fn rule_in(alloc: Global, message: &Message) -> Result<HeldRule, DriverFault>
     ensures { IsRuleOf (only_text (said message.now).body) result ⊎ (result ≡ Err NoMemory) }
@@ -217,10 +219,11 @@ fn arguments_of(alloc: Global, message: &Message) -> Result<Vec<Value>, DriverFa
 ///
 /// # Errors
 ///
-/// What the call alone shows: `UnknownInterface`, `UnknownMethod`, another signature than the method's, then what its
-/// arguments are not: a bus name (`InvalidArgs`), a match rule (`MatchRuleInvalid`). BecomeMonitor looks at its flags
-/// first, which must be 0 (`InvalidArgs`), and at the number of its rules (`LimitsExceeded` above 64). `NoMemory`
-/// where there is not enough memory to read the arguments.
+/// What the call alone shows: `UnknownInterface`, `UnknownMethod`, another signature than the
+/// method's, then what its arguments are not: a bus name (`InvalidArgs`), a match rule
+/// (`MatchRuleInvalid`). BecomeMonitor looks at its flags first, which must be 0 (`InvalidArgs`),
+/// and at the number of its rules (`LimitsExceeded` above 64). `NoMemory` where there is not enough
+/// memory to read the arguments.
 #[inline(never)]
 pub fn read_call(alloc: Global, message: &Message) -> Result<Call, DriverFault>
     ensures { IsCallOrWants (said message.now) result }

@@ -131,8 +131,8 @@ fn put_signature(fields: &mut Vec<u8>, signature: &str)
     in_room::put(fields, &[0]);
 }
 
-/// Puts the fields that all messages of the bus end with: the destination, where there is one, the sender, which is the
-/// bus, and the signature of the body.
+/// Puts the fields that all messages of the bus end with: the destination, where there is one, the
+/// sender, which is the bus, and the signature of the body.
 pub fn put_end(fields: &mut Vec<u8>, destination: Option<u64>, signature: &str)
     requires room { length fields.old.items + 339 ≤ ROOM }
     requires capacity { ROOM ≤ vec_capacity fields.old }

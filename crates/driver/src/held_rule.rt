@@ -6,7 +6,8 @@ use match_rules::Rule;
 use std::alloc::{AllocError, Global};
 use std::marker::Model;
 
-/// The match rule of a call. It lies apart from the call: a rule has fixed room, and is too large to be moved with each call.
+/// The match rule of a call. It lies apart from the call: a rule has fixed room, and is too large
+/// to be moved with each call.
 #[derive(Drop)]
 pub struct HeldRule {
     rule: Box<Rule>,

@@ -11,8 +11,8 @@ use message_core::in_room::{gap, put, put_number, put_padding};
 use message_core::{FIXED_LENGTH, NO_REPLY_EXPECTED};
 use std::alloc::AllocError;
 
-/// Appends a message of the bus: the fixed part, the header fields, the padding, the body. A body of 2^32 bytes has no
-/// room in any message.
+/// Appends a message of the bus: the fixed part, the header fields, the padding, the body. A body
+/// of 2^32 bytes has no room in any message.
 pub fn lay_out(
     kind: MessageKind,
     serial: u32,

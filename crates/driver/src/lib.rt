@@ -1,9 +1,11 @@
-//! The protocol of the bus itself: calls of its methods are read here, and its own messages are written.
+//! The protocol of the bus itself: calls of its methods are read here, and its own messages are
+//! written.
 //!
-//! [`read_call`] reads a call to the bus with typed arguments, or tells the fault that the call alone shows. What is
-//! answered is written by [`write_reply`] and [`write_error`], and signals of the bus by [`write_signal`].
-//! `specs/Calls` and `specs/OwnMessages` say which call a message is, and which messages these are.
-//! ("Message Bus Messages" of the D-Bus Specification.) Nothing here knows of connections or of a bus's state.
+//! [`read_call`] reads a call to the bus with typed arguments, or tells the fault that the call
+//! alone shows. What is answered is written by [`write_reply`] and [`write_error`], and signals of
+//! the bus by [`write_signal`]. `specs/Calls` and `specs/OwnMessages` say which call a message is,
+//! and which messages these are. ("Message Bus Messages" of the D-Bus Specification.) Nothing here
+//! knows of connections or of a bus's state.
 //!
 //! ```
 //! use driver::{Call, DriverFault, is_call_to_bus, read_call};

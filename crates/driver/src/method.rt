@@ -111,7 +111,8 @@ fn method_in(interface: Option<&str>, member: Option<&str>) -> Result<Method, Dr
     }
 }
 
-/// The method that a call to the bus calls, or the fault of its interface, its member or its signature, in this order.
+/// The method that a call to the bus calls, or the fault of its interface, its member or its
+/// signature, in this order.
 pub fn method_of(message: &Message) -> Result<Method, DriverFault>
     ensures { result ≡ method_of (said message.now) }
 {

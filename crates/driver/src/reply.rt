@@ -24,13 +24,15 @@ use std::alloc::AllocError;
 /// The call that a reply or an error answers.
 #[derive(Clone, Copy, Debug, PartialEq, Eq)]
 pub struct ReplyTo {
-    /// The number of the caller, `n` in its unique name `:1.n`. It has none before its Hello is answered.
+    /// The number of the caller, `n` in its unique name `:1.n`. It has none before its Hello is
+    /// answered.
     pub caller: Option<u64>,
     /// The serial of the call, which is not 0.
     pub call: u32,
 }
 
-/// What a reply carries. Bodies in bytes are in little-endian order as from offset 0 on, as the bus answers queries.
+/// What a reply carries. Bodies in bytes are in little-endian order as from offset 0 on, as the bus
+/// answers queries.
 #[derive(Clone, Copy)]
 pub enum ReplyBody<'a> {
     Empty,
@@ -99,8 +101,8 @@ fn put_unique_name(
     put_reply(serial, to, "s", text.as_slice(), out)
 }
 
-/// Appends the reply to a call ("Message Bus Messages" of the D-Bus Specification), with the serial that it has among
-/// the messages of the bus to its caller.
+/// Appends the reply to a call ("Message Bus Messages" of the D-Bus Specification), with the serial
+/// that it has among the messages of the bus to its caller.
 ///
 /// # Errors
 ///
@@ -128,8 +130,8 @@ pub fn write_reply(
     }
 }
 
-/// Appends the error that a call is answered in place of a reply ("Message Bus Messages" of the D-Bus Specification).
-/// Its body is the text of the error.
+/// Appends the error that a call is answered in place of a reply ("Message Bus Messages" of the
+/// D-Bus Specification). Its body is the text of the error.
 ///
 /// # Errors
 ///

@@ -69,8 +69,9 @@ fn put_body(body: &mut ArrayVec<u8, { strings::ROOM }>, signal: &BusSignal)
     }
 }
 
-/// Appends a signal of the bus ("Message Bus Messages" of the D-Bus Specification), with the serial that it has among
-/// the messages of the bus to its recipient. NameLost and NameAcquired name the one concerned as their destination.
+/// Appends a signal of the bus ("Message Bus Messages" of the D-Bus Specification), with the serial
+/// that it has among the messages of the bus to its recipient. NameLost and NameAcquired name the
+/// one concerned as their destination.
 ///
 /// # Errors
 ///

@@ -428,7 +428,8 @@ pub fn decode(
     ensures found { IfOk result (λ x. (x.1 ≤ length bytes.now)
         × Spells order offset (types_of signature.now.types.items)
         (values_of x.0.items) (take x.1 bytes.now)) }
-    // Where the bytes begin with a spelling of any values of these types, they are read, unless memory runs out.
+    // Where the bytes begin with a spelling of any values of these types, they are read, unless
+    // memory runs out.
     ensures only { (vs : Vals) (front rest : List ℕ) → bytes.now ≡ front ++ rest
         → Spells order offset (types_of signature.now.types.items) vs front
         → Gives (λ x. (values_of x.0.items, x.1)) result (decoded vs (length front)) }

@@ -540,9 +540,9 @@ fn all_written(
 /// Appends the bytes of the values, where the first byte stands at this offset of the message
 /// ("Marshaling (Wire Format)" of the D-Bus Specification). Refused, the output is as before:
 /// `NoMemory` aside, only values that no bytes spell are refused. `Signature` is the fault of a
-/// value whose type is none or another than its array's, `NulInText`, `Path` and `ArrayLength` those
-/// of texts and of arrays and strings that are too long, `Depth` that of more than 64 containers in
-/// one another.
+/// value whose type is none or another than its array's, `NulInText`, `Path` and `ArrayLength`
+/// those of texts and of arrays and strings that are too long, `Depth` that of more than 64
+/// containers in one another.
 pub fn encode(
     alloc: Global,
     order: Order,

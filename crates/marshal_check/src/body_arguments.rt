@@ -36,7 +36,8 @@ impl<'a> Arguments<'a> {
     /// The arguments of these types that a body begins with, which stands at this offset of the
     /// message: all of them where `check` takes the body, else those before the first fault.
     pub fn new(order: Order, offset: usize, types: Types<'a>, body: &'a [u8]) -> Arguments<'a>
-        // Where the body begins with a spelling of any values of these types, these are the arguments.
+        // Where the body begins with a spelling of any values of these types, these are the
+        // arguments.
         ensures values { (vs : Vals) (front rest : List ℕ) → body.now ≡ front ++ rest
             → Spells order offset (types_in types.entry.text.now) vs front
             → arguments_left result ≡ arguments vs }

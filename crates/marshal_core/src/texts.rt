@@ -27,7 +27,8 @@ fn string_fault(text: &str) -> Option<MarshalFault>
 }
 
 impl BasicValue {
-    /// A text as a D-Bus string. `NulInText` is the fault of a zero byte, `ArrayLength` that of 2^32 bytes or more.
+    /// A text as a D-Bus string. `NulInText` is the fault of a zero byte, `ArrayLength` that of
+    /// 2^32 bytes or more.
     pub fn from_str(alloc: Global, text: &str) -> Result<BasicValue, MarshalFault>
         ensures { Gives (λ x. basic_of x) result
             (unless (string_fault text.now) (a_string text.now)) }

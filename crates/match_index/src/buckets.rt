@@ -11,8 +11,8 @@ ghost use Rattle.match_index.specs.Near.{agrees, argument_agrees, is_kind, is_ne
 use match_rules::{Argument, Facts, MessageKind, Rule};
 
 /// How many shapes of rules there are: each asks for a type or does not, for an interface, for a
-/// member, for a first argument, and for no sender, for a well-known name or the bus, or for a unique
-/// name.
+/// member, for a first argument, and for no sender, for a well-known name or the bus, or for a
+/// unique name.
 pub(crate) const SHAPES: usize = 48;
 
 /// So many bytes of an argument go into its code, at most, since an argument may be very long.

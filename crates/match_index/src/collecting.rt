@@ -21,8 +21,8 @@ use match_rules::{Facts, Owners};
 use names::ConnectionName;
 use std::sync::ledger::Ledger;
 
-/// Adds the connections that have a rule that fits a message. Only the rules of the buckets that the
-/// message may be for are looked at, and each that is tested is a step.
+/// Adds the connections that have a rule that fits a message. Only the rules of the buckets that
+/// the message may be for are looked at, and each that is tested is a step.
 pub(crate) fn collect<O: Owners, L: Ledger>(
     entries: &[Entry],
     by_bucket: &PlaceIndex,
@@ -54,8 +54,8 @@ pub(crate) fn collect<O: Owners, L: Ledger>(
     }
 }
 
-/// Adds the connections that have a rule of this shape at these places that fits. Once a connection is
-/// found, its other rules are passed over. The sender has this unique name.
+/// Adds the connections that have a rule of this shape at these places that fits. Once a connection
+/// is found, its other rules are passed over. The sender has this unique name.
 pub(crate) fn collect_at<O: Owners, L: Ledger>(
     entries: &[Entry],
     places: &[Place],

@@ -21,12 +21,12 @@ use std::alloc::{AllocError, Global};
 use std::marker::{Brand, Model};
 use std::sync::ledger::{Blank, Ledger};
 
-/// Rules of connections, in order of arrival: 4,096 at most. All room is made with the index, and no
-/// later call takes memory.
+/// Rules of connections, in order of arrival: 4,096 at most. All room is made with the index, and
+/// no later call takes memory.
 ///
 /// A rule is in the bucket of what it asks for, so that a message looks only at the rules of a few
-/// buckets. One that is taken out is only marked as gone, so that no other moves, and those that are
-/// gone are swept out once they are many. (D-Bus Specification: "Match Rules".)
+/// buckets. One that is taken out is only marked as gone, so that no other moves, and those that
+/// are gone are swept out once they are many. (D-Bus Specification: "Match Rules".)
 #[derive(Drop)]
 pub struct Index {
     entries: Vec<Entry>,
@@ -164,8 +164,9 @@ impl Index {
         );
     }
 
-    /// Adds to an empty set the connections that have a rule that fits a message. The message looks only
-    /// at the rules of the few buckets that it may be for, and each rule that is tested is a step.
+    /// Adds to an empty set the connections that have a rule that fits a message. The message looks
+    /// only at the rules of the few buckets that it may be for, and each rule that is tested is a
+    /// step.
     pub fn collect<O: Owners, L: Ledger>(
         &self,
         facts: &Facts<'_>,

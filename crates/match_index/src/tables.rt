@@ -11,7 +11,8 @@ use crate::place_index::PlaceIndex;
 /// So many more entries may be gone than there are rules.
 pub(crate) const MAX_GONE: usize = 64;
 
-/// Takes out one of the rules of a connection, counted from 0. Its entry stays until it is swept out.
+/// Takes out one of the rules of a connection, counted from 0. Its entry stays until it is swept
+/// out.
 pub(crate) fn take_out(
     entries: &mut Vec<Entry>,
     by_owner: &mut PlaceIndex,

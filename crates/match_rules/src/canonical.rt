@@ -12,7 +12,8 @@ use crate::room::{MAX_RULE_LENGTH, Room};
 use crate::{Key, Rule};
 use std::{fmt, str};
 
-/// The canonical text of the rule: its keys in order, each with its value as short as it can be written. No text of the rule is shorter.
+/// The canonical text of the rule: its keys in order, each with its value as short as it can be
+/// written. No text of the rule is shorter.
 impl fmt::Display for Rule {
     ghost use Rattle.std.specs.Prelude.{Some};
     ghost use Rattle.match_rules.specs.CanonicalTexts.{rule_text};

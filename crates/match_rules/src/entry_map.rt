@@ -10,7 +10,8 @@ use std::marker::Model;
 /// A map from keys to values that they take.
 #[derive(Clone, Copy)]
 pub struct EntryMap {
-    /// The keys in their order: a byte for the key, two for the length of its value, the lower first, and the value.
+    /// The keys in their order: a byte for the key, two for the length of its value, the lower
+    /// first, and the value.
     bytes: Room,
 }
 

@@ -4,7 +4,8 @@ ghost use Rattle.std.specs.Prelude.{◌≡◌};
 
 use thiserror::Error;
 
-/// Why a text is no match rule. `TooLong` comes first, then the faults of the first item from the left that has one, in the order in which they stand here.
+/// Why a text is no match rule. `TooLong` comes first, then the faults of the first item from the
+/// left that has one, in the order in which they stand here.
 #[derive(Clone, Copy, Debug, PartialEq, Eq, Error)]
 pub enum RuleFault {
     #[error("an item of the rule does not begin with a key and '='")]

@@ -18,7 +18,8 @@ const BUS: &str = "org.freedesktop.DBus";
 pub trait Owners {
     ghost heads: { Self → Heads };
 
-    /// The number of the connection that a bus name stands for: the owner of a well-known name, the holder of a unique name.
+    /// The number of the connection that a bus name stands for: the owner of a well-known name, the
+    /// holder of a unique name.
     fn head(&self, name: &str) -> Option<u64>
         ensures { result ≡ heads self.now name.now };
 }

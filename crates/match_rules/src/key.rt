@@ -3,8 +3,8 @@
 ghost use Rattle.std.specs.Prelude.{◌≡◌, ◌<◌};
 ghost use Rattle.match_rules.specs.Reading.{argument_named, number_named, numbered};
 
-/// A key of a match rule, in the order in which they are looked at: what costs least comes first. An argument's number is at most 63.
-/// (D-Bus Specification: "Match Rules".)
+/// A key of a match rule, in the order in which they are looked at: what costs least comes first.
+/// An argument's number is at most 63. (D-Bus Specification: "Match Rules".)
 #[derive(Clone, Copy, Debug, PartialEq, Eq)]
 pub enum Key {
     Type,
@@ -117,7 +117,8 @@ fn argument_named(text: &[u8]) -> Option<Key>
     number_named(*first - b'0', rest)
 }
 
-/// The key of an argument, by the first digit of its number and what stands behind it. No number begins with a zero but 0.
+/// The key of an argument, by the first digit of its number and what stands behind it. No number
+/// begins with a zero but 0.
 fn number_named(first: u8, text: &[u8]) -> Option<Key>
     requires { first < 10 }
     ensures { result ≡ number_named first text.now }

@@ -31,7 +31,8 @@ impl MessageKind {
         }
     }
 
-    /// The word for the type in a match rule, if there is one. (D-Bus Specification: "Match Rules".)
+    /// The word for the type in a match rule, if there is one. (D-Bus Specification: "Match
+    /// Rules".)
     pub fn word(self) -> Option<&'static str>
         ensures { option_map (λ word. word.now) result ≡ kind_word self }
     {

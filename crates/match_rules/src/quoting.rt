@@ -118,7 +118,8 @@ pub fn behind(text: &[u8], place: usize) -> &[u8]
     &text[place + 1..]
 }
 
-/// The value of a text that is a value between two apostrophes; none where the text is written in another way.
+/// The value of a text that is a value between two apostrophes; none where the text is written in
+/// another way.
 pub fn plain_value(text: &[u8]) -> Option<&[u8]>
     ensures value { IfSome result (λ value. value_from Outside text.now ≡ Some value.now) }
     ensures short { IfSome result (λ value. length value.now ≤ length text.now) }

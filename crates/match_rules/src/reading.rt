@@ -18,7 +18,8 @@ impl Rule {
     ///
     /// # Errors
     ///
-    /// The fault of a text that is no rule: that it is too long, else that of its first item that has one.
+    /// The fault of a text that is no rule: that it is too long, else that of its first item that
+    /// has one.
     pub fn parse(text: &str) -> Result<Self, RuleFault>
         ensures { MatchResult result (λ rule. IsRuleText text.now rule)
             (λ fault. rule_fault text.now ≡ Some fault) }

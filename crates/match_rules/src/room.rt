@@ -7,7 +7,8 @@ use std::marker::Model;
 /// The longest text of a rule, in bytes.
 pub const MAX_RULE_LENGTH: usize = 1024;
 
-/// At most as many bytes as the text of a rule may have, which lie in the value itself. The room behind them is zero.
+/// At most as many bytes as the text of a rule may have, which lie in the value itself. The room
+/// behind them is zero.
 #[derive(Clone, Copy)]
 pub struct Room {
     bytes: [u8; MAX_RULE_LENGTH],

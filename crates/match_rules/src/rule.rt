@@ -8,8 +8,8 @@ use std::default::Default;
 use std::marker::Model;
 use std::str;
 
-/// A match rule: keys, each with a value that it takes. It lies in fixed room, and has a text of at most 1,024 bytes.
-/// (D-Bus Specification: "Match Rules".)
+/// A match rule: keys, each with a value that it takes. It lies in fixed room, and has a text of at
+/// most 1,024 bytes. (D-Bus Specification: "Match Rules".)
 #[derive(Clone, Copy)]
 pub struct Rule {
     pub(crate) entries: EntryMap,
@@ -28,7 +28,8 @@ impl Model for Rule {
     ghost inverse = { λ entries. record { entries = entries } };
 }
 
-/// What an index may part rules by. No method looks at more than nine keys of the rule, however long the rule is.
+/// What an index may part rules by. No method looks at more than nine keys of the rule, however
+/// long the rule is.
 impl Rule {
     ghost use Rattle.std.specs.Option.{option_and_then};
     ghost use Rattle.match_rules.specs.Kinds.{kind_named};

@@ -8,8 +8,8 @@ use thiserror::Error;
 /// Why a message is not written again, or want of memory.
 #[derive(Clone, Copy, Debug, PartialEq, Eq, Error)]
 pub enum RelayFault {
-    /// It would have more than 134,217,728 bytes, or a field array of more than 67,108,864 ("Message
-    /// Format" and "Marshaling (Wire Format)" of the D-Bus Specification).
+    /// It would have more than 134,217,728 bytes, or a field array of more than 67,108,864
+    /// ("Message Format" and "Marshaling (Wire Format)" of the D-Bus Specification).
     #[error("the message would be too long")]
     TooLong,
     #[error("out of memory")]

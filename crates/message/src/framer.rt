@@ -71,7 +71,8 @@ impl Framer {
         }
     }
 
-    /// Takes a piece of the stream. After a fault it takes nothing; without memory it stays as it was.
+    /// Takes a piece of the stream. After a fault it takes nothing; without memory it stays as it
+    /// was.
     pub fn feed(&mut self, piece: &[u8]) -> Result<(), AllocError>
         ensures good { IfNone self.old.fault
             (OnOk result (self.new ≡ record self.old { bytes = self.old.bytes ++ piece.now })) }
@@ -93,8 +94,9 @@ impl Framer {
         Ok(())
     }
 
-    /// Takes a piece as [`feed`](Framer::feed) does, and leaves none of it. Where all that came before was given out, it keeps the
-    /// piece itself and copies nothing. Without memory the piece stays where it was.
+    /// Takes a piece as [`feed`](Framer::feed) does, and leaves none of it. Where all that came
+    /// before was given out, it keeps the piece itself and copies nothing. Without memory the piece
+    /// stays where it was.
     pub fn feed_owned(&mut self, piece: &mut Vec<u8>) -> Result<(), AllocError>
         ensures good { IfNone self.old.fault
             (OnOk result (self.new ≡ record self.old {
@@ -116,7 +118,8 @@ impl Framer {
         Ok(())
     }
 
-    /// Whether bytes are missing: then [`next`](Framer::next) answers `None`, and else a message or a fault.
+    /// Whether bytes are missing: then [`next`](Framer::next) answers `None`, and else a message or
+    /// a fault.
     pub fn is_waiting(&self) -> bool
         ensures waiting { result ≡ true
             → (self.now.fault ≡ None) × IsWaiting MAXIMUM_LENGTH self.now.bytes }
@@ -126,8 +129,8 @@ impl Framer {
         self.fault.is_none() && is_short(&self.buffer[self.from..])
     }
 
-    /// The next whole message; `None` where bytes are missing. The first fault is answered for good,
-    /// want of memory changes nothing.
+    /// The next whole message; `None` where bytes are missing. The first fault is answered for
+    /// good, want of memory changes nothing.
     pub fn next(&mut self) -> Result<Option<Message>, FrameFault>
         ensures some { IfOk result (λ found. IfSome found
             (λ message. IsTaken MAXIMUM_LENGTH message self.old self.new)) }
@@ -159,14 +162,16 @@ impl Framer {
         }
     }
 
-    /// Forgets a fault that was answered. The bytes are there still, so [`next`](Framer::next) answers it again.
+    /// Forgets a fault that was answered. The bytes are there still, so [`next`](Framer::next)
+    /// answers it again.
     pub fn forget_fault(&mut self)
         ensures { self.new ≡ record self.old { fault = None } }
     {
         self.fault = None;
     }
 
-    /// Takes a message of `size` bytes off the front. Where it is all that is there, it gets the buffer, and nothing is copied.
+    /// Takes a message of `size` bytes off the front. Where it is all that is there, it gets the
+    /// buffer, and nothing is copied.
     fn take_front(&mut self, size: usize) -> Result<Message, FrameFault>
         requires fine { self.old.fault ≡ None }
         requires found { IsFound MAXIMUM_LENGTH size self.old.bytes }

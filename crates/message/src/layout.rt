@@ -37,8 +37,8 @@ pub fn count_below(places: &[FieldPlace], code: u8) -> usize
     index
 }
 
-/// The place behind the fields that are put one after the other from a place on, unless the array of
-/// fields would be too long.
+/// The place behind the fields that are put one after the other from a place on, unless the array
+/// of fields would be too long.
 pub fn fields_end(at: usize, fields: &[FieldPlace]) -> Result<usize, RelayFault>
     requires begins { at < 2 ^ 34 }
     requires within { AreWithin (2 ^ 33) fields.now }
@@ -76,7 +76,8 @@ pub struct Layout<'a> {
     pub end: usize,
 }
 
-/// Where the parts stand of a message with those of these fields that have known codes, sent by a name.
+/// Where the parts stand of a message with those of these fields that have known codes, sent by a
+/// name.
 pub fn lay_out<'a>(fields: &'a [FieldPlace], name: &str) -> Result<Layout<'a>, RelayFault>
     requires within { AreWithin (2 ^ 33) fields.now }
     requires short { length name.now ≤ 255 }

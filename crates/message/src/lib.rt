@@ -1,9 +1,9 @@
-//! Messages out of a stream, and messages that the bus relays: a checked message written again with its sender's name,
-//! and what rules and routing look at in it.
+//! Messages out of a stream, and messages that the bus relays: a checked message written again with
+//! its sender's name, and what rules and routing look at in it.
 //!
-//! What a message is stands in `message_core`. `specs/Framing` says what a `Framer` holds and when it waits, and the
-//! others which bytes a message is written as and what setting its sender is, after "Message Protocol", "Message Format"
-//! and "Header Fields" of the D-Bus Specification.
+//! What a message is stands in `message_core`. `specs/Framing` says what a `Framer` holds and when
+//! it waits, and the others which bytes a message is written as and what setting its sender is,
+//! after "Message Protocol", "Message Format" and "Header Fields" of the D-Bus Specification.
 //!
 //! ```
 //! use message::{FrameFault, Framer, Message};

@@ -23,7 +23,8 @@ fn as_fact(argument: Read<'_>) -> Argument<'_>
     }
 }
 
-/// Puts the first arguments of a message, as match rules look at them: as many as there is room for.
+/// Puts the first arguments of a message, as match rules look at them: as many as there is room
+/// for.
 #[inline(never)]
 pub fn put_arguments<'a, const N: usize>(
     message: &'a Message,
@@ -54,8 +55,8 @@ pub fn first_arguments(message: &Message) -> ArrayVec<Argument<'_>, 64>
 }
 
 /// What match rules and routing look at in a message, lent out of it ("Match Rules" of the D-Bus
-/// Specification). The sender is 0, the bus's number: who sent a message is not told by it. Of the arguments
-/// rules see those that are handed in, as [`first_arguments`] gives them.
+/// Specification). The sender is 0, the bus's number: who sent a message is not told by it. Of the
+/// arguments rules see those that are handed in, as [`first_arguments`] gives them.
 pub fn facts<'a>(message: &'a Message, arguments: &'a [Argument<'a>]) -> Facts<'a>
     ensures { result ≡ record (facts_of (said message.now)) {
       arguments = map argument_of arguments.now;

@@ -129,10 +129,10 @@ pub fn write(message: &Message, output: &mut Vec<u8>) -> Result<(), RelayFault>
     Ok(())
 }
 
-/// Appends the message with SENDER set to this name, whatever stood there, without its fields of unknown codes (10 to
-/// 255), its fields by rising code, and all else as it was ("Header Fields" of the D-Bus Specification). `TooLong` where
-/// that would have more than 134,217,728 bytes or a field array of more than 67,108,864. Refused, the output is as
-/// before.
+/// Appends the message with SENDER set to this name, whatever stood there, without its fields of
+/// unknown codes (10 to 255), its fields by rising code, and all else as it was ("Header Fields" of
+/// the D-Bus Specification). `TooLong` where that would have more than 134,217,728 bytes or a field
+/// array of more than 67,108,864. Refused, the output is as before.
 pub fn with_sender(
     message: &Message,
     sender: &UniqueName,

@@ -16,7 +16,8 @@ use marshal_check::Types;
 use marshal_core::Order;
 use names::{BusName, ErrorName, Interface, Member, ObjectPath};
 
-/// The bytes that begin here as a string does: behind their length, and before a zero byte. They are not looked at.
+/// The bytes that begin here as a string does: behind their length, and before a zero byte. They
+/// are not looked at.
 fn string(order: Order, bytes: &[u8]) -> Option<&[u8]>
     ensures some { IfSome result (λ text. (length text.now < 2 ^ 32) × (rest : List ℕ)
         × (bytes.now ≡ number_bytes order w32 (length text.now) ++ (ended text.now ++ rest))) }
@@ -37,7 +38,8 @@ fn string(order: Order, bytes: &[u8]) -> Option<&[u8]>
     Some(text)
 }
 
-/// Whether the field takes this string. All that such fields take are names, so their bytes are looked at once.
+/// Whether the field takes this string. All that such fields take are names, so their bytes are
+/// looked at once.
 fn takes_string(field: HeaderField, text: &[u8]) -> bool
     ensures { IsTrue result ↔ IsStringOf field text.now }
 {

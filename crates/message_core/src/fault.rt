@@ -38,8 +38,8 @@ pub enum FrameFault {
 impl FrameFault {
     ghost use Rattle.message_core.specs.FaultCodes.{fault_code};
 
-    /// The number of the fault, from 21 to 30, with the code of the header field or the number of the
-    /// fault of the body.
+    /// The number of the fault, from 21 to 30, with the code of the header field or the number of
+    /// the fault of the body.
     pub fn code(self) -> FaultCode
         ensures { result ≡ fault_code self }
     {

@@ -49,8 +49,8 @@ pub fn put_padding(output: &mut Vec<u8>, at: usize)
     put(output, &zeros[..gap(at)]);
 }
 
-/// Puts what comes before the value of a header field of a basic type, from a place of the message on: the padding, its
-/// code, the letter of its type.
+/// Puts what comes before the value of a header field of a basic type, from a place of the message
+/// on: the padding, its code, the letter of its type.
 pub fn put_start(output: &mut Vec<u8>, at: usize, field: HeaderField, letter: u8)
     requires { length output.old.items + (pad_len 8 at + 4) ≤ vec_capacity output.old }
     ensures items { output.new.items

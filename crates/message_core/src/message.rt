@@ -62,8 +62,9 @@ impl Message {
         Message::take(alloc, &mut bytes)
     }
 
-    /// Takes one whole message out of a buffer that holds nothing else and is left empty, without copying its bytes.
-    /// It is checked as [`read`](Message::read) does; what is refused stays in the buffer.
+    /// Takes one whole message out of a buffer that holds nothing else and is left empty, without
+    /// copying its bytes. It is checked as [`read`](Message::read) does; what is refused stays in
+    /// the buffer.
     pub fn take(alloc: Global, buffer: &mut Vec<u8>) -> Result<Message, FrameFault>
         requires fixed { FIXED_LENGTH ≤ length buffer.old.items }
         requires whole { announced MAXIMUM_LENGTH buffer.old.items ≡ Ok (length buffer.old.items) }
@@ -92,7 +93,8 @@ impl Message {
         self.bytes.as_slice()
     }
 
-    /// The places of the header fields, by rising code, equal codes in the order in which they stand.
+    /// The places of the header fields, by rising code, equal codes in the order in which they
+    /// stand.
     pub fn fields(&self) -> &[FieldPlace]
         ensures { ArePlaced (said self.now).order self.now result.now (said self.now).fields }
     {

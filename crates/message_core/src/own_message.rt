@@ -71,15 +71,16 @@ fn body_of(alloc: Global, header: &Header<'_>, values: &[Value]) -> Result<Vec<u
 }
 
 impl Message {
-    /// A message of one's own: a header, and the values of its body, which are written in the header's byte
-    /// order. Its fields stand by rising code, SIGNATURE where there are values.
+    /// A message of one's own: a header, and the values of its body, which are written in the
+    /// header's byte order. Its fields stand by rising code, SIGNATURE where there are values.
     ///
     /// # Errors
     ///
     /// The first of: `Body` where the values have no bytes ("Marshaling (Wire Format)" of the D-Bus
-    /// Specification), `Kind` for type 0, `Serial` for serial 0, `TooLong` for more than `MAXIMUM_LENGTH` bytes or
-    /// more than 67,108,864 of header fields, `Field(5)` for a REPLY_SERIAL of 0, `Missing` for the first header
-    /// field that the type requires ("Header Fields"). `NoMemory` where memory runs out.
+    /// Specification), `Kind` for type 0, `Serial` for serial 0, `TooLong` for more than
+    /// `MAXIMUM_LENGTH` bytes or more than 67,108,864 of header fields, `Field(5)` for a
+    /// REPLY_SERIAL of 0, `Missing` for the first header field that the type requires ("Header
+    /// Fields"). `NoMemory` where memory runs out.
     pub fn new(alloc: Global, header: &Header<'_>, values: &[Value]) -> Result<Message, FrameFault>
         // It is the message of this header and these values.
         ensures message { IfOk result
@@ -99,13 +100,14 @@ impl Message {
         put_together(alloc, header, &signature, &body)
     }
 
-    /// The same of a body that is in its bytes already: the text of its signature, and the bytes in the header's
-    /// byte order, beginning at a multiple of eight.
+    /// The same of a body that is in its bytes already: the text of its signature, and the bytes in
+    /// the header's byte order, beginning at a multiple of eight.
     ///
     /// # Errors
     ///
-    /// The first of: `Field(8)` where the text is no signature ("Valid Signatures" of the D-Bus Specification),
-    /// `Body` where the bytes are not what it says, `BodyLength` where bytes follow, and those of `new` from `Kind` on.
+    /// The first of: `Field(8)` where the text is no signature ("Valid Signatures" of the D-Bus
+    /// Specification), `Body` where the bytes are not what it says, `BodyLength` where bytes
+    /// follow, and those of `new` from `Kind` on.
     pub fn with_body(
         alloc: Global,
         header: &Header<'_>,

@@ -81,9 +81,9 @@ fn put_argument<W: fmt::Write>(value: &Value, f: &mut fmt::Formatter<W>) -> fmt:
     }
 }
 
-/// The message as `dbus-monitor` shows it, but for the time: what the header says, and below it each
-/// argument on a line of its own, as `marshal_core::Value` is shown. Without memory for the arguments a
-/// line says so.
+/// The message as `dbus-monitor` shows it, but for the time: what the header says, and below it
+/// each argument on a line of its own, as `marshal_core::Value` is shown. Without memory for the
+/// arguments a line says so.
 impl fmt::Display for Message {
     fn fmt<W: fmt::Write>(&self, f: &mut fmt::Formatter<W>) -> fmt::Result {
         put_header(self, f)?;

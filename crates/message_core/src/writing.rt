@@ -84,7 +84,8 @@ fn put_padding(output: &mut Vec<u8>) -> Result<(), AllocError>
     Ok(())
 }
 
-/// Puts what comes before the value of a field of a basic type: the padding, its code, its signature.
+/// Puts what comes before the value of a field of a basic type: the padding, its code, its
+/// signature.
 fn put_start(output: &mut Vec<u8>, field: HeaderField, letter: u8) -> Result<(), AllocError>
     ensures { OnOk result (output.new.items
         ≡ output.old.items ++ (pads 8 (length output.old.items)

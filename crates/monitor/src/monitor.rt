@@ -11,8 +11,8 @@ use seq_bus_core::limits::MAX_RULES_OF_MONITOR;
 use std::alloc::{AllocError, Global};
 use std::marker::Model;
 
-/// A monitor, and the rules by which it is shown messages. There is room for as many as a monitor may
-/// have.
+/// A monitor, and the rules by which it is shown messages. There is room for as many as a monitor
+/// may have.
 #[derive(Drop)]
 pub struct Monitor {
     conn: Conn,

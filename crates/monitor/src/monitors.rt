@@ -95,8 +95,8 @@ impl Monitors {
         }
     }
 
-    /// Adds those that are shown a message, by rising number: each that has no rules, or one that fits.
-    /// A monitor's own rules are looked at, and nobody else's.
+    /// Adds those that are shown a message, by rising number: each that has no rules, or one that
+    /// fits. A monitor's own rules are looked at, and nobody else's.
     pub fn shown<O: Owners>(&self, facts: &Facts<'_>, owners: &O, to: &mut Recipients)
         requires { to.old ≡ [] }
         ensures { to.new ≡ conns_shown (O.heads owners.now) facts.now self.now }

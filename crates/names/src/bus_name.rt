@@ -13,7 +13,8 @@ use std::marker::Model;
 
 const BUS: &str = "org.freedesktop.DBus";
 
-/// A unique name, a well-known name or the name of the bus itself ("Bus names" of the D-Bus Specification), of at most 255 bytes.
+/// A unique name, a well-known name or the name of the bus itself ("Bus names" of the D-Bus
+/// Specification), of at most 255 bytes.
 #[derive(Clone, Copy, Debug, PartialEq, Eq, PartialOrd, Ord, Hash)]
 pub struct BusName {
     text: ShortText,
@@ -42,9 +43,9 @@ impl BusName {
         }
     }
 
-    /// Whether bytes are a bus name: a unique name where it begins with a colon, else a well-known name or the name of the bus.
-    /// Nothing is copied, and they need not be
-    /// known as UTF-8: what is such a name is ASCII.
+    /// Whether bytes are a bus name: a unique name where it begins with a colon, else a well-known
+    /// name or the name of the bus. Nothing is copied, and they need not be known as UTF-8: what is
+    /// such a name is ASCII.
     pub fn check(text: &[u8]) -> Result<(), NameFault>
         ensures variant { IsOk result ↔ IsBusName text.now }
         ensures fault { MatchResult result (λ _. bus_name_fault text.now ≡ None)
@@ -57,7 +58,8 @@ impl BusName {
         }
     }
 
-    /// Reads a bus name: a unique name where the text begins with a colon, else a well-known name or the name of the bus.
+    /// Reads a bus name: a unique name where the text begins with a colon, else a well-known name
+    /// or the name of the bus.
     pub fn parse(text: &str) -> Result<Self, NameFault>
         ensures value { IfOk result (λ name. name ≡ text.now) }
         ensures variant { IsOk result ↔ IsBusName text.now }

@@ -7,8 +7,9 @@ use crate::short_text::FixedText;
 use std::fmt;
 use std::marker::Model;
 
-/// The unique name that the bus gives to a connection, `:1.` and its number ("Bus names" of the D-Bus Specification). It
-/// takes 24 bytes, a tenth of a [`UniqueName`](crate::UniqueName), which has room for any.
+/// The unique name that the bus gives to a connection, `:1.` and its number ("Bus names" of the
+/// D-Bus Specification). It takes 24 bytes, a tenth of a [`UniqueName`](crate::UniqueName), which
+/// has room for any.
 ///
 /// ```
 /// use names::ConnectionName;

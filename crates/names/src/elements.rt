@@ -5,7 +5,8 @@ ghost use Rattle.names.specs.Elements.{Style as ElementStyle, IsNoLetter, is_let
 
 use crate::fault::NameFault;
 
-/// What stands between two elements of a kind of name, if it can have several, and what an element is made of.
+/// What stands between two elements of a kind of name, if it can have several, and what an element
+/// is made of.
 #[derive(Clone, Copy)]
 pub struct Style {
     pub separator: Option<u8>,
@@ -43,7 +44,8 @@ impl Style {
         }
     }
 
-    /// The first fault of what is to be elements, from a place of the name on. Where `enough` is not set there are to be two.
+    /// The first fault of what is to be elements, from a place of the name on. Where `enough` is
+    /// not set there are to be two.
     // Most bytes are letters, which need no further look: no style is separated by one.
     #[tactic(auto, using(crate::proofs::Letters::letters_stay))]
     pub fn fault(self, enough: bool, from: usize, name: &[u8]) -> Option<NameFault>
@@ -87,8 +89,8 @@ impl Style {
         }
     }
 
-    /// Whether bytes are a name of at most 255 bytes that is made of elements. Where `one_is_enough` is not set there are to
-    /// be two.
+    /// Whether bytes are a name of at most 255 bytes that is made of elements. Where
+    /// `one_is_enough` is not set there are to be two.
     pub fn check(self, one_is_enough: bool, text: &[u8]) -> Result<(), NameFault>
         requires { IfSome self.separator IsNoLetter }
         ensures fits { OnOk result (length text.now ≤ 255) }

@@ -35,8 +35,8 @@ impl Model for ErrorName {
 }
 
 impl ErrorName {
-    /// Whether bytes are an error name, which is spelled as an interface name. Nothing is copied, and they need not be
-    /// known as UTF-8: what is such a name is ASCII.
+    /// Whether bytes are an error name, which is spelled as an interface name. Nothing is copied,
+    /// and they need not be known as UTF-8: what is such a name is ASCII.
     pub fn check(text: &[u8]) -> Result<(), NameFault>
         ensures variant { IsOk result ↔ IsErrorName text.now }
         ensures fault { MatchResult result (λ _. error_name_fault text.now ≡ None)

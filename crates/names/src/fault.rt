@@ -5,14 +5,16 @@ ghost use Rattle.names.specs.Faults.{code_of};
 
 use thiserror::Error;
 
-/// Why a text is no name of its kind. `Empty` and `TooLong` come first, then the first fault from the left, then `TooFewElements`.
+/// Why a text is no name of its kind. `Empty` and `TooLong` come first, then the first fault from
+/// the left, then `TooFewElements`.
 #[derive(Clone, Copy, Debug, PartialEq, Eq, Error)]
 pub enum NameFault {
     #[error("the name is empty")]
     Empty,
     #[error("the name is longer than 255 bytes")]
     TooLong,
-    /// The place of a byte that can't stand there; where the text ends too early, the text's length.
+    /// The place of a byte that can't stand there; where the text ends too early, the text's
+    /// length.
     #[error("byte {0} can't stand where it does, or is missing")]
     BadByte(usize),
     #[error("the name has too few elements")]

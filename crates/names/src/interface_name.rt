@@ -35,8 +35,8 @@ impl Model for Interface {
 }
 
 impl Interface {
-    /// Whether bytes are an interface name: two or more elements joined by dots. Nothing is copied, and they need not be
-    /// known as UTF-8: what is such a name is ASCII.
+    /// Whether bytes are an interface name: two or more elements joined by dots. Nothing is copied,
+    /// and they need not be known as UTF-8: what is such a name is ASCII.
     pub fn check(text: &[u8]) -> Result<(), NameFault>
         ensures variant { IsOk result ↔ IsInterface text.now }
         ensures fault { MatchResult result (λ _. interface_fault text.now ≡ None)

@@ -15,7 +15,8 @@ const STYLE: Style = Style {
     digit_first: false,
 };
 
-/// The name of a method or signal ("Member names" of the D-Bus Specification), of at most 255 bytes.
+/// The name of a method or signal ("Member names" of the D-Bus Specification), of at most 255
+/// bytes.
 #[derive(Clone, Copy, Debug, PartialEq, Eq, PartialOrd, Ord, Hash)]
 pub struct Member {
     text: ShortText,
@@ -35,8 +36,8 @@ impl Model for Member {
 }
 
 impl Member {
-    /// Whether bytes are a member name: one element, with no dot. Nothing is copied, and they need not be
-    /// known as UTF-8: what is such a name is ASCII.
+    /// Whether bytes are a member name: one element, with no dot. Nothing is copied, and they need
+    /// not be known as UTF-8: what is such a name is ASCII.
     pub fn check(text: &[u8]) -> Result<(), NameFault>
         ensures variant { IsOk result ↔ IsMember text.now }
         ensures fault { MatchResult result (λ _. member_fault text.now ≡ None)

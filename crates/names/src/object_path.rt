@@ -22,7 +22,8 @@ const STYLE: Style = Style {
     digit_first: true,
 };
 
-/// The path of an object ("Valid Object Paths" of the D-Bus Specification). It borrows its text, whose length has no limit.
+/// The path of an object ("Valid Object Paths" of the D-Bus Specification). It borrows its text,
+/// whose length has no limit.
 #[derive(Drop)]
 pub struct ObjectPath<'a> {
     text: &'a str,
@@ -40,8 +41,9 @@ impl<'a> Model for ObjectPath<'a> {
 }
 
 impl<'a> ObjectPath<'a> {
-    /// Whether bytes are an object path: a slash alone, or a slash and then elements joined by slashes. Nothing is copied, and they need not
-    /// be known as UTF-8: what is such a path is ASCII.
+    /// Whether bytes are an object path: a slash alone, or a slash and then elements joined by
+    /// slashes. Nothing is copied, and they need not be known as UTF-8: what is such a path is
+    /// ASCII.
     pub fn check(text: &[u8]) -> Result<(), NameFault>
         ensures variant { IsOk result ↔ IsObjectPath text.now }
         ensures fault { MatchResult result (λ _. object_path_fault text.now ≡ None)

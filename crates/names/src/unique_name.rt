@@ -35,8 +35,8 @@ impl Model for UniqueName {
 }
 
 impl UniqueName {
-    /// Whether bytes are a unique name: a colon, and then two or more elements joined by dots. Nothing is copied, and they need not be
-    /// known as UTF-8: what is such a name is ASCII.
+    /// Whether bytes are a unique name: a colon, and then two or more elements joined by dots.
+    /// Nothing is copied, and they need not be known as UTF-8: what is such a name is ASCII.
     pub fn check(text: &[u8]) -> Result<(), NameFault>
         ensures variant { IsOk result ↔ IsUniqueName text.now }
         ensures fault { MatchResult result (λ _. unique_name_fault text.now ≡ None)

@@ -35,8 +35,9 @@ impl Model for WellKnown {
 }
 
 impl WellKnown {
-    /// Whether bytes are a well-known name: two or more elements joined by dots, which may have hyphens. Nothing is copied, and they need not be
-    /// known as UTF-8: what is such a name is ASCII.
+    /// Whether bytes are a well-known name: two or more elements joined by dots, which may have
+    /// hyphens. Nothing is copied, and they need not be known as UTF-8: what is such a name is
+    /// ASCII.
     pub fn check(text: &[u8]) -> Result<(), NameFault>
         ensures variant { IsOk result ↔ IsWellKnownName text.now }
         ensures fault { MatchResult result (λ _. well_known_fault text.now ≡ None)
@@ -60,8 +61,8 @@ impl WellKnown {
         }
     }
 
-    /// Whether the text is a well-known name or one element of it, as the value of a match rule's `arg0namespace` is
-    /// ("Match Rules" of the D-Bus Specification).
+    /// Whether the text is a well-known name or one element of it, as the value of a match rule's
+    /// `arg0namespace` is ("Match Rules" of the D-Bus Specification).
     pub fn is_namespace(text: &str) -> bool
         ensures { IsTrue result ↔ IsNamespace text.now }
     {

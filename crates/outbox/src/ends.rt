@@ -58,8 +58,8 @@ impl<E: Drop> End<E> {
 
 /// The end of a queue that takes.
 ///
-/// Contracts see which queue it is of, and what its hand knows: what was taken from the queue, and what was put by lanes
-/// that were not given away.
+/// Contracts see which queue it is of, and what its hand knows: what was taken from the queue, and
+/// what was put by lanes that were not given away.
 #[derive(Drop)]
 pub struct Tap<E> {
     queue: Arc<Queue<E>, Global>,
@@ -90,8 +90,8 @@ pub(crate) fn open<E: Drop>(alloc: Global) -> Result<Tap<E>, AllocError>
 }
 
 impl<E: Drop> Tap<E> {
-    /// The item that was put first of those that are held. `None` only where the queue was empty at some moment of the
-    /// call.
+    /// The item that was put first of those that are held. `None` only where the queue was empty at
+    /// some moment of the call.
     ///
     /// It takes no memory.
     pub fn take<R: Wait>(&mut self, rt: &R) -> Option<E>
@@ -115,7 +115,8 @@ impl<E: Drop> Tap<E> {
         Ok(End { queue, pass })
     }
 
-    /// Shows that what was taken of a lane is a beginning of what that lane put, once both ends are in one hand.
+    /// Shows that what was taken of a lane is a beginning of what that lane put, once both ends are
+    /// in one hand.
     pub(crate) fn compare(&mut self, lane: &mut End<E>)
         requires same { self.old.queue ≡ lane.old.queue }
         requires tap { self.old.hand.to ≤ self.old.hand.from }

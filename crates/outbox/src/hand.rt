@@ -2,15 +2,16 @@
 use crossbeam_queue::protocol::{Join, Lesson, Outcome, Protocol, Split};
 use std::collections::LinkedList;
 
-/// What was put, with the lane that put it, and its number among that lane's. No value of it is made.
+/// What was put, with the lane that put it, and its number among that lane's. No value of it is
+/// made.
 pub struct Entry<E> {
     pub lane: u64,
     pub number: u64,
     pub item: E,
 }
 
-/// The lanes that a hand puts for, `from` up to `to`, whether it takes, what it put and what it took. No value of it is
-/// made.
+/// The lanes that a hand puts for, `from` up to `to`, whether it takes, what it put and what it
+/// took. No value of it is made.
 pub struct Hand<E> {
     pub from: u64,
     pub to: u64,

@@ -68,8 +68,8 @@ impl<E: Drop> Lane<E> {
         self.ends[slot].put(rt, item)
     }
 
-    /// Shows that what was taken of this lane from the queue of a slot is a beginning of what the lane put into it, once
-    /// the lane and the tap are in one hand.
+    /// Shows that what was taken of this lane from the queue of a slot is a beginning of what the
+    /// lane put into it, once the lane and the tap are in one hand.
     ///
     /// Both may go on afterwards.
     pub fn compare(&mut self, slot: usize, tap: &mut Tap<E>)

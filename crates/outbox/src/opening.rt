@@ -10,8 +10,8 @@ use std::alloc::{AllocError, Global};
 /// The most lanes.
 const LANES: u64 = 9;
 
-/// New queues for groups of slots, as many slots in each: so many lanes, at most 9, each with an end of every queue, and
-/// the taps of each group.
+/// New queues for groups of slots, as many slots in each: so many lanes, at most 9, each with an
+/// end of every queue, and the taps of each group.
 ///
 /// # Errors
 ///

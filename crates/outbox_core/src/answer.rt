@@ -35,8 +35,8 @@ fn kind_for(query: &Query) -> BodyKind
     }
 }
 
-/// The body of the reply to a query, as the bus appends it: in little-endian order, as from offset 0 on. Contracts see
-/// the answer.
+/// The body of the reply to a query, as the bus appends it: in little-endian order, as from offset
+/// 0 on. Contracts see the answer.
 #[derive(Debug, Drop)]
 pub struct AnswerBody {
     kind: BodyKind,

@@ -26,8 +26,8 @@ use seq_bus_core::BusSignal;
 /// The arguments of a message of the bus, of which there are three at most.
 pub type OwnArguments<'a> = ArrayVec<Argument<'a>, 3>;
 
-/// The unique names in a message of the bus, which has them by the numbers of their connections. Its
-/// [facts](BusMessage::facts) are lent out of both.
+/// The unique names in a message of the bus, which has them by the numbers of their connections.
+/// Its [facts](BusMessage::facts) are lent out of both.
 #[derive(Clone, Copy, Debug)]
 pub struct BusMessageNames {
     /// The connection that the message is for.
@@ -257,8 +257,9 @@ impl BusMessage {
         arguments
     }
 
-    /// What match rules and routing look at in the message ("Match Rules" of the D-Bus Specification), with these
-    /// arguments of it. The message is not written for that, and it takes no memory.
+    /// What match rules and routing look at in the message ("Match Rules" of the D-Bus
+    /// Specification), with these arguments of it. The message is not written for that, and it
+    /// takes no memory.
     pub fn facts<'a>(
         &'a self,
         names: &'a BusMessageNames,

@@ -51,7 +51,8 @@ impl ReplyContent {
     }
 }
 
-/// A message of the bus itself, which has no serial yet ("Message Bus Messages" of the D-Bus Specification).
+/// A message of the bus itself, which has no serial yet ("Message Bus Messages" of the D-Bus
+/// Specification).
 #[derive(Debug, Drop)]
 pub enum BusMessage {
     Signal(SharedSignal),
@@ -66,7 +67,8 @@ pub enum BusMessage {
 }
 
 impl BusMessage {
-    /// Appends the message, with the serial that it has among the bus's own messages to its recipient.
+    /// Appends the message, with the serial that it has among the bus's own messages to its
+    /// recipient.
     ///
     /// # Errors
     ///

@@ -7,8 +7,9 @@ ghost use Rattle.outbox_core.specs.Deliveries.{deliveries_of};
 use seq_bus_core::Conn;
 use std::marker::Model;
 
-/// Those that get one message, in order, each once: its recipients, and then the monitors that are shown it and are
-/// none of them ("Message Bus Message Routing" of the D-Bus Specification). It takes no memory.
+/// Those that get one message, in order, each once: its recipients, and then the monitors that are
+/// shown it and are none of them ("Message Bus Message Routing" of the D-Bus Specification). It
+/// takes no memory.
 ///
 /// Contracts see the list of those that are left.
 #[derive(Drop)]

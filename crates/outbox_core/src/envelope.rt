@@ -17,7 +17,8 @@ pub struct Envelope<N: Drop> {
 }
 
 impl<N: CheapCopy + Drop> Envelope<N> {
-    /// The same for another connection. No bytes are copied; it fails where too many share them already.
+    /// The same for another connection. No bytes are copied; it fails where too many share them
+    /// already.
     pub fn for_another(&self, number: u64) -> Result<Envelope<N>, AllocError>
         ensures { IfOk result (λ envelope. envelope ≡ record self.now { number = number }) }
     {

@@ -1,9 +1,11 @@
-//! What routers send one another: messages on their way to connections of other routers, and who gets them.
+//! What routers send one another: messages on their way to connections of other routers, and who
+//! gets them.
 //!
-//! A relayed message is there in its bytes, which all who get it share. The bus's own messages are numbered by the
-//! router of the recipient, so they travel unwritten, as an [`BusMessage`], and are written where they arrive. An
-//! [`Envelope`] has such a [`Content`], the number of the connection that it is for, and what its sender knew of the
-//! bus. Who gets a content, and in which order, is said by [`Deliveries`]; its laws stand in [`laws`].
+//! A relayed message is there in its bytes, which all who get it share. The bus's own messages are
+//! numbered by the router of the recipient, so they travel unwritten, as an [`BusMessage`], and are
+//! written where they arrive. An [`Envelope`] has such a [`Content`], the number of the connection
+//! that it is for, and what its sender knew of the bus. Who gets a content, and in which order, is
+//! said by [`Deliveries`]; its laws stand in [`laws`].
 //!
 //! ```
 //! use outbox_core::Deliveries;

@@ -1,11 +1,12 @@
 //! Bytes on their way to a socket.
 //!
-//! What is written to a connection is pushed to its [`Outgoing`], and [`Outgoing::flush`] gives a [`Socket`] as much as it
-//! takes. Small chunks lie one behind the other in room that is used again; a large one stays where it lies, as the bytes
-//! of a message do that several connections share. One write lends the socket up to four parts.
+//! What is written to a connection is pushed to its [`Outgoing`], and [`Outgoing::flush`] gives a
+//! [`Socket`] as much as it takes. Small chunks lie one behind the other in room that is used
+//! again; a large one stays where it lies, as the bytes of a message do that several connections
+//! share. One write lends the socket up to four parts.
 //!
-//! What reached the socket is a beginning of what was pushed, and what waits is the rest, however much the socket takes at
-//! a time and wherever it fails: [`laws`].
+//! What reached the socket is a beginning of what was pushed, and what waits is the rest, however
+//! much the socket takes at a time and wherever it fails: [`laws`].
 //!
 //! ```
 //! use outgoing::{Flushed, Outgoing, Socket};

@@ -69,7 +69,8 @@ impl<C: Chunk + Drop> Outgoing<C> {
         self.parts.is_empty() && self.last.is_empty()
     }
 
-    /// Puts the bytes of a chunk behind those that wait. A chunk of 2,048 bytes or more is not copied.
+    /// Puts the bytes of a chunk behind those that wait. A chunk of 2,048 bytes or more is not
+    /// copied.
     ///
     /// Where there is no memory the chunk comes back, and what waits stays as it was.
     pub fn push(&mut self, chunk: C) -> Result<(), AllocFailed<C>>
@@ -103,7 +104,8 @@ impl<C: Chunk + Drop> Outgoing<C> {
         Ok(())
     }
 
-    // Puts small bytes behind those of the last part, or into a new one where that has no room for them.
+    // Puts small bytes behind those of the last part, or into a new one where that has no room for
+    // them.
     fn copy(&mut self, bytes: &[u8]) -> Result<(), AllocError>
         ensures pushed { OnOk result (self.new ≡ self.old ++ bytes.now) }
         ensures refused { OnErr result (self.new ≡ self.old) }
@@ -117,8 +119,9 @@ impl<C: Chunk + Drop> Outgoing<C> {
 
     /// Gives the socket as much of what waits as it takes.
     ///
-    /// An error is the socket's own, of a kind other than `WouldBlock`, or of the kind `WriteZero` where the socket takes
-    /// nothing and gives no reason. What the socket took before is gone, and the rest waits.
+    /// An error is the socket's own, of a kind other than `WouldBlock`, or of the kind `WriteZero`
+    /// where the socket takes nothing and gives no reason. What the socket took before is gone, and
+    /// the rest waits.
     pub fn flush<S: Socket>(&mut self, socket: &mut S) -> io::Result<Flushed>
         ensures flushes { Flushes self.old self.new (S.taken socket.old) (S.taken socket.new) }
         ensures flushed { IfOk result (λ flushed. flushed ≡ flushed_of self.new) }

@@ -14,7 +14,8 @@ pub trait Socket {
     /// The bytes that it took, where they are known. Those of a socket of the system are not.
     ghost taken: { Self → Option (List ℕ) } = { λ _. None };
 
-    /// Takes some front of the parts, one behind the other, and tells how many bytes that was. After an error it took none.
+    /// Takes some front of the parts, one behind the other, and tells how many bytes that was.
+    /// After an error it took none.
     ///
     /// The error is of the kind `WouldBlock` where it takes no byte now but may later.
     fn write_parts(&mut self, parts: &[IoSlice<'_>]) -> io::Result<usize>

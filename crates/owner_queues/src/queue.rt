@@ -10,14 +10,15 @@ use arrayvec::ArrayVec;
 use std::marker::Model;
 use std::slice;
 
-/// The most places of one queue: a bus has at most so many connections, and each of them stands in a queue once.
+/// The most places of one queue: a bus has at most so many connections, and each of them stands in
+/// a queue once.
 pub const MAX_PLACES: usize = 256;
 
 type Places = ArrayVec<QueuedOwner, MAX_PLACES>;
 
-/// The queue of a name: its owner first, then those who wait, in order. No call takes memory, and each takes time only in
-/// proportion to the places that are taken.
-/// (D-Bus Specification: `org.freedesktop.DBus.RequestName`, `org.freedesktop.DBus.ReleaseName`.)
+/// The queue of a name: its owner first, then those who wait, in order. No call takes memory, and
+/// each takes time only in proportion to the places that are taken. (D-Bus Specification:
+/// `org.freedesktop.DBus.RequestName`, `org.freedesktop.DBus.ReleaseName`.)
 #[derive(Debug, Drop)]
 pub struct Queue {
     places: Places,
@@ -100,7 +101,8 @@ impl Queue {
         !self.places.is_full() || self.contains(connection)
     }
 
-    /// A connection requests the name. The profile says where it waits if it would replace the owner and can't.
+    /// A connection requests the name. The profile says where it waits if it would replace the
+    /// owner and can't.
     pub fn request(&mut self, connection: u64, flags: RequestFlags, profile: Profile) -> Reply
         requires { HasRoom connection self.old }
         ensures queue { self.new ≡ (requested profile connection flags self.old).0 }

@@ -10,10 +10,11 @@ use seq_bus_core::Change;
 use std::alloc::{AllocError, Global};
 
 impl Registry {
-    /// Prepares changes of a seat, each on the state that those before it leave, and makes them here.
+    /// Prepares changes of a seat, each on the state that those before it leave, and makes them
+    /// here.
     ///
-    /// Where memory is refused, some of them may have been made: whoever has a copy sets the registry back with
-    /// [`Registry::copy_from`].
+    /// Where memory is refused, some of them may have been made: whoever has a copy sets the
+    /// registry back with [`Registry::copy_from`].
     pub fn prepare_all(
         &mut self,
         alloc: Global,
@@ -33,7 +34,8 @@ impl Registry {
         Ok(all)
     }
 
-    /// Makes prepared changes, in order, whatever state the registry is in. It takes no memory, and can't be refused.
+    /// Makes prepared changes, in order, whatever state the registry is in. It takes no memory, and
+    /// can't be refused.
     pub fn absorb_all(&mut self, prepared: &[Prepared])
         ensures { self.new ≡ absorbed_along self.old prepared.now }
     {

@@ -59,8 +59,8 @@ impl Registry {
         }
     }
 
-    /// The signals of a connection that becomes a monitor: those of the names that it owns, and of its
-    /// unique name.
+    /// The signals of a connection that becomes a monitor: those of the names that it owns, and of
+    /// its unique name.
     fn tell_of_monitor(
         &self,
         alloc: Global,

@@ -91,8 +91,8 @@ impl Registry {
         push_left_name(&after, alloc, signals, &name, connection, None, &mut ())
     }
 
-    /// The signals of the names that a connection owns and gives up. No other name is looked at than
-    /// those that it owns or waits for.
+    /// The signals of the names that a connection owns and gives up. No other name is looked at
+    /// than those that it owns or waits for.
     pub(crate) fn tell_of_names(
         &self,
         alloc: Global,

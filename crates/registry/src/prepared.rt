@@ -10,8 +10,8 @@ use std::alloc::Global;
 use std::marker::Model;
 use std::mem::replace;
 
-/// A change by what its step looks at. Names and rules lie on the heap, since they have their fixed room in them: a prepared
-/// change is moved often.
+/// A change by what its step looks at. Names and rules lie on the heap, since they have their fixed
+/// room in them: a prepared change is moved often.
 #[derive(Drop)]
 pub enum Act {
     Hello {
@@ -94,8 +94,8 @@ impl Prepared {
         &self.outcome
     }
 
-    /// Where the caller of the change was reached when it was prepared, if it is a call that may have to wait: a Start or
-    /// a Hold.
+    /// Where the caller of the change was reached when it was prepared, if it is a call that may
+    /// have to wait: a Start or a Hold.
     pub fn caller(&self) -> Option<Conn>
         ensures { result ≡ self.now.caller }
     {

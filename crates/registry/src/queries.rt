@@ -13,8 +13,9 @@ use names::{BusName, ConnectionName};
 use seq_bus_core::Query;
 
 impl Registry {
-    /// Answers a query: appends the body of the reply, in little-endian order as from offset 0 on, or says that the
-    /// name has no owner. After a fault, which is want of memory, nothing is appended.
+    /// Answers a query: appends the body of the reply, in little-endian order as from offset 0 on,
+    /// or says that the name has no owner. After a fault, which is want of memory, nothing is
+    /// appended.
     pub fn answer(&self, query: &Query, body: &mut Vec<u8>) -> Result<Asked, AskFault>
         ensures answered { IfOk result (λ asked.
             Answers asked (answer self.now query.now) body.old.items body.new.items) }

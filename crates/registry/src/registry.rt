@@ -40,7 +40,8 @@ pub struct Registry {
     pub(crate) next_number: u64,
     pub(crate) next_ticket: u64,
     pub(crate) next_start: u64,
-    /// Room for the queue that a name is about to have. It is large, and is not made for each change.
+    /// Room for the queue that a name is about to have. It is large, and is not made for each
+    /// change.
     pub(crate) room: Box<Queue>,
 }
 
@@ -57,9 +58,11 @@ impl Model for Registry {
 }
 
 impl Registry {
-    /// The registry of a bus that was just opened: with these services and so many routers, and nothing else.
+    /// The registry of a bus that was just opened: with these services and so many routers, and
+    /// nothing else.
     ///
-    /// All room that it ever needs is made here. The services are names that programs can be started for.
+    /// All room that it ever needs is made here. The services are names that programs can be
+    /// started for.
     pub fn new(
         alloc: Global,
         services: &[WellKnown],
@@ -84,7 +87,8 @@ impl Registry {
         })
     }
 
-    /// Prepares a change of a seat: says what it would be told, and makes all that needs memory. Nothing changes.
+    /// Prepares a change of a seat: says what it would be told, and makes all that needs memory.
+    /// Nothing changes.
     ///
     /// Seat 0 is the main thread's, the others are those of the routers, from 1.
     pub fn prepare(&self, alloc: Global, seat: u8, change: &Change) -> Result<Prepared, AllocError>
@@ -131,8 +135,8 @@ impl Registry {
 
     /// Prepares a change of a seat, and makes it here. Where memory is refused, nothing changes.
     ///
-    /// It does what `prepare` and then `absorb` do, but looks for a name once, and makes the queue of a name in the one that
-    /// is lent: a queue is large, and is cleared where one is made.
+    /// It does what `prepare` and then `absorb` do, but looks for a name once, and makes the queue
+    /// of a name in the one that is lent: a queue is large, and is cleared where one is made.
     pub fn make(
         &mut self,
         queue: &mut Queue,
@@ -165,7 +169,8 @@ impl Registry {
         }
     }
 
-    /// Makes a prepared change, whatever state the registry is in. It takes no memory, and can't be refused.
+    /// Makes a prepared change, whatever state the registry is in. It takes no memory, and can't be
+    /// refused.
     pub fn absorb(&mut self, prepared: &Prepared)
         ensures { self.new ≡ (step self.old prepared.now.seat prepared.now.change).0 }
     {
@@ -240,8 +245,8 @@ impl Registry {
         self.members.has_monitors()
     }
 
-    /// The connection that messages to a name are delivered to: the owner of a well-known name, the holder of a unique
-    /// name. The bus itself is no connection.
+    /// The connection that messages to a name are delivered to: the owner of a well-known name, the
+    /// holder of a unique name. The bus itself is no connection.
     pub fn owner(&self, name: &BusName) -> Option<u64>
         ensures { result ≡ head_of self.now name.now }
     {
@@ -255,7 +260,8 @@ impl Registry {
         self.names.as_slice()
     }
 
-    /// Who owns a well-known name and who waits for it, in order. It is empty where the name has no owner.
+    /// Who owns a well-known name and who waits for it, in order. It is empty where the name has no
+    /// owner.
     pub fn queue(&self, name: &str) -> &[QueuedOwner]
         ensures { result.now ≡ queue_of self.now.names name.now }
     {

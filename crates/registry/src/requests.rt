@@ -20,8 +20,8 @@ use registry_core::NameTable;
 use seq_bus_core::{Fate, NumberedOutcome, Reply, Signals};
 use std::alloc::{AllocError, Global};
 
-/// What a request or a release of a name comes to: the change as it is prepared, where the name was found, and the reply of
-/// its queue, or why nothing changes.
+/// What a request or a release of a name comes to: the change as it is prepared, where the name was
+/// found, and the reply of its queue, or why nothing changes.
 #[derive(Drop)]
 struct Asked {
     prepared: Prepared,
@@ -109,7 +109,8 @@ impl Registry {
         Ok(asked.prepared)
     }
 
-    /// What a request comes to. The queue becomes the queue of the name after it, where it changes that.
+    /// What a request comes to. The queue becomes the queue of the name after it, where it changes
+    /// that.
     fn ask_request(
         &self,
         queue: &mut Queue,
@@ -183,7 +184,8 @@ impl Registry {
 
     /// A connection requests a name. Where it gets into the queue, the start of the name ends.
     ///
-    /// Where it owns the name alone, the room is left empty for the next request of a name that nobody has.
+    /// Where it owns the name alone, the room is left empty for the next request of a name that
+    /// nobody has.
     pub(crate) fn request(&mut self, seat: u8, connection: u64, name: &BusName, flags: RequestFlags)
         ensures { self.new ≡ (step self.old seat (Request connection name.now flags)).0 }
     {
@@ -219,8 +221,8 @@ impl Registry {
         self.is_client(connection) && !is_reserved(name)
     }
 
-    /// What a request is told of a name that was looked for. The copy of the queue of its name becomes the
-    /// queue after it, where it changes that: a queue is large, and is not moved.
+    /// What a request is told of a name that was looked for. The copy of the queue of its name
+    /// becomes the queue after it, where it changes that: a queue is large, and is not moved.
     fn when_requested(
         &self,
         connection: u64,

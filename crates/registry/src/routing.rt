@@ -17,8 +17,8 @@ use std::marker::Brand;
 use std::sync::ledger::{Blank, Ledger};
 
 impl Registry {
-    /// Where a message from this connection goes, 0 being the bus, whatever sender its facts name; and which monitors are
-    /// shown it.
+    /// Where a message from this connection goes, 0 being the bus, whatever sender its facts name;
+    /// and which monitors are shown it.
     pub fn route(&self, from: u64, facts: &Facts<'_>) -> Verdict
         ensures { result ≡ recipients self.now from facts.now }
     {
@@ -34,8 +34,9 @@ impl Registry {
         route_with::<Brand>(self, from, facts, told, Blank::new(1));
     }
 
-    /// The same as `tell_route`, where each rule that is tested is a step. Only rules are tested whose type, interface,
-    /// member and first argument are the message's, and whose sender may be its own.
+    /// The same as `tell_route`, where each rule that is tested is a step. Only rules are tested
+    /// whose type, interface, member and first argument are the message's, and whose sender may be
+    /// its own.
     pub fn route_into<L: Ledger>(
         &self,
         from: u64,
@@ -55,8 +56,9 @@ impl Registry {
         }
     }
 
-    /// Where a message goes as from this sender, told where nothing was told yet. The facts are copied, with room for all their
-    /// arguments: that is kept out of the way of those that name their sender.
+    /// Where a message goes as from this sender, told where nothing was told yet. The facts are
+    /// copied, with room for all their arguments: that is kept out of the way of those that name
+    /// their sender.
     #[inline(never)]
     fn judge_as<L: Ledger>(
         &self,

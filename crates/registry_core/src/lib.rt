@@ -1,10 +1,11 @@
 //! The tables of the registry, and who listens to a message.
 //!
-//! A [`MemberTable`] holds the connections of a bus, monitors among them, a [`NameTable`] the names that have an owner,
-//! with their queues, a [`RuleTable`] the match rules that connections added, in an index, and a [`StartTable`] the
-//! starts of services that run, with the calls that wait for them. All room is made with a table. [`listening`] finds
-//! those connections that a message is for by its facts. Where the heads of names are asked for, any `Owners` will do:
-//! those of the bus as it is, or as it will be after a change.
+//! A [`MemberTable`] holds the connections of a bus, monitors among them, a [`NameTable`] the names
+//! that have an owner, with their queues, a [`RuleTable`] the match rules that connections added,
+//! in an index, and a [`StartTable`] the starts of services that run, with the calls that wait for
+//! them. All room is made with a table. [`listening`] finds those connections that a message is for
+//! by its facts. Where the heads of names are asked for, any `Owners` will do: those of the bus as
+//! it is, or as it will be after a change.
 //!
 //! ```
 //! use match_rules::Rule;

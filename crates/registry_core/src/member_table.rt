@@ -18,8 +18,8 @@ use seq_bus_core::{Conn, MonitorRules, Recipients};
 use std::alloc::{AllocError, Global};
 use std::marker::Model;
 
-/// The connections of a bus, by rising number, and the rules of those that are monitors. All room is
-/// made with the table.
+/// The connections of a bus, by rising number, and the rules of those that are monitors. All room
+/// is made with the table.
 #[derive(Drop)]
 pub struct MemberTable {
     members: Vec<Member>,
@@ -136,8 +136,8 @@ impl MemberTable {
         !self.monitors.is_empty()
     }
 
-    /// Adds the monitors that are shown a message, by rising number: each that has no rules, or one that
-    /// fits.
+    /// Adds the monitors that are shown a message, by rising number: each that has no rules, or one
+    /// that fits.
     pub fn shown<O: Owners>(&self, facts: &Facts<'_>, owners: &O, to: &mut Recipients)
         requires { to.old ≡ [] }
         ensures { to.new ≡ conns_that (watches_by (O.heads owners.now) facts.now) self.now }

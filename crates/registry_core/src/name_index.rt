@@ -14,9 +14,10 @@ use seq_bus_core::limits::{MAX_NAMES, MAX_QUEUED};
 use std::alloc::{AllocError, Global};
 use std::marker::Model;
 
-/// Which names each connection owns or waits for: the numbers of the names by connection, and those of one connection by
-/// the rising bytes of their names, so that they are found by a binary search. A name has its number to itself as long as
-/// somebody is in its queue. There is room for as many as there can be places in queues.
+/// Which names each connection owns or waits for: the numbers of the names by connection, and those
+/// of one connection by the rising bytes of their names, so that they are found by a binary search.
+/// A name has its number to itself as long as somebody is in its queue. There is room for as many
+/// as there can be places in queues.
 #[derive(Drop)]
 pub struct NameIndex {
     /// By the number of a connection.

@@ -24,8 +24,9 @@ pub struct NameEntry {
     id: usize,
 }
 
-/// The names that have an owner, by rising bytes, so that a name is found by a binary search. Their room is made with the
-/// table, an entry on the heap for each, so that a name that comes or goes moves nothing but pointers.
+/// The names that have an owner, by rising bytes, so that a name is found by a binary search. Their
+/// room is made with the table, an entry on the heap for each, so that a name that comes or goes
+/// moves nothing but pointers.
 #[derive(Drop)]
 pub struct NameTable {
     entries: Vec<Box<NameEntry>>,
@@ -133,9 +134,9 @@ impl NameTable {
         }
     }
 
-    /// Whether the limits would hold if the name that was looked for had this queue: of the names, of the places in all
-    /// queues, and of the names that this connection owns or waits for. Where they would hold beside the queue that the
-    /// name has, that one is not looked at.
+    /// Whether the limits would hold if the name that was looked for had this queue: of the names,
+    /// of the places in all queues, and of the names that this connection owns or waits for. Where
+    /// they would hold beside the queue that the name has, that one is not looked at.
     pub fn would_fit_at(&self, found: Result<usize, usize>, queue: &Queue, connection: u64) -> bool
         requires { (name : Text) × SearchGives self.now name found }
         ensures { (name : Text) → SearchGives self.now name found
@@ -160,7 +161,8 @@ impl NameTable {
         }
     }
 
-    /// From now on a name that was looked for has this queue. A name whose queue is empty is not there any longer.
+    /// From now on a name that was looked for has this queue. A name whose queue is empty is not
+    /// there any longer.
     pub fn set_queue_at(&mut self, found: Result<usize, usize>, name: &BusName, queue: &Queue)
         requires found { SearchGives self.old name.now found }
         requires few_names { length (with_queue name.now queue.now self.old) ≤ MAX_NAMES }
@@ -184,7 +186,8 @@ impl NameTable {
         }
     }
 
-    /// Takes a connection out of all queues. No other name is looked at than those that it owns or waits for.
+    /// Takes a connection out of all queues. No other name is looked at than those that it owns or
+    /// waits for.
     pub fn leave(&mut self, connection: u64)
         ensures { self.new ≡ names_without connection self.old }
     {
@@ -299,7 +302,8 @@ impl NameTable {
         self.index.count_of(connection)
     }
 
-    /// The place of one of the names that a connection owns or waits for, counted from 0 by rising bytes.
+    /// The place of one of the names that a connection owns or waits for, counted from 0 by rising
+    /// bytes.
     pub fn place_of_nth(&self, connection: u64, n: usize) -> usize
         requires { n < names_of connection self.now }
         ensures there { result < length self.now }

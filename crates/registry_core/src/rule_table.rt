@@ -15,8 +15,8 @@ use std::marker::Model;
 
 /// The rules that connections added, in order of arrival. Their room is made with the table.
 ///
-/// They stand in an index: a connection finds its own, and a message looks only at those that may fit
-/// it.
+/// They stand in an index: a connection finds its own, and a message looks only at those that may
+/// fit it.
 #[derive(Drop)]
 pub struct RuleTable {
     index: Index,

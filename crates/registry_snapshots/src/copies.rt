@@ -28,8 +28,8 @@ type SnapWriter<J> = Writer<Snap, Op, (), CopyRule<J>>;
 
 /// The two copies of the registry, and the word of its history.
 ///
-/// Nothing is pending, unless they are spent: a publication failed, and there is no other. Contracts see the copy that is
-/// published, and whether they are spent.
+/// Nothing is pending, unless they are spent: a publication failed, and there is no other.
+/// Contracts see the copy that is published, and whether they are spent.
 pub struct Copies<J: Naming> {
     writer: SnapWriter<J>,
     head: Head,
@@ -104,7 +104,8 @@ fn publish_in_place<J: Naming, R: Wait>(rt: &R, writer: &mut SnapWriter<J>)
     );
 }
 
-// Makes room in the writer's queue for the operations that it ever has, so that no later one needs memory.
+// Makes room in the writer's queue for the operations that it ever has, so that no later one needs
+// memory.
 fn warm<J: Naming, R: Wait>(rt: &R, mut writer: SnapWriter<J>) -> Result<SnapWriter<J>, AllocError>
     requires kept { IsSnapOf J.book J.opening writer.desk.shown.value }
     requires settled { drop writer.behind writer.log.items ≡ [] }
@@ -139,7 +140,8 @@ impl<J: Naming> Copies<J> {
             × (c.0.bus ≡ J.opening.state)) }
     {
         let writer = new_writer(alloc, services, routers, seats, prefix)?;
-        // An operation that one copy has and the other has not stays in the queue beside the next one, so there are two.
+        // An operation that one copy has and the other has not stays in the queue beside the next
+        // one, so there are two.
         let writer = warm(rt, warm(rt, writer)?)?;
         Ok(Copies {
             writer,
@@ -168,10 +170,11 @@ impl<J: Naming> Copies<J> {
         self.spent
     }
 
-    /// Publishes the next entry of a seat behind the whole history, with its change as it was prepared.
+    /// Publishes the next entry of a seat behind the whole history, with its change as it was
+    /// prepared.
     ///
-    /// What it gives of the history is what is published from then on. `Gone` where the publication failed: then what was
-    /// published stays, and the copies are spent.
+    /// What it gives of the history is what is published from then on. `Gone` where the publication
+    /// failed: then what was published stays, and the copies are spent.
     pub fn publish<R: Wait>(
         &mut self,
         rt: &R,
@@ -209,10 +212,11 @@ impl<J: Naming> Copies<J> {
         Ok(next)
     }
 
-    /// Publishes the next entries of a seat together behind the whole history, with their changes as they were prepared.
+    /// Publishes the next entries of a seat together behind the whole history, with their changes
+    /// as they were prepared.
     ///
-    /// What it gives of the history is what is published from then on. `Gone` where the publication failed: then what was
-    /// published stays, and the copies are spent.
+    /// What it gives of the history is what is published from then on. `Gone` where the publication
+    /// failed: then what was published stays, and the copies are spent.
     #[tactic(auto, using(seq_bus_core::proofs::Extending::numbers_length))]
     pub fn publish_all<R: Wait>(
         &mut self,

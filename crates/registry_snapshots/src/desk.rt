@@ -13,8 +13,9 @@ use std::sync::Wait;
 
 /// A seat, with what it takes to make changes but for the right to wait.
 ///
-/// Its reads wait for no lock, and all but queries take no memory. A change waits for the lock of the registry, and for
-/// readers of the copy that it brings up. Contracts see what they see of the seat.
+/// Its reads wait for no lock, and all but queries take no memory. A change waits for the lock of
+/// the registry, and for readers of the copy that it brings up. Contracts see what they see of the
+/// seat.
 #[derive(Drop)]
 pub struct Desk<'a, J: Naming, R: Wait> {
     seat: Seat<J>,

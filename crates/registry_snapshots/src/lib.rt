@@ -1,13 +1,14 @@
 //! The registry of a bus that several routers share.
 //!
-//! [`start`] opens a registry and hands it to a server: a [`Shared`], and one [`Seat`] a router. A seat reads the bus with
-//! no lock and takes no memory for it; it makes a change under the one lock of the [`Shared`]. What is told by a
-//! seat's [`Note`] is seen by the seat that takes it.
+//! [`start`] opens a registry and hands it to a server: a [`Shared`], and one [`Seat`] a router. A
+//! seat reads the bus with no lock and takes no memory for it; it makes a change under the one lock
+//! of the [`Shared`]. What is told by a seat's [`Note`] is seen by the seat that takes it.
 //!
-//! A [`Desk`] is a seat with the [`Shared`] that it makes its changes by: a [`BusView`](bus_view::BusView), as a router's
-//! engine sees a bus.
+//! A [`Desk`] is a seat with the [`Shared`] that it makes its changes by: a
+//! [`BusView`](bus_view::BusView), as a router's engine sees a bus.
 //!
-//! All changes of a registry stand in one history. It exists in the proofs alone: what is kept of it is its length.
+//! All changes of a registry stand in one history. It exists in the proofs alone: what is kept of
+//! it is its length.
 //!
 //! ```
 //! use registry_snapshots::{Naming, Seat, Shared};

@@ -60,9 +60,9 @@ fn begin<J: Naming + Send + Sync, S: Serve, R: Wait>(
 
 /// Opens a registry with these services and so many routers, and hands it to the server.
 ///
-/// A server can't start threads, since the check carries no `Send` bound into a method of a trait. A program whose seats
-/// run in threads has a function of its own over `J: Naming + Send + Sync`, calls it at `Brand`, and opens the registry there
-/// by [`Shared::new`].
+/// A server can't start threads, since the check carries no `Send` bound into a method of a trait.
+/// A program whose seats run in threads has a function of its own over `J: Naming + Send + Sync`,
+/// calls it at `Brand`, and opens the registry there by [`Shared::new`].
 pub fn start<S: Serve, R: Wait>(
     rt: &R,
     alloc: Global,

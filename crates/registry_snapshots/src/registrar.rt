@@ -30,7 +30,8 @@ const FULL: u64 = 1 << 63;
 
 /// It knows all of the history, and what the calls carry that wait after it.
 ///
-/// Contracts see the copy that is published, and whether a publication failed: then it makes no other.
+/// Contracts see the copy that is published, and whether a publication failed: then it makes no
+/// other.
 pub struct Registrar<J: Naming> {
     copies: Copies<J>,
     // The bus that is published, where changes are prepared: nobody reads it.
@@ -52,7 +53,8 @@ impl<J: Naming> Model for Registrar<J> {
     ghost invariant = { λ r. KeepsUp J.opening r.copies r.third r.calls };
 }
 
-/// Whether a seat that knows this much and made so many changes may make so many more now. It gives all of the history.
+/// Whether a seat that knows this much and made so many changes may make so many more now. It gives
+/// all of the history.
 #[tactic(auto, using(seq_bus_core::proofs::Extending::numbers_length))]
 pub fn judge(shown: &Snap, seat: u8, made: u64, known: &Prefix, more: u64) -> Result<Prefix, Cause>
     requires shown { (opening : _) × IsSnapOf known.now.book opening shown.now }
@@ -121,9 +123,11 @@ impl<J: Naming> Registrar<J> {
         self.copies.reader()
     }
 
-    /// Makes a change of a seat that knows this much and made so many, or refuses it. A change is large, and is not moved.
+    /// Makes a change of a seat that knows this much and made so many, or refuses it. A change is
+    /// large, and is not moved.
     ///
-    /// What it gives of the history is what is published, and nothing that is refused: no prefix lies beyond it.
+    /// What it gives of the history is what is published, and nothing that is refused: no prefix
+    /// lies beyond it.
     pub fn change<R: Wait>(
         &mut self,
         rt: &R,
@@ -169,9 +173,11 @@ impl<J: Naming> Registrar<J> {
         Ok((outcome, next))
     }
 
-    /// Makes a batch of changes of a seat that knows this much and made so many, all in one publication, or refuses it.
+    /// Makes a batch of changes of a seat that knows this much and made so many, all in one
+    /// publication, or refuses it.
     ///
-    /// What it gives of the history is what is published, and nothing that is refused: no prefix lies beyond it.
+    /// What it gives of the history is what is published, and nothing that is refused: no prefix
+    /// lies beyond it.
     pub fn change_all<R: Wait>(
         &mut self,
         rt: &R,

@@ -30,8 +30,9 @@ use std::sync::ledger::{Blank, Ledger};
 
 /// What one router reads the bus with, and makes changes.
 ///
-/// Contracts see its number, the beginning of the history that it has `seen`, how many changes it `made`, the place of the
-/// `last` of them in the history, and the longest beginning that a note tells which it `held`.
+/// Contracts see its number, the beginning of the history that it has `seen`, how many changes it
+/// `made`, the place of the `last` of them in the history, and the longest beginning that a note
+/// tells which it `held`.
 #[derive(Drop)]
 pub struct Seat<J: Naming> {
     number: u8,
@@ -184,9 +185,11 @@ impl<J: Naming> Seat<J> {
         self.prefix = prefix;
     }
 
-    /// Calls `f` once on the published copy and gives its answer. It waits for no lock and takes no memory.
+    /// Calls `f` once on the published copy and gives its answer. It waits for no lock and takes no
+    /// memory.
     ///
-    /// What `f` is lent stays as it is until `f` returns. `Gone` where the registry has ended; then `f` isn't called.
+    /// What `f` is lent stays as it is until `f` returns. `Gone` where the registry has ended; then
+    /// `f` isn't called.
     pub fn open<R, F: FnOnce(&Snap) -> R + Drop>(&mut self, f: F) -> Result<R, Gone>
         requires { F.IsAlwaysCallable f }
         ensures answer { IfOk result (λ r. (copy : SnapView)
@@ -221,8 +224,8 @@ impl<J: Naming> Seat<J> {
         Ok(verdict)
     }
 
-    /// The same as `route`, told where there is room for it: a verdict is large, and is not moved. Nothing is told where the
-    /// registry has ended.
+    /// The same as `route`, told where there is room for it: a verdict is large, and is not moved.
+    /// Nothing is told where the registry has ended.
     pub fn route_into(
         &mut self,
         from: u64,
@@ -244,11 +247,11 @@ impl<J: Naming> Seat<J> {
         Ok(())
     }
 
-    /// Answers a query: appends the body of the reply, in little-endian order as from offset 0 on, or says that the name has no
-    /// owner. After a fault nothing is appended.
+    /// Answers a query: appends the body of the reply, in little-endian order as from offset 0 on,
+    /// or says that the name has no owner. After a fault nothing is appended.
     ///
-    /// It waits for no lock. For want of memory it has read the bus all the same; `Gone` where the registry has ended, and then
-    /// nothing was read.
+    /// It waits for no lock. For want of memory it has read the bus all the same; `Gone` where the
+    /// registry has ended, and then nothing was read.
     pub fn ask(&mut self, query: &Query, body: &mut Vec<u8>) -> Result<Asked, AskFault>
         ensures answered { IfOk result (λ asked.
             Answers asked (answer (bus_after J.opening self.new.seen).state query.now)
@@ -287,8 +290,9 @@ impl<J: Naming> Seat<J> {
         self.open(|snap| snap.present(number))
     }
 
-    /// Whether a monitor may be shown messages, as far as the seat has seen: where not, there was none when it read the bus last,
-    /// which was at the end of what it has seen. It reads nothing, and takes no memory.
+    /// Whether a monitor may be shown messages, as far as the seat has seen: where not, there was
+    /// none when it read the bus last, which was at the end of what it has seen. It reads nothing,
+    /// and takes no memory.
     pub fn is_watched(&self) -> bool
         ensures { result ≡ false →
             IsUnwatched J.opening self.now.seen self.now.number self.now.made }
@@ -298,8 +302,9 @@ impl<J: Naming> Seat<J> {
 
     /// Makes a change, and tells of it in a note.
     ///
-    /// It waits for the lock of the registry, and for readers of the copy that it brings up. A change that is refused is
-    /// handed back, and is not made, then or later. One that is made settles 512 tickets at most, which is how many can wait.
+    /// It waits for the lock of the registry, and for readers of the copy that it brings up. A
+    /// change that is refused is handed back, and is not made, then or later. One that is made
+    /// settles 512 tickets at most, which is how many can wait.
     pub fn change<R: Wait>(
         &mut self,
         rt: &R,
@@ -327,11 +332,11 @@ impl<J: Naming> Seat<J> {
         }
     }
 
-    /// Makes a batch of 1 to 64 changes, all in one publication, and tells of them in a note. Nobody ever sees some of them
-    /// without the others.
+    /// Makes a batch of 1 to 64 changes, all in one publication, and tells of them in a note.
+    /// Nobody ever sees some of them without the others.
     ///
-    /// It waits as `change` does. Where one of them is refused, or there are too many or none, all are handed back, and none
-    /// is made, then or later.
+    /// It waits as `change` does. Where one of them is refused, or there are too many or none, all
+    /// are handed back, and none is made, then or later.
     pub fn change_all<R: Wait>(
         &mut self,
         rt: &R,
@@ -386,7 +391,8 @@ impl<J: Naming> Seat<J> {
         note
     }
 
-    /// Takes in what a seat of this registry told: from now on this one sees no less. It takes no memory.
+    /// Takes in what a seat of this registry told: from now on this one sees no less. It takes no
+    /// memory.
     pub fn take_note(&mut self, note: &Note<J>)
         ensures seen { Begins self.old.seen self.new.seen }
         ensures told { Begins note.now self.new.seen }
@@ -408,7 +414,8 @@ impl<J: Naming> Seat<J> {
         self.held = Some(held);
     }
 
-    /// The longest note that it made or took; none where it made and took none. What it tells was seen.
+    /// The longest note that it made or took; none where it made and took none. What it tells was
+    /// seen.
     pub fn note(&self) -> Option<Note<J>>
         ensures held { result ≡ self.now.held }
         ensures seen { IfSome result (λ note. Begins note self.now.seen) }

@@ -78,8 +78,8 @@ fn new_seats<J: Naming>(
 }
 
 impl<J: Naming> Shared<J> {
-    /// A registry with these services and so many routers, and a seat for each router behind seat 0, which has no places for
-    /// connections.
+    /// A registry with these services and so many routers, and a seat for each router behind seat
+    /// 0, which has no places for connections.
     ///
     /// `NoMemory` comes also where the copies have no place for one more reader.
     pub fn new<R: Wait>(

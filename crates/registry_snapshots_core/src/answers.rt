@@ -25,8 +25,9 @@ use seq_bus_core::{Conn, Query, Verdict};
 use std::sync::ledger::Ledger;
 
 impl Snap {
-    /// Answers a query: appends the body of the reply, in little-endian order as from offset 0 on, or says that the name has no
-    /// owner. After a fault, which is want of memory, nothing is appended.
+    /// Answers a query: appends the body of the reply, in little-endian order as from offset 0 on,
+    /// or says that the name has no owner. After a fault, which is want of memory, nothing is
+    /// appended.
     pub fn ask(&self, query: &Query, body: &mut Vec<u8>) -> Result<Asked, AskFault>
         ensures answered { IfOk result (λ asked.
             Answers asked (answer self.now.bus query.now) body.old.items body.new.items) }
@@ -45,8 +46,8 @@ impl Snap {
 
     /// The same as `route`, told where there is room for it: a verdict is large, and is not moved.
     ///
-    /// Each rule that is tested is a step. Only rules are tested whose type, interface, member and first argument are the
-    /// message's, and whose sender may be its own.
+    /// Each rule that is tested is a step. Only rules are tested whose type, interface, member and
+    /// first argument are the message's, and whose sender may be its own.
     pub fn route_into<L: Ledger>(
         &self,
         from: u64,
@@ -61,7 +62,8 @@ impl Snap {
         self.registry().route_into(from, facts, told, steps);
     }
 
-    /// The head of a name: the connection that messages to it are delivered to. The bus itself is no connection.
+    /// The head of a name: the connection that messages to it are delivered to. The bus itself is
+    /// no connection.
     pub fn owner(&self, name: &BusName) -> Option<u64>
         ensures { result ≡ head_of self.now.bus name.now }
     {
@@ -96,8 +98,8 @@ impl Snap {
         self.registry().names()
     }
 
-    /// Who owns a well-known name and who waits for it, in order. It is empty where the name has no owner.
-    /// (D-Bus Specification: "org.freedesktop.DBus.ListQueuedOwners")
+    /// Who owns a well-known name and who waits for it, in order. It is empty where the name has no
+    /// owner. (D-Bus Specification: "org.freedesktop.DBus.ListQueuedOwners")
     pub fn queue(&self, name: &BusName) -> &[QueuedOwner]
         ensures { result.now ≡ queue_of self.now.bus.names name.now }
     {

@@ -121,7 +121,8 @@ impl Model for Head {
     ghost invariant = { λ h. h.word ≡ head_of h.word.book };
 }
 
-/// A beginning of the history that was seen, of which only the length is stored. Contracts see its book and its entries.
+/// A beginning of the history that was seen, of which only the length is stored. Contracts see its
+/// book and its entries.
 #[derive(Drop)]
 pub struct Prefix {
     count: u64,
@@ -237,7 +238,8 @@ impl Prefix {
         })
     }
 
-    /// Publishes the entries of a batch together behind all that was seen, where that is the whole history.
+    /// Publishes the entries of a batch together behind all that was seen, where that is the whole
+    /// history.
     pub fn add_all(&self, head: &Head, batch: &Batch) -> Option<Prefix>
         requires book { head.now ≡ self.now.book }
         requires room { length self.now.log + length batch.now.changes.items ≤ 2 ^ 63 }

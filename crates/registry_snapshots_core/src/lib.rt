@@ -1,8 +1,9 @@
-//! What the seats of a registry share, but for the lock: one history, notes that tell of it, and the copy that readers take.
+//! What the seats of a registry share, but for the lock: one history, notes that tell of it, and
+//! the copy that readers take.
 //!
-//! All changes of a registry stand in one history. It exists in the proofs alone: what is kept of it is its length. A
-//! [`Prefix`] is a beginning of it that was seen, and a [`Note`] tells one. A [`Snap`] is the bus after such a beginning, and an
-//! [`Op`] brings it up to the next.
+//! All changes of a registry stand in one history. It exists in the proofs alone: what is kept of
+//! it is its length. A [`Prefix`] is a beginning of it that was seen, and a [`Note`] tells one. A
+//! [`Snap`] is the bus after such a beginning, and an [`Op`] brings it up to the next.
 //!
 //! ```
 //! use bus_view::can_open;

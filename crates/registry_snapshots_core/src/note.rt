@@ -10,7 +10,8 @@ use std::marker::{Model, PhantomData};
 
 /// What a seat told of the history. Whoever takes it sees no less.
 ///
-/// Contracts see the beginning of the history that it tells. Which registry it is of is said by its type.
+/// Contracts see the beginning of the history that it tells. Which registry it is of is said by its
+/// type.
 #[derive(Drop)]
 pub struct Note<J: Naming> {
     prefix: Prefix,

@@ -129,7 +129,8 @@ impl Snap {
         })
     }
 
-    // From now on it stands for this beginning of the history, where this is the number of the seat's last change.
+    // From now on it stands for this beginning of the history, where this is the number of the
+    // seat's last change.
     fn go_on(&mut self, seat: u8, number: u64, prefix: &Prefix)
         ensures { self.new ≡ record self.old {
           last = put_number self.old.last seat number;

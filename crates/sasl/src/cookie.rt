@@ -12,8 +12,9 @@ struct Parts {
     secret: Vec<u8>,
 }
 
-/// A secret that a server shares with its user, and the number by which the user finds it in its keyring. Whoever knows the secret
-/// is taken for the user. (D-Bus Specification: "DBUS_COOKIE_SHA1".)
+/// A secret that a server shares with its user, and the number by which the user finds it in its
+/// keyring. Whoever knows the secret is taken for the user. (D-Bus Specification:
+/// "DBUS_COOKIE_SHA1".)
 #[derive(Drop)]
 pub struct Cookie {
     parts: Arc<Parts>,

@@ -15,8 +15,9 @@ pub(crate) fn write_hex(bytes: &[u8], room: &mut [u8])
     let _ = hex::encode_to_slice(bytes, room);
 }
 
-/// The digest by which a client shows that it knows the cookie: the hex of the SHA-1 of the server's challenge, as it was sent, the
-/// client's own, and the cookie, with colons between them. No memory is taken. (D-Bus Specification: "DBUS_COOKIE_SHA1".)
+/// The digest by which a client shows that it knows the cookie: the hex of the SHA-1 of the
+/// server's challenge, as it was sent, the client's own, and the cookie, with colons between them.
+/// No memory is taken. (D-Bus Specification: "DBUS_COOKIE_SHA1".)
 pub fn cookie_digest(challenge: &[u8], client: &[u8], cookie: &[u8]) -> [u8; 40]
     ensures { result ≡ cookie_digest challenge.now client.now cookie.now }
 {
@@ -31,8 +32,8 @@ pub fn cookie_digest(challenge: &[u8], client: &[u8], cookie: &[u8]) -> [u8; 40]
     digest
 }
 
-/// Whether a client's digest is the right one. Every byte is looked at, whichever differs, so that the time it takes tells nothing
-/// about the right one.
+/// Whether a client's digest is the right one. Every byte is looked at, whichever differs, so that
+/// the time it takes tells nothing about the right one.
 pub(crate) fn are_equal(right: &[u8; 40], found: &[u8]) -> bool
     ensures { result ≡ bytes_eq found.now right.now }
 {

@@ -62,12 +62,14 @@ impl<'a> Entry<'a> {
     }
 }
 
-/// The cookie that is used of a keyring: that of its last line. Each line has a cookie's number, the time when it was made and the
-/// cookie itself, parted by single spaces. (D-Bus Specification: "DBUS_COOKIE_SHA1".)
+/// The cookie that is used of a keyring: that of its last line. Each line has a cookie's number,
+/// the time when it was made and the cookie itself, parted by single spaces. (D-Bus Specification:
+/// "DBUS_COOKIE_SHA1".)
 ///
 /// # Errors
 ///
-/// `Empty` where there is no line, `Line` with the number of the first line that does not read, `NoMemory` where memory is refused.
+/// `Empty` where there is no line, `Line` with the number of the first line that does not read,
+/// `NoMemory` where memory is refused.
 pub fn read_keyring(alloc: Global, bytes: &[u8]) -> Result<Cookie, KeyringFault>
     ensures { (result ≡ keyring_cookie bytes.now) ⊎ (result ≡ Err NoMemory) }
 {

@@ -22,7 +22,8 @@ pub fn rejections_are_counted()
     ensures { RejectionsAreCounted }
 {}
 
-/// Nobody is let in but who has shown the right digest or, where that is allowed, is anonymous; and no byte before a line BEGIN is handed on.
+/// Nobody is let in but who has shown the right digest or, where that is allowed, is anonymous; and
+/// no byte before a line BEGIN is handed on.
 pub fn nobody_is_let_in_unknown()
     ensures { NobodyIsLetInUnknown }
 {}

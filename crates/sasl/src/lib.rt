@@ -1,8 +1,10 @@
-//! Authentication of a client, as its bytes come: the server's side of the conversation that goes before the first message.
+//! Authentication of a client, as its bytes come: the server's side of the conversation that goes
+//! before the first message.
 //!
-//! [`Server`] is one conversation. `specs/Table.antt` is the table of its states, `specs/Conversations.antt` what a whole
-//! conversation is, after "Authentication Protocol" of the D-Bus Specification, with the mechanisms DBUS_COOKIE_SHA1 and, where
-//! it is allowed, ANONYMOUS. [`read_keyring`] reads the cookies of the former. The laws stand in [`laws`].
+//! [`Server`] is one conversation. `specs/Table.antt` is the table of its states,
+//! `specs/Conversations.antt` what a whole conversation is, after "Authentication Protocol" of the
+//! D-Bus Specification, with the mechanisms DBUS_COOKIE_SHA1 and, where it is allowed, ANONYMOUS.
+//! [`read_keyring`] reads the cookies of the former. The laws stand in [`laws`].
 //!
 //! ```
 //! use sasl::{Identity, KeyringFault, Progress, Server, read_keyring};

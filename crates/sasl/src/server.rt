@@ -19,9 +19,11 @@ const MAX_LINE: usize = 4096;
 /// The rejection that closes.
 const MAX_REJECTIONS: u64 = 6;
 
-/// The server's side of the conversation by which a client is let in. (D-Bus Specification: "Authentication Protocol".)
+/// The server's side of the conversation by which a client is let in. (D-Bus Specification:
+/// "Authentication Protocol".)
 ///
-/// Bytes may come in any pieces: what is sent, and how it ends, depend on the bytes so far and not on their cuts.
+/// Bytes may come in any pieces: what is sent, and how it ends, depend on the bytes so far and not
+/// on their cuts.
 #[derive(Drop)]
 pub struct Server {
     alloc: Global,
@@ -64,8 +66,9 @@ fn after(reply: Reply, next: Phase, rejections: u64) -> (Phase, u64)
 impl Server {
     ghost use Rattle.sasl.specs.Servers.{GoesOn, HandsOn, Hears, HearsNothing, IsCutOff, IsTold, brought_by, brought_by_line, brought_in_line, newcomer};
 
-    /// A server that has heard nothing. It has the sixteen bytes of its GUID, the name of the user whose cookie this is, a challenge
-    /// of sixteen bytes that nobody can guess, and lets anonymous clients in or not. No memory is taken.
+    /// A server that has heard nothing. It has the sixteen bytes of its GUID, the name of the user
+    /// whose cookie this is, a challenge of sixteen bytes that nobody can guess, and lets anonymous
+    /// clients in or not. No memory is taken.
     pub fn new(
         alloc: Global,
         guid: [u8; 16],
@@ -93,12 +96,14 @@ impl Server {
         }
     }
 
-    /// Takes a piece of the client's bytes, and says what is to be sent and where the conversation stands. Once it is done, each piece
-    /// is handed on whole, and once it is closed, it stays so: nothing is sent.
+    /// Takes a piece of the client's bytes, and says what is to be sent and where the conversation
+    /// stands. Once it is done, each piece is handed on whole, and once it is closed, it stays so:
+    /// nothing is sent.
     ///
     /// # Errors
     ///
-    /// `Closed` with the fault that the bytes so far have, or with `NoMemory`, only where memory was refused, and then for good.
+    /// `Closed` with the fault that the bytes so far have, or with `NoMemory`, only where memory
+    /// was refused, and then for good.
     pub fn feed<'a>(&mut self, piece: &'a [u8]) -> Step<'a>
         ensures { GoesOn self.old piece.now result self.new
             ⊎ IsCutOff self.old piece.now result self.new }

@@ -18,9 +18,11 @@ pub enum Progress<'a> {
     /// The client is let in.
     Done {
         identity: Identity,
-        /// The bytes of the piece that stand behind the conversation, with which the client's messages begin or go on.
+        /// The bytes of the piece that stand behind the conversation, with which the client's
+        /// messages begin or go on.
         rest: &'a [u8],
     },
-    /// The conversation has failed, and the connection is to be closed once what is sent is written.
+    /// The conversation has failed, and the connection is to be closed once what is sent is
+    /// written.
     Closed(AuthenticationFault),
 }

@@ -41,7 +41,8 @@ fn place_of(text: &[u8], byte: u8) -> Option<usize>
     text.iter().position(|b| *b == byte)
 }
 
-/// Cuts a text at the first of these bytes: what stands before it, and behind it where there is one.
+/// Cuts a text at the first of these bytes: what stands before it, and behind it where there is
+/// one.
 pub(crate) fn cut(text: &[u8], at: u8) -> (&[u8], Option<&[u8]>)
     ensures { slice_split (λ b. b == at) text.now ≡ result.0.now ∷ parts_of at result.1 }
 {

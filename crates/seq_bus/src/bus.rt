@@ -27,10 +27,12 @@ use settling::prepare_all;
 use std::alloc::{AllocError, Global};
 use std::marker::Model;
 
-/// A bus for one thread. It keeps the whole list of its changes, and what the calls carry that wait for a service.
+/// A bus for one thread. It keeps the whole list of its changes, and what the calls carry that wait
+/// for a service.
 ///
-/// Contracts see how it was opened and what it has `seen`: every change that it made, each by its one seat, numbered
-/// 1, 2, 3 and so on. What it answers is what the definitions say of the bus after these changes.
+/// Contracts see how it was opened and what it has `seen`: every change that it made, each by its
+/// one seat, numbered 1, 2, 3 and so on. What it answers is what the definitions say of the bus
+/// after these changes.
 #[derive(Drop)]
 pub struct SeqBus {
     alloc: Global,
@@ -54,8 +56,8 @@ impl Model for SeqBus {
 impl SeqBus {
     /// A bus with these services and so many routers, on which nothing has happened.
     ///
-    /// The services are names that programs can be started for. Whether the bus can be opened with them is said by
-    /// [`can_open`](bus_view::can_open).
+    /// The services are names that programs can be started for. Whether the bus can be opened with
+    /// them is said by [`can_open`](bus_view::can_open).
     pub fn new(
         alloc: Global,
         services: &[WellKnown],
@@ -79,8 +81,9 @@ impl SeqBus {
 
     /// Makes a change, and says what it is told.
     ///
-    /// A change that is refused is handed back, and the bus is as it was. It is refused for want of memory alone, or
-    /// where too many share the bytes of a call that is to wait: the bus shares them, and does not copy them.
+    /// A change that is refused is handed back, and the bus is as it was. It is refused for want of
+    /// memory alone, or where too many share the bytes of a call that is to wait: the bus shares
+    /// them, and does not copy them.
     pub fn change(&mut self, change: Change) -> Result<Outcome, Refused>
         ensures made { IfOk result (λ outcome. IsMade self.old self.new change outcome) }
         ensures few { IfOk result (λ outcome. length outcome.tickets ≤ MAX_TICKETS) }
@@ -113,10 +116,11 @@ impl SeqBus {
         Ok(outcome)
     }
 
-    /// Makes a batch of 1 to 64 changes, and says what each is told. They stand together in the history.
+    /// Makes a batch of 1 to 64 changes, and says what each is told. They stand together in the
+    /// history.
     ///
-    /// Where one of them is refused, as `change` refuses it, or there are too many or none, all are handed back, and the
-    /// bus is as it was.
+    /// Where one of them is refused, as `change` refuses it, or there are too many or none, all are
+    /// handed back, and the bus is as it was.
     pub fn change_all(&mut self, changes: Vec<Change>) -> Result<Vec<Outcome>, RefusedAll>
         ensures made { IfOk result (λ outcomes.
             AreMade self.old self.new changes.items outcomes.items) }
@@ -149,8 +153,8 @@ impl SeqBus {
         Ok(outcomes)
     }
 
-    /// Answers a query: appends the body of the reply, in little-endian order as from offset 0 on, or says that the
-    /// name has no owner. After a fault nothing is appended.
+    /// Answers a query: appends the body of the reply, in little-endian order as from offset 0 on,
+    /// or says that the name has no owner. After a fault nothing is appended.
     pub fn ask(&mut self, query: &Query, body: &mut Vec<u8>) -> Result<Asked, AskFault>
         ensures answered { IfOk result (λ asked.
             Answers asked (answer (bus_now self.old).state query.now)

@@ -1,6 +1,7 @@
 //! The errors that the bus replies with.
 
-/// An error that the bus replies with. (D-Bus Specification: "Error names", "Message Bus Messages".)
+/// An error that the bus replies with. (D-Bus Specification: "Error names", "Message Bus
+/// Messages".)
 #[derive(Clone, Copy, Debug, PartialEq, Eq)]
 pub enum ErrorKind {
     Failed,

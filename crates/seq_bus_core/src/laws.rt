@@ -23,7 +23,8 @@ pub fn beginnings_are_legal()
     ensures { BeginningsAreLegal }
 {}
 
-/// A publication of several changes of a seat, which goes on with the seat's numbers, leaves a legal history legal.
+/// A publication of several changes of a seat, which goes on with the seat's numbers, leaves a
+/// legal history legal.
 pub fn batches_are_legal()
     ensures { BatchesAreLegal }
 {}
@@ -33,7 +34,8 @@ pub fn steps_see_no_more()
     ensures { StepsSeeNoMore }
 {}
 
-/// The recipients of a message and the monitors that are shown it are each named once, by rising number.
+/// The recipients of a message and the monitors that are shown it are each named once, by rising
+/// number.
 pub fn recipients_are_named_once()
     ensures { RecipientsAreNamedOnce }
 {}

@@ -1,9 +1,11 @@
-//! What a message bus is: its state, what each change does to it, what a query is answered and who gets a message.
+//! What a message bus is: its state, what each change does to it, what a query is answered and who
+//! gets a message.
 //!
-//! The definitions stand in `specs/`, in the terms of the D-Bus Specification; the types here are what they speak of.
-//! [`Change`] and [`Query`] are what is asked of a bus, [`Outcome`] and [`Verdict`] what it answers, and an
-//! [`Entry`] is one line of its history. [`ErrorKind`] names the errors of the bus.
-//! The laws of the definitions stand in [`laws`], the limits of a bus in [`limits`].
+//! The definitions stand in `specs/`, in the terms of the D-Bus Specification; the types here are
+//! what they speak of. [`Change`] and [`Query`] are what is asked of a bus, [`Outcome`] and
+//! [`Verdict`] what it answers, and an [`Entry`] is one line of its history. [`ErrorKind`] names
+//! the errors of the bus. The laws of the definitions stand in [`laws`], the limits of a bus in
+//! [`limits`].
 //!
 //! ```
 //! use names::BusName;

@@ -7,7 +7,8 @@ use match_rules::Rule;
 use std::alloc::{AllocError, Global};
 use std::marker::Model;
 
-/// The rules by which a monitor is shown messages, at most 64. Where there are none, it is shown every message.
+/// The rules by which a monitor is shown messages, at most 64. Where there are none, it is shown
+/// every message.
 #[derive(Drop)]
 pub struct MonitorRules {
     rules: Vec<Rule>,

@@ -46,8 +46,8 @@ impl SharedBytes {
     }
 }
 
-/// A signal of the bus that several share. Names lie in it with their fixed room, so it is too large to be moved with
-/// each message.
+/// A signal of the bus that several share. Names lie in it with their fixed room, so it is too
+/// large to be moved with each message.
 #[derive(Debug, Drop)]
 pub struct SharedSignal {
     signal: Arc<BusSignal>,

@@ -15,7 +15,8 @@ pub struct Ticket {
     /// The connection that called.
     pub caller: Conn,
     pub call: CallHead,
-    /// The call itself, where it is to be delivered to the name; none where it is StartServiceByName.
+    /// The call itself, where it is to be delivered to the name; none where it is
+    /// StartServiceByName.
     pub message: Option<SharedBytes>,
 }
 

@@ -43,7 +43,8 @@ impl Verdict {
         }
     }
 
-    /// It says nothing any more. A verdict is large: it is told once more where it stands, and not moved.
+    /// It says nothing any more. A verdict is large: it is told once more where it stands, and not
+    /// moved.
     pub fn clear(&mut self)
         ensures { self.new ≡ verdict Absent [] [] }
     {

@@ -6,8 +6,8 @@ use std::alloc::AllocError;
 use std::fmt;
 use thiserror::Error;
 
-/// Why a file describes no service, or want of memory. `Twice`, `Name` and `Line` come first, at the first line from the top that
-/// has one of them; then `Group`, `NameMissing` and `ExecMissing`.
+/// Why a file describes no service, or want of memory. `Twice`, `Name` and `Line` come first, at
+/// the first line from the top that has one of them; then `Group`, `NameMissing` and `ExecMissing`.
 #[derive(Clone, Copy, Debug, PartialEq, Eq, Error)]
 pub enum FileFault {
     #[error("there is no group [D-BUS Service]")]

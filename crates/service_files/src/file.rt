@@ -20,7 +20,8 @@ fn end_of_line(text: &[u8]) -> Option<usize>
     text.iter().position(|b| *b == b'\n')
 }
 
-/// Cuts a text at its first line feed: the first line, and what stands behind it where there is a line feed.
+/// Cuts a text at its first line feed: the first line, and what stands behind it where there is a
+/// line feed.
 fn cut_line(text: &[u8]) -> (&[u8], Option<&[u8]>)
     ensures lines { slice_split (λ b. b == line_feed) text.now
         ≡ result.0.now ∷ lines_left result.1 }
@@ -34,16 +35,18 @@ fn cut_line(text: &[u8]) -> (&[u8], Option<&[u8]>)
 
 /// Reads a service file. (D-Bus Specification: "Message Bus Starting Services".)
 ///
-/// The file is lines of UTF-8: empty ones, comments that begin with `#`, groups in brackets, and keys with values, `Key=Value`,
-/// of which nothing is trimmed. In the group `[D-BUS Service]` `Name` and `Exec` count; other keys and groups are ignored. `Exec` is
-/// split at spaces, without quoting.
+/// The file is lines of UTF-8: empty ones, comments that begin with `#`, groups in brackets, and
+/// keys with values, `Key=Value`, of which nothing is trimmed. In the group `[D-BUS Service]`
+/// `Name` and `Exec` count; other keys and groups are ignored. `Exec` is split at spaces, without
+/// quoting.
 ///
 /// # Errors
 ///
-/// Of the lines, from the top: `Line` with the number of a line that does not read, or of a key before the first group; `Twice` where
-/// the group, or `Name` or `Exec` in it, stands a second time; `Name` where the name is no well-known one, or the bus's. Then `Group`,
-/// `NameMissing` and `ExecMissing` for what is not there; an `Exec` without words is missing. `Line(0)` for a file of more than
-/// [`MAX_FILE_LENGTH`] bytes, and `NoMemory` where memory is refused.
+/// Of the lines, from the top: `Line` with the number of a line that does not read, or of a key
+/// before the first group; `Twice` where the group, or `Name` or `Exec` in it, stands a second
+/// time; `Name` where the name is no well-known one, or the bus's. Then `Group`, `NameMissing` and
+/// `ExecMissing` for what is not there; an `Exec` without words is missing. `Line(0)` for a file of
+/// more than [`MAX_FILE_LENGTH`] bytes, and `NoMemory` where memory is refused.
 pub fn read(alloc: Global, bytes: &[u8]) -> Result<Service, FileFault>
     ensures { (result ≡ service_in bytes.now) ⊎ (result ≡ Err NoMemory) }
 {

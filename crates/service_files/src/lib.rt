@@ -1,8 +1,9 @@
 //! Service files: which name a file describes, and the program that is to take it.
 //!
-//! [`read`] reads one file, after "Message Bus Starting Services" of the D-Bus Specification; `specs/ServiceFiles.antt` says
-//! what is read, `specs/WholeFiles.antt` what a good file is as a whole. A [`Service`] is what a file says, a [`FileFault`] the first
-//! thing that is wrong with it. The law of the definitions stands in [`laws`].
+//! [`read`] reads one file, after "Message Bus Starting Services" of the D-Bus Specification;
+//! `specs/ServiceFiles.antt` says what is read, `specs/WholeFiles.antt` what a good file is as a
+//! whole. A [`Service`] is what a file says, a [`FileFault`] the first thing that is wrong with it.
+//! The law of the definitions stands in [`laws`].
 //!
 //! ```
 //! use service_files::{FileFault, read};

@@ -9,7 +9,8 @@ use names::WellKnown;
 use std::alloc::{AllocError, Global};
 use std::marker::Model;
 
-/// What a service file describes: a well-known name, and the command that starts a program which is to take it.
+/// What a service file describes: a well-known name, and the command that starts a program which is
+/// to take it.
 #[derive(Drop)]
 pub struct Service {
     name: WellKnown,

@@ -12,7 +12,8 @@ use std::alloc::{AllocError, Global};
 use std::collections::VecDeque;
 use std::marker::Model;
 
-/// What settles the changes of a batch once they are made: what settles each, in order, and room for what they are told.
+/// What settles the changes of a batch once they are made: what settles each, in order, and room
+/// for what they are told.
 #[derive(Drop)]
 pub struct Settlings {
     each: VecDeque<Settling>,
@@ -31,8 +32,9 @@ impl Model for Settlings {
         × (length s.each.items ≤ vec_capacity s.outcomes) };
 }
 
-/// Makes all that the changes of a seat need of memory, each on the state that those before it leave: what the copies
-/// absorb, and what settles them then. The changes are made on this registry.
+/// Makes all that the changes of a seat need of memory, each on the state that those before it
+/// leave: what the copies absorb, and what settles them then. The changes are made on this
+/// registry.
 ///
 /// Where memory is refused, some of them may have been made on it.
 pub fn prepare_all(
@@ -51,8 +53,8 @@ pub fn prepare_all(
 }
 
 impl Settlings {
-    /// Takes out of the prepared changes of a batch what settles them once they are made, and makes what that needs of
-    /// memory.
+    /// Takes out of the prepared changes of a batch what settles them once they are made, and makes
+    /// what that needs of memory.
     fn take(
         alloc: Global,
         changes: &[Change],
@@ -70,8 +72,9 @@ impl Settlings {
         Ok(Settlings { each, outcomes })
     }
 
-    /// Settles the changes, in order: the calls that they let go wait no longer, those that they make wait do, and each is
-    /// told what its tickets carry. It takes no memory, and can't be refused.
+    /// Settles the changes, in order: the calls that they let go wait no longer, those that they
+    /// make wait do, and each is told what its tickets carry. It takes no memory, and can't be
+    /// refused.
     pub fn settle(self, calls: &mut HeldCalls, changes: &[Change]) -> Vec<Outcome>
         requires { IsSomeBusAlong changes.now self calls.old }
         ensures { AreSettled changes.now self calls.old calls.new result.items }

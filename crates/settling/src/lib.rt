@@ -1,10 +1,11 @@
 //! Changes of a bus, from where they are prepared to what they are told.
 //!
-//! A bus stands in a registry, with the calls that it holds beside it. [`prepare`] makes all that a change needs of memory:
-//! what each copy of the registry absorbs, and a [`Settling`], by which the calls are settled once the change is made.
-//! Then nothing can be refused. [`prepare_all`] does the same for a batch, which is made whole or not at all: each change is
-//! prepared on the state that those before it leave, and it gives [`Settlings`]. Both make the changes on a registry of
-//! their own as they go.
+//! A bus stands in a registry, with the calls that it holds beside it. [`prepare`] makes all that a
+//! change needs of memory: what each copy of the registry absorbs, and a [`Settling`], by which the
+//! calls are settled once the change is made. Then nothing can be refused. [`prepare_all`] does the
+//! same for a batch, which is made whole or not at all: each change is prepared on the state that
+//! those before it leave, and it gives [`Settlings`]. Both make the changes on a registry of their
+//! own as they go.
 //!
 //! ```
 //! ghost use Rattle.settling.specs.Settlings.{IsSomeBus, SettlesAt};

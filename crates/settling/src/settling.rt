@@ -12,7 +12,8 @@ use seq_bus_core::{Change, Conn, NumberedOutcome, Outcome};
 use std::alloc::{AllocError, Global};
 use std::marker::Model;
 
-/// What settles a change once it is made: what it is told, the connection whose call it is, and the memory that it takes.
+/// What settles a change once it is made: what it is told, the connection whose call it is, and the
+/// memory that it takes.
 #[derive(Drop)]
 pub struct Settling {
     told: NumberedOutcome,
@@ -28,8 +29,8 @@ impl Model for Settling {
     ghost view = { λ s. record { told = s.told; caller = s.caller; room = s.room } };
 }
 
-/// Makes all that the change of a seat needs of memory: what the copies absorb, and what settles it then. The change is made
-/// on this registry, with a queue lent to work in.
+/// Makes all that the change of a seat needs of memory: what the copies absorb, and what settles it
+/// then. The change is made on this registry, with a queue lent to work in.
 ///
 /// Where memory is refused, the registry is as it was, or the change is made on it.
 pub fn prepare(
@@ -52,8 +53,8 @@ pub fn prepare(
 }
 
 impl Settling {
-    /// Takes out of a prepared change what settles it once it is made, and makes what that needs of memory. What is left of
-    /// it is made on a registry as before.
+    /// Takes out of a prepared change what settles it once it is made, and makes what that needs of
+    /// memory. What is left of it is made on a registry as before.
     pub(crate) fn take(
         alloc: Global,
         change: &Change,
@@ -69,8 +70,8 @@ impl Settling {
         Ok(Settling { told, caller, room })
     }
 
-    /// Settles the change: the calls that it lets go wait no longer, one that it makes wait does, and it is told what its
-    /// tickets carry. It takes no memory, and can't be refused.
+    /// Settles the change: the calls that it lets go wait no longer, one that it makes wait does,
+    /// and it is told what its tickets carry. It takes no memory, and can't be refused.
     pub fn settle(self, calls: &mut HeldCalls, change: &Change) -> Outcome
         requires { IsSomeBus change.now self calls.old }
         ensures { IsSettled change.now self calls.old calls.new result }

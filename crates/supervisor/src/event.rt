@@ -15,6 +15,7 @@ pub enum Event {
     Exited { start: u64, status: u64 },
     /// The program of the start was killed by a signal.
     Killed { start: u64 },
-    /// Time has passed: the moment, in milliseconds of any clock. One before the last one counts as the last one.
+    /// Time has passed: the moment, in milliseconds of any clock. One before the last one counts as
+    /// the last one.
     Tick { now: u64 },
 }

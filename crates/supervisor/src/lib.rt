@@ -1,7 +1,8 @@
 //! Started programs: which are to be run, and what is to be told to the bus of them.
 //!
-//! A [`Supervisor`] is told what happens, as an [`Event`], and answers what is to be done, as [`Deed`]s. It runs nothing itself, and
-//! time is what it is told. `specs/Supervising.antt` is its table. (D-Bus Specification: "Message Bus Starting Services".)
+//! A [`Supervisor`] is told what happens, as an [`Event`], and answers what is to be done, as
+//! [`Deed`]s. It runs nothing itself, and time is what it is told. `specs/Supervising.antt` is its
+//! table. (D-Bus Specification: "Message Bus Starting Services".)
 //!
 //! ```
 //! use names::BusName;

@@ -9,7 +9,8 @@ use seq_bus_core::{Change, Ending};
 use std::alloc::{AllocError, Global};
 use std::marker::Model;
 
-/// Keeps the starts whose programs may still take their names, and decides what is told to the bus of them.
+/// Keeps the starts whose programs may still take their names, and decides what is told to the bus
+/// of them.
 #[derive(Drop)]
 pub struct Supervisor {
     alloc: Global,
@@ -133,8 +134,9 @@ impl Supervisor {
         self.starts.first().map(Start::due)
     }
 
-    /// What is to be done at an event, in order. A start is kept from when it is asked for until its program fails, or
-    /// [`START_TIMEOUT`](crate::START_TIMEOUT) has passed; an event of one that is not kept brings nothing.
+    /// What is to be done at an event, in order. A start is kept from when it is asked for until
+    /// its program fails, or [`START_TIMEOUT`](crate::START_TIMEOUT) has passed; an event of one
+    /// that is not kept brings nothing.
     ///
     /// # Errors
     ///

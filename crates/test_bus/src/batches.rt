@@ -22,7 +22,8 @@ fn batch_of(alloc: Global, deeds: &[Deed<'_>]) -> Result<Vec<Change>, AllocError
     Ok(changes)
 }
 
-/// What the changes of a batch are told. A batch that is refused is made once more; till then the bus is as it was.
+/// What the changes of a batch are told. A batch that is refused is made once more; till then the
+/// bus is as it was.
 fn told_all(bus: &mut SeqBus, changes: Vec<Change>) -> Option<Vec<Outcome>> {
     let length = bus.history().len();
     let count = changes.len();
@@ -147,8 +148,8 @@ fn batches_have_1_to_64_changes(rt: HostRuntime) {
     drop(bus);
 }
 
-/// A router of eight has 32 slots, so of 63 that say Hello 32 come. The others are told of the limit, and then the first adds
-/// a rule.
+/// A router of eight has 32 slots, so of 63 that say Hello 32 come. The others are told of the
+/// limit, and then the first adds a rule.
 fn is_told_of_limits(place: u16, reply: Reply) -> bool {
     match place {
         0..32 => {
@@ -209,8 +210,8 @@ fn request(name: BusName) -> Change {
     }
 }
 
-/// A connection comes, a call of it waits for the clock and one for the lamp, and it takes the lamp's name and then the
-/// clock's.
+/// A connection comes, a call of it waits for the clock and one for the lamp, and it takes the
+/// lamp's name and then the clock's.
 fn waiting(alloc: Global) -> Result<Vec<Change>, AllocError> {
     let (Ok(clock), Ok(lamp)) = (BusName::parse(CLOCK), BusName::parse(LAMP)) else {
         return Err(AllocError);

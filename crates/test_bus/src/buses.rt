@@ -14,7 +14,8 @@ use test_support::once_more;
 /// The code of a change that was refused for want of memory.
 pub const NO_MEMORY: u8 = 60;
 
-/// A change. A connection stands as its number, a name and a rule as their texts, and flags as in a message.
+/// A change. A connection stands as its number, a name and a rule as their texts, and flags as in a
+/// message.
 #[derive(Clone, Copy)]
 pub enum Deed<'a> {
     Hello,
@@ -58,10 +59,12 @@ pub trait Bus {
     /// Makes a change. One that is refused has the code of its cause; one that is none has 0.
     fn make(&mut self, deed: Deed<'_>) -> Result<Told, u8>;
 
-    /// Whether a name has this owner, and GetNameOwner is answered this body: none where the name has no owner.
+    /// Whether a name has this owner, and GetNameOwner is answered this body: none where the name
+    /// has no owner.
     fn has_owner(&mut self, name: BusName, owner: Option<u64>, body: &[u8]) -> bool;
 
-    /// Whether these connections own a name and wait for it, and ListQueuedOwners is answered this body.
+    /// Whether these connections own a name and wait for it, and ListQueuedOwners is answered this
+    /// body.
     fn has_queue(&mut self, name: BusName, queue: &[u64], body: &[u8]) -> bool;
 
     /// Where a message of a connection goes.
@@ -92,8 +95,8 @@ impl Plain {
         }
     }
 
-    /// Whether a query is answered this body, which is empty where the name has no owner. Asked once more where one
-    /// allocation failed; then nothing was appended.
+    /// Whether a query is answered this body, which is empty where the name has no owner. Asked
+    /// once more where one allocation failed; then nothing was appended.
     pub fn answers(&mut self, query: &Query, expected: &[u8]) -> bool {
         let mut body = Vec::new(self.alloc);
         let asked = match self.bus.ask(query, &mut body) {

@@ -1,6 +1,6 @@
-//! Runs of the bus, whose outcomes are worked out by hand: queues of owners, tables of names, the plain bus, its view and
-//! the registry. Each holds too where any one allocation fails: what was refused is tried once more, as if it had not
-//! been tried.
+//! Runs of the bus, whose outcomes are worked out by hand: queues of owners, tables of names, the
+//! plain bus, its view and the registry. Each holds too where any one allocation fails: what was
+//! refused is tried once more, as if it had not been tried.
 #![tactic(auto)]
 
 #[cfg(test)]

@@ -1,4 +1,5 @@
-//! Changes that are prepared and made by one call, beside those that are prepared and then absorbed.
+//! Changes that are prepared and made by one call, beside those that are prepared and then
+//! absorbed.
 
 ghost use Rattle.seq_bus_core.specs.Histories.{CanOpen};
 
@@ -21,7 +22,8 @@ const CALL: CallHead = CallHead {
     flags: 0,
 };
 
-/// What a change is told: its reply, the start that it asks for, the tickets that it settles, and how many signals it has.
+/// What a change is told: its reply, the start that it asks for, the tickets that it settles, and
+/// how many signals it has.
 type Told = (Reply, Option<u64>, &'static [SettledNumber], usize);
 
 /// Changes of all kinds, in order, and what each is told.
@@ -130,7 +132,8 @@ fn is_told(outcome: &NumberedOutcome, told: &Told) -> bool {
         && outcome.signals.as_slice().len() == signals
 }
 
-/// A registry whose changes are prepared and then absorbed, and one whose changes are made by one call.
+/// A registry whose changes are prepared and then absorbed, and one whose changes are made by one
+/// call.
 #[derive(Drop)]
 struct Both {
     absorbing: Registry,

@@ -32,7 +32,8 @@ fn welcomes(seated: &mut Seated, privileged: bool, conn: Conn) -> bool {
     }
 }
 
-/// Whether a connection that would become a monitor with these rules has this reply, and these signals.
+/// Whether a connection that would become a monitor with these rules has this reply, and these
+/// signals.
 fn becomes(
     seated: &mut Seated,
     connection: u64,
@@ -87,8 +88,8 @@ const B: &str = "com.example.b";
 
 const OWNERS: &str = "member='NameOwnerChanged'";
 
-/// What the first is told when it becomes a monitor. It is shown what others get, by no rules, and not once more what
-/// it gets.
+/// What the first is told when it becomes a monitor. It is shown what others get, by no rules, and
+/// not once more what it gets.
 const GIVEN_UP: [Shown; 7] = [
     (Signal::Lost(A, 1), &[FIRST], &[]),
     (Signal::Passed(A, Some(1), Some(2)), &[THIRD], &[FIRST]),

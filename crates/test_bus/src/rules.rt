@@ -50,8 +50,8 @@ fn rules_of_one_connection(rt: HostRuntime) {
     drop(seated);
 }
 
-/// So many rules are taken out, one by one and with a connection that leaves, that those that are left close ranks; then
-/// some more are taken out and added.
+/// So many rules are taken out, one by one and with a connection that leaves, that those that are
+/// left close ranks; then some more are taken out and added.
 const TAKEN_OUT: [(Deed<'static>, usize); 9] = [
     (Deed::Remove(1, B), 12),
     (Deed::Remove(1, D), 12),

@@ -416,7 +416,8 @@ const RUNS: [Run; 12] = [
     },
 ];
 
-/// Who would replace an owner that does not allow it: by the first profile it waits last, and keeps its place.
+/// Who would replace an owner that does not allow it: by the first profile it waits last, and keeps
+/// its place.
 const REPLACERS_WAIT_LAST: Run = Run {
     name: "who would replace waits last",
     rows: &[

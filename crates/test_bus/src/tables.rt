@@ -11,7 +11,8 @@ fn owner_of(registry: &Registry, text: &str) -> Option<u64> {
     registry.owner(&BusName::parse(text).ok()?)
 }
 
-/// Whether these names have an owner, with these owners, and no others, in this order; and one more has none.
+/// Whether these names have an owner, with these owners, and no others, in this order; and one more
+/// has none.
 fn are_owned(registry: &Registry, expected: &[(&str, u64)], free: &str) -> bool {
     let entries = registry.names();
     entries.len() == expected.len()

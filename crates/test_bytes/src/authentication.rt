@@ -22,8 +22,8 @@ enum End {
     Closed(u8),
 }
 
-/// Speaks to a server whose user's cookie is that of the line `5 1700000000 c0ffee`, and whose challenge are the bytes 0 to 15, in
-/// pieces of this length.
+/// Speaks to a server whose user's cookie is that of the line `5 1700000000 c0ffee`, and whose
+/// challenge are the bytes 0 to 15, in pieces of this length.
 fn speak(
     alloc: Global,
     user: &str,
@@ -69,7 +69,8 @@ fn feed(
     Ok(())
 }
 
-/// `talk | USER | anonymous or not | BYTES`: what the server sends, and how the conversation stands, in one piece and byte by byte.
+/// `talk | USER | anonymous or not | BYTES`: what the server sends, and how the conversation
+/// stands, in one piece and byte by byte.
 fn talk(
     alloc: Global,
     user: &str,
@@ -99,8 +100,8 @@ fn letters(alloc: Global, number: u64) -> Result<String, AllocError> {
     talk(alloc, "alice", false, &text)
 }
 
-/// `talk`, `letters`; `digest | CHALLENGE | CLIENT | COOKIE`: what shows that a client knows the cookie; `sha1 | BYTES`: the hash that
-/// it stands on.
+/// `talk`, `letters`; `digest | CHALLENGE | CLIENT | COOKIE`: what shows that a client knows the
+/// cookie; `sha1 | BYTES`: the hash that it stands on.
 pub fn authentication(alloc: Global, row: &Row<'_>) -> Result<String, AllocError> {
     match row.text(0) {
         "talk" => talk(

@@ -8,8 +8,9 @@ use test_support::Row;
 /// What stands in the output before anything is written.
 const BEFORE: u8 = 255;
 
-/// `body | ORDER | OFFSET | SIGNATURE | BYTES`: what the bytes are read as, or the fault's number, and how many of them; whether
-/// these are written again; and what a check of the bytes says. `values | ..`: the same, with the values in full.
+/// `body | ORDER | OFFSET | SIGNATURE | BYTES`: what the bytes are read as, or the fault's number,
+/// and how many of them; whether these are written again; and what a check of the bytes says.
+/// `values | ..`: the same, with the values in full.
 pub fn body(alloc: Global, row: &Row<'_>) -> Result<String, AllocError> {
     let bytes = row.bytes(alloc, 4)?;
     let read = read(alloc, row, &bytes)?;
@@ -90,7 +91,8 @@ fn written(alloc: Global, row: &Row<'_>, values: &[Value]) -> Result<Vec<u8>, Al
     }
 }
 
-/// `arguments | ORDER | OFFSET | SIGNATURE | BYTES`: the arguments in a body; and those in it when it was checked.
+/// `arguments | ORDER | OFFSET | SIGNATURE | BYTES`: the arguments in a body; and those in it when
+/// it was checked.
 pub fn arguments(alloc: Global, row: &Row<'_>) -> Result<String, AllocError> {
     let bytes = row.bytes(alloc, 4)?;
     let mut text = String::new(alloc);

@@ -1,7 +1,8 @@
-//! What the libraries of names, match rules, signatures, bodies, values and authentication say of the rows of a table.
+//! What the libraries of names, match rules, signatures, bodies, values and authentication say of
+//! the rows of a table.
 //!
-//! A row is a line of standard input: what is asked, and then its columns, as [`test_support::Row`] has them. The line of the
-//! same number answers it. Empty lines and headings are repeated.
+//! A row is a line of standard input: what is asked, and then its columns, as [`test_support::Row`]
+//! has them. The line of the same number answers it. Empty lines and headings are repeated.
 #![tactic(auto)]
 
 mod authentication;

@@ -22,9 +22,9 @@ fn told(alloc: Global, fault: NameFault) -> Result<String, AllocError> {
     format!(in alloc; "{}: {fault}", fault.code())
 }
 
-/// `KIND | TEXT`: the text as a name of a kind. `namespace | TEXT`: whether it is one.
-/// `connection | NUMBER`, `padded | NUMBER`: the unique name of a connection; `given | NUMBER`: in the room that it needs.
-/// `order | A | B`: two bus names compared.
+/// `KIND | TEXT`: the text as a name of a kind. `namespace | TEXT`: whether it is one. `connection
+/// | NUMBER`, `padded | NUMBER`: the unique name of a connection; `given | NUMBER`: in the room
+/// that it needs. `order | A | B`: two bus names compared.
 pub fn name(alloc: Global, row: &Row<'_>) -> Result<String, AllocError> {
     let bytes = row.bytes(alloc, 1)?;
     let told = match str::from_utf8(&bytes) {

@@ -32,8 +32,9 @@ impl Owners for OwnedBy {
     }
 }
 
-/// `rule | TEXT`: the text as a rule. `same | A | B`: whether two texts are one rule. `kind | NUMBER`: a type of messages.
-/// `fits | TEXT ..`: whether a rule fits a message. `no-keys`: the rule without keys.
+/// `rule | TEXT`: the text as a rule. `same | A | B`: whether two texts are one rule. `kind |
+/// NUMBER`: a type of messages. `fits | TEXT ..`: whether a rule fits a message. `no-keys`: the
+/// rule without keys.
 pub fn rule(alloc: Global, row: &Row<'_>) -> Result<String, AllocError> {
     if row.text(0) == "kind" {
         return kind(alloc, row.number(1));
@@ -67,8 +68,8 @@ fn shown(alloc: Global, rule: &Rule) -> Result<String, AllocError> {
     )
 }
 
-/// Behind the rule's text the row has the owner of `com.example.A`, and the message's type, sender, path and destination, and its
-/// arguments: `s` and a string, `o` and an object path, or another.
+/// Behind the rule's text the row has the owner of `com.example.A`, and the message's type, sender,
+/// path and destination, and its arguments: `s` and a string, `o` and an object path, or another.
 fn fits(alloc: Global, rule: &Rule, row: &Row<'_>) -> Result<String, AllocError> {
     let arguments = arguments(row);
     let facts = Facts {

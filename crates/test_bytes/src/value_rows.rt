@@ -6,8 +6,9 @@ use std::alloc::{AllocError, Global};
 use std::str;
 use test_support::{Escaped, Row};
 
-/// `string | TEXT`: a text as a value and as a basic value. `object | TEXT`: an object path as a value. `print`: a value of every type,
-/// shown. `write | WHAT | COUNT`: the bytes that a value is written as, behind a byte that stands there; or its fault.
+/// `string | TEXT`: a text as a value and as a basic value. `object | TEXT`: an object path as a
+/// value. `print`: a value of every type, shown. `write | WHAT | COUNT`: the bytes that a value is
+/// written as, behind a byte that stands there; or its fault.
 pub fn value(alloc: Global, row: &Row<'_>) -> Result<String, AllocError> {
     let made = match row.text(0) {
         "string" => string(alloc, row),

@@ -14,9 +14,10 @@ use seq_bus_core::{BusSignal, ErrorKind};
 use std::alloc::{AllocError, Global};
 use test_support::{Escaped, Row};
 
-/// `call | INTERFACE | MEMBER | SIGNATURE | BODY`: the method that is called, or the error; and whether the call is to the bus, expects
-/// a reply, and is Hello. `reply | SERIAL | CALLER | CALL | BODY ..`, `error-reply | SERIAL | CALLER | CALL`,
-/// `signal | SERIAL | MEMBER | NAME | OLD OWNER | NEW OWNER`: the bytes of a message of the bus.
+/// `call | INTERFACE | MEMBER | SIGNATURE | BODY`: the method that is called, or the error; and
+/// whether the call is to the bus, expects a reply, and is Hello. `reply | SERIAL | CALLER | CALL |
+/// BODY ..`, `error-reply | SERIAL | CALLER | CALL`, `signal | SERIAL | MEMBER | NAME | OLD OWNER |
+/// NEW OWNER`: the bytes of a message of the bus.
 pub fn driver(alloc: Global, row: &Row<'_>) -> Result<String, FrameFault> {
     let mut output = Vec::new(alloc);
     match row.text(0) {

@@ -7,8 +7,8 @@ use names::{BusName, ErrorName, Interface, Member, ObjectPath};
 use std::alloc::Global;
 use test_support::{Escaped, Row};
 
-/// `body | ORDER | TYPE | FLAGS | SERIAL | SIGNATURE | BODY ..`: the bytes of the message that a header and the bytes of a body make.
-/// `values | ..`: the same of a header and values.
+/// `body | ORDER | TYPE | FLAGS | SERIAL | SIGNATURE | BODY ..`: the bytes of the message that a
+/// header and the bytes of a body make. `values | ..`: the same of a header and values.
 pub fn made(alloc: Global, row: &Row<'_>) -> Result<String, FrameFault> {
     let header = header(row);
     let message = if row.text(0) == "body" {

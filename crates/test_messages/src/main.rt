@@ -1,8 +1,9 @@
-//! What the libraries of messages, of their relaying and of the bus's own protocol say of the rows of a table.
+//! What the libraries of messages, of their relaying and of the bus's own protocol say of the rows
+//! of a table.
 //!
-//! A row is a line of standard input: what is asked, and then its columns, as [`test_support::Row`] has them. Rows `message` and
-//! `stream` bring bytes, and rows below may ask more of these. The line of the same number answers. Empty lines and headings are
-//! repeated.
+//! A row is a line of standard input: what is asked, and then its columns, as [`test_support::Row`]
+//! has them. Rows `message` and `stream` bring bytes, and rows below may ask more of these. The
+//! line of the same number answers. Empty lines and headings are repeated.
 #![tactic(auto)]
 
 mod driver_rows;

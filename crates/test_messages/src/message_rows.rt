@@ -17,8 +17,8 @@ pub fn only(alloc: Global, bytes: &[u8]) -> Result<Option<Message>, FrameFault> 
     Ok(None)
 }
 
-/// `message | BYTES`: the message in full, and whether its bytes are these. `shown`: the lines that show it.
-/// `fields`: the code of each header field and where it lies. `arguments`: its arguments.
+/// `message | BYTES`: the message in full, and whether its bytes are these. `shown`: the lines that
+/// show it. `fields`: the code of each header field and where it lies. `arguments`: its arguments.
 /// `rebuilt`: whether its arguments make the same signature and body.
 pub fn message(alloc: Global, row: &Row<'_>, bytes: &[u8]) -> Result<String, FrameFault> {
     let Some(message) = only(alloc, bytes)? else {

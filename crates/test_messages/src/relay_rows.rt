@@ -10,9 +10,9 @@ use names::{ConnectionName, UniqueName};
 use std::alloc::Global;
 use test_support::{Escaped, Row};
 
-/// `again`: the bytes that the message is written as. `relayed`: the same behind what stands there, as from `:1.1`, and its length;
-/// `named`: the same, as from a unique name.
-/// `facts`: what rules and routing see of the message.
+/// `again`: the bytes that the message is written as. `relayed`: the same behind what stands there,
+/// as from `:1.1`, and its length; `named`: the same, as from a unique name. `facts`: what rules
+/// and routing see of the message.
 pub fn relayed(alloc: Global, row: &Row<'_>, bytes: &[u8]) -> Result<String, FrameFault> {
     let Some(message) = only(alloc, bytes)? else {
         return Ok(String::from_str(alloc, "no message")?);

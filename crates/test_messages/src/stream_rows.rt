@@ -6,10 +6,13 @@ use std::alloc::{AllocError, Global};
 use test_support::Row;
 use test_support::messages::HELLO;
 
-/// `stream | BYTES | CUT`: the lengths of the messages where the bytes come in two owned pieces, and whether these are the bytes.
-/// `pieces`: whether the message comes with its last byte, where each is a piece. `cuts`: whether it comes wherever it is cut, and
-/// whether, with any one byte 0 or 255, it is told to be the same wherever it is cut. `long | LENGTH | BYTES | BYTE | BYTES`: the lengths of
-/// a body and of a message with one byte again and again between others, whether these are its bytes, and what relaying it says. `byte | PLACE | BYTE`: the fault where one byte is another, and whether it is told again.
+/// `stream | BYTES | CUT`: the lengths of the messages where the bytes come in two owned pieces,
+/// and whether these are the bytes. `pieces`: whether the message comes with its last byte, where
+/// each is a piece. `cuts`: whether it comes wherever it is cut, and whether, with any one byte 0
+/// or 255, it is told to be the same wherever it is cut. `long | LENGTH | BYTES | BYTE | BYTES`:
+/// the lengths of a body and of a message with one byte again and again between others, whether
+/// these are its bytes, and what relaying it says. `byte | PLACE | BYTE`: the fault where one byte
+/// is another, and whether it is told again.
 pub fn stream(alloc: Global, row: &Row<'_>, bytes: &[u8]) -> Result<String, FrameFault> {
     let mut framer = Framer::new(alloc);
     let told = told(alloc, &mut framer, row, bytes);
@@ -104,7 +107,8 @@ fn pieces(alloc: Global, framer: &mut Framer, bytes: &[u8]) -> Result<String, Fr
     Ok(format!(in alloc; "{is_same}")?)
 }
 
-/// What a framer answers to bytes that come in two pieces: whether there is a message, or the fault.
+/// What a framer answers to bytes that come in two pieces: whether there is a message, or the
+/// fault.
 fn cut_at(alloc: Global, bytes: &[u8], cut: usize) -> Result<Result<bool, FrameFault>, AllocError> {
     let (front, rest) = split(bytes, cut);
     let mut framer = Framer::new(alloc);

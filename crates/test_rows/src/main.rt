@@ -1,6 +1,6 @@
-//! Worked runs of a message bus, computed from the definitions of `seq_bus_core`. Each function of a run does nothing:
-//! what it ensures is the run. The program goes through them, makes one by calls, and makes once each what takes
-//! memory.
+//! Worked runs of a message bus, computed from the definitions of `seq_bus_core`. Each function of
+//! a run does nothing: what it ensures is the run. The program goes through them, makes one by
+//! calls, and makes once each what takes memory.
 #![tactic(auto)]
 
 mod limits;

@@ -22,7 +22,8 @@ fn acquired(alloc: Global, owner: u64) -> Result<AddressedSignal, AllocError> {
     AddressedSignal::new(alloc, signal, &[at(owner)], &[])
 }
 
-/// How many of three signals to one recipient each are there, first where they stand, then handed out.
+/// How many of three signals to one recipient each are there, first where they stand, then handed
+/// out.
 pub fn signals(alloc: Global) -> Result<(usize, usize), AllocError> {
     let mut signals = Signals::new(alloc);
     for owner in 1..4 {
@@ -50,8 +51,8 @@ pub fn recipients() -> bool {
         && recipients.as_slice() == [at(1), at(3), at(5)].as_slice()
 }
 
-/// How many bytes the message of a ticket has, how many tickets an outcome has, and how many numbers of tickets there
-/// are.
+/// How many bytes the message of a ticket has, how many tickets an outcome has, and how many
+/// numbers of tickets there are.
 pub fn tickets(alloc: Global) -> Result<(usize, usize, usize), AllocError> {
     let message = SharedBytes::new(Arc::new(alloc, vec![in alloc; 108, 1, 0, 1]?)?);
     let length = message.as_slice().len();

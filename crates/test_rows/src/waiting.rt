@@ -20,7 +20,8 @@ fn connections(queue: &Queue) -> [u64; 3] {
     }
 }
 
-/// The first owns the name, the second waits, the third would replace the first; then the second would.
+/// The first owns the name, the second waits, the third would replace the first; then the second
+/// would.
 pub fn replacers(profile: Profile) -> Run {
     let mut queue = Queue::new();
     let owner = request(&mut queue, 1, 0, profile);

@@ -1,5 +1,6 @@
-//! Clients of a bus over real sockets. The program starts itself as a daemon, a process of its own, and plays two clients of
-//! it; further scenes it plays over buses that a thread of its own serves. It tells how each went.
+//! Clients of a bus over real sockets. The program starts itself as a daemon, a process of its own,
+//! and plays two clients of it; further scenes it plays over buses that a thread of its own serves.
+//! It tells how each went.
 #![tactic(auto)]
 
 mod client;

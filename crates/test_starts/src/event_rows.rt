@@ -56,8 +56,8 @@ pub fn due(alloc: Global, supervisor: &Supervisor) -> Result<String, AllocError>
     }
 }
 
-/// `asked | START | NAME`, `ran | START`, `not-run | START`, `exited | START | STATUS`, `killed | START`, `tick | NOW`: what is to be
-/// done, or `nothing`.
+/// `asked | START | NAME`, `ran | START`, `not-run | START`, `exited | START | STATUS`, `killed |
+/// START`, `tick | NOW`: what is to be done, or `nothing`.
 pub fn event(
     alloc: Global,
     row: &Row<'_>,

@@ -27,7 +27,8 @@ fn code_of(alloc: Global, file: &[u8]) -> Result<String, AllocError> {
     }
 }
 
-/// The codes of the beginnings of a file, from the empty one on, each with how often it comes in a row.
+/// The codes of the beginnings of a file, from the empty one on, each with how often it comes in a
+/// row.
 fn beginnings(alloc: Global, file: &[u8]) -> Result<String, AllocError> {
     let mut text = String::new(alloc);
     let mut before = String::new(alloc);
@@ -113,7 +114,8 @@ fn long(alloc: Global, file: &[u8], length: u64) -> Result<String, AllocError> {
     code_of(alloc, &longer)
 }
 
-/// Rows that change the file of the last row `file`: `beginnings`, `left-out`, `doubled`, `cut` and `first` of each line, `long | LENGTH`.
+/// Rows that change the file of the last row `file`: `beginnings`, `left-out`, `doubled`, `cut` and
+/// `first` of each line, `long | LENGTH`.
 pub fn changed(alloc: Global, row: &Row<'_>, file: &[u8]) -> Result<String, AllocError> {
     match row.text(0) {
         "beginnings" => beginnings(alloc, file),

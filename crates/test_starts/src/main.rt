@@ -1,8 +1,9 @@
 //! What service files say, and what is done about started programs, of the rows of a table.
 //!
-//! A row is a line of standard input: what is asked, and then its columns, as [`test_support::Row`] has them. A row `file` brings the
-//! bytes that rows below change, a row `supervisor` a supervisor that rows below tell of events. The line of the same number
-//! answers it. Empty lines and headings are repeated.
+//! A row is a line of standard input: what is asked, and then its columns, as [`test_support::Row`]
+//! has them. A row `file` brings the bytes that rows below change, a row `supervisor` a supervisor
+//! that rows below tell of events. The line of the same number answers it. Empty lines and headings
+//! are repeated.
 #![tactic(auto)]
 
 mod event_rows;

@@ -63,8 +63,8 @@ fn is_supervised(alloc: Global) -> Result<bool, AllocError> {
     )
 }
 
-/// Whether both answer as they should, at the second try where memory was refused at the first: a refused call of the supervisor
-/// has changed nothing.
+/// Whether both answer as they should, at the second try where memory was refused at the first: a
+/// refused call of the supervisor has changed nothing.
 pub fn is_answered(alloc: Global) -> bool {
     let is_read = match is_read(alloc) {
         Ok(is_right) => is_right,

@@ -1,6 +1,7 @@
 //! The second try.
 
-/// What a call makes, which is made once more where the first try is refused, as it is where one allocation fails.
+/// What a call makes, which is made once more where the first try is refused, as it is where one
+/// allocation fails.
 #[macro_export]
 macro_rules! once_more {
     ($rt:expr; $call:expr) => {

@@ -3,7 +3,8 @@
 use std::alloc::{AllocError, Global};
 use std::fmt;
 
-/// A line of a table, in its columns, with ` | ` between them. A column `-` is empty, and so is one that isn't there.
+/// A line of a table, in its columns, with ` | ` between them. A column `-` is empty, and so is one
+/// that isn't there.
 #[derive(Drop)]
 pub struct Row<'a> {
     /// The columns as they stand in the line.
@@ -45,8 +46,8 @@ enum Escape {
     Low(u8),
 }
 
-/// The bytes of a text in which `\0`, `\n` and `\x` before two hexadecimal digits are single bytes, and a backslash before any
-/// other byte stands for that byte.
+/// The bytes of a text in which `\0`, `\n` and `\x` before two hexadecimal digits are single bytes,
+/// and a backslash before any other byte stands for that byte.
 pub fn unescaped(alloc: Global, text: &str) -> Result<Vec<u8>, AllocError> {
     let mut bytes = Vec::new(alloc);
     let mut escape = Escape::None;

@@ -154,8 +154,8 @@ fn hears<L: Ledger>(blank: Blank, tally: &Tally<'_>, wanted: &[u64]) -> bool
     tally.hear(&OwnedBy(1), wanted, &mut steps)
 }
 
-/// 255 rules each of the connections 1 to 16, which want one member and each a first argument of its own, and 16 rules
-/// of the connection 17, which want another member of an interface.
+/// 255 rules each of the connections 1 to 16, which want one member and each a first argument of
+/// its own, and 16 rules of the connection 17, which want another member of an interface.
 fn fill(rt: &impl Abort, alloc: Global, tally: &mut Tally<'_>) {
     for number in 0..4080 {
         let text = once_more!(rt; format!(in alloc; "member='M',arg0='{number}'"));
@@ -166,7 +166,8 @@ fn fill(rt: &impl Abort, alloc: Global, tally: &mut Tally<'_>) {
     }
 }
 
-/// Of 4,096 rules a signal of the member of the last connection is tested by 16 at most, and by none where it has another interface.
+/// Of 4,096 rules a signal of the member of the last connection is tested by 16 at most, and by
+/// none where it has another interface.
 #[test]
 fn few_are_tested(rt: HostRuntime) {
     let alloc = rt.alloc();
@@ -196,7 +197,8 @@ const RULES: [(u64, &str); 9] = [
     ),
 ];
 
-/// Who hears the signal of a clock: from which sender, with `com.example.A` of which owner, and of which interface and member.
+/// Who hears the signal of a clock: from which sender, with `com.example.A` of which owner, and of
+/// which interface and member.
 const HEARD: [(u64, u64, Option<&str>, Option<&str>, &[u64]); 5] = [
     (
         0,
@@ -241,7 +243,8 @@ fn buckets(rt: HostRuntime) {
     drop(listeners);
 }
 
-/// 250 rules each of the connections 1 to 16. All want one member, and each wants a first argument of its own.
+/// 250 rules each of the connections 1 to 16. All want one member, and each wants a first argument
+/// of its own.
 #[test]
 fn first_arguments(rt: HostRuntime) {
     let alloc = rt.alloc();
@@ -298,7 +301,8 @@ fn long_first_arguments(rt: HostRuntime) {
     drop(listeners);
 }
 
-/// Once a connection is found, its other rules change nothing, and those of others are still looked at.
+/// Once a connection is found, its other rules change nothing, and those of others are still looked
+/// at.
 #[test]
 fn many_of_one(rt: HostRuntime) {
     let mut listeners = new(&rt, rt.alloc());

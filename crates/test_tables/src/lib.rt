@@ -1,5 +1,6 @@
-//! Tables of the bus, played call by call, whose answers are worked out by hand. Each run holds too where any one
-//! allocation fails: what was refused is tried once more, as if it had not been tried.
+//! Tables of the bus, played call by call, whose answers are worked out by hand. Each run holds too
+//! where any one allocation fails: what was refused is tried once more, as if it had not been
+//! tried.
 #![tactic(auto)]
 
 #[cfg(test)]

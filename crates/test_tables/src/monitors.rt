@@ -109,7 +109,8 @@ fn copies_have_their_rules(rt: HostRuntime) {
     assert!(rt; copy.as_slice().len() == 2 && monitors.as_slice().len() == 3);
 }
 
-/// A table with as many monitors as it takes, of which each has as many rules as it may. The last fits.
+/// A table with as many monitors as it takes, of which each has as many rules as it may. The last
+/// fits.
 fn full(rt: &impl Abort, alloc: Global) -> Result<Monitors, AllocError> {
     let mut texts = [FITS_NOT; MonitorRules::MAX];
     texts[MonitorRules::MAX - 1] = FITS;

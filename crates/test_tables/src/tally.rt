@@ -12,8 +12,8 @@ use std::alloc::{AllocError, Global};
 use std::marker::Model;
 use std::sync::ledger::Ledger;
 
-/// An index, a message, and how many rules of the index the message is tested by at most: those that name no other
-/// member and no other interface.
+/// An index, a message, and how many rules of the index the message is tested by at most: those
+/// that name no other member and no other interface.
 #[derive(Drop)]
 pub struct Tally<'a> {
     listeners: Listeners,
@@ -66,7 +66,8 @@ impl<'a> Tally<'a> {
         self.listeners.add_rule(connection, rule)
     }
 
-    /// Whether these connections have a rule that fits the message, and no others. Each rule that is tested is a step.
+    /// Whether these connections have a rule that fits the message, and no others. Each rule that
+    /// is tested is a step.
     pub fn hear<O: Owners, L: Ledger>(
         &self,
         owners: &O,
@@ -79,7 +80,8 @@ impl<'a> Tally<'a> {
     }
 }
 
-/// How often a message is tested by a rule at most: never where the rule names another member or another interface.
+/// How often a message is tested by a rule at most: never where the rule names another member or
+/// another interface.
 fn tests_by(rule: &Rule, facts: &Facts<'_>) -> usize
     ensures { (if is_near facts.now rule.now then 1 else 0) ≤ result }
 {

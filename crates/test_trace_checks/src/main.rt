@@ -1,10 +1,11 @@
 //! Verdicts on traces.
 //!
-//! Standard input has the lines of traces. A line `check` ends a trace and is answered by the verdict on it; a line
-//! `check cut` takes its last line feed away before, and a line `check each` makes each of its bytes in turn a `~`: each
-//! verdict is told with how many bytes in a row give it. Behind a no for its content stands what the bus tells there. A
-//! line `empty` stands for an empty line of the trace, and a line `services N` for so many lines that name services.
-//! Headings (`#`) and empty lines are repeated.
+//! Standard input has the lines of traces. A line `check` ends a trace and is answered by the
+//! verdict on it; a line `check cut` takes its last line feed away before, and a line `check each`
+//! makes each of its bytes in turn a `~`: each verdict is told with how many bytes in a row give
+//! it. Behind a no for its content stands what the bus tells there. A line `empty` stands for an
+//! empty line of the trace, and a line `services N` for so many lines that name services. Headings
+//! (`#`) and empty lines are repeated.
 #![tactic(auto)]
 
 use std::alloc::{AllocError, Global};
@@ -38,7 +39,8 @@ fn verdict_text(alloc: Global, file: &[u8]) -> Result<String, AllocError> {
     }
 }
 
-/// The verdicts on a file with each of its bytes in turn made a `~`, a line for those in a row that are the same.
+/// The verdicts on a file with each of its bytes in turn made a `~`, a line for those in a row that
+/// are the same.
 fn each_verdict_text(alloc: Global, file: &[u8]) -> Result<String, AllocError> {
     let mut text = String::new(alloc);
     let mut last = String::new(alloc);

@@ -1,8 +1,8 @@
 //! Lines of traces, read, played on a registry and written as a bus would.
 //!
-//! Each line of standard input is answered by one line: a line of a trace by the line that the bus would have written
-//! there, any other line by `none`. Changes are made in the order of the lines. A line `dbus-trace` begins another bus.
-//! Empty lines and headings (`#`) are repeated.
+//! Each line of standard input is answered by one line: a line of a trace by the line that the bus
+//! would have written there, any other line by `none`. Changes are made in the order of the lines.
+//! A line `dbus-trace` begins another bus. Empty lines and headings (`#`) are repeated.
 #![tactic(auto)]
 
 mod answers;

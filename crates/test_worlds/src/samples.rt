@@ -32,8 +32,8 @@ pub(crate) enum Deed<'a> {
     TimedOut(&'a str, u64),
 }
 
-/// The change that is meant. There is none for a text that is no name or no rule, and where there is
-/// no memory.
+/// The change that is meant. There is none for a text that is no name or no rule, and where there
+/// is no memory.
 fn change_of(alloc: Global, deed: Deed<'_>) -> Option<Change> {
     Some(match deed {
         Deed::Hello => Change::Hello { privileged: true },

@@ -9,8 +9,9 @@ use crate::walk::wrong;
 use std::alloc::{AllocError, Global};
 use traces::{Cause, Trace, Verdict};
 
-/// Checks a file. A yes says that it is a legal trace, and how many lines stand behind its head; a no names the least
-/// line of the first cause that has one. It takes memory, and steps one bus through the changes in order of place.
+/// Checks a file. A yes says that it is a legal trace, and how many lines stand behind its head; a
+/// no names the least line of the first cause that has one. It takes memory, and steps one bus
+/// through the changes in order of place.
 pub fn check(alloc: Global, file: &[u8]) -> Result<Verdict, AllocError>
     ensures verdict { IfOk result (λ verdict. verdict ≡ verdict_of_file file.now) }
     ensures yes { IfOk result (λ verdict. (lines : ℕ) →

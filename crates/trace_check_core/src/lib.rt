@@ -1,7 +1,7 @@
 //! The check of traces.
 //!
-//! [`check`] reads a file as a trace and steps one bus through its changes in order of place. It gives the verdict of
-//! `traces`: yes exactly where one history explains all that the file records.
+//! [`check`] reads a file as a trace and steps one bus through its changes in order of place. It
+//! gives the verdict of `traces`: yes exactly where one history explains all that the file records.
 //!
 //! ```
 //! use std::alloc::{AllocError, Global};

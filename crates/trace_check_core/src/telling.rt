@@ -12,8 +12,9 @@ use registry::Registry;
 use std::alloc::{AllocError, Global};
 use traces::{KeptLine, Place, Trace};
 
-/// What the bus tells where the line of this number stands, as it would stand behind the arrow. It says none where the
-/// file is no trace with a place for each change, or has no such line behind its head. It takes memory.
+/// What the bus tells where the line of this number stands, as it would stand behind the arrow. It
+/// says none where the file is no trace with a place for each change, or has no such line behind
+/// its head. It takes memory.
 pub fn told_at(alloc: Global, file: &[u8], number: u64) -> Result<Option<String>, AllocError>
     ensures { IfOk result (λ told.
         option_map (λ text. string_bytes text) told ≡ due_at file.now number) }

@@ -28,7 +28,8 @@ pub(crate) fn wrong(
     Ok(least)
 }
 
-/// Walks along the lines of a place: the least number of a line that is wrong, with this one that was found before.
+/// Walks along the lines of a place: the least number of a line that is wrong, with this one that
+/// was found before.
 fn walk_place(
     alloc: Global,
     registry: &mut Registry,

@@ -259,7 +259,8 @@ fn write_header(draft: &mut Draft, facts: &Facts<'_>) -> Result<(), AllocError>
     write_next(draft, facts.destination)
 }
 
-/// Writes what match rules and the choice of recipients look at in a message, which comes from this connection.
+/// Writes what match rules and the choice of recipients look at in a message, which comes from this
+/// connection.
 pub(crate) fn write_facts(draft: &mut Draft, from: u64, facts: &Facts<'_>) -> Result<(), AllocError>
     ensures { OnOk result (draft.new ≡ draft.old
         ++ facts_text (record facts.now { sender = from })) }

@@ -1,9 +1,10 @@
 //! The lines of a trace: what the routers of a bus record of each change, query and route.
 //!
-//! [`read_profile`], [`read_routers`] and [`read_service`] read the lines of its head, [`read_line`]
-//! any line behind them. [`profile_line`], [`routers_line`] and [`service_line`] write its head;
-//! [`ChangeWords::write_line`], [`write_query_line`] and [`write_route_line`] write the lines behind
-//! into a [`Draft`]. What lines read as what is defined in `specs/`, over what their words say; `specs/Texts.antt` says how each is written.
+//! [`read_profile`], [`read_routers`] and [`read_service`] read the lines of its head,
+//! [`read_line`] any line behind them. [`profile_line`], [`routers_line`] and [`service_line`]
+//! write its head; [`ChangeWords::write_line`], [`write_query_line`] and [`write_route_line`] write
+//! the lines behind into a [`Draft`]. What lines read as what is defined in `specs/`, over what
+//! their words say; `specs/Texts.antt` says how each is written.
 //!
 //! ```
 //! use std::alloc::{AllocError, Global};

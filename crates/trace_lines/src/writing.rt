@@ -83,8 +83,8 @@ impl ChangeWords {
         })
     }
 
-    /// Writes the line of the change, once it is made: its place in the history, its seat, its number among
-    /// the changes of that seat, and what it was told.
+    /// Writes the line of the change, once it is made: its place in the history, its seat, its
+    /// number among the changes of that seat, and what it was told.
     pub fn write_line(
         &self,
         line: &mut Draft,
@@ -155,7 +155,8 @@ pub fn verdict_text(alloc: Global, verdict: &Verdict) -> Result<String, AllocErr
     Ok(text.into_string())
 }
 
-/// Writes the line of a query, which saw the first changes up to a place: its seat and what it was answered.
+/// Writes the line of a query, which saw the first changes up to a place: its seat and what it was
+/// answered.
 pub fn write_query_line(
     line: &mut Draft,
     place: u64,
@@ -173,8 +174,9 @@ pub fn write_query_line(
     write_answer(line, answer)
 }
 
-/// Writes the line of a message from a connection, 0 being the bus, that was routed once the first changes up to
-/// a place were seen: its seat and where the message goes. The sender that the facts name is not looked at.
+/// Writes the line of a message from a connection, 0 being the bus, that was routed once the first
+/// changes up to a place were seen: its seat and where the message goes. The sender that the facts
+/// name is not looked at.
 pub fn write_route_line(
     line: &mut Draft,
     place: u64,

@@ -10,7 +10,8 @@ use std::alloc::{AllocError, Global};
 use std::marker::Model;
 use trace_lines::{Deed, Line, read_line};
 
-/// A line of a trace, kept as its text and by what tells where it stands. What else it tells is read anew.
+/// A line of a trace, kept as its text and by what tells where it stands. What else it tells is
+/// read anew.
 ///
 /// Contracts see what the line tells.
 #[derive(Drop)]
@@ -34,8 +35,8 @@ impl<'a> Model for KeptLine<'a> {
 }
 
 impl<'a> KeptLine<'a> {
-    /// Reads a line behind the head of a trace of a bus with so many routers. It says none where the text is no such
-    /// line.
+    /// Reads a line behind the head of a trace of a bus with so many routers. It says none where
+    /// the text is no such line.
     pub(crate) fn read(
         alloc: Global,
         routers: u8,

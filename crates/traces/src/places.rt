@@ -50,8 +50,8 @@ impl<'t> Place<'t> {
 }
 
 impl Trace<'_> {
-    /// The lines by their places, from 0 to the last change's; or the number of the first line that stands above all
-    /// changes, or is a change where another one stands.
+    /// The lines by their places, from 0 to the last change's; or the number of the first line that
+    /// stands above all changes, or is a change where another one stands.
     pub fn places(&self, alloc: Global) -> Result<Result<Vec<Place<'_>>, u64>, AllocError>
         ensures misplaced { IfOk result (λ found.
             IfErr found (λ number. misplaced self.now ≡ Some number)) }

@@ -27,7 +27,8 @@ fn utf8(bytes: &[u8]) -> Option<&str>
 }
 
 impl<'a> Trace<'a> {
-    /// Reads a file: the trace that it is, or the number of the first line, from 1, that has not the form of its place.
+    /// Reads a file: the trace that it is, or the number of the first line, from 1, that has not
+    /// the form of its place.
     pub fn read(alloc: Global, file: &'a [u8]) -> Result<Result<Trace<'a>, u64>, AllocError>
         ensures { IfOk result (λ read. result_map_both (λ t. t) (λ n. n) read ≡ trace_of file.now) }
     {
