@@ -10,14 +10,9 @@ ghost use Rattle.marshal_core.specs.Reading.{array_at, as_a, basic_at, decode_at
 use crate::basic::basic;
 use crate::fixed::{gap, number32, padding};
 use crate::text::variant_type;
+use marshal_core::limits::{MAX_ARRAY_LENGTH, MAX_CONTAINER_DEPTH};
 use marshal_core::{BasicType, BasicValue, DataType, MarshalFault, Order, Signature, Value};
 use std::alloc::Global;
-
-/// The most bytes that the elements of an array have.
-pub const MAX_ARRAY_LENGTH: usize = 67_108_864;
-
-/// The most containers about one another.
-pub const MAX_CONTAINER_DEPTH: u8 = 64;
 
 /// What dict entries are aligned to.
 pub const ENTRY_ALIGNMENT: usize = 8;

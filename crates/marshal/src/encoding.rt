@@ -14,11 +14,12 @@ ghost use Rattle.marshal_core.specs.Spelling.{after_length, alignment, ended, fi
 ghost use Rattle.marshal_core.specs.Faults.{Gives};
 ghost use Rattle.marshal.specs.Writing.{and_then, array_written, padded, string_fault, basic_written, elements_written, encode_at, fields_written, type_of, types_of_values, value_written, variant_type_written};
 
-use crate::decoding::{ENTRY_ALIGNMENT, MAX_ARRAY_LENGTH, MAX_CONTAINER_DEPTH, STRUCT_ALIGNMENT};
+use crate::decoding::{ENTRY_ALIGNMENT, STRUCT_ALIGNMENT};
 use crate::fixed::gap;
 use crate::text::any_zero;
 use crate::type_text::{type_code, type_codes, value_code, value_codes};
 use byteorder::{BigEndian, ByteOrder, LittleEndian};
+use marshal_core::limits::{MAX_ARRAY_LENGTH, MAX_CONTAINER_DEPTH};
 use marshal_core::{BasicType, BasicValue, DataType, MarshalFault, Order, Signature, Value};
 use names::ObjectPath;
 use std::alloc::{AllocError, Global};

@@ -6,9 +6,10 @@ ghost use Rattle.marshal_check.specs.SignatureTexts.{types_in};
 
 use crate::body_arguments::Argument;
 use crate::checked_text::checked_text;
-use crate::checking::{MAX_CONTAINER_DEPTH, value};
+use crate::checking::value;
 use crate::letters::skip_type;
 use crate::signature_text::Types;
+use marshal_core::limits::MAX_CONTAINER_DEPTH;
 use marshal_core::{MarshalFault, Order};
 
 /// The arguments that are left of a body which spells values of its types. Their texts are lent

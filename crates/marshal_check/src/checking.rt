@@ -14,10 +14,8 @@ use crate::basic::{basic, variant_text};
 use crate::letters::{alignment, at_end, free_element, skip_type};
 use crate::signature_text::Types;
 use marshal::parts::{array_bytes, padding};
+use marshal_core::limits::MAX_CONTAINER_DEPTH;
 use marshal_core::{BasicType, MarshalFault, Order};
-
-/// The most containers about one another.
-pub const MAX_CONTAINER_DEPTH: u8 = 64;
 
 /// What dict entries and structs are aligned to.
 const CONTAINER_ALIGNMENT: usize = 8;

@@ -9,8 +9,9 @@ ghost use Rattle.marshal_core.specs.Reading.{value_at};
 ghost use Rattle.marshal_check.specs.ArgumentViews.{Shows, seen};
 
 use crate::body_arguments::Argument;
-use crate::checking::{MAX_CONTAINER_DEPTH, value};
+use crate::checking::value;
 use marshal::parts;
+use marshal_core::limits::MAX_CONTAINER_DEPTH;
 use marshal_core::{MarshalFault, Order};
 
 /// The argument of the type that a text begins with, the place after it, and the bytes there.

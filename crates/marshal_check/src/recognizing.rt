@@ -6,16 +6,8 @@ ghost use Rattle.marshal_core.specs.Faults.{Tells};
 ghost use Rattle.marshal_check.specs.Checking.{Ends, Leaves};
 
 use crate::letters::at_end;
+use marshal_core::limits::{MAX_ARRAY_NESTING, MAX_SIGNATURE_LENGTH, MAX_STRUCT_NESTING};
 use marshal_core::{BasicType, MarshalFault};
-
-/// The longest text of a signature.
-const MAX_SIGNATURE_LENGTH: usize = 255;
-
-/// The deepest that arrays may stand in one another.
-const MAX_ARRAY_NESTING: u8 = 32;
-
-/// The deepest that structs may stand in one another.
-const MAX_STRUCT_NESTING: u8 = 32;
 
 /// The fault of a letter that is no type's.
 fn not_a_type(letter: u8) -> MarshalFault

@@ -25,6 +25,7 @@ mod conversions;
 mod data_type;
 mod fault;
 pub mod laws;
+pub mod limits;
 mod order;
 mod parsing;
 mod printing;

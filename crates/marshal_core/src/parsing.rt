@@ -7,16 +7,8 @@ ghost use Rattle.marshal_core.specs.Faults.{Gives, Tells};
 
 use crate::data_type::{BasicType, DataType};
 use crate::fault::MarshalFault;
+use crate::limits::{MAX_ARRAY_NESTING, MAX_SIGNATURE_LENGTH, MAX_STRUCT_NESTING};
 use std::alloc::Global;
-
-/// The longest text of a signature.
-const MAX_SIGNATURE_LENGTH: usize = 255;
-
-/// The deepest that arrays may stand in one another.
-const MAX_ARRAY_NESTING: u8 = 32;
-
-/// The deepest that structs may stand in one another.
-const MAX_STRUCT_NESTING: u8 = 32;
 
 /// The fault of a letter that is no type's.
 fn not_a_type(letter: u8) -> MarshalFault

@@ -6,10 +6,7 @@ ghost use Rattle.message.specs.Layout.{AreWithin, count_below as below, behind a
 
 use crate::fault::RelayFault;
 use message_core::in_room::gap;
-use message_core::{FIXED_LENGTH, FieldPlace, HeaderField};
-
-/// The longest field array, in bytes ("Marshaling (Wire Format)" of the D-Bus Specification).
-const MAXIMUM_FIELDS: usize = 67_108_864;
+use message_core::{FIXED_LENGTH, FieldPlace, HeaderField, MAXIMUM_FIELDS};
 
 /// The least code that the standard names no field of ("Header Fields").
 const FIRST_UNKNOWN: u8 = 10;

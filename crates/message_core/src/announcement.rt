@@ -7,6 +7,7 @@ ghost use Rattle.message_core.specs.Announcements.{announced, announced_in, numb
 use crate::fault::FrameFault;
 use byteorder::{BigEndian, ByteOrder, LittleEndian};
 use marshal_core::Order;
+use marshal_core::limits::MAX_ARRAY_LENGTH;
 
 /// The bytes before the elements of the field array.
 pub const FIXED_LENGTH: usize = 16;
@@ -14,8 +15,8 @@ pub const FIXED_LENGTH: usize = 16;
 /// The longest message that there is, in bytes ("Message Format" of the D-Bus Specification).
 pub const MAXIMUM_LENGTH: usize = 134_217_728;
 
-/// The longest field array, in bytes.
-const MAXIMUM_FIELDS: usize = 67_108_864;
+/// The longest field array, in bytes: as long as an array may be.
+pub const MAXIMUM_FIELDS: usize = MAX_ARRAY_LENGTH;
 
 /// The number in the four bytes at a place.
 pub fn number(order: Order, place: usize, bytes: &[u8]) -> u32

@@ -45,7 +45,7 @@ mod printing;
 mod reading;
 mod writing;
 
-pub use announcement::{FIXED_LENGTH, MAXIMUM_LENGTH, announced_length};
+pub use announcement::{FIXED_LENGTH, MAXIMUM_FIELDS, MAXIMUM_LENGTH, announced_length};
 pub use fault::{FaultCode, FrameFault};
 pub use field_place::FieldPlace;
 pub use header::{ALLOW_INTERACTIVE_AUTHORIZATION, Header, NO_AUTO_START, NO_REPLY_EXPECTED};

@@ -6,10 +6,11 @@ ghost use Rattle.outbox.specs.Lanes.{HasGiven, lanes_of, all_of, AreGrouped};
 use crate::{Lane, Tap, open_lanes};
 use outbox_core::Envelope;
 use registry_snapshots::{Naming, Note, Shared};
+use seq_bus_core::limits::MAX_CONNECTIONS;
 use std::alloc::{AllocError, Global};
 
 /// How many connections a bus has places for.
-const PLACES: usize = 256;
+const PLACES: usize = MAX_CONNECTIONS;
 
 /// What lies in the outboxes of a registry: messages on their way, each with a note of that
 /// registry.
@@ -31,8 +32,8 @@ impl Outboxes {
         alloc: Global,
         shared: &Shared<J>,
     ) -> Result<(Vec<Lane<EnvelopeOf<J>>>, Vec<Vec<Tap<EnvelopeOf<J>>>>), AllocError>
-        ensures routers { IfOk result (λ r.
-            AreGrouped J.opening.state.routers (256 / J.opening.state.routers) r.1.items) }
+        ensures routers { IfOk result (λ r. AreGrouped J.opening.state.routers
+            (MAX_CONNECTIONS / J.opening.state.routers) r.1.items) }
         ensures taps { IfOk result (λ r. All (HasGiven 9) (all_of r.1.items)) }
         ensures lanes { IfOk result (λ r. r.0.items
             ≡ lanes_of (J.opening.state.routers + 1) (all_of r.1.items)) }

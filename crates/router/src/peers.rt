@@ -12,11 +12,12 @@ use bus_view::BusView;
 use router_core::{Action, Gate};
 use router_steps::{Context, Peer, Stage};
 use sasl::Server;
+use seq_bus_core::limits::MAX_CONNECTIONS;
 use std::alloc::{AllocError, Global};
 use std::marker::Model;
 
 /// The bus gives slots below this.
-pub(crate) const SLOT_COUNT: usize = 256;
+pub(crate) const SLOT_COUNT: usize = MAX_CONNECTIONS;
 
 /// The connections by their keys, the numbers of those that left and whose Leave is not made yet,
 /// and what is at hand.

@@ -4,10 +4,11 @@ ghost use Rattle.std.specs.Prelude.{◌≡◌, slice_set, Some, IfSome, IfNone};
 ghost use Rattle.router_host_core.specs.Sockets.{IsTakenOut};
 
 use seq_bus_core::Conn;
+use seq_bus_core::limits::MAX_CONNECTIONS;
 use std::marker::Model;
 
-/// How many slots a bus has.
-pub const SLOTS: usize = 256;
+/// How many slots a bus has: one for each connection.
+pub const SLOTS: usize = MAX_CONNECTIONS;
 
 /// The connections that took no more mail, one of each slot at most. A slot whose connection is
 /// another was given to another since.
