@@ -7,8 +7,8 @@ ghost use Rattle.seq_bus_core.specs.Steps.{facts_of};
 
 use arrayvec::ArrayVec;
 use match_rules::{Argument, Facts, MessageKind};
-use names::ConnectionName;
-use seq_bus_core::{BusSignal, bus_path};
+use names::{BUS_NAME, BUS_PATH, ConnectionName};
+use seq_bus_core::BusSignal;
 
 /// The arguments of a signal of the bus, of which there are three at most.
 pub(crate) type SignalArguments<'a> = ArrayVec<Argument<'a>, 3>;
@@ -74,8 +74,8 @@ impl SignalNames {
             kind: MessageKind::Signal,
             auto_start: true,
             sender: 0,
-            path: Some(bus_path()),
-            interface: Some("org.freedesktop.DBus"),
+            path: Some(BUS_PATH),
+            interface: Some(BUS_NAME),
             member: Some(member_of(signal)),
             destination: self.destination(signal),
             arguments,

@@ -6,10 +6,8 @@ ghost use Rattle.seq_bus_core.specs.declared.verdict.VerdictKind.TheVariants.{Ab
 
 use crate::audience::Audience;
 use match_rules::{Facts, MessageKind, Owners};
+use names::BUS_NAME;
 use seq_bus_core::{Recipients, Verdict, VerdictKind};
-
-/// The name of the bus itself.
-const BUS: &str = "org.freedesktop.DBus";
 
 /// Where a message goes, and which monitors are shown it, told where nothing was told yet. Rules
 /// are looked at only where it goes to all that want it.
@@ -111,7 +109,7 @@ fn is_for_bus(facts: &Facts<'_>) -> bool
     ensures { result ≡ is_for_bus facts.now }
 {
     match facts.destination {
-        Some(name) => name == BUS,
+        Some(name) => name == BUS_NAME,
         None => is_call(facts.kind),
     }
 }

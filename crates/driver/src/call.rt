@@ -14,7 +14,7 @@ use crate::method::{Method, method_of};
 use marshal_core::Value;
 use match_rules::{MessageKind, Rule};
 use message_core::{Message, NO_REPLY_EXPECTED};
-use names::BusName;
+use names::{BUS_NAME, BusName};
 use owner_queues::RequestFlags;
 use seq_bus_core::MonitorRules;
 use std::alloc::Global;
@@ -45,7 +45,7 @@ pub fn is_call_to_bus(message: &Message) -> bool
     message.kind() == MessageKind::MethodCall
         && match message.destination() {
             None => true,
-            Some(destination) => destination == "org.freedesktop.DBus",
+            Some(destination) => destination == BUS_NAME,
         }
 }
 

@@ -17,10 +17,7 @@ ghost use Rattle.driver.specs.Layout.{end_fields, IsNamed};
 
 use marshal_core::Order;
 use message_core::{HeaderField, in_room};
-use names::ConnectionName;
-
-/// The name of the bus, which is that of its interface too.
-pub const BUS: &str = "org.freedesktop.DBus";
+use names::{BUS_NAME, BUS_PATH, ConnectionName};
 
 /// The most bytes of the header fields of a message of the bus.
 pub const ROOM: usize = 512;
@@ -78,7 +75,7 @@ pub fn put_path(fields: &mut Vec<u8>)
     ensures capacity { vec_capacity fields.old ≤ vec_capacity fields.new }
     ensures room { length fields.new.items ≤ length fields.old.items + 64 }
 {
-    put_text(fields, HeaderField::Path, b'o', "/org/freedesktop/DBus");
+    put_text(fields, HeaderField::Path, b'o', BUS_PATH);
 }
 
 pub fn put_reply_serial(fields: &mut Vec<u8>, serial: u32)
@@ -146,6 +143,6 @@ pub fn put_end(fields: &mut Vec<u8>, destination: Option<u64>, signature: &str)
     ensures room { length fields.new.items ≤ length fields.old.items + 339 }
 {
     put_destination(fields, destination);
-    put_string(fields, HeaderField::Sender, BUS);
+    put_string(fields, HeaderField::Sender, BUS_NAME);
     put_signature(fields, signature);
 }

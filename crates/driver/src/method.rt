@@ -8,9 +8,7 @@ ghost use Rattle.driver.specs.Methods.{interface_of, is_bus_interface, method_in
 
 use crate::fault::DriverFault;
 use message_core::Message;
-
-/// The interface of the bus.
-const BUS: &str = "org.freedesktop.DBus";
+use names::BUS_NAME;
 
 /// The interface of the bus for monitors.
 const MONITORING: &str = "org.freedesktop.DBus.Monitoring";
@@ -38,7 +36,7 @@ impl Method {
     {
         match self {
             Method::BecomeMonitor => MONITORING,
-            _ => BUS,
+            _ => BUS_NAME,
         }
     }
 
@@ -83,7 +81,7 @@ fn method_named(member: Option<&str>) -> Result<Method, DriverFault>
 fn is_bus_interface(interface: &str) -> bool
     ensures { result ≡ is_bus_interface interface.now }
 {
-    interface == BUS || interface == MONITORING
+    interface == BUS_NAME || interface == MONITORING
 }
 
 fn method_within(interface: &str, member: Option<&str>) -> Result<Method, DriverFault>

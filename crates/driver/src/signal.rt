@@ -7,12 +7,13 @@ ghost use Rattle.marshal_core.specs.Spelling.{IsString};
 ghost use Rattle.driver.specs.OwnMessages.{signal_destination, signal_member, signal_message, signal_texts, string_types, Writes};
 ghost use Rattle.driver.specs.Layout.{spelled_strings};
 
-use crate::fields::{BUS, ROOM, put_end, put_path, put_string};
+use crate::fields::{ROOM, put_end, put_path, put_string};
 use crate::layout::lay_out;
 use crate::strings;
 use arrayvec::ArrayVec;
 use match_rules::MessageKind;
 use message_core::HeaderField;
+use names::BUS_NAME;
 use seq_bus_core::BusSignal;
 use std::alloc::AllocError;
 
@@ -84,7 +85,7 @@ pub fn write_signal(serial: u32, signal: &BusSignal, out: &mut Vec<u8>) -> Resul
 {
     let mut fields = Vec::with_capacity(*out.allocator(), ROOM)?;
     put_path(&mut fields);
-    put_string(&mut fields, HeaderField::Interface, BUS);
+    put_string(&mut fields, HeaderField::Interface, BUS_NAME);
     put_string(&mut fields, HeaderField::Member, member_of(signal));
     put_end(&mut fields, destination_of(signal), signature_of(signal));
     let mut body = ArrayVec::<u8, { strings::ROOM }>::new();

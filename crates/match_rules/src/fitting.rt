@@ -9,10 +9,8 @@ ghost use Rattle.match_rules.specs.Fitting.{Heads, begins, are_one_head, are_pat
 
 use crate::entries::Entry;
 use crate::{Argument, Facts, Key, Rule};
+use names::BUS_NAME;
 use std::str;
-
-/// The name of the bus itself.
-const BUS: &str = "org.freedesktop.DBus";
 
 /// Who owns which names.
 pub trait Owners {
@@ -87,7 +85,7 @@ fn is_text(value: &[u8], text: Option<&str>) -> bool
 fn is_sender<O: Owners>(name: &str, sender: u64, owners: &O) -> bool
     ensures { result ≡ is_sender (O.heads owners.now) name.now sender }
 {
-    if name == BUS {
+    if name == BUS_NAME {
         return sender == 0;
     }
     if sender == 0 {

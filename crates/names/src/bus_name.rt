@@ -3,6 +3,7 @@
 ghost use Rattle.std.specs.Prelude.{◌≡◌, ◌↔◌, Some, None, IsOk, IfOk, MatchResult};
 ghost use Rattle.names.specs.BusName.{bus_text, is_bus, kind_of, IsBusName, bus_name_fault};
 
+use crate::bus::BUS_NAME;
 use crate::bus_name_kind::BusNameKind;
 use crate::fault::NameFault;
 use crate::short_text::ShortText;
@@ -10,8 +11,6 @@ use crate::unique_name::UniqueName;
 use crate::well_known_name::WellKnown;
 use std::fmt;
 use std::marker::Model;
-
-const BUS: &str = "org.freedesktop.DBus";
 
 /// A unique name, a well-known name or the name of the bus itself ("Bus names" of the D-Bus
 /// Specification), of at most 255 bytes.
@@ -39,7 +38,7 @@ impl BusName {
         ensures { result ≡ bus_text }
     {
         BusName {
-            text: ShortText::joined(BUS, ""),
+            text: ShortText::joined(BUS_NAME, ""),
         }
     }
 
@@ -91,7 +90,7 @@ impl BusName {
     pub fn is_bus(&self) -> bool
         ensures { result ≡ is_bus self.now }
     {
-        self.as_str() == BUS
+        self.as_str() == BUS_NAME
     }
 
     pub fn as_str(&self) -> &str

@@ -17,6 +17,7 @@
 //! ```
 #![tactic(auto)]
 
+mod bus;
 mod bus_name;
 mod bus_name_kind;
 mod connection_name;
@@ -31,6 +32,7 @@ mod short_text;
 mod unique_name;
 mod well_known_name;
 
+pub use bus::{BUS_NAME, BUS_PATH};
 pub use bus_name::BusName;
 pub use bus_name_kind::BusNameKind;
 pub use connection_name::ConnectionName;

@@ -20,7 +20,7 @@ use driver::error_text;
 use marshal_check::{Argument as Read, Arguments, Types};
 use marshal_core::Order;
 use match_rules::{Argument, Facts, MessageKind};
-use names::ConnectionName;
+use names::{BUS_NAME, BUS_PATH, ConnectionName};
 use seq_bus_core::BusSignal;
 
 /// The arguments of a message of the bus, of which there are three at most.
@@ -212,7 +212,7 @@ impl BusMessage {
             ≡ (facts_of (bus_message 1 (own_of self.now))).path }
     {
         match self {
-            BusMessage::Signal(_) => Some("/org/freedesktop/DBus"),
+            BusMessage::Signal(_) => Some(BUS_PATH),
             BusMessage::Reply { .. } | BusMessage::Error { .. } => None,
         }
     }
@@ -222,7 +222,7 @@ impl BusMessage {
             ≡ (facts_of (bus_message 1 (own_of self.now))).interface }
     {
         match self {
-            BusMessage::Signal(_) => Some("org.freedesktop.DBus"),
+            BusMessage::Signal(_) => Some(BUS_NAME),
             BusMessage::Reply { .. } | BusMessage::Error { .. } => None,
         }
     }

@@ -11,11 +11,11 @@ ghost use Rattle.registry.specs.Partings.{signals_of_name, told_of_name};
 ghost use Rattle.registry.specs.PreparedChanges.{prepared_on};
 
 use crate::after::{After, Pending};
-use crate::owners::{BUS, is_unique};
+use crate::owners::is_unique;
 use crate::prepared::{Act, Prepared, replied};
 use crate::registry::Registry;
 use audience::{is_owner, push_left_name, push_owner_signals};
-use names::{BusName, UniqueName};
+use names::{BUS_NAME, BusName, UniqueName};
 use owner_queues::Queue;
 use registry_core::{NameEntry, number_of};
 use seq_bus_core::{NumberedOutcome, Reply, Signals};
@@ -151,7 +151,7 @@ impl Registry {
         ensures { result ≡ (if is_bus name.now then None else queue_head (without leaver
             (queue_of self.now.names name.now))) }
     {
-        if name == BUS {
+        if name == BUS_NAME {
             return None;
         }
         match self.names.queue(name) {

@@ -9,13 +9,10 @@ ghost use Rattle.registry.specs.Requests.{requeued};
 
 use crate::registry::Registry;
 use match_rules::Owners;
-use names::{BusName, ConnectionName};
+use names::{BUS_NAME, BusName, ConnectionName};
 use owner_queues::Queue;
 use registry_core::number_of;
 use seq_bus_core::Conn;
-
-/// The name of the bus itself.
-pub(crate) const BUS: &str = "org.freedesktop.DBus";
 
 impl Owners for Registry {
     ghost use Rattle.seq_bus_core.specs.BusState.{head_of};
@@ -27,7 +24,7 @@ impl Owners for Registry {
         if is_unique(name) {
             return self.client_named(name);
         }
-        if name == BUS {
+        if name == BUS_NAME {
             return None;
         }
         self.names.head(name)
@@ -76,7 +73,7 @@ impl Registry {
         if is_unique(name) {
             return self.head(name);
         }
-        if name == BUS {
+        if name == BUS_NAME {
             return None;
         }
         if name == changed.as_str() {

@@ -54,6 +54,6 @@ pub use outcome::{NumberedOutcome, Outcome, Reply};
 pub use query::Query;
 pub use recipients::Recipients;
 pub use shared::{SharedBytes, SharedSignal};
-pub use signal::{AddressedSignal, BusSignal, Signals, bus_path};
+pub use signal::{AddressedSignal, BusSignal, Signals};
 pub use ticket::{Fate, SettledNumber, SettledTicket, Ticket, TicketNumbers, TicketRoom, Tickets};
 pub use verdict::{Verdict, VerdictKind};

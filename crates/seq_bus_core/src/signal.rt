@@ -2,7 +2,6 @@
 
 ghost use Rattle.std.specs.Prelude.{◌≡◌, [], ◌∷◌, ◌++◌, IfOk, OnOk, OnErr};
 ghost use Rattle.seq_bus_core.specs.Recipients.{addressed_to};
-ghost use Rattle.seq_bus_core.specs.Steps.{bus_path};
 
 use crate::{Addressees, Conn, SharedSignal};
 use names::BusName;
@@ -30,14 +29,6 @@ pub enum BusSignal {
         name: BusName,
         owner: u64,
     },
-}
-
-/// The path of the object that the bus itself is, from which its signals come.
-/// (D-Bus Specification: "Message Bus Messages".)
-pub fn bus_path() -> &'static str
-    ensures { result.now ≡ bus_path }
-{
-    "/org/freedesktop/DBus"
 }
 
 /// A signal of the bus, and who gets it. It is small enough to be moved.
