@@ -13,7 +13,7 @@ use std::io::Write;
 
 /// Which connection is served: the seat of its router, and its key there.
 #[derive(Clone, Copy, Debug, PartialEq, Eq)]
-pub struct Place {
+pub struct Endpoint {
     pub seat: u8,
     pub key: usize,
 }

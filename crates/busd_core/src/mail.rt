@@ -7,7 +7,7 @@ ghost use Rattle.outbox_core.specs.Deliveries.{deliveries_of};
 ghost use Rattle.busd_core.specs.Happenings.{mail_to, mail_to_all, mail_of_signal, mail_of, mails_of};
 ghost use Rattle.busd_core.specs.Parts.{Delivers};
 
-use crate::carrying::{Place, bring};
+use crate::carrying::{Endpoint, bring};
 use crate::fault::RunFault;
 use bus_view::BusView;
 use outbox_core::{BusMessage, Content, Deliveries, Envelope};
@@ -20,16 +20,16 @@ use std::io::Write;
 fn deliver_to<V: BusView, G: Gate, W: Write>(
     engine: &mut Engine<V, G>,
     right: &V::Right,
-    place: Place,
+    endpoint: Endpoint,
     conn: Conn,
     content: &Content,
     writer: &mut W,
 ) -> Result<(), RunFault>
-    ensures { Delivers V.told G.passes V.alone place.seat place.key engine.old
-        (mail_to place.seat (said_of content.now) conn) (W.contents writer.old)
+    ensures { Delivers V.told G.passes V.alone endpoint.seat endpoint.key engine.old
+        (mail_to endpoint.seat (said_of content.now) conn) (W.contents writer.old)
         (W.contents writer.new) engine.new result }
 {
-    if conn.router != place.seat {
+    if conn.router != endpoint.seat {
         return Ok(());
     }
     let Ok(content) = content.try_clone() else {
@@ -44,7 +44,7 @@ fn deliver_to<V: BusView, G: Gate, W: Write>(
         slot: conn.slot,
         envelope,
     };
-    let actions = bring(engine, right, place.key, mail, writer)?;
+    let actions = bring(engine, right, endpoint.key, mail, writer)?;
     engine.give_back(actions);
     Ok(())
 }
@@ -53,18 +53,18 @@ fn deliver_to<V: BusView, G: Gate, W: Write>(
 fn deliver<V: BusView, G: Gate, W: Write>(
     engine: &mut Engine<V, G>,
     right: &V::Right,
-    place: Place,
+    endpoint: Endpoint,
     to: &[Conn],
     monitors: &[Conn],
     content: &Content,
     writer: &mut W,
 ) -> Result<(), RunFault>
-    ensures { Delivers V.told G.passes V.alone place.seat place.key engine.old
-        (mail_to_all place.seat (said_of content.now) (deliveries_of to.now monitors.now))
+    ensures { Delivers V.told G.passes V.alone endpoint.seat endpoint.key engine.old
+        (mail_to_all endpoint.seat (said_of content.now) (deliveries_of to.now monitors.now))
         (W.contents writer.old) (W.contents writer.new) engine.new result }
 {
     for conn in Deliveries::new(to, monitors) {
-        deliver_to(engine, right, place, conn, content, writer)?;
+        deliver_to(engine, right, endpoint, conn, content, writer)?;
     }
     Ok(())
 }
@@ -73,12 +73,12 @@ fn deliver<V: BusView, G: Gate, W: Write>(
 fn announce_one<V: BusView, G: Gate, W: Write>(
     engine: &mut Engine<V, G>,
     right: &V::Right,
-    place: Place,
+    endpoint: Endpoint,
     addressed: &AddressedSignal,
     writer: &mut W,
 ) -> Result<(), RunFault>
-    ensures { Delivers V.told G.passes V.alone place.seat place.key engine.old
-        (mail_of_signal place.seat addressed.now) (W.contents writer.old) (W.contents writer.new)
+    ensures { Delivers V.told G.passes V.alone endpoint.seat endpoint.key engine.old
+        (mail_of_signal endpoint.seat addressed.now) (W.contents writer.old) (W.contents writer.new)
         engine.new result }
 {
     let Ok(signal) = addressed.signal.try_clone() else {
@@ -87,23 +87,23 @@ fn announce_one<V: BusView, G: Gate, W: Write>(
     let content = Content::Own(BusMessage::Signal(signal));
     let to = addressed.to.as_slice();
     let monitors = addressed.monitors.as_slice();
-    deliver(engine, right, place, to, monitors, &content, writer)
+    deliver(engine, right, endpoint, to, monitors, &content, writer)
 }
 
 /// Brings the signals of a change to their recipients, in order.
 fn announce<V: BusView, G: Gate, W: Write>(
     engine: &mut Engine<V, G>,
     right: &V::Right,
-    place: Place,
+    endpoint: Endpoint,
     signals: &[AddressedSignal],
     writer: &mut W,
 ) -> Result<(), RunFault>
-    ensures { Delivers V.told G.passes V.alone place.seat place.key engine.old
-        (flat_map (mail_of_signal place.seat) signals.now) (W.contents writer.old)
+    ensures { Delivers V.told G.passes V.alone endpoint.seat endpoint.key engine.old
+        (flat_map (mail_of_signal endpoint.seat) signals.now) (W.contents writer.old)
         (W.contents writer.new) engine.new result }
 {
     for addressed in signals {
-        announce_one(engine, right, place, addressed, writer)?;
+        announce_one(engine, right, endpoint, addressed, writer)?;
     }
     Ok(())
 }
@@ -112,13 +112,13 @@ fn announce<V: BusView, G: Gate, W: Write>(
 fn deliver_one<V: BusView, G: Gate, W: Write>(
     engine: &mut Engine<V, G>,
     right: &V::Right,
-    place: Place,
+    endpoint: Endpoint,
     action: &Action<V::Note>,
     writer: &mut W,
 ) -> Result<(), RunFault>
-    ensures { Delivers V.told G.passes V.alone place.seat place.key engine.old
-        (mail_of place.seat action.now) (W.contents writer.old) (W.contents writer.new) engine.new
-        result }
+    ensures { Delivers V.told G.passes V.alone endpoint.seat endpoint.key engine.old
+        (mail_of endpoint.seat action.now) (W.contents writer.old) (W.contents writer.new)
+        engine.new result }
 {
     match action {
         Action::Put {
@@ -128,14 +128,14 @@ fn deliver_one<V: BusView, G: Gate, W: Write>(
         } => deliver(
             engine,
             right,
-            place,
+            endpoint,
             to.to(),
             to.monitors(),
             content,
             writer,
         ),
         Action::Announce { signals, note: _ } => {
-            announce(engine, right, place, signals.as_slice(), writer)
+            announce(engine, right, endpoint, signals.as_slice(), writer)
         }
         _ => Ok(()),
     }
@@ -145,16 +145,16 @@ fn deliver_one<V: BusView, G: Gate, W: Write>(
 pub fn deliver_all<V: BusView, G: Gate, W: Write>(
     engine: &mut Engine<V, G>,
     right: &V::Right,
-    place: Place,
+    endpoint: Endpoint,
     actions: &[Action<V::Note>],
     writer: &mut W,
 ) -> Result<(), RunFault>
-    ensures { Delivers V.told G.passes V.alone place.seat place.key engine.old
-        (mails_of place.seat actions.now) (W.contents writer.old) (W.contents writer.new) engine.new
-        result }
+    ensures { Delivers V.told G.passes V.alone endpoint.seat endpoint.key engine.old
+        (mails_of endpoint.seat actions.now) (W.contents writer.old) (W.contents writer.new)
+        engine.new result }
 {
     for action in actions {
-        deliver_one(engine, right, place, action, writer)?;
+        deliver_one(engine, right, endpoint, action, writer)?;
     }
     Ok(())
 }

@@ -7,7 +7,7 @@ ghost use Rattle.busd_core.specs.Parts.{LosesPiece, IsCarriedOut};
 ghost use Rattle.busd_core.specs.Sessions.{Runs};
 
 use crate::actions::closed_by;
-use crate::carrying::{Place, bring};
+use crate::carrying::{Endpoint, bring};
 use crate::fault::RunFault;
 use crate::mail::deliver_all;
 use crate::transfer::read_piece;
@@ -54,19 +54,19 @@ fn next_piece<R: Read>(
 fn carry_out<V: BusView, G: Gate, W: Write>(
     engine: &mut Engine<V, G>,
     right: &V::Right,
-    place: Place,
+    endpoint: Endpoint,
     event: Event<V::Note>,
     writer: &mut W,
 ) -> Result<(), RunFault>
     requires { CanHappen V.registry_of engine.old.view.registry engine.old.standing event }
-    ensures { IsCarriedOut V.told G.passes V.alone place.seat place.key engine.old event
+    ensures { IsCarriedOut V.told G.passes V.alone endpoint.seat endpoint.key engine.old event
         (W.contents writer.old) (W.contents writer.new) engine.new result }
 {
-    let actions = bring(engine, right, place.key, event, writer)?;
-    if let Some(cause) = closed_by(place.key, &actions) {
+    let actions = bring(engine, right, endpoint.key, event, writer)?;
+    if let Some(cause) = closed_by(endpoint.key, &actions) {
         return Err(RunFault::Closed(cause));
     }
-    let delivered = deliver_all(engine, right, place, &actions, writer);
+    let delivered = deliver_all(engine, right, endpoint, &actions, writer);
     engine.give_back(actions);
     delivered
 }
@@ -98,22 +98,22 @@ pub fn run<V: BusView, G: Gate, R: Read, W: Write>(
     ensures whole { OnOk result (IsAtEnd (R.remaining reader.new)) }
 {
     let key = engine.free_key();
-    let place = Place { seat, key };
+    let endpoint = Endpoint { seat, key };
     let comes = Event::Opened {
         key,
         challenge: None,
     };
-    carry_out(engine, right, place, comes, writer)?;
+    carry_out(engine, right, endpoint, comes, writer)?;
     let mut buffer = [0u8; PIECE];
     for _ in 0..u64::MAX {
         if engine.has_next(key) {
-            carry_out(engine, right, place, Event::Next { key }, writer)?;
+            carry_out(engine, right, endpoint, Event::Next { key }, writer)?;
             continue;
         }
         let Some(piece) = next_piece(alloc, reader, &mut buffer)? else {
-            return carry_out(engine, right, place, Event::Closed { key }, writer);
+            return carry_out(engine, right, endpoint, Event::Closed { key }, writer);
         };
-        carry_out(engine, right, place, Event::Bytes { key, piece }, writer)?;
+        carry_out(engine, right, endpoint, Event::Bytes { key, piece }, writer)?;
     }
     Err(RunFault::Memory)
 }

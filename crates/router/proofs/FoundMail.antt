@@ -6,16 +6,16 @@ use Rattle.router_core.specs.Deeds.{GatedCall}
 use Rattle.router_core.specs.Events.{write, for_slot, mail_found, noted}
 use Rattle.router_core.specs.Scripts.{Gives, World, Comes}
 use Rattle.router_core.specs.Standing.{Peer, Standing, peer_at, with_peer}
-use Rattle.router_steps.specs.Noting.{once_noted, IsHeeded}
+use Rattle.router_steps.specs.Noting.{once_noted, IsNoteTaken}
 use Rattle.router_steps.proofs.Sequels.{comes_then}
 
 module _ {N G : Type 0} (told : N → History) (registry_of : N → ℕ) (passes : G → GatedCall → G → Type 0) (alone : Bool) (held : Option History) (w m : World N G) where
   -- nobody has the slot and the number
-  pub dropped : (s t : Standing) (said : Said) (found : Option ℕ) → found ≡ None → t ≡ s → IsHeeded alone held w m → Comes told registry_of passes alone (noted held (mail_found s said found)) w t m
-  dropped s t said found none same heeds =
-      subst (λ o. Comes told registry_of passes alone (noted held (mail_found s said o)) w t m) (sym none) (by_note held heeds)
+  pub dropped : (s t : Standing) (said : Said) (found : Option ℕ) → found ≡ None → t ≡ s → IsNoteTaken alone held w m → Comes told registry_of passes alone (noted held (mail_found s said found)) w t m
+  dropped s t said found none same takes_note =
+      subst (λ o. Comes told registry_of passes alone (noted held (mail_found s said o)) w t m) (sym none) (by_note held takes_note)
     where
-      by_note : (h : Option History) → IsHeeded alone h w m → Comes told registry_of passes alone (noted h (Gives s)) w t m
+      by_note : (h : Option History) → IsNoteTaken alone h w m → Comes told registry_of passes alone (noted h (Gives s)) w t m
       by_note None unchanged = (same, unchanged)
       by_note (Some history) takes = (m, takes, (same, refl))
 

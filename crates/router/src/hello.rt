@@ -101,7 +101,7 @@ impl<V: BusView, G: Gate> Peers<V, G> {
         ensures comes { RunsTo V.BusView G.Gate (close_former self.old.standing conn)
             self.old.work.world self.new.standing self.new.work.world }
         ensures room { self.old.work.room ≤ self.new.work.room + 1 }
-        ensures crowds { self.new.work.crowds ≡ self.old.work.crowds }
+        ensures spare_verdicts { self.new.work.spare_verdicts ≡ self.old.work.spare_verdicts }
         ensures keys { length self.new.standing.peers ≡ length self.old.standing.peers }
         ensures vacant { IsVacant conn.slot self.new.standing.peers }
         ensures others { (key : ℕ) → has_slot conn.slot (peer_at self.old.standing key) ≡ false →
@@ -116,7 +116,7 @@ impl<V: BusView, G: Gate> Peers<V, G> {
     /// The connection has its name: the reply comes first, then the signals.
     fn welcome(&mut self, key: usize, hello: &Message, outcome: Outcome, conn: Conn)
         requires room { 1 < self.old.work.room }
-        requires crowds { 0 < self.old.work.crowds }
+        requires spare_verdicts { 0 < self.old.work.spare_verdicts }
         requires nameless { IsNameless (peer_at self.old.standing key) }
         requires key { key < length self.old.standing.peers }
         requires vacant { IsVacant conn.slot self.old.standing.peers }
@@ -135,7 +135,7 @@ impl<V: BusView, G: Gate> Peers<V, G> {
     /// The bus refused the Hello: the connection stays without a name.
     fn refuse_at(&mut self, key: usize, hello: &Message, why: Cause, errors: HelloErrors)
         requires room { 1 < self.old.work.room }
-        requires crowds { 0 < self.old.work.crowds }
+        requires spare_verdicts { 0 < self.old.work.spare_verdicts }
         requires key { key < length self.old.standing.peers }
         requires written { IfSome (peer_at self.old.standing key)
             (λ p. AreRefusals (said hello.now) (next_serial p.serial) errors) }
@@ -151,7 +151,7 @@ impl<V: BusView, G: Gate> Peers<V, G> {
     /// The Hello would exceed a limit of the bus: the connection is closed.
     fn turn_away_at(&mut self, key: usize, hello: &Message, bytes: WrittenBytes)
         requires room { 2 < self.old.work.room }
-        requires crowds { 0 < self.old.work.crowds }
+        requires spare_verdicts { 0 < self.old.work.spare_verdicts }
         requires key { key < length self.old.standing.peers }
         requires written { IfSome (peer_at self.old.standing key) (λ p. IsRefusal
             (said hello.now) ErrorKind.LimitsExceeded (next_serial p.serial) bytes) }
@@ -167,7 +167,7 @@ impl<V: BusView, G: Gate> Peers<V, G> {
     /// The bus made the Hello: the connection is welcome, or too many are there.
     fn answer_hello(&mut self, key: usize, hello: &Message, outcome: Outcome, errors: HelloErrors)
         requires room { 2 < self.old.work.room }
-        requires crowds { 0 < self.old.work.crowds }
+        requires spare_verdicts { 0 < self.old.work.spare_verdicts }
         requires nameless { IsNameless (peer_at self.old.standing key) }
         requires key { key < length self.old.standing.peers }
         requires written { IfSome (peer_at self.old.standing key)
@@ -195,7 +195,7 @@ impl<V: BusView, G: Gate> Peers<V, G> {
         errors: HelloErrors,
     )
         requires room { 2 < self.old.work.room }
-        requires crowds { 0 < self.old.work.crowds }
+        requires spare_verdicts { 0 < self.old.work.spare_verdicts }
         requires nameless { IsNameless (peer_at self.old.standing key) }
         requires key { key < length self.old.standing.peers }
         requires written { IfSome (peer_at self.old.standing key)
@@ -226,7 +226,7 @@ impl<V: BusView, G: Gate> Peers<V, G> {
         errors: HelloErrors,
     )
         requires room { 2 < self.old.work.room }
-        requires crowds { 0 < self.old.work.crowds }
+        requires spare_verdicts { 0 < self.old.work.spare_verdicts }
         requires nameless { IsNameless (peer_at self.old.standing key) }
         requires key { key < length self.old.standing.peers }
         requires written { IfSome (peer_at self.old.standing key)

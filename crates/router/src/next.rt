@@ -57,7 +57,7 @@ impl<V: BusView, G: Gate> Peers<V, G> {
         // What is shown to monitors, the signals, the answer and a close, and each call that waited
         // for the name.
         self.context.reserve(MAX_TICKETS + 4)?;
-        self.context.reserve_crowds(2)?;
+        self.context.reserve_verdicts(2)?;
         match next_in(
             self.alloc,
             &mut self.context,

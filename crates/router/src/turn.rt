@@ -76,7 +76,7 @@ fn settle<V: BusView, G: Gate>(
     ensures settled { IsSettled V.BusView G.Gate key fate entry.old context.old.world entry.new
         context.new.world }
     ensures room { context.old.room ≤ context.new.room + 1 }
-    ensures crowds { context.new.crowds ≡ context.old.crowds }
+    ensures spare_verdicts { context.new.spare_verdicts ≡ context.old.spare_verdicts }
 {
     match entry {
         Some(peer) => context.settle(key, peer, fate),
@@ -180,7 +180,7 @@ impl<V: BusView, G: Gate> Peers<V, G> {
             RunsTo V.BusView G.Gate (done_for self.old.standing key work)
             w self.new.standing self.new.work.world }
         ensures room { self.old.work.room ≤ self.new.work.room + 1 }
-        ensures crowds { self.new.work.crowds ≡ self.old.work.crowds }
+        ensures spare_verdicts { self.new.work.spare_verdicts ≡ self.old.work.spare_verdicts }
     {
         settle(&mut self.context, key, &mut self.peers[key], fate);
     }
@@ -188,14 +188,14 @@ impl<V: BusView, G: Gate> Peers<V, G> {
     /// Makes the change of a call by itself, unless its connection was closed in the meantime.
     fn make_one(&mut self, right: &V::Right, joint: &Joint)
         requires room { 2 < self.old.work.room }
-        requires crowds { 0 < self.old.work.crowds }
+        requires spare_verdicts { 0 < self.old.work.spare_verdicts }
         ensures comes { RunsTo V.BusView G.Gate
             (done_for self.old.standing joint.now.key
             (Changing (change_of_joint joint.now)
             (λ heard. made (said joint.now.message) joint.now.caller heard)))
             self.old.work.world self.new.standing self.new.work.world }
         ensures room { self.old.work.room ≤ self.new.work.room + 3 }
-        ensures crowds { self.old.work.crowds ≤ self.new.work.crowds + 1 }
+        ensures spare_verdicts { self.old.work.spare_verdicts ≤ self.new.work.spare_verdicts + 1 }
     {
         if !self.has_name(joint.key) {
             return;
@@ -207,14 +207,14 @@ impl<V: BusView, G: Gate> Peers<V, G> {
     /// Answers a call whose change was made, unless its connection was closed in the meantime.
     fn answer_one(&mut self, joint: &Joint, outcome: Outcome)
         requires room { 2 < self.old.work.room }
-        requires crowds { 0 < self.old.work.crowds }
+        requires spare_verdicts { 0 < self.old.work.spare_verdicts }
         requires alone { outcome.tickets ≡ [] }
         ensures comes { RunsTo V.BusView G.Gate
             (done_for self.old.standing joint.now.key
             (made (said joint.now.message) joint.now.caller (Says outcome)))
             self.old.work.world self.new.standing self.new.work.world }
         ensures room { self.old.work.room ≤ self.new.work.room + 3 }
-        ensures crowds { self.old.work.crowds ≤ self.new.work.crowds + 1 }
+        ensures spare_verdicts { self.old.work.spare_verdicts ≤ self.new.work.spare_verdicts + 1 }
     {
         if !self.has_name(joint.key) {
             return;
@@ -226,11 +226,12 @@ impl<V: BusView, G: Gate> Peers<V, G> {
     /// Makes the changes of calls, each by itself.
     fn make_each(&mut self, right: &V::Right, joints: &[Joint])
         requires room { 3 * length joints.now ≤ self.old.work.room }
-        requires crowds { length joints.now ≤ self.old.work.crowds }
+        requires spare_verdicts { length joints.now ≤ self.old.work.spare_verdicts }
         ensures comes { RunsTo V.BusView G.Gate (making_each joints.now self.old.standing)
             self.old.work.world self.new.standing self.new.work.world }
         ensures room { self.old.work.room ≤ self.new.work.room + 3 * length joints.now }
-        ensures crowds { self.old.work.crowds ≤ self.new.work.crowds + length joints.now }
+        ensures spare_verdicts { self.old.work.spare_verdicts
+            ≤ self.new.work.spare_verdicts + length joints.now }
     {
         for joint in joints {
             self.make_one(right, joint);
@@ -240,13 +241,14 @@ impl<V: BusView, G: Gate> Peers<V, G> {
     /// Answers calls whose changes were made, in order.
     fn answer_each(&mut self, joints: &[Joint], outcomes: Vec<Outcome>)
         requires room { 3 * length joints.now ≤ self.old.work.room }
-        requires crowds { length joints.now ≤ self.old.work.crowds }
+        requires spare_verdicts { length joints.now ≤ self.old.work.spare_verdicts }
         requires alone { AllByRecursion (λ o. o.tickets ≡ []) outcomes.items }
         ensures comes { RunsTo V.BusView G.Gate
             (answering_each joints.now outcomes.items self.old.standing)
             self.old.work.world self.new.standing self.new.work.world }
         ensures room { self.old.work.room ≤ self.new.work.room + 3 * length joints.now }
-        ensures crowds { self.old.work.crowds ≤ self.new.work.crowds + length joints.now }
+        ensures spare_verdicts { self.old.work.spare_verdicts
+            ≤ self.new.work.spare_verdicts + length joints.now }
     {
         let mut place = 0;
         for outcome in outcomes {
@@ -260,13 +262,14 @@ impl<V: BusView, G: Gate> Peers<V, G> {
     /// Makes the changes of calls together.
     fn make_batch(&mut self, right: &V::Right, joints: &[Joint], changes: Vec<Change>)
         requires room { 3 * length joints.now ≤ self.old.work.room }
-        requires crowds { length joints.now ≤ self.old.work.crowds }
+        requires spare_verdicts { length joints.now ≤ self.old.work.spare_verdicts }
         requires changes { changes.items ≡ map change_of_joint joints.now }
         requires batch { IsBatch changes.items }
         ensures comes { RunsTo V.BusView G.Gate (making_if joints.now self.old.standing true)
             self.old.work.world self.new.standing self.new.work.world }
         ensures room { self.old.work.room ≤ self.new.work.room + 3 * length joints.now }
-        ensures crowds { self.old.work.crowds ≤ self.new.work.crowds + length joints.now }
+        ensures spare_verdicts { self.old.work.spare_verdicts
+            ≤ self.new.work.spare_verdicts + length joints.now }
     {
         match self.context.change_all(right, changes) {
             Ok(outcomes) => self.answer_each(joints, outcomes),
@@ -278,11 +281,12 @@ impl<V: BusView, G: Gate> Peers<V, G> {
     fn make_joined(&mut self, right: &V::Right, joints: &[Joint])
         requires few { length joints.now ≤ max_batch }
         requires room { 3 * length joints.now ≤ self.old.work.room }
-        requires crowds { length joints.now ≤ self.old.work.crowds }
+        requires spare_verdicts { length joints.now ≤ self.old.work.spare_verdicts }
         ensures comes { RunsTo V.BusView G.Gate (making_all joints.now self.old.standing)
             self.old.work.world self.new.standing self.new.work.world }
         ensures room { self.old.work.room ≤ self.new.work.room + 3 * length joints.now }
-        ensures crowds { self.old.work.crowds ≤ self.new.work.crowds + length joints.now }
+        ensures spare_verdicts { self.old.work.spare_verdicts
+            ≤ self.new.work.spare_verdicts + length joints.now }
     {
         if joints.len() < 2 {
             self.make_each(right, joints);
@@ -299,13 +303,14 @@ impl<V: BusView, G: Gate> Peers<V, G> {
     fn make_all(&mut self, right: &V::Right, joints: &mut Vec<Joint>)
         requires few { length joints.old.items ≤ max_batch }
         requires room { 3 * length joints.old.items ≤ self.old.work.room }
-        requires crowds { length joints.old.items ≤ self.old.work.crowds }
+        requires spare_verdicts { length joints.old.items ≤ self.old.work.spare_verdicts }
         ensures comes { RunsTo V.BusView G.Gate (making_all joints.old.items self.old.standing)
             self.old.work.world self.new.standing self.new.work.world }
         ensures none { joints.new.items ≡ [] }
         ensures capacity { vec_capacity joints.old ≤ vec_capacity joints.new }
         ensures room { self.old.work.room ≤ self.new.work.room + 3 * length joints.old.items }
-        ensures crowds { self.old.work.crowds ≤ self.new.work.crowds + length joints.old.items }
+        ensures spare_verdicts { self.old.work.spare_verdicts
+            ≤ self.new.work.spare_verdicts + length joints.old.items }
     {
         self.make_joined(right, joints);
         joints.clear();
@@ -322,7 +327,7 @@ impl<V: BusView, G: Gate> Peers<V, G> {
         parting: Parting,
     )
         requires room { MAX_TICKETS + 3 < self.old.work.room }
-        requires crowds { 0 < self.old.work.crowds }
+        requires spare_verdicts { 0 < self.old.work.spare_verdicts }
         ensures comes { RunsTo V.BusView G.Gate
             (done_for self.old.standing key (parting_of (said message.now) caller parting))
             self.old.work.world self.new.standing self.new.work.world }
@@ -351,7 +356,7 @@ impl<V: BusView, G: Gate> Peers<V, G> {
     ) -> Result<(), AllocError>
         requires few { length joints.old.items ≤ max_batch }
         requires room { 3 * length joints.old.items ≤ self.old.work.room }
-        requires crowds { length joints.old.items ≤ self.old.work.crowds }
+        requires spare_verdicts { length joints.old.items ≤ self.old.work.spare_verdicts }
         ensures comes { OnOk result (RunsTo V.BusView G.Gate
             (apart joints.old.items self.old.standing key)
             self.old.work.world (record {
@@ -382,7 +387,7 @@ impl<V: BusView, G: Gate> Peers<V, G> {
         requires spare { vec_len joints.old < vec_capacity joints.old }
         requires few { length joints.old.items ≤ max_batch }
         requires room { 3 * length joints.old.items + MAX_TICKETS + 5 ≤ self.old.work.room }
-        requires crowds { length joints.old.items + 1 < self.old.work.crowds }
+        requires spare_verdicts { length joints.old.items + 1 < self.old.work.spare_verdicts }
         requires rule { is_some (rule_call (Ok call)) ≡ true }
         ensures comes { (c : Rule_call) → rule_call (Ok call) ≡ Some c →
             RunsTo V.BusView G.Gate (and_then (joining (said message) conn c)
@@ -396,7 +401,7 @@ impl<V: BusView, G: Gate> Peers<V, G> {
         ensures more { length joints.new.items ≤ length joints.old.items + 1 }
         ensures capacity { vec_capacity joints.old ≤ vec_capacity joints.new }
         ensures room { 3 * length joints.new.items ≤ self.new.work.room }
-        ensures crowds { length joints.new.items ≤ self.new.work.crowds }
+        ensures spare_verdicts { length joints.new.items ≤ self.new.work.spare_verdicts }
     {
         match join(&mut self.context, &message, conn, &call) {
             Joining::Joins => {
@@ -417,17 +422,17 @@ impl<V: BusView, G: Gate> Peers<V, G> {
 
     /// Makes room for so many actions, and for so many of them to have several recipients. Without
     /// memory there is room as before.
-    fn make_room(&mut self, actions: usize, crowds: usize) -> Result<(), AllocError>
+    fn make_room(&mut self, actions: usize, spare_verdicts: usize) -> Result<(), AllocError>
         ensures standing { self.new.standing ≡ self.old.standing }
         ensures world { self.new.work.world ≡ self.old.work.world }
         ensures room { OnOk result (actions ≤ self.new.work.room) }
         ensures kept { OnErr result
             (self.new.work.room ≡ self.old.work.room ⊎ actions ≤ self.new.work.room) }
-        ensures crowds { OnOk result (crowds ≤ self.new.work.crowds) }
-        ensures crowds_kept { self.old.work.crowds ≤ self.new.work.crowds }
+        ensures spare_verdicts { OnOk result (spare_verdicts ≤ self.new.work.spare_verdicts) }
+        ensures spare_kept { self.old.work.spare_verdicts ≤ self.new.work.spare_verdicts }
     {
         self.context.reserve(actions)?;
-        self.context.reserve_crowds(crowds)
+        self.context.reserve_verdicts(spare_verdicts)
     }
 
     /// The next message of a connection: gathers it where it is a call that adds or removes a rule,
@@ -442,7 +447,7 @@ impl<V: BusView, G: Gate> Peers<V, G> {
         requires spare { vec_len joints.old < vec_capacity joints.old }
         requires few { length joints.old.items ≤ max_batch }
         requires room { 3 * length joints.old.items ≤ self.old.work.room }
-        requires crowds { length joints.old.items ≤ self.old.work.crowds }
+        requires spare_verdicts { length joints.old.items ≤ self.old.work.spare_verdicts }
         ensures comes { IfOk result (λ served. RunsTo V.BusView G.Gate
             (gathering joints.old.items self.old.standing key (peer_at self.old.standing key))
             self.old.work.world (record {
@@ -462,7 +467,7 @@ impl<V: BusView, G: Gate> Peers<V, G> {
         ensures more { length joints.new.items ≤ length joints.old.items + 1 }
         ensures capacity { vec_capacity joints.old ≤ vec_capacity joints.new }
         ensures room { 3 * length joints.new.items ≤ self.new.work.room }
-        ensures crowds { length joints.new.items ≤ self.new.work.crowds }
+        ensures spare_verdicts { length joints.new.items ≤ self.new.work.spare_verdicts }
     {
         if key >= self.peers.len() {
             return Ok(false);

@@ -78,7 +78,7 @@ fn held<V: BusView, G: Gate>(
     outcome: Outcome,
 ) -> PeerFate
     requires room { 0 < context.old.room }
-    requires crowds { 0 < context.old.crowds }
+    requires spare_verdicts { 0 < context.old.spare_verdicts }
     requires bytes { passed ≡ message_bytes (signed (said message.now) sender) }
     ensures comes { RunsTo V.BusView G.Gate
         (held_in (said message.now) sender name.value (Says outcome))
@@ -117,7 +117,7 @@ fn wait<V: BusView, G: Gate>(
     parcel: Parcel,
 ) -> PeerFate
     requires room { 0 < context.old.room }
-    requires crowds { 0 < context.old.crowds }
+    requires spare_verdicts { 0 < context.old.spare_verdicts }
     requires held { parcel.held ≡ message_bytes (signed (said message.now) sender) }
     requires passed { parcel.passed ≡ message_bytes (signed (said message.now) sender) }
     ensures comes { RunsTo V.BusView G.Gate
@@ -154,7 +154,7 @@ pub(crate) fn hold<V: BusView, G: Gate>(
     sender: Conn,
 ) -> PeerFate
     requires room { 0 < context.old.room }
-    requires crowds { 0 < context.old.crowds }
+    requires spare_verdicts { 0 < context.old.spare_verdicts }
     ensures comes { RunsTo V.BusView G.Gate
         (holding (said message.now) sender (text_field Destination (said message.now).fields))
         context.old.world result context.new.world }

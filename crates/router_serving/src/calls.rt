@@ -78,7 +78,7 @@ pub(crate) fn refuse<V: BusView, G: Gate>(
     error: ErrorKind,
 ) -> PeerFate
     requires room { 0 < context.old.room }
-    requires crowds { 0 < context.old.crowds }
+    requires spare_verdicts { 0 < context.old.spare_verdicts }
     ensures comes { RunsTo V.BusView G.Gate (and_stays (erring (said call.now) caller error))
         context.old.world result context.new.world }
     ensures room { context.old.room ≤ context.new.room + 1 }
@@ -96,7 +96,7 @@ pub(crate) fn tell_change<V: BusView, G: Gate>(
     outcome: Outcome,
 )
     requires room { length outcome.tickets + 1 < context.old.room }
-    requires crowds { 0 < context.old.crowds }
+    requires spare_verdicts { 0 < context.old.spare_verdicts }
     ensures comes { RunsTo V.BusView G.Gate (telling_change (said call.now) caller outcome)
         context.old.world tt context.new.world }
     ensures room { context.old.room ≤ context.new.room + length outcome.tickets + 2 }
@@ -114,7 +114,7 @@ fn made_by<V: BusView, G: Gate>(
     outcome: Outcome,
 ) -> PeerFate
     requires room { length outcome.tickets + 1 < context.old.room }
-    requires crowds { 0 < context.old.crowds }
+    requires spare_verdicts { 0 < context.old.spare_verdicts }
     ensures comes { RunsTo V.BusView G.Gate (made_in (said call.now) caller (Says outcome))
         context.old.world result context.new.world }
     ensures room { context.old.room ≤ context.new.room + length outcome.tickets + 2 }
@@ -136,7 +136,7 @@ fn made<V: BusView, G: Gate>(
     told: Result<Outcome, Cause>,
 ) -> PeerFate
     requires room { MAX_TICKETS + 1 < context.old.room }
-    requires crowds { 0 < context.old.crowds }
+    requires spare_verdicts { 0 < context.old.spare_verdicts }
     requires few { IfOk told (λ outcome. length outcome.tickets ≤ MAX_TICKETS) }
     ensures comes { RunsTo V.BusView G.Gate (made_in (said call.now) caller (heard_change told))
         context.old.world result context.new.world }
@@ -158,7 +158,7 @@ fn reply_body<V: BusView, G: Gate>(
     body: Vec<u8>,
 )
     requires room { 0 < context.old.room }
-    requires crowds { 0 < context.old.crowds }
+    requires spare_verdicts { 0 < context.old.spare_verdicts }
     requires answered { (told : Answer) × IsAnswerTo query.now body.items told }
     ensures comes { (told : Answer) → IsAnswerTo query.now body.items told →
         RunsTo V.BusView G.Gate (answered (said call.now) caller (Says (Some told)))
@@ -184,7 +184,7 @@ fn answer_query<V: BusView, G: Gate>(
     query: &Query,
 ) -> PeerFate
     requires room { 0 < context.old.room }
-    requires crowds { 0 < context.old.crowds }
+    requires spare_verdicts { 0 < context.old.spare_verdicts }
     ensures comes { RunsTo V.BusView G.Gate
         (serving_request (said call.now) caller (Ok (Asks query.now)))
         context.old.world result context.new.world }
@@ -210,7 +210,7 @@ fn make<V: BusView, G: Gate>(
     change: Change,
 ) -> PeerFate
     requires room { MAX_TICKETS + 1 < context.old.room }
-    requires crowds { 0 < context.old.crowds }
+    requires spare_verdicts { 0 < context.old.spare_verdicts }
     ensures comes { RunsTo V.BusView G.Gate
         (serving_request (said call.now) caller (Ok (Makes change)))
         context.old.world result context.new.world }
@@ -233,7 +233,7 @@ fn request_name<V: BusView, G: Gate>(
     flags: RequestFlags,
 ) -> PeerFate
     requires room { MAX_TICKETS + 1 < context.old.room }
-    requires crowds { 0 < context.old.crowds }
+    requires spare_verdicts { 0 < context.old.spare_verdicts }
     ensures comes { RunsTo V.BusView G.Gate
         (serving_request (said call.now) caller
         (request_in caller.number (RequestName name.now flags)))
@@ -257,7 +257,7 @@ fn release_name<V: BusView, G: Gate>(
     name: &BusName,
 ) -> PeerFate
     requires room { MAX_TICKETS + 1 < context.old.room }
-    requires crowds { 0 < context.old.crowds }
+    requires spare_verdicts { 0 < context.old.spare_verdicts }
     ensures comes { RunsTo V.BusView G.Gate
         (serving_request (said call.now) caller (request_in caller.number (ReleaseName name.now)))
         context.old.world result context.new.world }
@@ -279,7 +279,7 @@ fn add_match<V: BusView, G: Gate>(
     rule: &Rule,
 ) -> PeerFate
     requires room { MAX_TICKETS + 1 < context.old.room }
-    requires crowds { 0 < context.old.crowds }
+    requires spare_verdicts { 0 < context.old.spare_verdicts }
     ensures comes { RunsTo V.BusView G.Gate
         (serving_request (said call.now) caller (request_in caller.number (AddMatch rule.now)))
         context.old.world result context.new.world }
@@ -301,7 +301,7 @@ fn remove_match<V: BusView, G: Gate>(
     rule: &Rule,
 ) -> PeerFate
     requires room { MAX_TICKETS + 1 < context.old.room }
-    requires crowds { 0 < context.old.crowds }
+    requires spare_verdicts { 0 < context.old.spare_verdicts }
     ensures comes { RunsTo V.BusView G.Gate
         (serving_request (said call.now) caller (request_in caller.number (RemoveMatch rule.now)))
         context.old.world result context.new.world }
@@ -324,7 +324,7 @@ fn serve_request<V: BusView, G: Gate>(
     call: &Call,
 ) -> PeerFate
     requires room { MAX_TICKETS + 1 < context.old.room }
-    requires crowds { 0 < context.old.crowds }
+    requires spare_verdicts { 0 < context.old.spare_verdicts }
     ensures comes { RunsTo V.BusView G.Gate
         (serving_request (said message.now) caller (request_in caller.number call.now))
         context.old.world result context.new.world }
@@ -382,7 +382,7 @@ fn serve_reading<V: BusView, G: Gate>(
     reading: &Result<Call, DriverFault>,
 ) -> PeerFate
     requires room { MAX_TICKETS + 1 < context.old.room }
-    requires crowds { 0 < context.old.crowds }
+    requires spare_verdicts { 0 < context.old.spare_verdicts }
     ensures comes { RunsTo V.BusView G.Gate (serving_reading (said message.now) caller reading.now)
         context.old.world result context.new.world }
     ensures room { context.old.room ≤ context.new.room + MAX_TICKETS + 2 }
@@ -405,7 +405,7 @@ fn serve_call<V: BusView, G: Gate>(
     caller: Conn,
 ) -> PeerFate
     requires room { MAX_TICKETS + 1 < context.old.room }
-    requires crowds { 0 < context.old.crowds }
+    requires spare_verdicts { 0 < context.old.spare_verdicts }
     ensures comes { RunsTo V.BusView G.Gate (serving_call (said message.now) caller)
         context.old.world result context.new.world }
     ensures room { context.old.room ≤ context.new.room + MAX_TICKETS + 2 }
@@ -425,7 +425,7 @@ pub fn serve_bus<V: BusView, G: Gate>(
     sender: Conn,
 ) -> PeerFate
     requires room { MAX_TICKETS + 1 < context.old.room }
-    requires crowds { 0 < context.old.crowds }
+    requires spare_verdicts { 0 < context.old.spare_verdicts }
     ensures comes { RunsTo V.BusView G.Gate (serving_bus (said message.now) sender)
         context.old.world result context.new.world }
     ensures room { context.old.room ≤ context.new.room + MAX_TICKETS + 2 }

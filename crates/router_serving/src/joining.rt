@@ -81,7 +81,7 @@ fn join_shown<V: BusView, G: Gate>(
         RunsTo V.BusView G.Gate (joining_shown (said message.now) caller verdict.value.monitors c)
         context.old.world (joining_of (said message.now) caller result) context.new.world }
     ensures room { context.old.room ≤ context.new.room + 1 }
-    ensures crowds { context.old.crowds ≤ context.new.crowds }
+    ensures spare_verdicts { context.old.spare_verdicts ≤ context.new.spare_verdicts }
 {
     match context.show(message, caller, verdict) {
         Ok(()) => {
@@ -106,7 +106,7 @@ fn join_to<V: BusView, G: Gate>(
         (joining_to (said message.now) caller verdict.value c verdict.value.kind)
         context.old.world (joining_of (said message.now) caller result) context.new.world }
     ensures room { context.old.room ≤ context.new.room + 1 }
-    ensures crowds { context.old.crowds ≤ context.new.crowds }
+    ensures spare_verdicts { context.old.spare_verdicts ≤ context.new.spare_verdicts }
 {
     match verdict.kind {
         VerdictKind::Bus => join_shown(context, message, caller, call, verdict),
@@ -126,12 +126,12 @@ pub fn join<V: BusView, G: Gate>(
     call: &Call,
 ) -> Joining
     requires room { 0 < context.old.room }
-    requires crowds { 0 < context.old.crowds }
+    requires spare_verdicts { 0 < context.old.spare_verdicts }
     ensures comes { (c : Rule_call) → rule_call (Ok call.now) ≡ Some c →
         RunsTo V.BusView G.Gate (joining (said message.now) caller c)
         context.old.world (joining_of (said message.now) caller result) context.new.world }
     ensures room { context.old.room ≤ context.new.room + 1 }
-    ensures crowds { context.old.crowds ≤ context.new.crowds + 1 }
+    ensures spare_verdicts { context.old.spare_verdicts ≤ context.new.spare_verdicts + 1 }
 {
     let mut verdict = context.take_verdict();
     match ask_route(context, message, caller, &mut verdict) {
@@ -150,7 +150,7 @@ pub fn part<V: BusView, G: Gate>(
     parting: Parting,
 ) -> PeerFate
     requires room { MAX_TICKETS + 2 < context.old.room }
-    requires crowds { 0 < context.old.crowds }
+    requires spare_verdicts { 0 < context.old.spare_verdicts }
     ensures comes { RunsTo V.BusView G.Gate (parting_of (said message.now) caller parting)
         context.old.world result context.new.world }
     ensures room { context.old.room ≤ context.new.room + MAX_TICKETS + 3 }
@@ -170,13 +170,13 @@ pub fn answer<V: BusView, G: Gate>(
     outcome: Outcome,
 ) -> PeerFate
     requires room { 1 < context.old.room }
-    requires crowds { 0 < context.old.crowds }
+    requires spare_verdicts { 0 < context.old.spare_verdicts }
     requires alone { outcome.tickets ≡ [] }
     ensures comes { RunsTo V.BusView G.Gate
         (made_in (said joint.now.message) joint.now.caller (Says outcome))
         context.old.world result context.new.world }
     ensures room { context.old.room ≤ context.new.room + 2 }
-    ensures crowds { context.old.crowds ≤ context.new.crowds + 1 }
+    ensures spare_verdicts { context.old.spare_verdicts ≤ context.new.spare_verdicts + 1 }
 {
     match outcome.reply {
         Reply::Gone => PeerFate::Closes(CloseCause::Left),
@@ -195,13 +195,13 @@ pub fn make<V: BusView, G: Gate>(
     joint: &Joint,
 ) -> PeerFate
     requires room { 1 < context.old.room }
-    requires crowds { 0 < context.old.crowds }
+    requires spare_verdicts { 0 < context.old.spare_verdicts }
     ensures comes { RunsTo V.BusView G.Gate
         (Changing (change_of_joint joint.now)
         (λ heard. made_in (said joint.now.message) joint.now.caller heard))
         context.old.world result context.new.world }
     ensures room { context.old.room ≤ context.new.room + 2 }
-    ensures crowds { context.old.crowds ≤ context.new.crowds + 1 }
+    ensures spare_verdicts { context.old.spare_verdicts ≤ context.new.spare_verdicts + 1 }
 {
     match context.change(right, change_of(joint)) {
         Ok(outcome) => answer(context, joint, outcome),

@@ -23,7 +23,7 @@
 //!     sender: Conn,
 //! ) -> Result<PeerFate, AllocError> {
 //!     context.reserve(MAX_TICKETS + 3)?;
-//!     context.reserve_crowds(2)?;
+//!     context.reserve_verdicts(2)?;
 //!     Ok(serve(alloc, context, right, message, sender))
 //! }
 //! ```

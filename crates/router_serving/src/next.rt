@@ -25,7 +25,7 @@ fn serve_next<V: BusView, G: Gate>(
     conn: Conn,
 ) -> Result<(), AllocError>
     requires room { MAX_TICKETS + 3 < context.old.room }
-    requires crowds { 1 < context.old.crowds }
+    requires spare_verdicts { 1 < context.old.spare_verdicts }
     requires named { peer.old.stage ≡ Named conn }
     ensures comes { OnOk result (
         (s : Standing) → peer_at s key ≡ Some peer.old →
@@ -60,12 +60,12 @@ pub fn next_in<V: BusView, G: Gate>(
     entry: &mut Option<Peer>,
 ) -> Result<Option<HelloCall>, AllocError>
     requires room { MAX_TICKETS + 3 < context.old.room }
-    requires crowds { 1 < context.old.crowds }
+    requires spare_verdicts { 1 < context.old.spare_verdicts }
     ensures next { IfOk result (λ call. ComesOfNext V.BusView G.Gate key call entry.old entry.new
         context.old.world context.new.world) }
     ensures kept { IfOk result
         (λ call. IfSome call (λ _. (context.new.room ≡ context.old.room) ×
-        (context.new.crowds ≡ context.old.crowds))) }
+        (context.new.spare_verdicts ≡ context.old.spare_verdicts))) }
     ensures err { OnErr result (entry.new ≡ entry.old) }
     ensures world { OnErr result (context.new.world ≡ context.old.world) }
 {

@@ -31,7 +31,7 @@ fn err_and_stay<V: BusView, G: Gate>(
     error: ErrorKind,
 ) -> PeerFate
     requires room { 0 < context.old.room }
-    requires crowds { 0 < context.old.crowds }
+    requires spare_verdicts { 0 < context.old.spare_verdicts }
     ensures comes { RunsTo V.BusView G.Gate
         (and_stays (err_if_call (said message.now) sender error))
         context.old.world result context.new.world }
@@ -49,7 +49,7 @@ pub(crate) fn not_put<V: BusView, G: Gate>(
     fault: RelayFault,
 ) -> PeerFate
     requires room { 0 < context.old.room }
-    requires crowds { 0 < context.old.crowds }
+    requires spare_verdicts { 0 < context.old.spare_verdicts }
     ensures comes { RunsTo V.BusView G.Gate (unput fault (said message.now) sender)
         context.old.world result context.new.world }
     ensures room { context.old.room ≤ context.new.room + 1 }
@@ -68,7 +68,7 @@ fn relay_plainly<V: BusView, G: Gate>(
     verdict: Box<Verdict>,
 ) -> PeerFate
     requires room { 1 < context.old.room }
-    requires crowds { 0 < context.old.crowds }
+    requires spare_verdicts { 0 < context.old.spare_verdicts }
     requires plain { verdict.value.kind ≡ VerdictKind.Plain }
     ensures comes { RunsTo V.BusView G.Gate
         (relaying (said message.now) sender verdict.value verdict.value.kind)
@@ -89,7 +89,7 @@ fn relay_to_nobody<V: BusView, G: Gate>(
     verdict: Box<Verdict>,
 ) -> PeerFate
     requires room { 1 < context.old.room }
-    requires crowds { 0 < context.old.crowds }
+    requires spare_verdicts { 0 < context.old.spare_verdicts }
     requires nobody { verdict.value.kind ≡ VerdictKind.Nobody }
     ensures comes { RunsTo V.BusView G.Gate
         (relaying (said message.now) sender verdict.value verdict.value.kind)
@@ -112,7 +112,7 @@ fn relay_to_bus<V: BusView, G: Gate>(
     verdict: Box<Verdict>,
 ) -> PeerFate
     requires room { MAX_TICKETS + 2 < context.old.room }
-    requires crowds { 0 < context.old.crowds }
+    requires spare_verdicts { 0 < context.old.spare_verdicts }
     requires bus { verdict.value.kind ≡ VerdictKind.Bus }
     ensures comes { RunsTo V.BusView G.Gate
         (relaying (said message.now) sender verdict.value verdict.value.kind)
@@ -135,7 +135,7 @@ fn relay_to_service<V: BusView, G: Gate>(
     verdict: Box<Verdict>,
 ) -> PeerFate
     requires room { 1 < context.old.room }
-    requires crowds { 0 < context.old.crowds }
+    requires spare_verdicts { 0 < context.old.spare_verdicts }
     requires start { verdict.value.kind ≡ VerdictKind.Start }
     ensures comes { RunsTo V.BusView G.Gate
         (relaying (said message.now) sender verdict.value verdict.value.kind)
@@ -158,7 +158,7 @@ fn relay<V: BusView, G: Gate>(
     verdict: Box<Verdict>,
 ) -> PeerFate
     requires room { MAX_TICKETS + 2 < context.old.room }
-    requires crowds { 0 < context.old.crowds }
+    requires spare_verdicts { 0 < context.old.spare_verdicts }
     ensures comes { RunsTo V.BusView G.Gate
         (relaying (said message.now) sender verdict.value verdict.value.kind)
         context.old.world result context.new.world }
@@ -185,7 +185,7 @@ pub(crate) fn routed<V: BusView, G: Gate>(
     heard: Result<(), Gone>,
 ) -> PeerFate
     requires room { MAX_TICKETS + 2 < context.old.room }
-    requires crowds { 0 < context.old.crowds }
+    requires spare_verdicts { 0 < context.old.spare_verdicts }
     ensures comes { RunsTo V.BusView G.Gate
         (routing (said message.now) sender (heard_verdict heard verdict.value))
         context.old.world result context.new.world }
@@ -209,7 +209,7 @@ fn ask_with<V: BusView, G: Gate>(
     ensures routes { Routes V.alone sender.number (facts_of (said message.now)) context.old.world
         (heard_verdict result verdict.new) context.new.world }
     ensures room { context.new.room ≡ context.old.room }
-    ensures crowds { context.new.crowds ≡ context.old.crowds }
+    ensures spare_verdicts { context.new.spare_verdicts ≡ context.old.spare_verdicts }
 {
     // With the sender's number, as the bus takes them.
     let mut seen = facts(message, arguments);
@@ -229,7 +229,7 @@ fn ask_with_many<V: BusView, G: Gate>(
     ensures routes { Routes V.alone sender.number (facts_of (said message.now)) context.old.world
         (heard_verdict result verdict.new) context.new.world }
     ensures room { context.new.room ≡ context.old.room }
-    ensures crowds { context.new.crowds ≡ context.old.crowds }
+    ensures spare_verdicts { context.new.spare_verdicts ≡ context.old.spare_verdicts }
 {
     let arguments = first_arguments(message);
     ask_with(context, message, arguments.as_slice(), sender, verdict)
@@ -245,7 +245,7 @@ pub(crate) fn ask_route<V: BusView, G: Gate>(
     ensures routes { Routes V.alone sender.number (facts_of (said message.now)) context.old.world
         (heard_verdict result verdict.new) context.new.world }
     ensures room { context.new.room ≡ context.old.room }
-    ensures crowds { context.new.crowds ≡ context.old.crowds }
+    ensures spare_verdicts { context.new.spare_verdicts ≡ context.old.spare_verdicts }
 {
     let mut few = ArrayVec::<Argument<'_>, 8>::new();
     put_arguments(message, &mut few);
@@ -264,7 +264,7 @@ fn route_message<V: BusView, G: Gate>(
     sender: Conn,
 ) -> PeerFate
     requires room { MAX_TICKETS + 2 < context.old.room }
-    requires crowds { 1 < context.old.crowds }
+    requires spare_verdicts { 1 < context.old.spare_verdicts }
     requires known { is_unknown (kind_of (said message.now).kind) ≡ false }
     ensures comes { RunsTo V.BusView G.Gate (serving (said message.now) sender)
         context.old.world result context.new.world }
@@ -287,7 +287,7 @@ pub fn serve<V: BusView, G: Gate>(
     sender: Conn,
 ) -> PeerFate
     requires room { MAX_TICKETS + 2 < context.old.room }
-    requires crowds { 1 < context.old.crowds }
+    requires spare_verdicts { 1 < context.old.spare_verdicts }
     ensures comes { RunsTo V.BusView G.Gate (serving (said message.now) sender)
         context.old.world result context.new.world }
     ensures room { context.old.room ≤ context.new.room + MAX_TICKETS + 3 }

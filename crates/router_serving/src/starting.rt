@@ -25,7 +25,7 @@ fn started<V: BusView, G: Gate>(
     outcome: Outcome,
 ) -> PeerFate
     requires room { 0 < context.old.room }
-    requires crowds { 0 < context.old.crowds }
+    requires spare_verdicts { 0 < context.old.spare_verdicts }
     ensures comes { RunsTo V.BusView G.Gate
         (start_told (said call.now) caller name.value (Says outcome))
         context.old.world result context.new.world }
@@ -57,7 +57,7 @@ pub(crate) fn start_service<V: BusView, G: Gate>(
     name: &BusName,
 ) -> PeerFate
     requires room { 0 < context.old.room }
-    requires crowds { 0 < context.old.crowds }
+    requires spare_verdicts { 0 < context.old.spare_verdicts }
     ensures comes { RunsTo V.BusView G.Gate
         (serving_request (said call.now) caller (Ok (Starts name.now)))
         context.old.world result context.new.world }

@@ -24,7 +24,7 @@ fn watched<V: BusView, G: Gate>(
     outcome: Outcome,
 ) -> PeerFate
     requires room { length outcome.tickets + 1 < context.old.room }
-    requires crowds { 0 < context.old.crowds }
+    requires spare_verdicts { 0 < context.old.spare_verdicts }
     ensures comes { RunsTo V.BusView G.Gate (watch_told (said call.now) caller (Says outcome))
         context.old.world result context.new.world }
     ensures room { context.old.room ≤ context.new.room + length outcome.tickets + 2 }
@@ -53,7 +53,7 @@ pub(crate) fn become_monitor<V: BusView, G: Gate>(
     rules: &MonitorRules,
 ) -> PeerFate
     requires room { MAX_TICKETS + 1 < context.old.room }
-    requires crowds { 0 < context.old.crowds }
+    requires spare_verdicts { 0 < context.old.spare_verdicts }
     ensures comes { RunsTo V.BusView G.Gate
         (serving_request (said call.now) caller (Ok (Watches rules.now)))
         context.old.world result context.new.world }

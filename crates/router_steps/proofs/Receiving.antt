@@ -5,7 +5,7 @@ use Rattle.router_core.specs.Deeds.{GatedCall}
 use Rattle.router_core.specs.Events.{OfPeer, for_slot}
 use Rattle.router_core.specs.Scripts.{Script, Gives, World, Comes}
 use Rattle.router_core.specs.Standing.{Peer}
-use Rattle.router_steps.specs.Noting.{once_noted, IsHeeded}
+use Rattle.router_steps.specs.Noting.{once_noted, IsNoteTaken}
 use Rattle.router_steps.proofs.Sequels.{comes_then}
 
 module _ {N G : Type 0} (told : N → History) (registry_of : N → ℕ) (passes : G → GatedCall → G → Type 0) (alone : Bool) (w m v : World N G) where
@@ -15,16 +15,16 @@ module _ {N G : Type 0} (told : N → History) (registry_of : N → ℕ) (passes
       subst (λ o. Comes told registry_of passes alone (for_slot o work) w (Some q) v) (sym is)
       (comes_then told registry_of passes alone (λ r. Gives (Some r)) q v (Some q) v (refl, refl) (work p) w done)
 
-  pub heeded : {X : Type 0} (held : Option History) (s : Script X) (x : X) → IsHeeded alone held w m → Comes told registry_of passes alone s m x v → Comes told registry_of passes alone (once_noted held s) w x v
-  heeded None s x same done = subst (λ (k : World N G). Comes told registry_of passes alone s k x v) same done
-  heeded (Some history) s x takes done = (m, takes, done)
+  pub after_note : {X : Type 0} (held : Option History) (s : Script X) (x : X) → IsNoteTaken alone held w m → Comes told registry_of passes alone s m x v → Comes told registry_of passes alone (once_noted held s) w x v
+  after_note None s x same done = subst (λ (k : World N G). Comes told registry_of passes alone s k x v) same done
+  after_note (Some history) s x takes done = (m, takes, done)
 
 module _ {N G : Type 0} (told : N → History) (registry_of : N → ℕ) (passes : G → GatedCall → G → Type 0) (alone : Bool) (held : Option History) (w m : World N G) where
   -- nobody has the key
-  pub for_nobody : (slot : Option Peer) (work : Peer → OfPeer) → slot ≡ None → IsHeeded alone held w m → Comes told registry_of passes alone (once_noted held (for_slot slot work)) w slot m
-  for_nobody slot work none heeds =
+  pub for_nobody : (slot : Option Peer) (work : Peer → OfPeer) → slot ≡ None → IsNoteTaken alone held w m → Comes told registry_of passes alone (once_noted held (for_slot slot work)) w slot m
+  for_nobody slot work none takes_note =
       subst (λ o. Comes told registry_of passes alone (once_noted held (for_slot o work)) w o m) (sym none)
-      (heeded told registry_of passes alone w m m held (Gives None) None heeds (refl, refl))
+      (after_note told registry_of passes alone w m m held (Gives None) None takes_note (refl, refl))
 
 module _ {N G : Type 0} (told : N → History) (registry_of : N → ℕ) (passes : G → GatedCall → G → Type 0) (alone : Bool) (w v : World N G) where
   pub for_one_noted : (held : Option History) (slot : Option Peer) (p q : Peer) (work : Peer → OfPeer) → slot ≡ Some p →

@@ -9,6 +9,6 @@ once_noted None s = s
 once_noted (Some told) s = Noting told s
 
 -- the note was taken, if there was one
-abbrev pub IsHeeded : {N G : Type 0} → Bool → Option History → World N G → World N G → Type 0
-IsHeeded alone None before after = after ≡ before
-IsHeeded alone (Some told) before after = Takes alone told before after
+abbrev pub IsNoteTaken : {N G : Type 0} → Bool → Option History → World N G → World N G → Type 0
+IsNoteTaken alone None before after = after ≡ before
+IsNoteTaken alone (Some told) before after = Takes alone told before after

@@ -7,4 +7,4 @@ pub record Work (N G : Type 0) : Type 0 where
   -- so many more actions fit
   pub room : ℕ
   -- so many of them may have several recipients
-  pub crowds : ℕ
+  pub spare_verdicts : ℕ

@@ -25,7 +25,7 @@ impl<V: BusView, G: Gate> Context<V, G> {
         ensures comes { RunsTo V.BusView G.Gate (fated key fate peer.old)
             self.old.world peer.new self.new.world }
         ensures room { self.old.room ≤ self.new.room + 1 }
-        ensures crowds { self.new.crowds ≡ self.old.crowds }
+        ensures spare_verdicts { self.new.spare_verdicts ≡ self.old.spare_verdicts }
     {
         match fate {
             PeerFate::Stays => {}

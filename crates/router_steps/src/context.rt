@@ -52,7 +52,7 @@ impl<V: BusView, G: Gate> Model for Context<V, G> {
       world = record { view = V.knows h.view; gate = h.gate; actions = h.actions.items };
       room =
           h.room;
-      crowds = vec_len h.verdicts;
+      spare_verdicts = vec_len h.verdicts;
     } };
 
     ghost invariant = { λ h. (h.room + vec_len h.actions ≤ vec_capacity h.actions) ×
@@ -75,7 +75,7 @@ impl<V: BusView + Drop, G: Gate + Drop> Context<V, G> {
             verdicts: Vec::new(alloc),
             room: 0,
         };
-        context.reserve_crowds(2)?;
+        context.reserve_verdicts(2)?;
         Ok(context)
     }
 }
@@ -86,7 +86,7 @@ impl<V: BusView, G: Gate> Context<V, G> {
         ensures world { self.new.world ≡ self.old.world }
         ensures room { OnOk result (self.new.room ≡ count) }
         ensures kept { OnErr result (self.new.room ≡ self.old.room) }
-        ensures crowds { self.new.crowds ≡ self.old.crowds }
+        ensures spare_verdicts { self.new.spare_verdicts ≡ self.old.spare_verdicts }
     {
         self.actions.reserve(count)?;
         self.room = count;
@@ -94,11 +94,11 @@ impl<V: BusView, G: Gate> Context<V, G> {
     }
 
     /// Makes room for so many of the actions to have several recipients. What there was stays.
-    pub fn reserve_crowds(&mut self, count: usize) -> Result<(), AllocError>
+    pub fn reserve_verdicts(&mut self, count: usize) -> Result<(), AllocError>
         ensures world { self.new.world ≡ self.old.world }
         ensures room { self.new.room ≡ self.old.room }
-        ensures crowds { OnOk result (count ≤ self.new.crowds) }
-        ensures kept { self.old.crowds ≤ self.new.crowds }
+        ensures spare_verdicts { OnOk result (count ≤ self.new.spare_verdicts) }
+        ensures kept { self.old.spare_verdicts ≤ self.new.spare_verdicts }
     {
         while self.verdicts.len() < count {
             let verdict = blank_verdict(self.alloc)?;
@@ -138,10 +138,10 @@ impl<V: BusView, G: Gate> Context<V, G> {
 
     /// A place in which the bus says where a message goes. What it said of another is still there.
     pub fn take_verdict(&mut self) -> Box<Verdict>
-        requires { 0 < self.old.crowds }
+        requires { 0 < self.old.spare_verdicts }
         ensures world { self.new.world ≡ self.old.world }
         ensures room { self.new.room ≡ self.old.room }
-        ensures crowds { self.new.crowds + 1 ≡ self.old.crowds }
+        ensures spare_verdicts { self.new.spare_verdicts + 1 ≡ self.old.spare_verdicts }
     {
         match self.verdicts.pop() {
             Some(verdict) => verdict,
@@ -154,7 +154,7 @@ impl<V: BusView, G: Gate> Context<V, G> {
     pub(crate) fn keep_verdict(&mut self, verdict: Box<Verdict>)
         ensures world { self.new.world ≡ self.old.world }
         ensures room { self.new.room ≡ self.old.room }
-        ensures crowds { self.old.crowds ≤ self.new.crowds }
+        ensures spare_verdicts { self.old.spare_verdicts ≤ self.new.spare_verdicts }
     {
         keep_verdict(verdict, &mut self.verdicts);
     }
@@ -164,7 +164,7 @@ impl<V: BusView, G: Gate> Context<V, G> {
         requires { 0 < self.old.room }
         ensures world { self.new.world ≡ having_done self.old.world (action ∷ []) }
         ensures room { self.new.room + 1 ≡ self.old.room }
-        ensures crowds { self.new.crowds ≡ self.old.crowds }
+        ensures spare_verdicts { self.new.spare_verdicts ≡ self.old.spare_verdicts }
     {
         push_reserved(&mut self.actions, action);
         self.room -= 1;
@@ -185,7 +185,7 @@ impl<V: BusView, G: Gate> Context<V, G> {
         ensures does { (m : Message) → IsWritten message m →
             Performs V.BusView (Sends key m) self.old.world self.new.world }
         ensures room { self.new.room + 1 ≡ self.old.room }
-        ensures crowds { self.new.crowds ≡ self.old.crowds }
+        ensures spare_verdicts { self.new.spare_verdicts ≡ self.old.spare_verdicts }
     {
         self.act(Action::Write {
             key,
@@ -198,7 +198,7 @@ impl<V: BusView, G: Gate> Context<V, G> {
         requires { 0 < self.old.room }
         ensures does { Performs V.BusView (Closes key cause) self.old.world self.new.world }
         ensures room { self.new.room + 1 ≡ self.old.room }
-        ensures crowds { self.new.crowds ≡ self.old.crowds }
+        ensures spare_verdicts { self.new.spare_verdicts ≡ self.old.spare_verdicts }
     {
         self.act(Action::Close { key, cause });
     }
@@ -209,7 +209,7 @@ impl<V: BusView, G: Gate> Context<V, G> {
         ensures does { Performs V.BusView (Puts (all_of to.to to.monitors) (said_of content))
             self.old.world self.new.world }
         ensures room { self.new.room + 1 ≡ self.old.room }
-        ensures crowds { self.new.crowds ≡ self.old.crowds }
+        ensures spare_verdicts { self.new.spare_verdicts ≡ self.old.spare_verdicts }
     {
         let note = self.view.note();
         self.act(Action::Put { to, note, content });
@@ -223,7 +223,7 @@ impl<V: BusView, G: Gate> Context<V, G> {
             (putting (all_of verdict.value.to verdict.value.monitors) (said_of content) nothing)
             self.old.world tt self.new.world }
         ensures room { self.old.room ≤ self.new.room + 1 }
-        ensures crowds { self.old.crowds ≤ self.new.crowds }
+        ensures spare_verdicts { self.old.spare_verdicts ≤ self.new.spare_verdicts }
     {
         if let Some(conn) = only_one(&verdict) {
             self.keep_verdict(verdict);
@@ -242,7 +242,7 @@ impl<V: BusView, G: Gate> Context<V, G> {
         requires { 0 < self.old.room }
         ensures announces { Emits V.BusView signals self.old.world self.new.world }
         ensures room { self.old.room ≤ self.new.room + 1 }
-        ensures crowds { self.new.crowds ≡ self.old.crowds }
+        ensures spare_verdicts { self.new.spare_verdicts ≡ self.old.spare_verdicts }
     {
         let note = self.view.note();
         if !signals.as_slice().is_empty() {
@@ -269,7 +269,7 @@ impl<V: BusView, G: Gate> Context<V, G> {
             self.new.world }
         ensures few { IfOk result (λ outcome. length outcome.tickets ≤ MAX_TICKETS) }
         ensures room { self.new.room ≡ self.old.room }
-        ensures crowds { self.new.crowds ≡ self.old.crowds }
+        ensures spare_verdicts { self.new.spare_verdicts ≡ self.old.spare_verdicts }
     {
         match self.view.change(right, change) {
             Ok((outcome, _)) => Ok(outcome),
@@ -292,7 +292,7 @@ impl<V: BusView, G: Gate> Context<V, G> {
             AllByRecursion (λ o. length o.tickets ≤ MAX_TICKETS) outcomes.items) }
         ensures handed_back { IfErr result (λ refused. refused.changes ≡ changes) }
         ensures room { self.new.room ≡ self.old.room }
-        ensures crowds { self.new.crowds ≡ self.old.crowds }
+        ensures spare_verdicts { self.new.spare_verdicts ≡ self.old.spare_verdicts }
     {
         match self.view.change_all(right, changes) {
             Ok((outcomes, _)) => Ok(outcomes),
@@ -306,7 +306,7 @@ impl<V: BusView, G: Gate> Context<V, G> {
         ensures routes { Routes V.alone from facts.now self.old.world
             (heard_verdict result verdict.new) self.new.world }
         ensures room { self.new.room ≡ self.old.room }
-        ensures crowds { self.new.crowds ≡ self.old.crowds }
+        ensures spare_verdicts { self.new.spare_verdicts ≡ self.old.spare_verdicts }
     {
         match self.view.route_into(from, facts, verdict) {
             Ok(()) => Ok(()),
@@ -347,7 +347,7 @@ impl<V: BusView, G: Gate> Context<V, G> {
     pub fn show_gate(&mut self, call: &Call)
         ensures passes { Passes G.passes call.now self.old.world self.new.world }
         ensures room { self.new.room ≡ self.old.room }
-        ensures crowds { self.new.crowds ≡ self.old.crowds }
+        ensures spare_verdicts { self.new.spare_verdicts ≡ self.old.spare_verdicts }
     {
         let seat = self.view.seat();
         self.gate.before(seat, call);
@@ -360,7 +360,7 @@ impl<V: BusView, G: Gate> Context<V, G> {
             Asks V.alone query.now self.old.world heard self.new.world ×
             IsTold result heard body.new.items }
         ensures room { self.new.room ≡ self.old.room }
-        ensures crowds { self.new.crowds ≡ self.old.crowds }
+        ensures spare_verdicts { self.new.spare_verdicts ≡ self.old.spare_verdicts }
     {
         self.view.ask(query, body)
     }

@@ -81,7 +81,7 @@ impl<V: BusView, G: Gate> Context<V, G> {
         errors: HelloErrors,
     )
         requires room { 1 < self.old.room }
-        requires crowds { 0 < self.old.crowds }
+        requires spare_verdicts { 0 < self.old.spare_verdicts }
         requires written { IfSome entry.old
             (λ p. AreRefusals (said hello.now) (next_serial p.serial) errors) }
         ensures { RunsTo V.BusView G.Gate
@@ -104,7 +104,7 @@ impl<V: BusView, G: Gate> Context<V, G> {
         bytes: WrittenBytes,
     )
         requires room { 2 < self.old.room }
-        requires crowds { 0 < self.old.crowds }
+        requires spare_verdicts { 0 < self.old.spare_verdicts }
         requires written { IfSome entry.old (λ p. IsRefusal (said hello.now)
             ErrorKind.LimitsExceeded (next_serial p.serial) bytes) }
         ensures { RunsTo V.BusView G.Gate (for_slot entry.old (turn_away key (said hello.now)))
@@ -123,7 +123,7 @@ impl<V: BusView, G: Gate> Context<V, G> {
             (for_slot entry.old (λ p. closing key CloseCause.Left p))
             self.old.world entry.new self.new.world }
         ensures room { self.old.room ≤ self.new.room + 1 }
-        ensures crowds { self.new.crowds ≡ self.old.crowds }
+        ensures spare_verdicts { self.new.spare_verdicts ≡ self.old.spare_verdicts }
     {
         if let Some(peer) = entry {
             self.close_peer(key, peer, CloseCause::Left);

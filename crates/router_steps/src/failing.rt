@@ -69,7 +69,7 @@ impl<V: BusView, G: Gate> Context<V, G> {
         if serial == 0 {
             return;
         }
-        if self.reserve_crowds(1).is_err() {
+        if self.reserve_verdicts(1).is_err() {
             return;
         }
         let to = CallToAnswer::new(ReplyTo {

@@ -99,7 +99,7 @@ impl<V: BusView, G: Gate> Context<V, G> {
             (Some peer.new) self.old.world self.new.world) }
         ensures kept { IfOk result
             (λ call. IfSome call (λ _. (self.new.room ≡ self.old.room) ×
-            (self.new.crowds ≡ self.old.crowds))) }
+            (self.new.spare_verdicts ≡ self.old.spare_verdicts))) }
         ensures err { OnErr result (peer.new ≡ peer.old) }
         ensures world { OnErr result (self.new.world ≡ self.old.world) }
     {

@@ -94,7 +94,7 @@ impl<V: BusView, G: Gate> Context<V, G> {
     /// Writes an error to a connection that has no name, and puts it to the monitors.
     fn refuse(&mut self, key: usize, peer: &mut Peer, own: BusMessage, bytes: WrittenBytes)
         requires room { 1 < self.old.room }
-        requires crowds { 0 < self.old.crowds }
+        requires spare_verdicts { 0 < self.old.spare_verdicts }
         requires written { IsWritten bytes
             (bus_message (next_serial peer.old.serial) (own_of own)) }
         ensures comes { RunsTo V.BusView G.Gate
@@ -121,7 +121,7 @@ impl<V: BusView, G: Gate> Context<V, G> {
         bytes: WrittenBytes,
     )
         requires room { 1 < self.old.room }
-        requires crowds { 0 < self.old.crowds }
+        requires spare_verdicts { 0 < self.old.spare_verdicts }
         requires written { IsRefusal (said hello.now) error (next_serial peer.old.serial) bytes }
         ensures comes { RunsTo V.BusView G.Gate (refuse_with key (said hello.now) error peer.old)
             self.old.world peer.new self.new.world }
@@ -141,7 +141,7 @@ impl<V: BusView, G: Gate> Context<V, G> {
         bytes: WrittenBytes,
     )
         requires room { 2 < self.old.room }
-        requires crowds { 0 < self.old.crowds }
+        requires spare_verdicts { 0 < self.old.spare_verdicts }
         requires written { IsRefusal (said hello.now) ErrorKind.LimitsExceeded
             (next_serial peer.old.serial) bytes }
         ensures { RunsTo V.BusView G.Gate (turn_away key (said hello.now) peer.old)
@@ -161,7 +161,7 @@ impl<V: BusView, G: Gate> Context<V, G> {
         errors: HelloErrors,
     )
         requires room { 1 < self.old.room }
-        requires crowds { 0 < self.old.crowds }
+        requires spare_verdicts { 0 < self.old.spare_verdicts }
         requires written { AreRefusals (said hello.now) (next_serial peer.old.serial) errors }
         ensures { RunsTo V.BusView G.Gate
             (refuse_with key (said hello.now) (error_for (refusal_of why)) peer.old)

@@ -6,7 +6,7 @@ ghost use Rattle.router_core.specs.Deeds.{IsOwnNote};
 ghost use Rattle.router_core.specs.Events.{write as writing};
 ghost use Rattle.router_core.specs.Scripts.{RunsTo};
 ghost use Rattle.router_core.specs.Standing.{next_serial};
-ghost use Rattle.router_steps.specs.Noting.{once_noted, IsHeeded};
+ghost use Rattle.router_steps.specs.Noting.{once_noted, IsNoteTaken};
 ghost use Rattle.router_steps.specs.Writing.{IsSpelled};
 
 use crate::context::Context;
@@ -67,7 +67,7 @@ impl<V: BusView, G: Gate> Context<V, G> {
     /// Takes in the note that came with an envelope, if there is one.
     pub fn take_note_of(&mut self, note: &Option<V::Note>)
         requires { IsOwnNote V.registry_of self.old.world.view.registry note.now }
-        ensures heeds { IsHeeded V.alone (option_map V.told note.now) self.old.world
+        ensures takes_note { IsNoteTaken V.alone (option_map V.told note.now) self.old.world
             self.new.world }
         ensures room { self.new.room ≡ self.old.room }
     {

@@ -66,7 +66,7 @@ impl<V: BusView, G: Gate> Context<V, G> {
         ensures unput { OnErr result (self.new.world ≡ self.old.world) }
         ensures too_long { is_too_long (signed (said message.now) sender) ≡ is_long result }
         ensures room { self.old.room ≤ self.new.room + 1 }
-        ensures crowds { self.old.crowds ≤ self.new.crowds }
+        ensures spare_verdicts { self.old.spare_verdicts ≤ self.new.spare_verdicts }
     {
         if is_for_nobody(&verdict) {
             self.keep_verdict(verdict);
@@ -110,7 +110,7 @@ impl<V: BusView, G: Gate> Context<V, G> {
         ensures unput { OnErr result (self.new.world ≡ self.old.world) }
         ensures too_long { is_too_long (signed (said message.now) sender) ≡ is_long result }
         ensures room { self.old.room ≤ self.new.room + 1 }
-        ensures crowds { self.old.crowds ≤ self.new.crowds }
+        ensures spare_verdicts { self.old.spare_verdicts ≤ self.new.spare_verdicts }
     {
         let mut verdict = verdict;
         tell_monitors_alone(&mut verdict);
@@ -144,7 +144,7 @@ impl<V: BusView, G: Gate> Context<V, G> {
             is_too_long (signed (said message.now) sender) ≡ is_long result }
         ensures unshown { verdict.value.monitors ≡ [] → IsOk result }
         ensures room { self.old.room ≤ self.new.room + 1 }
-        ensures crowds { self.old.crowds ≤ self.new.crowds }
+        ensures spare_verdicts { self.old.spare_verdicts ≤ self.new.spare_verdicts }
     {
         if verdict.monitors.as_slice().is_empty() {
             self.keep_verdict(verdict);

@@ -11,7 +11,7 @@ ghost use Rattle.router_core.specs.Serving.{answer_with as answering, call_of as
 ghost use Rattle.router_steps.specs.Carrying.{answer_of};
 
 use crate::context::Context;
-use crate::verdicts::{tell_no_monitors, tell_one};
+use crate::verdicts::{set_recipient, tell_no_monitors};
 use bus_view::BusView;
 use driver::{ReplyTo, expects_reply};
 use match_rules::MessageKind;
@@ -42,12 +42,12 @@ impl<V: BusView, G: Gate> Context<V, G> {
     /// Asks which monitors are shown a message of the bus. Where the bus does not say, it is shown
     /// to none; where there are no monitors, what they would see of it is not made.
     pub(crate) fn ask_monitors(&mut self, own: &BusMessage) -> Box<Verdict>
-        requires { 0 < self.old.crowds }
+        requires { 0 < self.old.spare_verdicts }
         ensures routes { (heard : Heard Told) ×
             Routes V.alone 0 (facts_of (bus_message 1 (own_of own.now))) self.old.world heard
             self.new.world × (result.value.monitors ≡ monitors_in heard) }
         ensures room { self.new.room ≡ self.old.room }
-        ensures crowds { self.new.crowds + 1 ≡ self.old.crowds }
+        ensures spare_verdicts { self.new.spare_verdicts + 1 ≡ self.old.spare_verdicts }
     {
         let mut verdict = self.take_verdict();
         if !self.is_watched() {
@@ -67,26 +67,26 @@ impl<V: BusView, G: Gate> Context<V, G> {
     /// Tells a connection a message of the bus. The monitors are shown it too.
     pub fn tell(&mut self, conn: Conn, own: BusMessage)
         requires room { 0 < self.old.room }
-        requires crowds { 0 < self.old.crowds }
+        requires spare_verdicts { 0 < self.old.spare_verdicts }
         ensures comes { RunsTo V.BusView G.Gate (telling conn (own_of own))
             self.old.world tt self.new.world }
         ensures room { self.old.room ≤ self.new.room + 1 }
-        ensures crowds { self.old.crowds ≤ self.new.crowds + 1 }
+        ensures spare_verdicts { self.old.spare_verdicts ≤ self.new.spare_verdicts + 1 }
     {
         let mut verdict = self.ask_monitors(&own);
-        tell_one(&mut verdict, conn);
+        set_recipient(&mut verdict, conn);
         self.put_to(verdict, Content::Own(own));
     }
 
     /// Replies to a call. One that wants no reply gets none.
     pub fn reply_with(&mut self, call: &Message, caller: Conn, content: ReplyContent)
         requires room { 0 < self.old.room }
-        requires crowds { 0 < self.old.crowds }
+        requires spare_verdicts { 0 < self.old.spare_verdicts }
         ensures comes { RunsTo V.BusView G.Gate
             (replying (said call.now) caller (carried_of content))
             self.old.world tt self.new.world }
         ensures room { self.old.room ≤ self.new.room + 1 }
-        ensures crowds { self.old.crowds ≤ self.new.crowds + 1 }
+        ensures spare_verdicts { self.old.spare_verdicts ≤ self.new.spare_verdicts + 1 }
     {
         if expects_reply(call) {
             let to = call_of(call, caller);
@@ -97,11 +97,11 @@ impl<V: BusView, G: Gate> Context<V, G> {
     /// Answers a call an error. One that wants no reply gets none.
     pub fn err_with(&mut self, call: &Message, caller: Conn, error: ErrorKind)
         requires room { 0 < self.old.room }
-        requires crowds { 0 < self.old.crowds }
+        requires spare_verdicts { 0 < self.old.spare_verdicts }
         ensures comes { RunsTo V.BusView G.Gate (erring (said call.now) caller error)
             self.old.world tt self.new.world }
         ensures room { self.old.room ≤ self.new.room + 1 }
-        ensures crowds { self.old.crowds ≤ self.new.crowds + 1 }
+        ensures spare_verdicts { self.old.spare_verdicts ≤ self.new.spare_verdicts + 1 }
     {
         if expects_reply(call) {
             let to = call_of(call, caller);
@@ -112,11 +112,11 @@ impl<V: BusView, G: Gate> Context<V, G> {
     /// Answers a call an error; another message is dropped.
     pub fn err_if_call(&mut self, message: &Message, sender: Conn, error: ErrorKind)
         requires room { 0 < self.old.room }
-        requires crowds { 0 < self.old.crowds }
+        requires spare_verdicts { 0 < self.old.spare_verdicts }
         ensures comes { RunsTo V.BusView G.Gate (erring_if_call (said message.now) sender error)
             self.old.world tt self.new.world }
         ensures room { self.old.room ≤ self.new.room + 1 }
-        ensures crowds { self.old.crowds ≤ self.new.crowds + 1 }
+        ensures spare_verdicts { self.old.spare_verdicts ≤ self.new.spare_verdicts + 1 }
     {
         if is_method_call(message) {
             self.err_with(message, sender, error);
@@ -131,11 +131,11 @@ impl<V: BusView, G: Gate> Context<V, G> {
         answer: Result<ReplyContent, ErrorKind>,
     )
         requires room { 0 < self.old.room }
-        requires crowds { 0 < self.old.crowds }
+        requires spare_verdicts { 0 < self.old.spare_verdicts }
         ensures comes { RunsTo V.BusView G.Gate
             (answering (said call.now) caller (answer_of answer)) self.old.world tt self.new.world }
         ensures room { self.old.room ≤ self.new.room + 1 }
-        ensures crowds { self.old.crowds ≤ self.new.crowds + 1 }
+        ensures spare_verdicts { self.old.spare_verdicts ≤ self.new.spare_verdicts + 1 }
     {
         match answer {
             Ok(content) => self.reply_with(call, caller, content),

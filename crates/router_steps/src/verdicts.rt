@@ -33,7 +33,7 @@ pub fn tell_monitors_alone(verdict: &mut Verdict)
 }
 
 /// It goes to one connection, and to the monitors.
-pub fn tell_one(verdict: &mut Verdict, conn: Conn)
+pub fn set_recipient(verdict: &mut Verdict, conn: Conn)
     ensures { verdict.new ≡ record verdict.old { to = conn ∷ [] } }
 {
     verdict.to.clear();

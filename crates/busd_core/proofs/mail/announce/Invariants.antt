@@ -6,4 +6,4 @@ use Rattle.busd_core.proofs.mail.announce.Given as goal
 
 abbrev pub invariant-loop-addressed : goal.invariant-loop-addressed
 invariant-loop-addressed g l =
-    Delivers g.V.BusView.told g.G.Gate.passes g.V.BusView.alone l.place.seat l.place.key l.fn.engine (flat_map (mail_of_signal l.place.seat) (take l.addressed-index l.signals)) (g.W.Write.contents l.fn.writer) (g.W.Write.contents l.writer) l.engine (Ok tt)
+    Delivers g.V.BusView.told g.G.Gate.passes g.V.BusView.alone l.endpoint.seat l.endpoint.key l.fn.engine (flat_map (mail_of_signal l.endpoint.seat) (take l.addressed-index l.signals)) (g.W.Write.contents l.fn.writer) (g.W.Write.contents l.writer) l.engine (Ok tt)

@@ -7,4 +7,4 @@ use Rattle.busd_core.proofs.mail.deliver.Given as goal
 
 abbrev pub invariant-loop-conn : goal.invariant-loop-conn
 invariant-loop-conn g l =
-    Delivers g.V.BusView.told g.G.Gate.passes g.V.BusView.alone l.place.seat l.place.key l.fn.engine (mail_to_all l.place.seat (said_of l.content) l.yielded) (g.W.Write.contents l.fn.writer) (g.W.Write.contents l.writer) l.engine (Ok tt)
+    Delivers g.V.BusView.told g.G.Gate.passes g.V.BusView.alone l.endpoint.seat l.endpoint.key l.fn.engine (mail_to_all l.endpoint.seat (said_of l.content) l.yielded) (g.W.Write.contents l.fn.writer) (g.W.Write.contents l.writer) l.engine (Ok tt)

@@ -23,5 +23,5 @@ returns-in_default g c =
     record {
       comes = made_still told registry_of passes alone m caller o o.reply w v c.in_default.not-Gone tells;
       room = omega (arith, c.announce.ensures.room, c.answer_with.ensures.room);
-      crowds = omega (arith, c.announce.ensures.crowds, c.answer_with.ensures.crowds);
+      spare_verdicts = omega (arith, c.announce.ensures.spare_verdicts, c.answer_with.ensures.spare_verdicts);
     }

@@ -22,7 +22,7 @@ loop-outcome-preserved-then-place-joints g c =
     record {
       within = omega arith;
       room = omega arith;
-      crowds = omega arith;
+      spare_verdicts = omega arith;
       alone = left.1;
       comes = λ end v later.
           at.invariant.comes end v

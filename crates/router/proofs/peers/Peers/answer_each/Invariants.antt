@@ -10,7 +10,7 @@ abbrev pub invariant-loop-outcome : goal.invariant-loop-outcome
 invariant-loop-outcome g l = record {
   within : l.place ≤ length l.joints;
   room : l.initial.self.work.room ≤ l.self.work.room + 3 * l.place;
-  crowds : l.initial.self.work.crowds ≤ l.self.work.crowds + l.place;
+  spare_verdicts : l.initial.self.work.spare_verdicts ≤ l.self.work.spare_verdicts + l.place;
   alone : AllByRecursion (λ o. o.tickets ≡ []) (into_iter_items l.outcome-iterator);
   comes : (end : Standing) (v : World g.row.V-Note.Denot g.row.G.Denot) →
       Comes g.V.BusView.told g.V.BusView.registry_of g.G.Gate.passes g.V.BusView.alone (answer_each (drop l.place l.joints) (into_iter_items l.outcome-iterator) l.self.standing) l.self.work.world end v →

@@ -6,7 +6,7 @@ use Rattle.outbox_core.specs.Contents.{said_of}
 use Rattle.router_core.specs.Events.{write, for_slot, mail_found, noted}
 use Rattle.router_core.specs.Scripts.{Comes}
 use Rattle.router_core.specs.Standing.{Standing, is_conn, peer_at}
-use Rattle.router_steps.specs.Noting.{once_noted, IsHeeded}
+use Rattle.router_steps.specs.Noting.{once_noted, IsNoteTaken}
 use Rattle.router.specs.Tables.{Table}
 use Rattle.router.proofs.FoundMail.{dropped, delivered}
 use Rattle.router.proofs.Indexing.{index_at, same_keeps, either_way}
@@ -25,9 +25,9 @@ returns-in-None-clause-comes g c =
     let s : Standing = record { peers = c.self.inside.peers.items; due_leaves = c.self.inside.due_leaves.items; login = c.self.inside.login } in
     let m = c.take_note_of.new.self.world in
     let none : position test s.peers ≡ None = sym (c.in-None.ensures ∙ ap (position test) c.deref.ensures.value) in
-    let heeds = subst (λ k. IsHeeded alone held k m) c.reserve.ensures.world c.take_note_of.ensures.heeds in
+    let takes_note = subst (λ k. IsNoteTaken alone held k m) c.reserve.ensures.world c.take_note_of.ensures.takes_note in
     subst (λ (k : Table g.row.V-Note.Denot g.row.G.Denot). Comes told registry_of passes alone (noted held (mail_found k.standing said (position test k.standing.peers))) k.work.world s m) c.self.view_is
-    (dropped told registry_of passes alone held c.self.inside.context.world m s s said (position test s.peers) none refl heeds)
+    (dropped told registry_of passes alone held c.self.inside.context.world m s s said (position test s.peers) none refl takes_note)
 
 pub returns-in-Some-clause-comes : goal.returns-in-Some-clause-comes
 returns-in-Some-clause-comes g c =

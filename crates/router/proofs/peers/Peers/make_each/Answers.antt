@@ -9,7 +9,7 @@ loop-joint-preserved g c =
     let inside : at.joint-index < length joints = omega arith in
     record {
       room = omega arith;
-      crowds = omega arith;
+      spare_verdicts = omega arith;
       comes = λ end v later.
           at.invariant.comes end v
           (makes_more g.V.BusView.told g.V.BusView.registry_of g.G.Gate.passes g.V.BusView.alone joints at.joint-index c.joint-item.result inside c.joint-item.is at.self.standing c.make_one.new.self.standing end at.self.work.world c.make_one.new.self.work.world v c.make_one.ensures.comes later);

@@ -29,7 +29,7 @@ returns-in-Some-clause-comes g c =
     let hello = c.in-Some.field-0 in
     let within : key < length s.peers = omega (arith, c.if-key-len.false, c.len.ensures, c.self.inside.peers.ok.0) in
     let there : c.index_mut.result.now ≡ peer_at s key = get_or_read s.peers key c.index_mut.result.now within c.index_mut.ensures.value None in
-    let next_is = subst (λ (o : Option HelloCall). ComesOfNext g.V.BusView g.G.Gate key o c.index_mut.result.now new c.reserve_crowds.new.self.world c.next_in.new.context.world) (c.in-Some.is ∙ ap (λ x. Some x) c.in-Some.field-0-is) c.in_ok-next_in.ensures.next in
+    let next_is = subst (λ (o : Option HelloCall). ComesOfNext g.V.BusView g.G.Gate key o c.index_mut.result.now new c.reserve_verdicts.new.self.world c.next_in.new.context.world) (c.in-Some.is ∙ ap (λ x. Some x) c.in-Some.field-0-is) c.in_ok-next_in.ensures.next in
     let p = next_is.0 in
     let q = next_is.1 in
     let says = next_is.4 in
@@ -38,7 +38,7 @@ returns-in-Some-clause-comes g c =
     let unnamed : q.stage ≡ Unnamed hello.privileged = ap (λ (x : Peer). x.stage) says.rest ∙ says.stage in
     let slotless = λ (slot : ℕ). no_slot slot new q hello.privileged next_is.3 unnamed in
     let m = said hello.hello in
-    let begun = subst (λ k. RunsTo g.V.BusView g.G.Gate (greet (with_peer s key new) key m q hello.privileged) k t v) (next_is.5 ∙ c.reserve_crowds.ensures.world ∙ c.reserve.ensures.world) (c.greet.ensures q left) in
+    let begun = subst (λ k. RunsTo g.V.BusView g.G.Gate (greet (with_peer s key new) key m q hello.privileged) k t v) (next_is.5 ∙ c.reserve_verdicts.ensures.world ∙ c.reserve.ensures.world) (c.greet.ensures q left) in
     let done = greets s key new m q p hello.privileged is_there says.stage slotless told registry_of passes alone hello.privileged w t v begun in
     subst (λ (k : Table g.row.V-Note.Denot g.row.G.Denot). RunsTo g.V.BusView g.G.Gate (next k.standing key (peer_at k.standing key)) k.work.world t v) c.self.view_is
     (hello_next told registry_of passes alone s key p q hello.privileged hello.hello w t v is_there says.stage says.front says.rest says.is_hello done)
@@ -55,8 +55,8 @@ invariant_of-self-in-None g c =
     let new = c.next_in.new.entry in
     let inside : key < length peers = omega (arith, c.if-key-len.false, c.len.ensures, c.self.inside.peers.ok.0) in
     let there = get_or_read peers key old inside c.index_mut.ensures.value None in
-    let comes = subst (λ (o : Option HelloCall). ComesOfNext g.V.BusView g.G.Gate key o old new c.reserve_crowds.new.self.world c.next_in.new.context.world) c.in-None.is c.in_ok-next_in.ensures.next in
-    let keeps = next_keeps told registry_of passes alone key old new c.reserve_crowds.new.self.world c.next_in.new.context.world comes in
+    let comes = subst (λ (o : Option HelloCall). ComesOfNext g.V.BusView g.G.Gate key o old new c.reserve_verdicts.new.self.world c.next_in.new.context.world) c.in-None.is c.in_ok-next_in.ensures.next in
+    let keeps = next_keeps told registry_of passes alone key old new c.reserve_verdicts.new.self.world c.next_in.new.context.world comes in
     index_at peers c.self.inside.key_of_slot key old new there keeps c.self.invariant
 
 pub greet-requires-clause-nameless : goal.greet-requires-clause-nameless
@@ -65,7 +65,7 @@ greet-requires-clause-nameless g c =
     let peers = c.self.inside.peers.items in
     let new = c.next_in.new.entry in
     let within : key < length peers = omega (arith, c.if-key-len.false, c.len.ensures, c.self.inside.peers.ok.0) in
-    let next_is = subst (λ (o : Option HelloCall). ComesOfNext g.V.BusView g.G.Gate key o c.index_mut.result.now new c.reserve_crowds.new.self.world c.next_in.new.context.world) (c.in-Some.is ∙ ap (λ x. Some x) c.in-Some.field-0-is) c.in_ok-next_in.ensures.next in
+    let next_is = subst (λ (o : Option HelloCall). ComesOfNext g.V.BusView g.G.Gate key o c.index_mut.result.now new c.reserve_verdicts.new.self.world c.next_in.new.context.world) (c.in-Some.is ∙ ap (λ x. Some x) c.in-Some.field-0-is) c.in_ok-next_in.ensures.next in
     let q = next_is.1 in
     let says = next_is.4 in
     let left : get_or (set peers key new) key None ≡ Some q = get_or-set_same peers key new None within ∙ next_is.3 in
@@ -78,7 +78,7 @@ greet-requires-clause-written g c =
     let peers = c.self.inside.peers.items in
     let new = c.next_in.new.entry in
     let within : key < length peers = omega (arith, c.if-key-len.false, c.len.ensures, c.self.inside.peers.ok.0) in
-    let next_is = subst (λ (o : Option HelloCall). ComesOfNext g.V.BusView g.G.Gate key o c.index_mut.result.now new c.reserve_crowds.new.self.world c.next_in.new.context.world) (c.in-Some.is ∙ ap (λ x. Some x) c.in-Some.field-0-is) c.in_ok-next_in.ensures.next in
+    let next_is = subst (λ (o : Option HelloCall). ComesOfNext g.V.BusView g.G.Gate key o c.index_mut.result.now new c.reserve_verdicts.new.self.world c.next_in.new.context.world) (c.in-Some.is ∙ ap (λ x. Some x) c.in-Some.field-0-is) c.in_ok-next_in.ensures.next in
     let left : get_or (set peers key new) key None ≡ Some next_is.1 = get_or-set_same peers key new None within ∙ next_is.3 in
     subst (λ (o : Option Peer). IfSome o (λ x. AreRefusals (said c.in-Some.field-0.hello) (next_serial x.serial) c.in-Some.field-0.errors)) (sym left) next_is.4.errors
 
@@ -89,7 +89,7 @@ invariant_of-self-in-Some g c =
     let peers = c.self.inside.peers.items in
     let new = c.next_in.new.entry in
     let within : key < length peers = omega (arith, c.if-key-len.false, c.len.ensures, c.self.inside.peers.ok.0) in
-    let next_is = subst (λ (o : Option HelloCall). ComesOfNext g.V.BusView g.G.Gate key o c.index_mut.result.now new c.reserve_crowds.new.self.world c.next_in.new.context.world) (c.in-Some.is ∙ ap (λ x. Some x) c.in-Some.field-0-is) c.in_ok-next_in.ensures.next in
+    let next_is = subst (λ (o : Option HelloCall). ComesOfNext g.V.BusView g.G.Gate key o c.index_mut.result.now new c.reserve_verdicts.new.self.world c.next_in.new.context.world) (c.in-Some.is ∙ ap (λ x. Some x) c.in-Some.field-0-is) c.in_ok-next_in.ensures.next in
     let p = next_is.0 in
     let q = next_is.1 in
     let old = c.index_mut.result.now in

@@ -9,7 +9,7 @@ invariant-loop-key g l = record {
   few : length l.joints.items ≤ l.key-index;
   capacity : length l.keys ≤ vec_capacity l.joints;
   room : 3 * length l.joints.items ≤ l.self.work.room;
-  crowds : length l.joints.items ≤ l.self.work.crowds;
+  spare_verdicts : length l.joints.items ≤ l.self.work.spare_verdicts;
   joints : l.begun ≡ false → l.joints.items ≡ [];
   standing : l.begun ≡ false → l.self.standing ≡ l.initial.self.standing;
   world : l.begun ≡ false → l.self.work.world ≡ l.initial.self.work.world;

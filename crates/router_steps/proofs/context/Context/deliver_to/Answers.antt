@@ -7,7 +7,7 @@ use Rattle.router_steps.proofs.context.Context.deliver_to.Goals as goal
 
 pub returns-in-None-clause-comes : goal.returns-in-None-clause-comes
 returns-in-None-clause-comes g c =
-    for_nobody g.V.BusView.told g.V.BusView.registry_of g.G.Gate.passes g.V.BusView.alone (option_map g.V.BusView.told c.args.envelope.now.note) c.args.self.now.world c.take_note_of.new.self.world c.args.entry.now (write c.args.key (said_of c.args.envelope.now.content)) c.in-None.is c.take_note_of.ensures.heeds
+    for_nobody g.V.BusView.told g.V.BusView.registry_of g.G.Gate.passes g.V.BusView.alone (option_map g.V.BusView.told c.args.envelope.now.note) c.args.self.now.world c.take_note_of.new.self.world c.args.entry.now (write c.args.key (said_of c.args.envelope.now.content)) c.in-None.is c.take_note_of.ensures.takes_note
 
 pub returns-in-Some-clause-comes : goal.returns-in-Some-clause-comes
 returns-in-Some-clause-comes g c =

@@ -11,8 +11,8 @@ returns-clause-comes g c =
     let registry_of = g.V.BusView.registry_of in
     let passes = g.G.Gate.passes in
     let alone = g.V.BusView.alone in
-    let ready = c.reserve_crowds.new.self.world in
+    let ready = c.reserve_verdicts.new.self.world in
     let v = c.tell.new.self.world in
     let replied = subst (λ (to : ReplyTo). Comes told registry_of passes alone (tell c.args.caller (Replies to started)) ready tt v) c.new-to.ensures c.tell.ensures.comes in
     let to : ReplyTo = record { caller = Some c.args.caller.number; call = c.args.serial } in
-    (true, subst (λ (w : World g.row.V-Note.Denot g.row.G.Denot). Comes told registry_of passes alone (tell c.args.caller (Replies to started)) w tt v) c.reserve_crowds.ensures.world replied)
+    (true, subst (λ (w : World g.row.V-Note.Denot g.row.G.Denot). Comes told registry_of passes alone (tell c.args.caller (Replies to started)) w tt v) c.reserve_verdicts.ensures.world replied)

@@ -1,5 +1,5 @@
 use Rattle.std.proofs.Common.{◌≡◌, ◌≤◌, ◌-◌, vec_len}
-use Rattle.router_steps.proofs.context.Context.reserve_crowds.Given as goal
+use Rattle.router_steps.proofs.context.Context.reserve_verdicts.Given as goal
 
 abbrev pub invariant-loop-self : goal.invariant-loop-self
 invariant-loop-self g l = record {
