@@ -6,7 +6,8 @@ use crate::runtime::DaemonRuntime;
 use busd_sockets::PollWaker;
 use crossbeam_channel::{Sender, bounded};
 use names::BusName;
-use routers::Coordinator;
+use outbox::Tap;
+use router_host::StartRequest;
 use service_files::Service;
 use starter::Programs;
 use std::alloc::{AllocError, Global};
@@ -22,13 +23,13 @@ const JOBS: usize = 512;
 pub(crate) struct Launcher<'a, R: Wait> {
     rt: &'a R,
     alloc: Global,
-    coordinator: &'a Coordinator<PollWaker>,
+    requests: Tap<StartRequest>,
     launch: Arc<Launch, Global>,
     jobs: Sender<ProgramJob, Global>,
 }
 
-/// Runs the programs of these services for a bus. Where there are any, a thread is started that
-/// waits for programs to start. The waker wakes the main thread.
+/// Runs the programs of these services for a bus, as they are asked for. Where there are any, a
+/// thread is started that waits for programs to start. The waker wakes the main thread.
 ///
 /// # Errors
 ///
@@ -38,6 +39,7 @@ pub(crate) fn start_launcher<'a, R: DaemonRuntime>(
     alloc: Global,
     bus: &'a Bus<'_>,
     services: Vec<Service>,
+    requests: Tap<StartRequest>,
     waker: PollWaker,
 ) -> Result<Launcher<'a, R>, AllocError> {
     let launch = Launch::new(alloc, services, bus.options.path, waker)?;
@@ -51,7 +53,7 @@ pub(crate) fn start_launcher<'a, R: DaemonRuntime>(
     Ok(Launcher {
         rt,
         alloc,
-        coordinator: &bus.coordinator,
+        requests,
         launch,
         jobs,
     })
@@ -78,7 +80,7 @@ impl<'a, R: Wait> Programs for Launcher<'a, R> {
         if let Some(event) = self.launch.next_end(rt) {
             return Some(event);
         }
-        let request = self.coordinator.next_start(rt)?;
+        let request = self.requests.take(rt)?;
         Some(Event::Asked {
             name: request.name,
             start: request.start,

@@ -16,9 +16,10 @@ use busd_sockets::{Acceptor, Chores, EndLog, NewConnections, PollWaker, Sockets}
 use busd_start::ServeFault;
 use mio::Poll;
 use names::WellKnown;
-use outbox::{EnvelopeOf, Lane, Outboxes, Tap};
+use outbox::{EnvelopeOf, Lane, Outboxes, Tap, open_queue};
 use registry_snapshots::{Naming, NewHistory, Seat, Shared};
 use router_core::OpenGate;
+use router_host::StartRequest;
 use routers::{Coordinator, RouterSetup, serve};
 use starter::{MainSeat, Programs};
 use std::alloc::AllocError;
@@ -35,6 +36,8 @@ use std::thread::Threads;
 struct Parts<J: Naming, F> {
     seats: Vec<Seat<J>>,
     lanes: Vec<Lane<EnvelopeOf<J>>>,
+    /// Lanes to the main thread.
+    starts: Vec<Lane<StartRequest>>,
     traces: Vec<TraceFile<F>>,
     /// Of routers alone.
     taps: Vec<Vec<Tap<EnvelopeOf<J>>>>,
@@ -42,11 +45,12 @@ struct Parts<J: Naming, F> {
     polls: Vec<Poll>,
 }
 
-/// What a seat is served by: its lane, and where it writes what it recorded.
+/// What a seat is served by: its lanes, and where it writes what it recorded.
 #[derive(Drop)]
 struct Place<J: Naming, F> {
     seat: Seat<J>,
     lane: Lane<EnvelopeOf<J>>,
+    starts: Lane<StartRequest>,
     trace: TraceFile<F>,
 }
 
@@ -55,8 +59,14 @@ impl<J: Naming, F: Drop> Parts<J, F> {
     fn take_place(&mut self) -> Result<Place<J, F>, AllocError> {
         let trace = self.traces.pop().ok_or(AllocError)?;
         let lane = self.lanes.pop().ok_or(AllocError)?;
+        let starts = self.starts.pop().ok_or(AllocError)?;
         let seat = self.seats.pop().ok_or(AllocError)?;
-        Ok(Place { seat, lane, trace })
+        Ok(Place {
+            seat,
+            lane,
+            starts,
+            trace,
+        })
     }
 }
 
@@ -129,11 +139,17 @@ fn setup<'a, J: Naming, F: Drop, R: Net + Eprint + AllocGlobal>(
     let log = Log::new(rt, bus.options.is_verbose);
     let source = Sockets::new(alloc, poll, new_connections, log)?;
     let taps = parts.taps.pop().ok_or(AllocError)?;
-    let Place { seat, lane, trace } = parts.take_place()?;
+    let Place {
+        seat,
+        lane,
+        starts,
+        trace,
+    } = parts.take_place()?;
     Ok(RouterSetup {
         seat,
         lane,
         taps,
+        starts,
         source,
         gate: OpenGate,
         login: Some(login),
@@ -150,8 +166,24 @@ fn main_seat<'a, J: Naming, F: Write + Drop, Q: Programs + Drop, R: Wait + Clock
     programs: Q,
 ) -> Result<SeatByClock<'a, J, Q, TraceFile<F>, R>, ServeFault> {
     let alloc = rt.alloc();
-    let Place { seat, lane, trace } = place;
-    match MainSeat::new(rt, alloc, shared, coordinator, seat, lane, programs, trace) {
+    let Place {
+        seat,
+        lane,
+        starts,
+        trace,
+    } = place;
+    let made = MainSeat::new(
+        rt,
+        alloc,
+        shared,
+        coordinator,
+        seat,
+        lane,
+        starts,
+        programs,
+        trace,
+    );
+    match made {
         Some(seat) => Ok(SeatByClock::new(rt, seat)),
         None => Err(ServeFault::Memory),
     }
@@ -174,6 +206,7 @@ fn serve_over<
 {
     let alloc = rt.alloc();
     let (lanes, taps) = Outboxes::new(alloc, shared)?;
+    let (starts, requests) = open_queue(alloc, usize::from(shared.routers()) + 1)?;
     let Listening {
         entrance,
         services,
@@ -185,11 +218,12 @@ fn serve_over<
     let mut parts = Parts {
         seats,
         lanes,
+        starts,
         traces,
         taps,
         polls: router_polls,
     };
-    let programs = start_launcher(rt, alloc, bus, services, waker)?;
+    let programs = start_launcher(rt, alloc, bus, services, requests, waker)?;
     let served = serve_with(rt, shared, &mut parts, bus, entrance, programs);
     drop(parts);
     served

@@ -1,10 +1,10 @@
 -- Taps by groups.
-use Rattle.std.proofs.Common.{◌≡◌, ◌≢◌, ℕ, zero, suc, ◌+◌, ◌*◌, ◌<◌, ◌≤◌, List, [], ◌∷◌, ◌++◌, length, map, take, sym, refl, ap, ◌∙◌, subst, ⊎_elim, append_assoc, append-nil, arith, Vec}
+use Rattle.std.proofs.Common.{◌≡◌, ◌≢◌, ℕ, zero, suc, ◌+◌, ◌*◌, ◌<◌, ◌≤◌, List, [], ◌∷◌, ◌++◌, length, map, take, sym, refl, ap, ◌∙◌, ⊎_elim, append_assoc, append-nil, arith, Vec}
 use Rattle.std.proofs.Math.Nat.{suc-mul, add-mul, mul-le-mul_right}
 use Rattle.std.proofs.lemmas.Bool.{cases_eq}
-use Rattle.std.proofs.lemmas.List.{length-append, take_all, take-append-le, take-append-drop}
+use Rattle.std.proofs.lemmas.List.{length-append, take_all, take-append-le}
 use Rattle.std.proofs.lemmas.List.Concat.{flat_map-append}
-use Rattle.outbox.specs.Lanes.{End, lane_end, lanes_of, all_of, AreGrouped}
+use Rattle.outbox.specs.Lanes.{End, lane_end, lanes_of, all_of}
 
 -- a group more fits
 pub fits : (k n places t : ℕ) → k < n → t + k * places ≡ n * places → places ≤ t

@@ -36,23 +36,21 @@
 //! }
 //! ```
 //!
-//! [`open_lanes`] makes such queues of any items: one for each slot. A thread that puts has a lane,
-//! which reaches all queues; what comes out of a queue is taken by its one tap. A queue holds 256
-//! items, and neither putting nor taking allocates. What is taken from a queue is a beginning of
-//! what was put into it, in this order: each item comes once, and those of a lane in the lane's
-//! order. [`Lane::compare`] shows it of a lane and a tap, once both are in one hand.
+//! [`open_lanes`] makes such queues of any items: one for each slot; [`open_queue`] makes one
+//! alone. A thread that puts has a lane, which reaches all queues; what comes out of a queue is
+//! taken by its one tap. A queue holds 256 items, and neither putting nor taking allocates. What is
+//! taken from a queue is a beginning of what was put into it, in this order: each item comes once,
+//! and those of a lane in the lane's order. [`Lane::compare`] shows it of a lane and a tap, once
+//! both are in one hand.
 //!
 //! ```
-//! use outbox::open_lanes;
+//! use outbox::open_queue;
 //! use std::alloc::{AllocError, Global};
 //! use std::sync::Wait;
 //!
 //! fn comes_in_order<R: Wait>(rt: &R, alloc: Global) -> Result<bool, AllocError> {
-//!     let (mut lanes, mut groups) = open_lanes::<u64>(alloc, 1, 1, 1)?;
-//!     let (Some(mut lane), Some(mut taps)) = (lanes.pop(), groups.pop()) else {
-//!         return Ok(false);
-//!     };
-//!     let Some(mut tap) = taps.pop() else {
+//!     let (mut lanes, mut tap) = open_queue::<u64>(alloc, 1)?;
+//!     let Some(mut lane) = lanes.pop() else {
 //!         return Ok(false);
 //!     };
 //!     if lane.slots() == 0 {
@@ -72,5 +70,5 @@ mod outboxes;
 
 pub use ends::{Full, Tap};
 pub use lane::Lane;
-pub use opening::open_lanes;
+pub use opening::{open_lanes, open_queue};
 pub use outboxes::{EnvelopeOf, Outboxes};

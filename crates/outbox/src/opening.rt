@@ -1,6 +1,6 @@
 //! Making the queues.
 
-ghost use Rattle.std.specs.Prelude.{◌≡◌, ◌*◌, ◌^◌, ◌<◌, ◌≤◌, length, IfOk, All, vec_len};
+ghost use Rattle.std.specs.Prelude.{◌≡◌, ◌∷◌, [], ◌*◌, ◌^◌, ◌<◌, ◌≤◌, length, IfOk, All, vec_len};
 ghost use Rattle.outbox.specs.Lanes.{HasGiven, lanes_of, all_of, AreGrouped};
 
 use crate::ends::{Tap, open};
@@ -32,6 +32,27 @@ pub fn open_lanes<E: Drop>(
     opened.truncate(lanes);
     let taps = grouped(alloc, taps, groups, places)?;
     Ok((opened, taps))
+}
+
+/// A new queue: so many lanes into it, at most 9, of which it is the only slot, and its tap.
+///
+/// # Errors
+///
+/// There may not be memory for it.
+pub fn open_queue<E: Drop>(
+    alloc: Global,
+    lanes: usize,
+) -> Result<(Vec<Lane<E>>, Tap<E>), AllocError>
+    requires { lanes ≤ 9 }
+    ensures tap { IfOk result (λ r. HasGiven 9 r.1) }
+    ensures lanes { IfOk result (λ r. r.0.items ≡ lanes_of lanes (r.1 ∷ [])) }
+{
+    let (mut opened, mut taps) = open_all(alloc, 1)?;
+    opened.truncate(lanes);
+    match taps.pop() {
+        Some(tap) => Ok((opened, tap)),
+        None => unreachable!(),
+    }
 }
 
 // New queues, one a slot, with all lanes.

@@ -1,17 +1,13 @@
-//! What the threads of a bus share, besides its registry and its outboxes.
+//! What the threads of a bus share, besides its registry and the queues between them.
 
 use crate::fault::Fault;
-use crossbeam_queue::ArrayQueue;
-use router_host::{StartRequest, TooManyStarts};
+use seq_bus_core::limits::MAX_CONNECTIONS;
 use std::alloc::{AllocError, Global};
 use std::sync::atomic::{AtomicBool, Ordering};
 use std::sync::{OnceLock, Wait};
 
-/// How many starts wait for the main thread at most.
-const STARTS: usize = 512;
-
 /// How many places for connections a bus has.
-pub(crate) const PLACES: usize = 256;
+const PLACES: usize = MAX_CONNECTIONS;
 
 /// Ends the wait of one thread.
 pub trait Wake {
@@ -56,8 +52,8 @@ fn lower(flag: &AtomicBool) -> bool {
     flag.load(Ordering::SeqCst) && flag.swap(false, Ordering::SeqCst)
 }
 
-/// What the threads of a bus share, besides its registry and its outboxes: how to wake each, which
-/// places have mail, which programs are to be run, and whether they are to end.
+/// What the threads of a bus share, besides its registry and the queues between them: how to wake
+/// each, which places have mail, and whether they are to end.
 #[derive(Drop)]
 pub struct Coordinator<W: Wake + Drop> {
     states: Vec<RouterState<W>>,
@@ -65,8 +61,6 @@ pub struct Coordinator<W: Wake + Drop> {
     mail: Vec<AtomicBool>,
     main: W,
     stops: AtomicBool,
-    /// Starts on their way to the main thread.
-    starts: ArrayQueue<StartRequest>,
     /// The fault that came first.
     fault: OnceLock<Fault>,
 }
@@ -95,7 +89,6 @@ impl<W: Wake + Drop> Coordinator<W> {
             mail,
             main,
             stops: AtomicBool::new(false),
-            starts: ArrayQueue::new(alloc, STARTS)?,
             fault: OnceLock::new(),
         })
     }
@@ -203,24 +196,9 @@ impl<W: Wake + Drop> Coordinator<W> {
         }
     }
 
-    /// The program of a service is to be run by the main thread, which is woken.
-    pub(crate) fn ask_for_start<R: Wait>(
-        &self,
-        rt: &R,
-        request: StartRequest,
-    ) -> Result<(), TooManyStarts> {
-        match self.starts.push(rt, request) {
-            Ok(()) => {
-                self.main.wake();
-                Ok(())
-            }
-            Err(_) => Err(TooManyStarts),
-        }
-    }
-
-    /// The start that was asked for first, of those that were not taken yet.
-    pub fn next_start<R: Wait>(&self, rt: &R) -> Option<StartRequest> {
-        self.starts.pop(rt)
+    /// Something was brought to the main thread.
+    pub(crate) fn wake_main(&self) {
+        self.main.wake();
     }
 
     /// Whether all are to end.

@@ -1,7 +1,7 @@
 //! The ways between the routers of one process.
 
 ghost use Rattle.std.specs.Prelude.{◌≡◌, IfErr, OnOk, OnErr};
-ghost use Rattle.routers.specs.Posts.{Puts};
+ghost use Rattle.routers.specs.Posts.{AsksFor, Sends};
 
 use crate::coordinator::{Coordinator, Wake};
 use outbox::{EnvelopeOf, Lane, Tap};
@@ -12,62 +12,78 @@ use seq_bus_core::Conn;
 use std::marker::Model;
 use std::sync::Wait;
 
-/// How a router reaches the others: its lane into all outboxes, the taps of its own places, and the
-/// coordinator, where it tells that something was brought to another router, or that a program is
-/// to be run.
+/// How a router reaches the others: its lane into all outboxes, the taps of its own places, its
+/// lane to whoever runs the programs of services, and the coordinator, where it tells that
+/// something was brought to another thread.
 ///
-/// Contracts see the lane.
+/// Contracts see the lanes, the taps and the slot of its first place.
 #[derive(Drop)]
 pub struct LanePost<'a, J: Naming, W: Wake + Drop> {
     lane: Lane<EnvelopeOf<J>>,
     taps: Vec<Tap<EnvelopeOf<J>>>,
+    starts: Lane<StartRequest>,
     coordinator: &'a Coordinator<W>,
     /// Which router this is.
     me: usize,
+    /// The slot of its first place.
+    first: usize,
 }
 
 impl<'a, J: Naming, W: Wake + Drop> Model for LanePost<'a, J, W> {
-    ghost use Rattle.std.specs.Prelude.{List};
     ghost use Rattle.outbox_core.specs.declared.envelope.Envelope.{Envelope};
-    ghost use Rattle.outbox.specs.Lanes.{End};
+    ghost use Rattle.router_host_core.specs.declared.post.StartRequest.{StartRequest};
+    ghost use Rattle.routers.specs.Posts.{Ways};
     ghost use Rattle.seq_bus_core.specs.Histories.{History};
 
-    ghost Value = { List (End (Envelope History)) };
+    ghost Value = { Ways (Envelope History) StartRequest };
 
-    ghost view = { λ p. p.lane };
+    ghost view = { λ p. record {
+      lane = p.lane;
+      taps = p.taps.items;
+      first = p.first;
+      starts = p.starts;
+    } };
 }
 
 impl<'a, J: Naming, W: Wake + Drop> LanePost<'a, J, W> {
-    /// The post of router `me` of the coordinator, with its lane and the taps of its places.
+    /// The post of router `me` of the coordinator, with its lane and the taps of its places, and
+    /// its lane to whoever runs the programs of services.
     pub fn new(
         me: usize,
         lane: Lane<EnvelopeOf<J>>,
         taps: Vec<Tap<EnvelopeOf<J>>>,
+        starts: Lane<StartRequest>,
         coordinator: &'a Coordinator<W>,
-    ) -> LanePost<'a, J, W> {
+    ) -> LanePost<'a, J, W>
+        ensures lane { result.lane ≡ lane }
+        ensures taps { result.taps ≡ taps.items }
+        ensures starts { result.starts ≡ starts }
+    {
         LanePost {
             lane,
             taps,
+            starts,
             coordinator,
             me,
+            first: me.saturating_mul(coordinator.places()),
         }
     }
 }
 
 impl<'a, 'b, J: Naming, W: Wake + Drop, R: Wait> Post<Traced<Desk<'b, J, R>>>
     for LanePost<'a, J, W> {
-    ghost use Rattle.routers.specs.Posts.{Puts};
+    ghost use Rattle.routers.specs.Posts.{AsksFor, Receives, Sends};
 
     ghost registry = { λ _. J.book.number };
 
-    ghost puts = { λ before to envelope after. Puts before to.slot envelope after };
+    ghost puts = { λ before to envelope after. Sends before to.slot envelope after };
 
-    ghost starts = { λ before _ after. after ≡ before };
+    ghost starts = { λ before start after. AsksFor before start after };
 
-    ghost takes = { λ before _ _ after. after ≡ before };
+    ghost takes = { λ before slot envelope after. Receives before slot envelope after };
 
     fn put(&mut self, right: &R, to: Conn, envelope: EnvelopeOf<J>) -> Result<(), Full<Note<J>>>
-        ensures put { OnOk result (Puts self.old to.slot envelope self.new) }
+        ensures put { OnOk result (Sends self.old to.slot envelope self.new) }
         ensures refused { OnErr result (self.new ≡ self.old) }
         ensures back { IfErr result (λ full. full.0 ≡ envelope) }
     {
@@ -85,16 +101,25 @@ impl<'a, 'b, J: Naming, W: Wake + Drop, R: Wait> Post<Traced<Desk<'b, J, R>>>
     }
 
     fn start(&mut self, right: &R, request: StartRequest) -> Result<(), TooManyStarts>
-        ensures asked { OnOk result (self.new ≡ self.old) }
+        ensures asked { OnOk result (AsksFor self.old request self.new) }
         ensures refused { OnErr result (self.new ≡ self.old) }
     {
-        self.coordinator.ask_for_start(right, request)
+        if self.starts.slots() == 0 {
+            return Err(TooManyStarts);
+        }
+        if let Err(outbox::Full(_request)) = self.starts.put(right, 0, request) {
+            return Err(TooManyStarts);
+        }
+        self.coordinator.wake_main();
+        Ok(())
     }
 
     fn take(&mut self, right: &R, slot: u16) -> Option<EnvelopeOf<J>> {
-        let first = self.me.saturating_mul(self.coordinator.places());
-        let place = usize::from(slot).checked_sub(first)?;
-        self.taps.get_mut(place)?.take(right)
+        let place = usize::from(slot).checked_sub(self.first)?;
+        if place >= self.taps.len() {
+            return None;
+        }
+        self.taps[place].take(right)
     }
 
     fn turn_ends(&mut self, _right: &R) {

@@ -14,7 +14,7 @@ use outbox::{EnvelopeOf, Lane, Tap};
 use registry_snapshots::{Desk, Naming, Seat, Shared};
 use router::{Engine, Login};
 use router_core::Gate;
-use router_host::{Host, Post, Socket};
+use router_host::{Host, Post, Socket, StartRequest};
 use std::alloc::{AllocError, Global};
 use std::marker::PhantomData;
 use std::sync::Wait;
@@ -28,6 +28,8 @@ pub struct RouterSetup<J: Naming, E, G: Gate, T> {
     pub lane: Lane<EnvelopeOf<J>>,
     /// The outboxes of its places.
     pub taps: Vec<Tap<EnvelopeOf<J>>>,
+    /// To whoever runs the programs of services.
+    pub starts: Lane<StartRequest>,
     /// Where it hears of what happens.
     pub source: E,
     pub gate: G,
@@ -79,6 +81,7 @@ fn serve_as_router<
         seat,
         lane,
         taps,
+        starts,
         source,
         gate,
         login,
@@ -87,7 +90,7 @@ fn serve_as_router<
     let desk: Desk<'_, J, R> = Desk::new(seat, shared);
     let parts = RouterParts {
         view: traced(alloc, desk, trace.records()),
-        post: LanePost::new(me, lane, taps, coordinator),
+        post: LanePost::new(me, lane, taps, starts, coordinator),
         source,
         gate,
         login,

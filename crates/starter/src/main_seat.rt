@@ -1,5 +1,6 @@
 //! The seat of the thread that started the routers.
 
+ghost use Rattle.std.specs.Prelude.{◌≡◌, [], IfSome};
 ghost use Rattle.starter.specs.MainSeats.{MakesMainSteps};
 
 use crate::starter::{Programs, Starter};
@@ -7,7 +8,7 @@ use outbox::{EnvelopeOf, Lane};
 use registry_snapshots::{Desk, Naming, Seat, Shared};
 use router::Traced;
 use router_core::OpenGate;
-use router_host::Socket;
+use router_host::{Socket, StartRequest};
 use routers::{Coordinator, Fault, LanePost, Recorder, TraceSink, Wake, traced};
 use std::alloc::{AllocError, Global};
 use std::marker::Model;
@@ -16,9 +17,9 @@ use std::sync::Wait;
 /// How long is waited where there was no memory, in milliseconds.
 const LATER: u64 = 100;
 
-/// The seat and the lane that are no router's, in the hands of the thread that started the routers.
-/// It serves no connection: it runs the programs of services, tells the bus how starts end, and
-/// writes what it recorded.
+/// The seat and the lanes that are no router's, in the hands of the thread that started the
+/// routers. It serves no connection: it runs the programs of services, tells the bus how starts
+/// end, and writes what it recorded.
 ///
 /// Contracts see its host.
 #[derive(Drop)]
@@ -54,12 +55,17 @@ impl<
         coordinator: &'a Coordinator<W>,
         seat: Seat<J>,
         lane: Lane<EnvelopeOf<J>>,
+        starts: Lane<StartRequest>,
         programs: Q,
         trace: T,
-    ) -> Option<MainSeat<'a, J, S, W, Q, T, R>> {
+    ) -> Option<MainSeat<'a, J, S, W, Q, T, R>>
+        ensures lane { IfSome result (λ main. main.carried.post.lane ≡ lane) }
+        ensures starts { IfSome result (λ main. main.carried.post.starts ≡ starts) }
+        ensures none { IfSome result (λ main. main.carried.post.taps ≡ []) }
+    {
         let desk: Desk<'_, J, R> = Desk::new(seat, shared);
         let view = traced(alloc, desk, trace.records());
-        let post = LanePost::new(usize::MAX, lane, Vec::new(alloc), coordinator);
+        let post = LanePost::new(usize::MAX, lane, Vec::new(alloc), starts, coordinator);
         let starter = Starter::over(alloc, view, post, programs)?;
         Some(MainSeat { rt, starter, trace })
     }

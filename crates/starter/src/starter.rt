@@ -1,6 +1,6 @@
 //! The programs of services: which are run, and what routers are told of them.
 
-ghost use Rattle.std.specs.Prelude.{◌≡◌, ◌<◌, ◌++◌, ◌∷◌, [], IfErr, OnOk, OnErr, reverse, vec_capacity, vec_len};
+ghost use Rattle.std.specs.Prelude.{◌≡◌, ◌<◌, ◌++◌, ◌∷◌, [], IfErr, IfSome, OnOk, OnErr, reverse, vec_capacity, vec_len};
 ghost use Rattle.starter.specs.Ends.{AreDone, HasEnded, IsDone, MakesSteps, MayCatchUp, end_of};
 
 use bus_view::BusView;
@@ -62,20 +62,25 @@ fn end_of(change: &Change) -> Option<StartEnd>
 }
 
 impl<V: BusView + Drop, P: Post<V>, S: Socket, Q: Programs + Drop> Starter<V, OpenGate, P, S, Q> {
-    /// A starter over a view of the bus, which tells it by a host without connections. There is
-    /// none where there is no memory for it.
+    /// A starter over a view of the bus, which tells it by a host without connections. There is none
+    /// where there is no memory for it.
     pub fn over(alloc: Global, view: V, post: P, programs: Q) -> Option<Self>
         requires { P.registry post ≡ (V.knows view).registry }
+        ensures { IfSome result (λ starter. starter.host.carried.post ≡ post) }
     {
         let engine = Engine::new(alloc, view, OpenGate, None).ok()?;
-        let host = Host::new(alloc, engine, post, 0, 0).ok()?;
+        let Ok(host) = Host::new(alloc, engine, post, 0, 0) else {
+            return None;
+        };
         Some(Starter::new(alloc, host, programs))
     }
 }
 
 impl<V: BusView, G: Gate, P: Post<V>, S: Socket, Q: Programs + Drop> Starter<V, G, P, S, Q> {
     /// A starter without starts, which tells the bus by this host.
-    pub fn new(alloc: Global, host: Host<V, G, P, S>, programs: Q) -> Self {
+    pub fn new(alloc: Global, host: Host<V, G, P, S>, programs: Q) -> Self
+        ensures { result.host ≡ host }
+    {
         Starter {
             alloc,
             host,

@@ -8,7 +8,7 @@ use crate::scene;
 use crate::scene::{Places, StageHost};
 use crate::watch::{Findings, Lookout, Watch};
 use anyhow::{Result, bail};
-use outbox::Outboxes;
+use outbox::{Outboxes, open_queue};
 use registry_snapshots::{Desk, Naming, Seat, Serve, Shared, start};
 use router::Traced;
 use routers::{Coordinator, LanePost, Wake};
@@ -101,13 +101,15 @@ impl<'a, R: Wait> Stage<'a, R> {
         let findings = Findings::new(self.alloc)?;
         let found = findings.try_clone()?;
         let (lanes, taps) = Outboxes::new(self.alloc, shared)?;
-        // Seat 0 and its lane are those of the thread that accepts connections.
+        // Nobody runs programs.
+        let (starts, _requests) = open_queue(self.alloc, usize::from(shared.routers()) + 1)?;
+        // Seat 0 and its lanes are those of the thread that accepts connections.
         let mut seats = seats.into_iter();
         let mut lookout = self.lookout(shared, seats.next(), found);
-        let ways = lanes.into_iter().skip(1).zip(taps);
+        let ways = lanes.into_iter().zip(starts).skip(1).zip(taps);
         let mut hosts: Vec<SharedHost<'b, 'c, J, R>> = Vec::new(self.alloc);
         let mut is_short = false;
-        for ((router, seat), (lane, taps)) in seats.enumerate().zip(ways) {
+        for ((router, seat), ((lane, starts), taps)) in seats.enumerate().zip(ways) {
             let desk: Desk<'b, J, R> = Desk::new(seat, shared);
             let gate = Watch {
                 alloc: self.alloc,
@@ -118,7 +120,7 @@ impl<'a, R: Wait> Stage<'a, R> {
                 Traced::silent(self.alloc, desk),
                 gate,
                 self.scenario.login(self.alloc),
-                LanePost::new(router, lane, taps, coordinator),
+                LanePost::new(router, lane, taps, starts, coordinator),
                 self.places(router),
             );
             is_short = scene::add(&mut hosts, host).is_err() || is_short;

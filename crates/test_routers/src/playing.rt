@@ -10,7 +10,7 @@ use crate::scenario::Scenario;
 use crate::source::ScenarioSource;
 use crate::stopper::Stopper;
 use crate::trace_sink::SharedTrace;
-use outbox::Outboxes;
+use outbox::{Outboxes, open_queue};
 use registry_snapshots::{Naming, NewHistory, Seat, Shared};
 use routers::{Coordinator, Fault, RouterSetup, serve};
 use std::alloc::{AllocError, Global};
@@ -125,15 +125,22 @@ fn setups_of<'a, J: Naming, R: Wait + Clock>(
     scenario: &Scenario,
 ) -> Result<Setups<'a, J, R>, Fail> {
     let (mut lanes, mut taps) = Outboxes::new(alloc, shared)?;
+    let (mut starts, _requests) = open_queue(alloc, usize::from(shared.routers()) + 1)?;
     let mut setups = Vec::new(alloc);
     for (me, steps) in scenario.steps.iter().enumerate().rev() {
-        let (Some(seat), Some(lane), Some(taps)) = (seats.pop(), lanes.pop(), taps.pop()) else {
+        let (Some(seat), Some(lane), Some(taps), Some(starts)) = (
+            seats.pop(),
+            lanes.pop(),
+            taps.pop(),
+            starts.pop(),
+        ) else {
             return Err(Fail::from("no seat"));
         };
         setups.push(RouterSetup {
             seat,
             lane,
             taps,
+            starts,
             source: ScenarioSource::new(rt, progress, me, steps),
             gate: HoldingGate::new(rt, progress, scenario.holds),
             login: None,

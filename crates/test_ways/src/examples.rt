@@ -2,7 +2,7 @@
 
 ghost use Rattle.std.specs.Prelude.{◌≡◌};
 
-use outbox::{EnvelopeOf, Outboxes, open_lanes};
+use outbox::{EnvelopeOf, Outboxes, open_queue};
 use outbox_core::Deliveries;
 use registry_snapshots::{Naming, Shared};
 use seq_bus_core::Conn;
@@ -11,11 +11,8 @@ use std::sync::Wait;
 use std::test::*;
 
 fn comes_in_order<R: Wait>(rt: &R, alloc: Global) -> Result<bool, AllocError> {
-    let (mut lanes, mut groups) = open_lanes::<u64>(alloc, 1, 1, 1)?;
-    let (Some(mut lane), Some(mut taps)) = (lanes.pop(), groups.pop()) else {
-        return Ok(false);
-    };
-    let Some(mut tap) = taps.pop() else {
+    let (mut lanes, mut tap) = open_queue::<u64>(alloc, 1)?;
+    let Some(mut lane) = lanes.pop() else {
         return Ok(false);
     };
     if lane.slots() == 0 {

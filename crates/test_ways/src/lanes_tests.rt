@@ -3,7 +3,7 @@
 ghost use Rattle.std.specs.Prelude.{◌≡◌, ◌∷◌, ◌≤◌, [], IfOk, IfSome};
 ghost use Rattle.outbox.specs.Lanes.{lane_end};
 
-use outbox::{Full, Lane, Tap, open_lanes};
+use outbox::{Full, Lane, Tap, open_lanes, open_queue};
 use std::alloc::{AllocError, Global};
 use std::sync::Wait;
 use std::test::*;
@@ -69,15 +69,9 @@ fn one_way(alloc: Global) -> Result<Option<(Lane<u64>, Tap<u64>)>, AllocError>
     ensures { IfOk result (λ way.
         IfSome way (λ w. (w.0 ≡ lane_end 0 w.1 ∷ []) × (w.1.hand.to ≤ w.1.hand.from))) }
 {
-    let (mut lanes, mut groups) = open_lanes::<u64>(alloc, 1, 1, 1)?;
-    let Some(lane) = lanes.pop() else {
-        return Ok(None);
-    };
-    let Some(mut taps) = groups.pop() else {
-        return Ok(None);
-    };
-    match taps.pop() {
-        Some(tap) => Ok(Some((lane, tap))),
+    let (mut lanes, tap) = open_queue::<u64>(alloc, 1)?;
+    match lanes.pop() {
+        Some(lane) => Ok(Some((lane, tap))),
         None => Ok(None),
     }
 }

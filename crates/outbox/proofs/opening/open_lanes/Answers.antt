@@ -1,4 +1,4 @@
-use Rattle.std.proofs.Common.{◌≡◌, List, take, ap, sym, ◌∙◌}
+use Rattle.std.proofs.Common.{List, take, ap, sym, ◌∙◌}
 use Rattle.outbox.specs.Lanes.{End, lanes_of}
 use Rattle.outbox.proofs.Grouping.{take-lanes_of}
 use Rattle.outbox.proofs.opening.open_lanes.Goals as goal

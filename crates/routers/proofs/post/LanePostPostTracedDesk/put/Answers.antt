@@ -1,14 +1,26 @@
-use Rattle.std.proofs.Common.{rules}
+use Rattle.std.proofs.Common.{rules, ◌≡◌, ◌∙◌, refl, subst}
+use Rattle.routers.specs.Posts.{Puts, Sends, Ways}
 use Rattle.routers.proofs.Slots.{at_slot}
+use Rattle.routers.proofs.Ways.{is_put}
 use Rattle.routers.proofs.post.LanePostPostTracedDesk.put.Goals as goal
 
--- src/post.rt:73:13
+-- src/post.rt:95:13
 pub returns-in-Err-clause-refused : goal.returns-in-Err-clause-refused
 returns-in-Err-clause-refused g c =
+    let ways : Ways _ _ = record { lane = c.self.inside.lane; taps = c.self.inside.taps.items; first = c.self.inside.first; starts = c.self.inside.starts } in
     let same = at_slot c.self.inside.lane c.from-slot.result (search rules) (λ e is. (c.in-Err.ensures.rule e is).1) in
-    search (rules, same, c.self.view_is)
+    (λ i. record ways { lane = same i }) ∙ c.self.view_is
 
--- src/post.rt:73:13
+-- src/post.rt:95:13
 pub returns-in-Err-clause-back : goal.returns-in-Err-clause-back
 returns-in-Err-clause-back g c =
     at_slot c.self.inside.lane c.from-slot.result (search rules) (λ e is. (c.in-Err.ensures.rule e is).0)
+
+pub returns-clause-put : goal.returns-clause-put
+returns-clause-put g c =
+    let ways : Ways _ _ = record { lane = c.self.inside.lane; taps = c.self.inside.taps.items; first = c.self.inside.first; starts = c.self.inside.starts } in
+    let lane = c.put.new.self in
+    let at : c.from-slot.result ≡ c.args.to.slot = search rules in
+    let put = is_put ways.lane c.from-slot.result c.args.envelope lane (search rules) (λ e is. c.in_default.ensures.rule e is) in
+    subst (λ (w : Ways _ _). Sends w c.args.to.slot c.args.envelope (record ways { lane = lane })) c.self.view_is
+    (lane, subst (λ slot. Puts ways.lane slot c.args.envelope lane) at put, refl)
