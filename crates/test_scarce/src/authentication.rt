@@ -6,15 +6,22 @@ use std::sync::ArcStr;
 
 /// The pieces of a client, of which the second ends within a line and the last has a byte of a
 /// message.
-const PIECES: [&[u8]; 4] = [
+pub const PIECES: [&[u8]; 4] = [
     b"\0AUTH EXTERNAL 31303030\r\nAUTH DBUS_COOKIE_SHA1\r\n",
     b"DATA 616c696365\r\nDATA 61626364203332653731",
     b"3435333039613434313531663962646234326364653933343537626138666432353164\r\nHELLO\r\n",
     b"BEGIN\r\nl",
 ];
 
-const SENT: &[u8] =
+/// What the server sends in all.
+pub const SENT: &[u8] =
     b"REJECTED DBUS_COOKIE_SHA1 ANONYMOUS\r\nDATA\r\nDATA 6f72675f667265656465736b746f705f67656e6572616c2035203030303130323033303430353036303730383039306130623063306430653066\r\nOK a0a1a2a3a4a5a6a7a8a9aaabacadaeaf\r\nERROR\r\n";
+
+/// What identifies the bus.
+pub const GUID: [u8; 16] = *b"\xa0\xa1\xa2\xa3\xa4\xa5\xa6\xa7\xa8\xa9\xaa\xab\xac\xad\xae\xaf";
+
+/// What nobody could guess.
+pub const CHALLENGE: [u8; 16] = [0, 1, 2, 3, 4, 5, 6, 7, 8, 9, 10, 11, 12, 13, 14, 15];
 
 /// Whether a closed server stays closed and sends nothing.
 fn stays_closed(server: &mut Server) -> bool {
@@ -54,10 +61,8 @@ fn let_in(alloc: Global) -> Result<bool, AllocError> {
         Err(KeyringFault::NoMemory) => return Err(AllocError),
         Err(_) => return Ok(false),
     };
-    let guid = *b"\xa0\xa1\xa2\xa3\xa4\xa5\xa6\xa7\xa8\xa9\xaa\xab\xac\xad\xae\xaf";
-    let challenge = [0, 1, 2, 3, 4, 5, 6, 7, 8, 9, 10, 11, 12, 13, 14, 15];
     let user = ArcStr::from_str(alloc, "alice")?;
-    let mut server = Server::new(alloc, guid, user, cookie, challenge, true);
+    let mut server = Server::new(alloc, GUID, user, cookie, CHALLENGE, true);
     let mut sent = Vec::new(alloc);
     let is_done = converse(&mut server, &mut sent);
     drop(server);

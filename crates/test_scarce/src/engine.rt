@@ -2,31 +2,49 @@
 
 ghost use Rattle.router_core.specs.Events.{CanHappen};
 
-use crate::{leaving, turns, waiting};
+use crate::authentication::GUID;
+use crate::{leaving, logins, mail, turns, waiting};
 use bus_view::can_open;
 use names::WellKnown;
 use owner_queues::Profile;
-use router::Engine;
+use router::{Engine, Login};
 use router_core::{Action, Event, OpenGate};
+use sasl::Cookie;
 use seq_bus::SeqBus;
-use std::alloc::Global;
+use std::alloc::{AllocError, Global};
+use std::sync::ArcStr;
 use test_support::messages::HELLO;
 
 /// An engine of a plain bus.
 pub type Plain = Engine<SeqBus, OpenGate>;
 
-/// Whether calls wait as they should, whether several messages are served so in one turn, and
-/// whether connections leave so.
-pub fn serves(alloc: Global) -> (bool, bool, bool) {
+/// What an engine did as it should.
+#[derive(Clone, Copy, Default)]
+pub struct Served {
+    pub mail: bool,
+    pub waiting: bool,
+    pub in_turn: bool,
+    pub leaving: bool,
+    pub login: bool,
+    pub still: bool,
+}
+
+/// What an engine does as it should, one after the other.
+pub fn serve(alloc: Global) -> Served {
     let Some(mut engine) = opened(alloc) else {
-        return (false, false, false);
+        return Served::default();
     };
     let come = greet(&mut engine, alloc).is_some();
-    let waiting = come && waiting::are_answered(&mut engine, alloc) == Some(true);
-    let in_turn = come && turns::are_served(&mut engine, alloc) == Some(true);
-    let leaving = come && leaving::are_gone(&mut engine, alloc) == Some(true);
+    let served = Served {
+        mail: come && mail::is_written(&mut engine, alloc) == Some(true),
+        waiting: come && waiting::are_answered(&mut engine, alloc) == Some(true),
+        in_turn: come && turns::are_served(&mut engine, alloc) == Some(true),
+        leaving: come && leaving::are_gone(&mut engine, alloc) == Some(true),
+        login: come && logins::is_let_in(&mut engine, alloc) == Some(true),
+        still: come && leaving::is_still_over_all(&mut engine) == Some(true),
+    };
     drop(engine);
-    (waiting, in_turn, leaving)
+    served
 }
 
 /// A connection comes, and has its name.
@@ -40,10 +58,17 @@ pub fn greet(engine: &mut Plain, alloc: Global) -> Option<()> {
     };
     brought(engine, opened)?;
     send(engine, alloc, HELLO)?;
+    has_name(engine, alloc, 1)?;
+    Some(())
+}
+
+/// Whether the client that said Hello has this number, which says it once more where there was no
+/// memory for it.
+pub fn has_name(engine: &mut Plain, alloc: Global, number: u64) -> Option<bool> {
     if engine.number_of(0).is_none() {
         send(engine, alloc, HELLO)?;
     }
-    Some(())
+    Some(engine.number_of(0) == Some(number))
 }
 
 /// An engine of a plain bus with one service, which is opened once more where there is no memory.
@@ -60,7 +85,17 @@ fn open(alloc: Global) -> Option<Plain> {
         return None;
     }
     let bus = SeqBus::new(alloc, &services, 1, Profile::Two).ok()?;
-    Engine::new(alloc, bus, OpenGate, None).ok()
+    let login = login(alloc).ok()?;
+    Engine::new(alloc, bus, OpenGate, Some(login)).ok()
+}
+
+fn login(alloc: Global) -> Result<Login, AllocError> {
+    Ok(Login {
+        guid: GUID,
+        user: ArcStr::from_str(alloc, "alice")?,
+        cookie: Cookie::new(alloc, b"5", b"c0ffee")?,
+        allow_anonymous: true,
+    })
 }
 
 /// What an event brings, which comes once more where there is no memory for it.
@@ -75,14 +110,13 @@ pub fn brought(engine: &mut Plain, mut event: Event<()>) -> Option<Vec<Action<()
     actions
 }
 
-/// Bytes come.
-pub fn feed(engine: &mut Plain, alloc: Global, sent: &[u8]) -> Option<()> {
+/// What bytes bring that come.
+pub fn feed(engine: &mut Plain, alloc: Global, sent: &[u8]) -> Option<Vec<Action<()>>> {
     let piece = match Vec::from_slice(alloc, sent) {
         Ok(piece) => piece,
         Err(_) => Vec::from_slice(alloc, sent).ok()?,
     };
-    brought(engine, Event::Bytes { key: 0, piece })?;
-    Some(())
+    brought(engine, Event::Bytes { key: 0, piece })
 }
 
 /// What is done for a message, which comes and is served.

@@ -2,6 +2,7 @@
 
 use crate::engine::{Plain, brought, greet};
 use router_core::{Action, CloseCause, Event};
+use seq_bus_core::limits::MAX_CONNECTIONS;
 use std::alloc::Global;
 
 /// Whether the client is put out, once, and whether the next one leaves when it is gone: a Leave
@@ -16,6 +17,22 @@ pub fn are_gone(engine: &mut Plain, alloc: Global) -> Option<bool> {
     let has_come = engine.number_of(0) == Some(2);
     let second_is_gone = is_gone(engine)?;
     Some(is_put_out && is_still && first_is_gone && has_come && second_is_gone)
+}
+
+/// Whether a tick takes no memory over as many connections as there may be, which do nothing, once
+/// there was one.
+pub fn is_still_over_all(engine: &mut Plain) -> Option<bool> {
+    for _ in 0..MAX_CONNECTIONS {
+        let opened = Event::Opened {
+            key: engine.free_key(),
+            challenge: None,
+        };
+        let actions = brought(engine, opened)?;
+        engine.give_back(actions);
+    }
+    let actions = brought(engine, Event::Tick)?;
+    engine.give_back(actions);
+    Some(is_still(engine))
 }
 
 /// Whether the last that a tick does is to close the client, which has left; before that its Leave

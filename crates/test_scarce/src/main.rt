@@ -3,11 +3,12 @@
 //! The program reads and writes bodies and messages, lets a client in, opens a plain bus and a
 //! registry of two routers with its outboxes, makes the same changes and a batch on both buses, and
 //! on a plain bus a batch of rules, calls that wait and monitors, starts services in a registry,
-//! lets calls wait for a service in an engine, serves messages in one turn of it, lets its clients
-//! go, and as the host of a router serves clients and relays between them. It says of each whether
-//! the calls answered as they should: with what was wanted; or that memory ran out, all as it was
-//! before, and with what was wanted once they are made again. It prints the same whichever one
-//! allocation is refused: `make memory` refuses each in turn.
+//! lets calls wait for a service in an engine, brings it mail, serves messages in one turn of it,
+//! lets its clients go and the next say who it is, and as the host of a router serves clients and
+//! relays between them. It says of each whether the calls answered as they should: with what was
+//! wanted; or that memory ran out, all as it was before, and with what was wanted once they are
+//! made again. It prints the same whichever one allocation is refused: `make memory` refuses each
+//! in turn.
 #![tactic(auto)]
 
 mod authentication;
@@ -17,6 +18,8 @@ mod codec;
 mod engine;
 mod hosts;
 mod leaving;
+mod logins;
+mod mail;
 mod messages;
 mod plain;
 mod relays;
@@ -83,7 +86,7 @@ fn main(rt: HostRuntime) -> io::Result<()> {
         let answer = told(codec::is_answered(alloc, order, signature, body));
         println!(rt; "{signature}: {answer}")?;
     }
-    let (waiting, in_turn, leaving) = engine::serves(alloc);
+    let served = engine::serve(alloc);
     for (what, is_answered) in [
         ("framed", messages::are_framed(alloc)),
         ("relayed", messages::is_relayed(alloc).unwrap_or(false)),
@@ -94,9 +97,12 @@ fn main(rt: HostRuntime) -> io::Result<()> {
         ("seats", seats::are_answered(&rt, alloc).unwrap_or(false)),
         ("outboxes", ways::are_opened(&rt, alloc).unwrap_or(false)),
         ("authentication", authentication::is_let_in(alloc)),
-        ("calls that wait", waiting),
-        ("messages in turn", in_turn),
-        ("connections that leave", leaving),
+        ("mail", served.mail),
+        ("calls that wait", served.waiting),
+        ("messages in turn", served.in_turn),
+        ("connections that leave", served.leaving),
+        ("a client that says who it is", served.login),
+        ("a tick over many connections", served.still),
         ("host", hosts::are_served(alloc)),
         ("relays of a host", relays::are_relayed(alloc)),
     ] {

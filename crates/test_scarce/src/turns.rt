@@ -1,6 +1,6 @@
 //! Several messages of a connection, which an engine serves in one turn.
 
-use crate::engine::{Plain, feed};
+use crate::engine::{Plain, brought, feed};
 use outbox_core::{BusMessage, Content};
 use router_core::{Action, Event};
 use seq_bus_core::ErrorKind;
@@ -12,36 +12,30 @@ use std::alloc::Global;
 const CALLS: &[u8] =
     b"l\x01\0\x01\x12\0\0\0\x02\0\0\0\x7f\0\0\0\x01\x01o\0\x15\0\0\0/org/freedesktop/DBus\0\0\0\x02\x01s\0\x14\0\0\0org.freedesktop.DBus\0\0\0\0\x03\x01s\0\x08\0\0\0AddMatch\0\0\0\0\0\0\0\0\x06\x01s\0\x14\0\0\0org.freedesktop.DBus\0\0\0\0\x08\x01g\0\x01s\0\0\x0d\0\0\0type='signal'\0l\x01\0\x01\x12\0\0\0\x03\0\0\0\x7f\0\0\0\x01\x01o\0\x15\0\0\0/org/freedesktop/DBus\0\0\0\x02\x01s\0\x14\0\0\0org.freedesktop.DBus\0\0\0\0\x03\x01s\0\x08\0\0\0AddMatch\0\0\0\0\0\0\0\0\x06\x01s\0\x14\0\0\0org.freedesktop.DBus\0\0\0\0\x08\x01g\0\x01s\0\0\x0d\0\0\0type='signal'\0B\x01\0\x01\0\0\0\x09\0\0\0\x04\0\0\0\x7f\x01\x01o\0\0\0\0\x15/org/freedesktop/DBus\0\0\0\x02\x01s\0\0\0\0\x14org.freedesktop.DBus\0\0\0\0\x03\x01s\0\0\0\0\x0cGetNameOwner\0\0\0\0\x06\x01s\0\0\0\0\x14org.freedesktop.DBus\0\0\0\0\x08\x01g\0\x01s\0\0\0\0\0\x04:1.1\0l\x01\0\x01\x12\0\0\0\x05\0\0\0\x7f\0\0\0\x01\x01o\0\x15\0\0\0/org/freedesktop/DBus\0\0\0\x02\x01s\0\x14\0\0\0org.freedesktop.DBus\0\0\0\0\x03\x01s\0\x08\0\0\0AddMatch\0\0\0\0\0\0\0\0\x06\x01s\0\x14\0\0\0org.freedesktop.DBus\0\0\0\0\x08\x01g\0\x01s\0\0\x0d\0\0\0type='signal'\0";
 
-/// Whether two turns serve the calls, which are answered in order, each once: a turn that there is
-/// memory for serves the first of those that are left, and the second finds calls only where memory
-/// ran out in the first.
+/// Whether two turns serve the calls, which are answered in order, each once: the second finds
+/// calls only where memory ran out in the first, behind its first message. A turn that there is no
+/// memory for is handed back, and taken again.
 pub fn are_served(engine: &mut Plain, alloc: Global) -> Option<bool> {
     feed(engine, alloc, CALLS)?;
     let mut serial = 2;
     for _turn in 0..2 {
         if engine.has_next(0) {
-            serial = behind_turn(engine, alloc, serial)?;
+            serial = behind(&turn(engine, alloc)?, serial)?;
         }
     }
     Some(serial == 6 && !engine.has_next(0))
 }
 
-/// The serial of the call that is left first by a turn that begins with this one; none where it is
-/// not served.
-fn behind_turn(engine: &mut Plain, alloc: Global, first: u32) -> Option<u32> {
-    match turn(engine, alloc) {
-        Some(actions) => behind(&actions, first),
-        None => Some(first),
-    }
-}
-
-/// What a turn of four messages brings, if there is memory for it.
+/// What a turn of four messages brings.
 fn turn(engine: &mut Plain, alloc: Global) -> Option<Vec<Action<()>>> {
-    let keys = Vec::from_elem(alloc, 0, 4).ok()?;
+    let keys = match Vec::from_elem(alloc, 0, 4) {
+        Ok(keys) => keys,
+        Err(_) => Vec::from_elem(alloc, 0, 4).ok()?,
+    };
     if keys.is_empty() || keys.len() > MAX_BATCH {
         return None;
     }
-    engine.event(&(), &mut Event::Turn { keys }).ok()
+    brought(engine, Event::Turn { keys })
 }
 
 /// The serial behind those of the calls that are answered, which are one or more, in order from
