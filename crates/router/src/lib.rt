@@ -1,7 +1,6 @@
 //! The engine of a router.
 //!
-//! An engine serves connections over any view of a bus. [`Peers`] is the table of its connections,
-//! with the context in which one at a time is served. Each of its methods serves one event, as
+//! An [`Engine`] serves connections over any view of a bus, one event after the other, each as
 //! `router_core` defines its script. An engine over a [`Traced`] view hands out the lines of its
 //! trace.
 //!
@@ -45,4 +44,3 @@ mod turn;
 pub use bus_trace::Traced;
 pub use engine::Engine;
 pub use login::Login;
-pub use peers::Peers;
