@@ -20,9 +20,19 @@ module _ {E S : Type 0} (ways : Ways E S) (slot place : ℕ) (was new : End E) (
   pub is_received : (taken : Option E) (X : Type 0) → slot ≡ ways.first + place → MatchOption taken X (λ e. Took was.hand e new.hand)
       → IfSome taken (λ e. Receives ways slot e (record ways { taps = set ways.taps place new }))
   is_received None X at took = tt
-  is_received (Some e) X at took =
-      (place, set ways.taps place new, at, (was, new.hand, slice_get_read ways.taps (length ways.taps) place was refl within is, took,
-      (λ i. set ways.taps place (record { queue = queue i; hand = new.hand }))), refl)
+  is_received (Some e) X at took = (
+    place,
+    set ways.taps place new,
+    at,
+    (
+      was,
+      new.hand,
+      slice_get_read ways.taps (length ways.taps) place was refl within is,
+      took,
+      (λ i. set ways.taps place (record { queue = queue i; hand = new.hand })),
+    ),
+    refl,
+  )
 
   pub is_kept : (taken : Option E) (X : Type 0) (Y : E → Type 0) → MatchOption taken ((new.hand ≡ was.hand) × X) Y
       → IfNone taken ((record ways { taps = set ways.taps place new }) ≡ ways)
