@@ -2,4 +2,4 @@ pub mod Rounds
 pub mod CallLists
 pub mod Settlings
 pub mod Following
-pub mod FewTickets
+pub mod Bounds

@@ -12,7 +12,7 @@ use crate::judging::add_conn;
 use match_rules::Facts;
 use names::BusName;
 use seq_bus_core::{
-    AddressedSignal, Addressees, BusSignal, Conn, Recipients, SharedSignal, Signals,
+    AddressedSignal, BusSignal, Conn, Listeners, Recipients, SharedSignal, Signals,
 };
 use std::alloc::{AllocError, Global};
 
@@ -59,8 +59,8 @@ fn addressed_to(
 {
     Ok(AddressedSignal {
         signal,
-        to: Addressees::of(alloc, to)?,
-        monitors: Addressees::of(alloc, monitors)?,
+        to: Listeners::of(alloc, to)?,
+        monitors: Listeners::of(alloc, monitors)?,
     })
 }
 

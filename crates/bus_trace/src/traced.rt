@@ -4,9 +4,9 @@ ghost use Rattle.std.specs.Prelude.{◌≡◌, ◌≤◌, ◌↔◌, true, false
 ghost use Rattle.std.specs.List.{AllByRecursion, list_any};
 ghost use Rattle.seq_bus_core.specs.Answers.{answer};
 ghost use Rattle.seq_bus_core.specs.Batches.{IsBatch};
+ghost use Rattle.seq_bus_core.specs.Bounds.{IsBounded};
 ghost use Rattle.seq_bus_core.specs.BusState.{connection_of, is_monitor};
 ghost use Rattle.seq_bus_core.specs.Recipients.{recipients};
-ghost use Rattle.seq_bus_core.specs.declared.limits.TheConstants.{MAX_TICKETS};
 ghost use Rattle.bus_view.specs.Bodies.{Answers};
 ghost use Rattle.bus_view.specs.Views.{bus_seen, AreChanged, IsChanged, IsRead, IsUnread, IsNoted};
 ghost use Rattle.bus_view.specs.declared.answer.AskFault.TheVariants.{Gone as AskGone, NoMemory as AskNoMemory};
@@ -98,7 +98,7 @@ impl<V: BusView> BusView for Traced<V> {
     fn change(&mut self, right: &V::Right, change: Change) -> Result<(Outcome, V::Note), Refused>
         ensures made { IfOk result (λ r.
             IsChanged V.alone (V.knows self.old.view) change r.0 (V.knows self.new.view)) }
-        ensures few { IfOk result (λ r. length r.0.tickets ≤ MAX_TICKETS) }
+        ensures few { IfOk result (λ r. IsBounded r.0) }
         ensures note { IfOk result (λ r.
             V.registry_of r.1 ≡ (V.knows self.new.view).registry) }
         ensures told { V.alone ≡ false →
@@ -131,8 +131,7 @@ impl<V: BusView> BusView for Traced<V> {
     ) -> Result<(Vec<Outcome>, V::Note), RefusedAll>
         ensures made { IfOk result (λ r. AreChanged V.alone (V.knows self.old.view)
             changes.items r.0.items (V.knows self.new.view)) }
-        ensures few { IfOk result (λ r.
-            AllByRecursion (λ o. length o.tickets ≤ MAX_TICKETS) r.0.items) }
+        ensures few { IfOk result (λ r. AllByRecursion IsBounded r.0.items) }
         ensures note { IfOk result (λ r.
             V.registry_of r.1 ≡ (V.knows self.new.view).registry) }
         ensures told { V.alone ≡ false →

@@ -12,3 +12,12 @@ pub trait CheapCopy {
 impl CheapCopy for () {
     fn copy(&self) -> () {}
 }
+
+impl<T: CheapCopy> CheapCopy for Option<T> {
+    fn copy(&self) -> Option<T> {
+        match self {
+            Some(value) => Some(value.copy()),
+            None => None,
+        }
+    }
+}

@@ -5,11 +5,11 @@ ghost use Rattle.std.specs.Prelude.{is_some, option_map, IfOk, IfErr, IfSome, On
 ghost use Rattle.seq_bus_core.specs.Answers.{answer};
 ghost use Rattle.std.specs.List.{AllByRecursion, list_any};
 ghost use Rattle.seq_bus_core.specs.Batches.{IsBatch};
+ghost use Rattle.seq_bus_core.specs.Bounds.{IsBounded};
 ghost use Rattle.seq_bus_core.specs.BusState.{connection_of, is_monitor};
 ghost use Rattle.seq_bus_core.specs.Histories.{History};
 ghost use Rattle.seq_bus_core.specs.Recipients.{recipients};
 ghost use Rattle.bus_view.specs.Bodies.{Answers};
-ghost use Rattle.seq_bus_core.specs.declared.limits.TheConstants.{MAX_TICKETS};
 ghost use Rattle.bus_view.specs.declared.answer.AskFault.TheVariants.{Gone as AskGone, NoMemory as AskNoMemory};
 ghost use Rattle.bus_view.specs.Views.{Knowledge, bus_seen, AreChanged, IsChanged, IsRead, IsUnread, IsNoted};
 ghost use Rattle.bus_view.specs.declared.refusal.Cause.TheVariants.{NoMemory};
@@ -48,7 +48,7 @@ pub trait BusView {
     /// Makes a change, and tells of it in a note.
     ///
     /// A change that is refused is handed back, and is not made, then or later. One that is made
-    /// settles 512 tickets at most, which is how many can wait.
+    /// settles 512 tickets at most, which is how many can wait, and brings 194 signals at most.
     fn change(
         &mut self,
         right: &Self::Right,
@@ -56,7 +56,7 @@ pub trait BusView {
     ) -> Result<(Outcome, Self::Note), Refused>
         ensures made { IfOk result (λ r.
             IsChanged alone (knows self.old) change r.0 (knows self.new)) }
-        ensures few { IfOk result (λ r. length r.0.tickets ≤ MAX_TICKETS) }
+        ensures few { IfOk result (λ r. IsBounded r.0) }
         ensures note { IfOk result (λ r. registry_of r.1 ≡ (knows self.new).registry) }
         ensures told { alone ≡ false →
             IfOk result (λ r. told r.1 ≡ (knows self.new).seen) }
@@ -76,8 +76,7 @@ pub trait BusView {
     ) -> Result<(Vec<Outcome>, Self::Note), RefusedAll>
         ensures made { IfOk result (λ r.
             AreChanged alone (knows self.old) changes.items r.0.items (knows self.new)) }
-        ensures few { IfOk result (λ r.
-            AllByRecursion (λ o. length o.tickets ≤ MAX_TICKETS) r.0.items) }
+        ensures few { IfOk result (λ r. AllByRecursion IsBounded r.0.items) }
         ensures note { IfOk result (λ r. registry_of r.1 ≡ (knows self.new).registry) }
         ensures told { alone ≡ false →
             IfOk result (λ r. told r.1 ≡ (knows self.new).seen) }

@@ -1,39 +1,28 @@
 -- Over a bus of one thread, where nothing is refused, what events bring is a function of them.
 use Rattle.std.proofs.Common.{◌≡◌, ℕ, Bool, true, ◌==◌, Option, None, option_map, List, [], ◌∷◌, ◌++◌, map, if◌then◌else◌, refl, sym, ap, ◌∙◌, append_assoc}
-use Rattle.std.specs.List.{flat_map}
 use mathlib.Core.List.{append-nil}
 use Rattle.seq_bus_core.specs.Histories.{History}
-use Rattle.seq_bus_core.specs.declared.connection.Conn.{Conn}
-use Rattle.seq_bus_core.specs.declared.signal.AddressedSignal.{AddressedSignal}
 use Rattle.message.specs.MessageBytes.{message_bytes}
-use Rattle.outbox_core.specs.Contents.{Said, Tells, Signals, said_of}
+use Rattle.outbox_core.specs.Contents.{Said, said_of}
 use Rattle.outbox_core.specs.Deliveries.{deliveries_of}
 use Rattle.outbox_core.specs.declared.envelope.Envelope.{Envelope}
 use Rattle.router_core.specs.declared.action.Action.{Action}
-use Rattle.router_core.specs.declared.action.Action.TheVariants.{Write, Put, Announce, Close, Run}
+use Rattle.router_core.specs.declared.action.Action.TheVariants.{Write, Put, Close, Run}
 use Rattle.router_core.specs.declared.event.Event.{Event}
 use Rattle.router_core.specs.declared.event.Event.TheVariants as event
 use Rattle.router_core.specs.Acts.{IsGranted, State}
-use Rattle.router_core.specs.Deeds.{Deed, Writes, Sends, Puts, Closes, Runs, GatedCall, put_to, announced, IsWriting, AreDeedsOf, AreDoneBy}
+use Rattle.router_core.specs.Deeds.{Deed, Writes, Sends, Puts, Closes, Runs, GatedCall, IsDoneBy, IsWriting, AreDoneBy}
 use Rattle.router_core.specs.Events.{Occasion, Mail, occasion_of}
 use Rattle.router_core.specs.OneThread.{AreReadBy, Readers, Rest, given}
 use Rattle.router.specs.OneEvent.{rest_in}
 use Rattle.router.proofs.Grants.{granted_parts, read_parts}
 use Rattle.router.proofs.Writings.{written_once}
-use Rattle.busd_core.specs.Happenings.{bytes_for, written_to, Delivery, mail_to_all, mail_of, mail_of_signal, mails_of, Carries, AreMailed, Happens, AllHappen}
+use Rattle.busd_core.specs.Happenings.{bytes_for, written_to, Delivery, mail_to_all, mail_of, mails_of, Carries, AreMailed, Happens, AllHappen}
 use Rattle.busd_core.specs.OneThread.{bytes_done, mail_done, mailed, happened, all_happened, asked_mailed, asked_all}
 
 -- ## Bytes
 
 module _ (key : ℕ) where
-  nothing_put : (to : List Conn) (said : Said) (later : List Deed) → bytes_done key (put_to to said ++ later) ≡ bytes_done key later
-  nothing_put [] said later = refl
-  nothing_put (conn ∷ conns) said later = refl
-
-  nothing_announced : (signals : List AddressedSignal) → bytes_done key (announced signals) ≡ []
-  nothing_announced [] = refl
-  nothing_announced (s ∷ signals) = nothing_put (deliveries_of s.to s.monitors) (Tells (Signals s.signal)) (announced signals) ∙ nothing_announced signals
-
   append_bytes : (first later : List Deed) → bytes_done key (first ++ later) ≡ bytes_done key first ++ bytes_done key later
   append_bytes [] later = refl
   append_bytes (Writes to bytes ∷ first) later =
@@ -60,18 +49,17 @@ module _ (key : ℕ) where
   write_is to bytes (Closes k cause) d = absurd d
   write_is to bytes (Runs name start) d = absurd d
 
-  action_bytes : {N : Type 0} (action : Action N) (deeds : List Deed) → AreDeedsOf action deeds → bytes_done key deeds ≡ bytes_for key action
-  action_bytes (Write to bytes) deeds d = ap (λ (ds : List Deed). bytes_done key ds) d.2 ∙ write_is to bytes d.0 d.1
-  action_bytes (Put to carried content) deeds d = ap (λ (ds : List Deed). bytes_done key ds) (d.2 ∙ ap (λ (one : Deed). one ∷ []) d.1)
-  action_bytes (Announce signals carried) deeds d = ap (λ (ds : List Deed). bytes_done key ds) d ∙ nothing_announced signals
-  action_bytes (Close to cause) deeds d = ap (λ (ds : List Deed). bytes_done key ds) (d.2 ∙ ap (λ (one : Deed). one ∷ []) d.1)
-  action_bytes (Run name start) deeds d = ap (λ (ds : List Deed). bytes_done key ds) (d.2 ∙ ap (λ (one : Deed). one ∷ []) d.1)
+  action_bytes : {N : Type 0} (action : Action N) (deed : Deed) → IsDoneBy action deed → bytes_done key (deed ∷ []) ≡ bytes_for key action
+  action_bytes (Write to bytes) deed d = write_is to bytes deed d
+  action_bytes (Put to carried content) deed d = ap (λ (one : Deed). bytes_done key (one ∷ [])) d
+  action_bytes (Close to cause) deed d = ap (λ (one : Deed). bytes_done key (one ∷ [])) d
+  action_bytes (Run name start) deed d = ap (λ (one : Deed). bytes_done key (one ∷ [])) d
 
   bytes_are : {N : Type 0} (actions : List (Action N)) (deeds : List Deed) → AreDoneBy actions deeds → bytes_done key deeds ≡ written_to key actions
   bytes_are [] deeds d = ap (λ (ds : List Deed). bytes_done key ds) d
   bytes_are (action ∷ actions) deeds d =
       ap (λ (ds : List Deed). bytes_done key ds) d.4
-      ∙ append_bytes d.0 d.1
+      ∙ append_bytes (d.0 ∷ []) d.1
       ∙ ap (λ (bs : List ℕ). bs ++ bytes_done key d.1) (action_bytes action d.0 d.2)
       ∙ ap (λ (bs : List ℕ). bytes_for key action ++ bs) (bytes_are actions d.1 d.3)
 
@@ -87,19 +75,6 @@ module _ (seat : ℕ) where
   append_mail (Closes to cause ∷ first) later = append_mail first later
   append_mail (Runs name start ∷ first) later = append_mail first later
 
-  mail_put : (to : List Conn) (said : Said) → mail_done seat (put_to to said) ≡ mail_to_all seat said to
-  mail_put [] said = refl
-  mail_put (conn ∷ conns) said = append-nil (mail_to_all seat said (conn ∷ conns))
-
-  mail_announced : (signals : List AddressedSignal) → mail_done seat (announced signals) ≡ flat_map (mail_of_signal seat) signals
-  mail_announced [] = refl
-  mail_announced (s ∷ signals) =
-      let all : List Conn = deliveries_of s.to s.monitors in
-      let said : Said = Tells (Signals s.signal) in
-      append_mail (put_to all said) (announced signals)
-      ∙ ap (λ (ds : List Delivery). ds ++ mail_done seat (announced signals)) (mail_put all said)
-      ∙ ap (λ (ds : List Delivery). mail_to_all seat said all ++ ds) (mail_announced signals)
-
   -- a message of the bus that is written is put to nobody
   no_mail : (to : ℕ) (bytes : List ℕ) (deed : Deed) → IsWriting to bytes deed → mail_done seat (deed ∷ []) ≡ []
   no_mail to bytes (Writes k written) d = refl
@@ -108,20 +83,19 @@ module _ (seat : ℕ) where
   no_mail to bytes (Closes k cause) d = absurd d
   no_mail to bytes (Runs name start) d = absurd d
 
-  action_mail : {N : Type 0} (action : Action N) (deeds : List Deed) → AreDeedsOf action deeds → mail_done seat deeds ≡ mail_of seat action
-  action_mail (Write to bytes) deeds d = ap (λ (ds : List Deed). mail_done seat ds) d.2 ∙ no_mail to bytes d.0 d.1
-  action_mail (Put to carried content) deeds d =
-      ap (λ (ds : List Deed). mail_done seat ds) (d.2 ∙ ap (λ (one : Deed). one ∷ []) d.1)
+  action_mail : {N : Type 0} (action : Action N) (deed : Deed) → IsDoneBy action deed → mail_done seat (deed ∷ []) ≡ mail_of seat action
+  action_mail (Write to bytes) deed d = no_mail to bytes deed d
+  action_mail (Put to carried content) deed d =
+      ap (λ (one : Deed). mail_done seat (one ∷ [])) d
       ∙ append-nil (mail_to_all seat (said_of content) (deliveries_of to.to to.monitors))
-  action_mail (Announce signals carried) deeds d = ap (λ (ds : List Deed). mail_done seat ds) d ∙ mail_announced signals
-  action_mail (Close to cause) deeds d = ap (λ (ds : List Deed). mail_done seat ds) (d.2 ∙ ap (λ (one : Deed). one ∷ []) d.1)
-  action_mail (Run name start) deeds d = ap (λ (ds : List Deed). mail_done seat ds) (d.2 ∙ ap (λ (one : Deed). one ∷ []) d.1)
+  action_mail (Close to cause) deed d = ap (λ (one : Deed). mail_done seat (one ∷ [])) d
+  action_mail (Run name start) deed d = ap (λ (one : Deed). mail_done seat (one ∷ [])) d
 
   mails_are : {N : Type 0} (actions : List (Action N)) (deeds : List Deed) → AreDoneBy actions deeds → mail_done seat deeds ≡ mails_of seat actions
   mails_are [] deeds d = ap (λ (ds : List Deed). mail_done seat ds) d
   mails_are (action ∷ actions) deeds d =
       ap (λ (ds : List Deed). mail_done seat ds) d.4
-      ∙ append_mail d.0 d.1
+      ∙ append_mail (d.0 ∷ []) d.1
       ∙ ap (λ (ds : List Delivery). ds ++ mail_done seat d.1) (action_mail action d.0 d.2)
       ∙ ap (λ (ds : List Delivery). mail_of seat action ++ ds) (mails_are actions d.1 d.3)
 

@@ -5,7 +5,7 @@ use Rattle.message_core.specs.Messages.{Message}
 use Rattle.outbox_core.specs.Contents.{Said, Relays, Tells, said_of}
 use Rattle.outbox_core.specs.declared.envelope.Envelope.{Envelope}
 use Rattle.router_core.specs.declared.action.Action.{Action}
-use Rattle.router_core.specs.declared.action.Action.TheVariants.{Write, Put, Announce, Close, Run}
+use Rattle.router_core.specs.declared.action.Action.TheVariants.{Write, Put, Close, Run}
 use Rattle.router_core.specs.declared.event.Event.TheVariants.{Mail}
 use Rattle.router_core.specs.Acts.{State, Brings}
 use Rattle.router_core.specs.Deeds.{GatedCall, Writes, Sends, IsDoneBy}
@@ -21,14 +21,12 @@ module _ {N : Type 0} (seat key : ℕ) where
   writes : (action : Action N) (to : ℕ) (bytes : List ℕ) → IsDoneBy action (Writes to bytes) → IsQuiet (action ∷ [])
   writes (Write k held) to bytes h = (refl, refl)
   writes (Put conns carried content) to bytes h = absurd (cc)
-  writes (Announce signals carried) to bytes h = absurd h
   writes (Close k cause) to bytes h = absurd (cc)
   writes (Run name start) to bytes h = absurd (cc)
 
   sends : (action : Action N) (to : ℕ) (message : Message) → IsDoneBy action (Sends to message) → IsQuiet (action ∷ [])
   sends (Write k held) to message h = (refl, refl)
   sends (Put conns carried content) to message h = absurd (cc)
-  sends (Announce signals carried) to message h = absurd h
   sends (Close k cause) to message h = absurd (cc)
   sends (Run name start) to message h = absurd (cc)
 

@@ -4,12 +4,11 @@ use Rattle.std.specs.List.{flat_map}
 use Rattle.std.specs.Option.{option_or}
 use Rattle.seq_bus_core.specs.Histories.{History}
 use Rattle.seq_bus_core.specs.declared.connection.Conn.{Conn}
-use Rattle.seq_bus_core.specs.declared.signal.AddressedSignal.{AddressedSignal}
-use Rattle.outbox_core.specs.Contents.{Said, Tells, Signals, said_of}
+use Rattle.outbox_core.specs.Contents.{Said, said_of}
 use Rattle.outbox_core.specs.Deliveries.{deliveries_of}
 use Rattle.outbox_core.specs.declared.envelope.Envelope.{Envelope}
 use Rattle.router_core.specs.declared.action.Action.{Action}
-use Rattle.router_core.specs.declared.action.Action.TheVariants.{Write, Put, Announce, Close}
+use Rattle.router_core.specs.declared.action.Action.TheVariants.{Write, Put, Close}
 use Rattle.router_core.specs.declared.cause.CloseCause.{CloseCause}
 use Rattle.router_core.specs.declared.event.Event.{Event}
 use Rattle.router_core.specs.declared.event.Event.TheVariants.{Mail}
@@ -51,12 +50,8 @@ mail_to seat said conn = if conn.router == seat then record { slot = conn.slot; 
 abbrev pub mail_to_all : ℕ → Said → List Conn → List Delivery
 mail_to_all seat said conns = flat_map (mail_to seat said) conns
 
-abbrev pub mail_of_signal : ℕ → AddressedSignal → List Delivery
-mail_of_signal seat s = mail_to_all seat (Tells (Signals s.signal)) (deliveries_of s.to s.monitors)
-
 abbrev pub mail_of : {N : Type 0} → ℕ → Action N → List Delivery
 mail_of seat (Put to carried content) = mail_to_all seat (said_of content) (deliveries_of to.to to.monitors)
-mail_of seat (Announce signals carried) = flat_map (mail_of_signal seat) signals
 mail_of seat other = []
 
 -- all that the actions put, in order

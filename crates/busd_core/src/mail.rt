@@ -1,19 +1,18 @@
 //! Messages that are put, as they come back as mail.
 
 ghost use Rattle.std.specs.Prelude.{◌≡◌};
-ghost use Rattle.std.specs.List.{flat_map};
 ghost use Rattle.outbox_core.specs.Contents.{said_of};
 ghost use Rattle.outbox_core.specs.Deliveries.{deliveries_of};
-ghost use Rattle.busd_core.specs.Happenings.{mail_to, mail_to_all, mail_of_signal, mail_of, mails_of};
-ghost use Rattle.busd_core.specs.Parts.{Delivers};
+ghost use Rattle.busd_core.specs.Happenings.{mail_to, mail_to_all, mail_of, mails_of};
+ghost use Rattle.busd_core.specs.Parts.{DeliversBy};
 
 use crate::carrying::{Endpoint, bring};
 use crate::fault::RunFault;
 use bus_view::BusView;
-use outbox_core::{BusMessage, Content, Deliveries, Envelope};
+use outbox_core::{Content, Deliveries, Envelope};
 use router::Engine;
 use router_core::{Action, Event, Gate};
-use seq_bus_core::{AddressedSignal, Conn};
+use seq_bus_core::Conn;
 use std::io::Write;
 
 /// Brings a message to a connection, if it is one of the same router.
@@ -25,7 +24,7 @@ fn deliver_to<V: BusView, G: Gate, W: Write>(
     content: &Content,
     writer: &mut W,
 ) -> Result<(), RunFault>
-    ensures { Delivers V.told G.passes V.alone endpoint.seat endpoint.key engine.old
+    ensures { DeliversBy V.BusView G.Gate endpoint.seat endpoint.key engine.old
         (mail_to endpoint.seat (said_of content.now) conn) (W.contents writer.old)
         (W.contents writer.new) engine.new result }
 {
@@ -59,51 +58,12 @@ fn deliver<V: BusView, G: Gate, W: Write>(
     content: &Content,
     writer: &mut W,
 ) -> Result<(), RunFault>
-    ensures { Delivers V.told G.passes V.alone endpoint.seat endpoint.key engine.old
+    ensures { DeliversBy V.BusView G.Gate endpoint.seat endpoint.key engine.old
         (mail_to_all endpoint.seat (said_of content.now) (deliveries_of to.now monitors.now))
         (W.contents writer.old) (W.contents writer.new) engine.new result }
 {
     for conn in Deliveries::new(to, monitors) {
         deliver_to(engine, right, endpoint, conn, content, writer)?;
-    }
-    Ok(())
-}
-
-/// Brings a signal to its recipients, who share it, and then to the monitors.
-fn announce_one<V: BusView, G: Gate, W: Write>(
-    engine: &mut Engine<V, G>,
-    right: &V::Right,
-    endpoint: Endpoint,
-    addressed: &AddressedSignal,
-    writer: &mut W,
-) -> Result<(), RunFault>
-    ensures { Delivers V.told G.passes V.alone endpoint.seat endpoint.key engine.old
-        (mail_of_signal endpoint.seat addressed.now) (W.contents writer.old) (W.contents writer.new)
-        engine.new result }
-{
-    let Ok(signal) = addressed.signal.try_clone() else {
-        return Err(RunFault::Memory);
-    };
-    let content = Content::Own(BusMessage::Signal(signal));
-    let to = addressed.to.as_slice();
-    let monitors = addressed.monitors.as_slice();
-    deliver(engine, right, endpoint, to, monitors, &content, writer)
-}
-
-/// Brings the signals of a change to their recipients, in order.
-fn announce<V: BusView, G: Gate, W: Write>(
-    engine: &mut Engine<V, G>,
-    right: &V::Right,
-    endpoint: Endpoint,
-    signals: &[AddressedSignal],
-    writer: &mut W,
-) -> Result<(), RunFault>
-    ensures { Delivers V.told G.passes V.alone endpoint.seat endpoint.key engine.old
-        (flat_map (mail_of_signal endpoint.seat) signals.now) (W.contents writer.old)
-        (W.contents writer.new) engine.new result }
-{
-    for addressed in signals {
-        announce_one(engine, right, endpoint, addressed, writer)?;
     }
     Ok(())
 }
@@ -116,7 +76,7 @@ fn deliver_one<V: BusView, G: Gate, W: Write>(
     action: &Action<V::Note>,
     writer: &mut W,
 ) -> Result<(), RunFault>
-    ensures { Delivers V.told G.passes V.alone endpoint.seat endpoint.key engine.old
+    ensures { DeliversBy V.BusView G.Gate endpoint.seat endpoint.key engine.old
         (mail_of endpoint.seat action.now) (W.contents writer.old) (W.contents writer.new)
         engine.new result }
 {
@@ -134,9 +94,6 @@ fn deliver_one<V: BusView, G: Gate, W: Write>(
             content,
             writer,
         ),
-        Action::Announce { signals, note: _ } => {
-            announce(engine, right, endpoint, signals.as_slice(), writer)
-        }
         _ => Ok(()),
     }
 }
@@ -149,7 +106,7 @@ pub fn deliver_all<V: BusView, G: Gate, W: Write>(
     actions: &[Action<V::Note>],
     writer: &mut W,
 ) -> Result<(), RunFault>
-    ensures { Delivers V.told G.passes V.alone endpoint.seat endpoint.key engine.old
+    ensures { DeliversBy V.BusView G.Gate endpoint.seat endpoint.key engine.old
         (mails_of endpoint.seat actions.now) (W.contents writer.old) (W.contents writer.new)
         engine.new result }
 {

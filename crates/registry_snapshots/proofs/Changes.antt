@@ -5,8 +5,9 @@ use Rattle.logbook.specs.Pages.{Book}
 use Rattle.names.specs.Texts.{Text}
 use Rattle.owner_queues.specs.declared.request.Profile.{Profile}
 use Rattle.activation.specs.Holdings.{Calls, IsHolding}
-use Rattle.activation.proofs.FewTickets.{few_settled}
+use Rattle.activation.proofs.Bounds.{bounded}
 use Rattle.seq_bus_core.specs.Batches.{entries_of, outcomes_of}
+use Rattle.seq_bus_core.specs.Bounds.{IsBounded}
 use Rattle.seq_bus_core.specs.BusState.{BusState}
 use Rattle.seq_bus_core.specs.Changes.{as_seen}
 use Rattle.seq_bus_core.specs.Consistency.{IsWithinLimits}
@@ -25,7 +26,7 @@ use Rattle.registry_snapshots.specs.Seats.{AreChanged, IsChanged}
 use Rattle.registry_snapshots.specs.Settlings.{AreCallsAfter}
 use Rattle.settling.specs.Batches.{SettleAlong, bus_along}
 use Rattle.settling.specs.Settlings.{Settling, SettlesAt}
-use Rattle.settling.proofs.Along.{along_entries, few_along, limits_along}
+use Rattle.settling.proofs.Along.{along_entries, bounded_along, limits_along}
 
 -- The copy that is shown once an entry is published, where `prefix` was all of the history and `next` goes on with the entry.
 pub shown_next : (book : Book) (opening : WholeBus) (s : SnapView) (prefix : PrefixView) (e : Entry) (p : PreparedChange) (next copy : PrefixView) → IsSnapOf book opening s → prefix ≡ s.prefix → e.left ≡ 0
@@ -104,12 +105,12 @@ calls_along opening log next seat first changes before after calls holding is =
       within_limits = subst (λ (w : WholeBus). IsWithinLimits w.state) (sym now) (limits_along b seat changes calls.holding.consistent calls.within_limits);
     }
 
--- a change settles no more calls than can wait
-pub few_told : (opening : WholeBus) (log : History) (seat : ℕ) (change : Change) (calls : Calls) (outcome : Outcome) → AreCallsAfter opening log calls → outcome ≡ (bus_step (bus_after opening log) seat change).1 → length outcome.tickets ≤ 512
-few_told opening log seat change calls outcome waiting told = subst (λ (o : Outcome). length o.tickets ≤ 512) (sym told) (few_settled (bus_after opening log) seat change waiting.within_limits)
+-- what a change is told is bounded
+pub bounded_told : (opening : WholeBus) (log : History) (seat : ℕ) (change : Change) (calls : Calls) (outcome : Outcome) → AreCallsAfter opening log calls → outcome ≡ (bus_step (bus_after opening log) seat change).1 → IsBounded outcome
+bounded_told opening log seat change calls outcome waiting told = subst IsBounded (sym told) (bounded (bus_after opening log) seat change waiting.within_limits)
 
 -- and each of a batch
-pub few_told_all : (opening : WholeBus) (log : History) (seat : ℕ) (changes : List Change) (calls : Calls) (outcomes : List Outcome) → AreCallsAfter opening log calls → outcomes ≡ outcomes_of (bus_after opening log) seat changes
-    → AllByRecursion (λ o. length o.tickets ≤ 512) outcomes
-few_told_all opening log seat changes calls outcomes waiting told =
-    subst (λ (os : List Outcome). AllByRecursion (λ o. length o.tickets ≤ 512) os) (sym told) (few_along (bus_after opening log) seat changes waiting.holding.consistent waiting.within_limits)
+pub bounded_told_all : (opening : WholeBus) (log : History) (seat : ℕ) (changes : List Change) (calls : Calls) (outcomes : List Outcome) → AreCallsAfter opening log calls → outcomes ≡ outcomes_of (bus_after opening log) seat changes
+    → AllByRecursion IsBounded outcomes
+bounded_told_all opening log seat changes calls outcomes waiting told =
+    subst (AllByRecursion IsBounded) (sym told) (bounded_along (bus_after opening log) seat changes waiting.holding.consistent waiting.within_limits)

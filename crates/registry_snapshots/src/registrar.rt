@@ -4,9 +4,10 @@ ghost use Rattle.std.specs.List.{AllByRecursion};
 ghost use Rattle.std.specs.Prelude.{◌≡◌, ◌≢◌, ◌⊎◌, ◌+◌, ◌<◌, ◌≤◌, ◌^◌, [], length, false, Some, slice_get, IfOk, IfErr, OnErr};
 ghost use Rattle.owner_queues.specs.declared.request.Profile.TheVariants.{Two};
 ghost use Rattle.seq_bus_core.specs.Batches.{IsBatch};
+ghost use Rattle.seq_bus_core.specs.Bounds.{IsBounded};
 ghost use Rattle.seq_bus_core.specs.Histories.{CanOpen, IsLegal, Begins, numbers_of};
 ghost use Rattle.seq_bus_core.specs.Tickets.{opening_bus};
-ghost use Rattle.seq_bus_core.specs.declared.limits.TheConstants.{MAX_BATCH, MAX_TICKETS};
+ghost use Rattle.seq_bus_core.specs.declared.limits.TheConstants.{MAX_BATCH};
 ghost use Rattle.registry_snapshots_core.specs.Copies.{IsSnapOf};
 ghost use Rattle.registry_snapshots.specs.Seats.{AreChanged, IsChanged};
 ghost use Rattle.bus_view.specs.declared.refusal.Cause.{Cause};
@@ -140,7 +141,7 @@ impl<J: Naming> Registrar<J> {
         requires book { known.now.book ≡ J.book }
         ensures made { IfOk result (λ r.
             IsChanged J.opening known.now.log seat made change.now r.0 r.1.log) }
-        ensures few { IfOk result (λ r. length r.0.tickets ≤ MAX_TICKETS) }
+        ensures few { IfOk result (λ r. IsBounded r.0) }
         ensures next { IfOk result (λ r. (r.1.book ≡ J.book) × (made < 2 ^ 63)) }
         ensures published { IfOk result (λ r. (r.1 ≡ self.new.0.prefix) × (self.new.1 ≡ false)) }
         ensures same { OnErr result (self.new.0 ≡ self.old.0) }
@@ -191,8 +192,7 @@ impl<J: Naming> Registrar<J> {
         requires batch { IsBatch changes.items }
         ensures made { IfOk result (λ r.
             AreChanged J.opening known.now.log seat made changes.items r.0.items r.1.log) }
-        ensures few { IfOk result (λ r.
-            AllByRecursion (λ o. length o.tickets ≤ MAX_TICKETS) r.0.items) }
+        ensures few { IfOk result (λ r. AllByRecursion IsBounded r.0.items) }
         ensures next { IfOk result (λ r. (r.1.book ≡ J.book)
             × (made + length changes.items ≤ 2 ^ 63)) }
         ensures published { IfOk result (λ r. (r.1 ≡ self.new.0.prefix) × (self.new.1 ≡ false)) }

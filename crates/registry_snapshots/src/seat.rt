@@ -7,11 +7,11 @@ ghost use Rattle.bus_view.specs.Bodies.{Answers};
 ghost use Rattle.bus_view.specs.declared.answer.AskFault.TheVariants.{Gone as AskGone, NoMemory as AskNoMemory};
 ghost use Rattle.seq_bus_core.specs.Answers.{answer};
 ghost use Rattle.seq_bus_core.specs.Batches.{IsBatch};
+ghost use Rattle.seq_bus_core.specs.Bounds.{IsBounded};
 ghost use Rattle.seq_bus_core.specs.BusState.{connection_of};
 ghost use Rattle.seq_bus_core.specs.Histories.{IsLegal, Begins, longer};
 ghost use Rattle.seq_bus_core.specs.Recipients.{recipients};
 ghost use Rattle.seq_bus_core.specs.Tickets.{bus_after};
-ghost use Rattle.seq_bus_core.specs.declared.limits.TheConstants.{MAX_TICKETS};
 ghost use Rattle.registry_snapshots_core.specs.Copies.{SnapView};
 ghost use Rattle.registry_snapshots.specs.Seats.{fresh, AreChanged, IsChanged, IsRead, IsUnwatched};
 
@@ -304,7 +304,7 @@ impl<J: Naming> Seat<J> {
     ///
     /// It waits for the lock of the registry, and for readers of the copy that it brings up. A
     /// change that is refused is handed back, and is not made, then or later. One that is made
-    /// settles 512 tickets at most, which is how many can wait.
+    /// settles 512 tickets at most, which is how many can wait, and brings 194 signals at most.
     pub fn change<R: Wait>(
         &mut self,
         rt: &R,
@@ -314,7 +314,7 @@ impl<J: Naming> Seat<J> {
         ensures changed { IfOk result (λ r.
             IsChanged J.opening self.old.seen self.old.number self.old.made
             change r.0 self.new.seen) }
-        ensures few { IfOk result (λ r. length r.0.tickets ≤ MAX_TICKETS) }
+        ensures few { IfOk result (λ r. IsBounded r.0) }
         ensures note { IfOk result (λ r. (r.1 ≡ self.new.seen)
             × (self.new.held ≡ Some self.new.seen)) }
         ensures made { OnOk result (self.new.made ≡ self.old.made + 1) }
@@ -346,8 +346,7 @@ impl<J: Naming> Seat<J> {
         ensures changed { IfOk result (λ r.
             AreChanged J.opening self.old.seen self.old.number self.old.made
             changes.items r.0.items self.new.seen) }
-        ensures few { IfOk result (λ r.
-            AllByRecursion (λ o. length o.tickets ≤ MAX_TICKETS) r.0.items) }
+        ensures few { IfOk result (λ r. AllByRecursion IsBounded r.0.items) }
         ensures note { IfOk result (λ r. (r.1 ≡ self.new.seen)
             × (self.new.held ≡ Some self.new.seen)) }
         ensures made { OnOk result (self.new.made ≡ self.old.made + length changes.items) }

@@ -4,9 +4,9 @@ ghost use Rattle.std.specs.Prelude.{◌≡◌, ◌+◌, ◌<◌, ◌≤◌, ◌^
 ghost use Rattle.std.specs.List.{AllByRecursion};
 ghost use Rattle.owner_queues.specs.declared.request.Profile.TheVariants.{Two};
 ghost use Rattle.seq_bus_core.specs.Batches.{IsBatch};
+ghost use Rattle.seq_bus_core.specs.Bounds.{IsBounded};
 ghost use Rattle.seq_bus_core.specs.Histories.{CanOpen, max_routers};
 ghost use Rattle.seq_bus_core.specs.Tickets.{opening_bus};
-ghost use Rattle.seq_bus_core.specs.declared.limits.TheConstants.{MAX_TICKETS};
 ghost use Rattle.registry_snapshots.specs.Seats.{fresh, fresh_to, AreChanged, IsChanged};
 ghost use Rattle.registry_snapshots.specs.declared.refusal.StartFault.TheVariants.{Routers, Services};
 
@@ -154,7 +154,7 @@ impl<J: Naming> Shared<J> {
         requires book { known.now.book ≡ J.book }
         ensures made { IfOk result (λ r.
             IsChanged J.opening known.now.log seat made change.now r.0 r.1.log) }
-        ensures few { IfOk result (λ r. length r.0.tickets ≤ MAX_TICKETS) }
+        ensures few { IfOk result (λ r. IsBounded r.0) }
         ensures next { IfOk result (λ r. (r.1.book ≡ J.book) × (made < 2 ^ 63)) }
     {
         let mut registrar = self.registrar.lock(rt);
@@ -175,8 +175,7 @@ impl<J: Naming> Shared<J> {
         requires book { known.now.book ≡ J.book }
         ensures made { IfOk result (λ r.
             AreChanged J.opening known.now.log seat made changes.items r.0.items r.1.log) }
-        ensures few { IfOk result (λ r.
-            AllByRecursion (λ o. length o.tickets ≤ MAX_TICKETS) r.0.items) }
+        ensures few { IfOk result (λ r. AllByRecursion IsBounded r.0.items) }
         ensures next { IfOk result (λ r. (r.1.book ≡ J.book)
             × (made + length changes.items ≤ 2 ^ 63)) }
         ensures batch { OnOk result (IsBatch changes.items) }

@@ -30,7 +30,8 @@ use Rattle.router_steps.specs.Quiet.{IsQuiet, IsQuietAt}
 use Rattle.router_steps.specs.Reading.{IsRest}
 use Rattle.router_steps.proofs.Nexts.{for_some}
 use Rattle.router_steps.proofs.Sequels.{comes_then}
-use Rattle.router_serving.proofs.Rules.{rules_settle_none}
+use Rattle.router_serving.specs.Joinings.{RepliesAlone}
+use Rattle.router_serving.proofs.Rules.{rules_bring_none}
 use Rattle.router.specs.Dues.{IsApart}
 use Rattle.router.specs.Named.{is_named, IsSettled}
 use Rattle.router.proofs.Endings.{AllGive, given}
@@ -202,10 +203,10 @@ pub on_err : {T E X : Type 0} (r : Result T E) → X → OnErr r X
 on_err (Ok x) holds = tt
 on_err (Err e) holds = holds
 
--- calls that add and remove rules let no call go that waited
-pub settle_none : (b : WholeBus) (seat : ℕ) (joints : List Joint) (changes : List Change) (outcomes : List Outcome) → changes ≡ map change_of_joint joints → outcomes ≡ outcomes_of b seat changes → AllByRecursion (λ (o : Outcome). o.tickets ≡ []) outcomes
-settle_none b seat joints changes outcomes are told =
-    subst (λ (os : List Outcome). AllByRecursion (λ (o : Outcome). o.tickets ≡ []) os) (sym (told ∙ ap (outcomes_of b seat) are)) (rules_settle_none b seat joints)
+-- calls that add and remove rules are told a reply alone
+pub replies_alone : (b : WholeBus) (seat : ℕ) (joints : List Joint) (changes : List Change) (outcomes : List Outcome) → changes ≡ map change_of_joint joints → outcomes ≡ outcomes_of b seat changes → AllByRecursion RepliesAlone outcomes
+replies_alone b seat joints changes outcomes are told =
+    subst (AllByRecursion RepliesAlone) (sym (told ∙ ap (outcomes_of b seat) are)) (rules_bring_none b seat joints)
 
 -- whoever has a name is within the table
 pub named_within : (peers : List (Option Peer)) (key : ℕ) → is_named (get_or peers key None) ≡ true → key < length peers

@@ -1,7 +1,9 @@
 //! Connections that say Hello. (D-Bus Specification: "org.freedesktop.DBus.Hello")
 
-ghost use Rattle.std.specs.Prelude.{◌≡◌, ◌<◌, ◌≤◌, ◌+◌, ℕ, false, length, position, slice_set, Some, IfSome};
+ghost use Rattle.std.specs.Prelude.{◌≡◌, ◌<◌, ◌≤◌, ◌+◌, ℕ, false, length, position, slice_set, Some, IfOk, IfSome};
 ghost use Rattle.message_core.specs.Said.{said};
+ghost use Rattle.seq_bus_core.specs.Bounds.{IsBounded};
+ghost use Rattle.seq_bus_core.specs.declared.limits.TheConstants.{MAX_SIGNALS};
 ghost use Rattle.router_core.specs.Answers.{error_for, refusal_of};
 ghost use Rattle.router_core.specs.Events.{refuse_with, turn_away, for_peer, close_former, welcome, greeted, greeted_by, greet};
 ghost use Rattle.router_core.specs.Scripts.{RunsTo};
@@ -115,7 +117,7 @@ impl<V: BusView, G: Gate> Peers<V, G> {
 
     /// The connection has its name: the reply comes first, then the signals.
     fn welcome(&mut self, key: usize, hello: &Message, outcome: Outcome, conn: Conn)
-        requires room { 1 < self.old.work.room }
+        requires room { length outcome.signals < self.old.work.room }
         requires spare_verdicts { 0 < self.old.work.spare_verdicts }
         requires nameless { IsNameless (peer_at self.old.standing key) }
         requires key { key < length self.old.standing.peers }
@@ -166,7 +168,7 @@ impl<V: BusView, G: Gate> Peers<V, G> {
 
     /// The bus made the Hello: the connection is welcome, or too many are there.
     fn answer_hello(&mut self, key: usize, hello: &Message, outcome: Outcome, errors: HelloErrors)
-        requires room { 2 < self.old.work.room }
+        requires room { length outcome.signals + 2 < self.old.work.room }
         requires spare_verdicts { 0 < self.old.work.spare_verdicts }
         requires nameless { IsNameless (peer_at self.old.standing key) }
         requires key { key < length self.old.standing.peers }
@@ -194,7 +196,8 @@ impl<V: BusView, G: Gate> Peers<V, G> {
         heard: Result<Outcome, Cause>,
         errors: HelloErrors,
     )
-        requires room { 2 < self.old.work.room }
+        requires room { MAX_SIGNALS + 2 < self.old.work.room }
+        requires few { IfOk heard IsBounded }
         requires spare_verdicts { 0 < self.old.work.spare_verdicts }
         requires nameless { IsNameless (peer_at self.old.standing key) }
         requires key { key < length self.old.standing.peers }
@@ -225,7 +228,7 @@ impl<V: BusView, G: Gate> Peers<V, G> {
         privileged: bool,
         errors: HelloErrors,
     )
-        requires room { 2 < self.old.work.room }
+        requires room { MAX_SIGNALS + 2 < self.old.work.room }
         requires spare_verdicts { 0 < self.old.work.spare_verdicts }
         requires nameless { IsNameless (peer_at self.old.standing key) }
         requires key { key < length self.old.standing.peers }

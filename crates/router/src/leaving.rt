@@ -9,6 +9,7 @@ use crate::peers::Peers;
 use bus_view::BusView;
 use router_core::Gate;
 use router_steps::Peer;
+use seq_bus_core::limits::MAX_SIGNALS;
 use std::alloc::AllocError;
 
 /// The connection of a key, which is free from then on.
@@ -34,7 +35,7 @@ impl<V: BusView, G: Gate> Peers<V, G> {
         ensures err { OnErr result (self.new.standing ≡ self.old.standing) }
         ensures world { OnErr result (self.new.work.world ≡ self.old.work.world) }
     {
-        self.context.reserve(1)?;
+        self.context.reserve(MAX_SIGNALS)?;
         self.due_leaves.reserve(1)?;
         let Some(peer) = take_peer(&mut self.peers, key) else {
             return Ok(());
@@ -52,7 +53,7 @@ impl<V: BusView, G: Gate> Peers<V, G> {
         ensures err { OnErr result (self.new.standing ≡ self.old.standing) }
         ensures world { OnErr result (self.new.work.world ≡ self.old.work.world) }
     {
-        self.context.reserve(1)?;
+        self.context.reserve(MAX_SIGNALS)?;
         self.due_leaves.reserve(1)?;
         self.context.leave(right, number, &mut self.due_leaves);
         Ok(())

@@ -9,10 +9,10 @@ ghost use Rattle.router.specs.Upcoming.{HasNoNext};
 
 use crate::peers::Peers;
 use bus_view::BusView;
+use router_core::limits::MAX_EFFECTS;
 use router_core::Gate;
 use router_serving::next_in;
 use router_steps::{HelloCall, Peer};
-use seq_bus_core::limits::MAX_TICKETS;
 use std::alloc::AllocError;
 
 /// Whether there is something of a connection to be served, if it is there.
@@ -56,7 +56,7 @@ impl<V: BusView, G: Gate> Peers<V, G> {
         }
         // What is shown to monitors, the signals, the answer and a close, and each call that waited
         // for the name.
-        self.context.reserve(MAX_TICKETS + 4)?;
+        self.context.reserve(MAX_EFFECTS + 3)?;
         self.context.reserve_verdicts(2)?;
         match next_in(
             self.alloc,

@@ -7,8 +7,8 @@ ghost use Rattle.router_core.specs.Scripts.{RunsTo};
 
 use crate::peers::Peers;
 use bus_view::BusView;
+use router_core::limits::MAX_EFFECTS;
 use router_core::{Gate, StartEnd};
-use seq_bus_core::limits::MAX_TICKETS;
 use std::alloc::AllocError;
 
 impl<V: BusView, G: Gate> Peers<V, G> {
@@ -20,7 +20,7 @@ impl<V: BusView, G: Gate> Peers<V, G> {
         ensures err { OnErr result (self.new.standing ≡ self.old.standing) }
         ensures world { OnErr result (self.new.work.world ≡ self.old.work.world) }
     {
-        self.context.reserve(MAX_TICKETS + 1)?;
+        self.context.reserve(MAX_EFFECTS)?;
         self.context.end_start(right, ended)?;
         Ok(())
     }

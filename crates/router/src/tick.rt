@@ -1,13 +1,22 @@
 //! What is done as time passes.
 
-ghost use Rattle.std.specs.Prelude.{◌≡◌, OnOk, OnErr};
+ghost use Rattle.std.specs.Prelude.{◌≡◌, ◌+◌, ◌*◌, IfSome, OnOk, OnErr};
+ghost use Rattle.seq_bus_core.specs.declared.limits.TheConstants.{MAX_SIGNALS};
 ghost use Rattle.router_core.specs.Events.{tick as ticking};
 ghost use Rattle.router_core.specs.Scripts.{RunsTo};
 
 use crate::peers::Peers;
 use bus_view::BusView;
 use router_core::Gate;
+use seq_bus_core::limits::MAX_SIGNALS;
 use std::alloc::AllocError;
+
+/// How many actions so many Leaves and closes bring at most, unless they are too many to count.
+fn room_for(leaves: usize, closes: usize) -> Option<usize>
+    ensures { IfSome result (λ room. room ≡ MAX_SIGNALS * leaves + closes) }
+{
+    leaves.checked_mul(MAX_SIGNALS)?.checked_add(closes)
+}
 
 impl<V: BusView, G: Gate> Peers<V, G> {
     /// Time has passed: the Leaves that were refused are made, in order, and then each connection
@@ -19,8 +28,8 @@ impl<V: BusView, G: Gate> Peers<V, G> {
         ensures err { OnErr result (self.new.standing ≡ self.old.standing) }
         ensures world { OnErr result (self.new.work.world ≡ self.old.work.world) }
     {
-        self.context
-            .reserve(self.due_leaves.len() + self.peers.len())?;
+        let room = room_for(self.due_leaves.len(), self.peers.len()).ok_or(AllocError)?;
+        self.context.reserve(room)?;
         let mut kept = Vec::with_capacity(self.alloc, self.due_leaves.len())?;
         self.context.leave_all(right, &self.due_leaves, &mut kept);
         self.due_leaves = kept;

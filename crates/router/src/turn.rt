@@ -11,7 +11,7 @@ ghost use Rattle.router_core.specs.Serving.{Fated, made};
 ghost use Rattle.router_core.specs.Standing.{peer_at};
 ghost use Rattle.router_core.specs.Together.{change_of_joint, join as joining, rule_call};
 ghost use Rattle.router_core.specs.declared.joint.RuleCall.{RuleCall as Rule_call};
-ghost use Rattle.router_serving.specs.Joinings.{parting_of};
+ghost use Rattle.router_serving.specs.Joinings.{RepliesAlone, parting_of};
 ghost use Rattle.router.specs.Dues.{IsDue};
 ghost use Rattle.router.specs.Named.{IsSettled, is_named};
 
@@ -19,15 +19,15 @@ use crate::peers::Peers;
 use bus_view::BusView;
 use driver::Call;
 use message_core::Message;
+use router_core::limits::MAX_EFFECTS;
 use router_core::{Gate, Joint, PeerFate};
 use router_serving::{Joining, Parting, answer, change_of, join, make, part, rule_call_of};
 use router_steps::{Context, Peer, Stage, Upcoming};
-use seq_bus_core::limits::MAX_TICKETS;
 use seq_bus_core::{Change, Conn, Outcome};
 use std::alloc::{AllocError, Global};
 
-/// The most actions that a call brings whose change was made: the signals, its answer and a close.
-const ANSWER: usize = 3;
+/// The most actions that a call brings whose change was made: its answer and a close.
+const ANSWER: usize = 2;
 
 /// The changes of calls, in order.
 fn changes_of(alloc: Global, joints: &[Joint]) -> Result<Vec<Change>, AllocError>
@@ -187,14 +187,14 @@ impl<V: BusView, G: Gate> Peers<V, G> {
 
     /// Makes the change of a call by itself, unless its connection was closed in the meantime.
     fn make_one(&mut self, right: &V::Right, joint: &Joint)
-        requires room { 2 < self.old.work.room }
+        requires room { 1 < self.old.work.room }
         requires spare_verdicts { 0 < self.old.work.spare_verdicts }
         ensures comes { RunsTo V.BusView G.Gate
             (done_for self.old.standing joint.now.key
             (Changing (change_of_joint joint.now)
             (λ heard. made (said joint.now.message) joint.now.caller heard)))
             self.old.work.world self.new.standing self.new.work.world }
-        ensures room { self.old.work.room ≤ self.new.work.room + 3 }
+        ensures room { self.old.work.room ≤ self.new.work.room + 2 }
         ensures spare_verdicts { self.old.work.spare_verdicts ≤ self.new.work.spare_verdicts + 1 }
     {
         if !self.has_name(joint.key) {
@@ -206,14 +206,14 @@ impl<V: BusView, G: Gate> Peers<V, G> {
 
     /// Answers a call whose change was made, unless its connection was closed in the meantime.
     fn answer_one(&mut self, joint: &Joint, outcome: Outcome)
-        requires room { 2 < self.old.work.room }
+        requires room { 1 < self.old.work.room }
         requires spare_verdicts { 0 < self.old.work.spare_verdicts }
-        requires alone { outcome.tickets ≡ [] }
+        requires alone { RepliesAlone outcome }
         ensures comes { RunsTo V.BusView G.Gate
             (done_for self.old.standing joint.now.key
             (made (said joint.now.message) joint.now.caller (Says outcome)))
             self.old.work.world self.new.standing self.new.work.world }
-        ensures room { self.old.work.room ≤ self.new.work.room + 3 }
+        ensures room { self.old.work.room ≤ self.new.work.room + 2 }
         ensures spare_verdicts { self.old.work.spare_verdicts ≤ self.new.work.spare_verdicts + 1 }
     {
         if !self.has_name(joint.key) {
@@ -225,11 +225,11 @@ impl<V: BusView, G: Gate> Peers<V, G> {
 
     /// Makes the changes of calls, each by itself.
     fn make_each(&mut self, right: &V::Right, joints: &[Joint])
-        requires room { 3 * length joints.now ≤ self.old.work.room }
+        requires room { 2 * length joints.now ≤ self.old.work.room }
         requires spare_verdicts { length joints.now ≤ self.old.work.spare_verdicts }
         ensures comes { RunsTo V.BusView G.Gate (making_each joints.now self.old.standing)
             self.old.work.world self.new.standing self.new.work.world }
-        ensures room { self.old.work.room ≤ self.new.work.room + 3 * length joints.now }
+        ensures room { self.old.work.room ≤ self.new.work.room + 2 * length joints.now }
         ensures spare_verdicts { self.old.work.spare_verdicts
             ≤ self.new.work.spare_verdicts + length joints.now }
     {
@@ -240,13 +240,13 @@ impl<V: BusView, G: Gate> Peers<V, G> {
 
     /// Answers calls whose changes were made, in order.
     fn answer_each(&mut self, joints: &[Joint], outcomes: Vec<Outcome>)
-        requires room { 3 * length joints.now ≤ self.old.work.room }
+        requires room { 2 * length joints.now ≤ self.old.work.room }
         requires spare_verdicts { length joints.now ≤ self.old.work.spare_verdicts }
-        requires alone { AllByRecursion (λ o. o.tickets ≡ []) outcomes.items }
+        requires alone { AllByRecursion RepliesAlone outcomes.items }
         ensures comes { RunsTo V.BusView G.Gate
             (answering_each joints.now outcomes.items self.old.standing)
             self.old.work.world self.new.standing self.new.work.world }
-        ensures room { self.old.work.room ≤ self.new.work.room + 3 * length joints.now }
+        ensures room { self.old.work.room ≤ self.new.work.room + 2 * length joints.now }
         ensures spare_verdicts { self.old.work.spare_verdicts
             ≤ self.new.work.spare_verdicts + length joints.now }
     {
@@ -261,13 +261,13 @@ impl<V: BusView, G: Gate> Peers<V, G> {
 
     /// Makes the changes of calls together.
     fn make_batch(&mut self, right: &V::Right, joints: &[Joint], changes: Vec<Change>)
-        requires room { 3 * length joints.now ≤ self.old.work.room }
+        requires room { 2 * length joints.now ≤ self.old.work.room }
         requires spare_verdicts { length joints.now ≤ self.old.work.spare_verdicts }
         requires changes { changes.items ≡ map change_of_joint joints.now }
         requires batch { IsBatch changes.items }
         ensures comes { RunsTo V.BusView G.Gate (making_if joints.now self.old.standing true)
             self.old.work.world self.new.standing self.new.work.world }
-        ensures room { self.old.work.room ≤ self.new.work.room + 3 * length joints.now }
+        ensures room { self.old.work.room ≤ self.new.work.room + 2 * length joints.now }
         ensures spare_verdicts { self.old.work.spare_verdicts
             ≤ self.new.work.spare_verdicts + length joints.now }
     {
@@ -280,11 +280,11 @@ impl<V: BusView, G: Gate> Peers<V, G> {
     /// Makes the changes of calls, in one publication where they are several.
     fn make_joined(&mut self, right: &V::Right, joints: &[Joint])
         requires few { length joints.now ≤ max_batch }
-        requires room { 3 * length joints.now ≤ self.old.work.room }
+        requires room { 2 * length joints.now ≤ self.old.work.room }
         requires spare_verdicts { length joints.now ≤ self.old.work.spare_verdicts }
         ensures comes { RunsTo V.BusView G.Gate (making_all joints.now self.old.standing)
             self.old.work.world self.new.standing self.new.work.world }
-        ensures room { self.old.work.room ≤ self.new.work.room + 3 * length joints.now }
+        ensures room { self.old.work.room ≤ self.new.work.room + 2 * length joints.now }
         ensures spare_verdicts { self.old.work.spare_verdicts
             ≤ self.new.work.spare_verdicts + length joints.now }
     {
@@ -302,13 +302,13 @@ impl<V: BusView, G: Gate> Peers<V, G> {
     /// Makes the changes of the calls that were gathered, which are done then.
     fn make_all(&mut self, right: &V::Right, joints: &mut Vec<Joint>)
         requires few { length joints.old.items ≤ max_batch }
-        requires room { 3 * length joints.old.items ≤ self.old.work.room }
+        requires room { 2 * length joints.old.items ≤ self.old.work.room }
         requires spare_verdicts { length joints.old.items ≤ self.old.work.spare_verdicts }
         ensures comes { RunsTo V.BusView G.Gate (making_all joints.old.items self.old.standing)
             self.old.work.world self.new.standing self.new.work.world }
         ensures none { joints.new.items ≡ [] }
         ensures capacity { vec_capacity joints.old ≤ vec_capacity joints.new }
-        ensures room { self.old.work.room ≤ self.new.work.room + 3 * length joints.old.items }
+        ensures room { self.old.work.room ≤ self.new.work.room + 2 * length joints.old.items }
         ensures spare_verdicts { self.old.work.spare_verdicts
             ≤ self.new.work.spare_verdicts + length joints.old.items }
     {
@@ -326,7 +326,7 @@ impl<V: BusView, G: Gate> Peers<V, G> {
         caller: Conn,
         parting: Parting,
     )
-        requires room { MAX_TICKETS + 3 < self.old.work.room }
+        requires room { MAX_EFFECTS + 2 < self.old.work.room }
         requires spare_verdicts { 0 < self.old.work.spare_verdicts }
         ensures comes { RunsTo V.BusView G.Gate
             (done_for self.old.standing key (parting_of (said message.now) caller parting))
@@ -355,7 +355,7 @@ impl<V: BusView, G: Gate> Peers<V, G> {
         joints: &mut Vec<Joint>,
     ) -> Result<(), AllocError>
         requires few { length joints.old.items ≤ max_batch }
-        requires room { 3 * length joints.old.items ≤ self.old.work.room }
+        requires room { 2 * length joints.old.items ≤ self.old.work.room }
         requires spare_verdicts { length joints.old.items ≤ self.old.work.spare_verdicts }
         ensures comes { OnOk result (RunsTo V.BusView G.Gate
             (apart joints.old.items self.old.standing key)
@@ -386,7 +386,7 @@ impl<V: BusView, G: Gate> Peers<V, G> {
     )
         requires spare { vec_len joints.old < vec_capacity joints.old }
         requires few { length joints.old.items ≤ max_batch }
-        requires room { 3 * length joints.old.items + MAX_TICKETS + 5 ≤ self.old.work.room }
+        requires room { 2 * length joints.old.items + MAX_EFFECTS + 4 ≤ self.old.work.room }
         requires spare_verdicts { length joints.old.items + 1 < self.old.work.spare_verdicts }
         requires rule { is_some (rule_call (Ok call)) ≡ true }
         ensures comes { (c : Rule_call) → rule_call (Ok call) ≡ Some c →
@@ -400,7 +400,7 @@ impl<V: BusView, G: Gate> Peers<V, G> {
             }) self.new.work.world }
         ensures more { length joints.new.items ≤ length joints.old.items + 1 }
         ensures capacity { vec_capacity joints.old ≤ vec_capacity joints.new }
-        ensures room { 3 * length joints.new.items ≤ self.new.work.room }
+        ensures room { 2 * length joints.new.items ≤ self.new.work.room }
         ensures spare_verdicts { length joints.new.items ≤ self.new.work.spare_verdicts }
     {
         match join(&mut self.context, &message, conn, &call) {
@@ -446,7 +446,7 @@ impl<V: BusView, G: Gate> Peers<V, G> {
     ) -> Result<bool, AllocError>
         requires spare { vec_len joints.old < vec_capacity joints.old }
         requires few { length joints.old.items ≤ max_batch }
-        requires room { 3 * length joints.old.items ≤ self.old.work.room }
+        requires room { 2 * length joints.old.items ≤ self.old.work.room }
         requires spare_verdicts { length joints.old.items ≤ self.old.work.spare_verdicts }
         ensures comes { IfOk result (λ served. RunsTo V.BusView G.Gate
             (gathering joints.old.items self.old.standing key (peer_at self.old.standing key))
@@ -466,7 +466,7 @@ impl<V: BusView, G: Gate> Peers<V, G> {
             self.old.work.world self.new.standing self.new.work.world) }
         ensures more { length joints.new.items ≤ length joints.old.items + 1 }
         ensures capacity { vec_capacity joints.old ≤ vec_capacity joints.new }
-        ensures room { 3 * length joints.new.items ≤ self.new.work.room }
+        ensures room { 2 * length joints.new.items ≤ self.new.work.room }
         ensures spare_verdicts { length joints.new.items ≤ self.new.work.spare_verdicts }
     {
         if key >= self.peers.len() {
@@ -474,7 +474,7 @@ impl<V: BusView, G: Gate> Peers<V, G> {
         }
         // The answers to the calls that were gathered and to this one, what is shown to monitors,
         // and what it may come to where it does not join them.
-        let Ok(()) = self.make_room(ANSWER * joints.len() + MAX_TICKETS + 5, joints.len() + 2)
+        let Ok(()) = self.make_room(ANSWER * joints.len() + MAX_EFFECTS + 4, joints.len() + 2)
         else {
             self.make_all(right, joints);
             return Err(AllocError);

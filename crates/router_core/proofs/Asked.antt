@@ -2,11 +2,12 @@
 use Rattle.std.proofs.Common.{◌≡◌, ℕ, Bool, Option, List, [], ◌∷◌, ◌++◌, refl, sym, ap, ◌∙◌, subst, append_assoc}
 use mathlib.Core.List.{append-nil}
 use Rattle.seq_bus_core.specs.Histories.{History}
+use Rattle.seq_bus_core.specs.declared.connection.Conn.{Conn}
 use Rattle.seq_bus_core.specs.declared.signal.AddressedSignal.{AddressedSignal}
+use Rattle.outbox_core.specs.Contents.{Tells, Signals}
 use Rattle.router_core.specs.declared.action.Action.{Action}
-use Rattle.router_core.specs.declared.action.Action.TheVariants.{Write, Put, Announce, Close, Run}
 use Rattle.router_core.specs.Acts.{Exchange, Changed, ChangedAll, Asked, Routed, Looked, Noted, Fronted, Called, Gated, Wanted, Goes, IsLawful, gated_in, world_of}
-use Rattle.router_core.specs.Deeds.{Deed, GatedCall, PassesAll, announced, announcement, IsDoneBy, AreDeedsOf, AreDoneBy}
+use Rattle.router_core.specs.Deeds.{Deed, GatedCall, PassesAll, Puts, all_of, announced, announcement, put_of, put_to, IsDoneBy, AreDoneBy}
 use Rattle.router_core.specs.Events.{script, occasion_of}
 use Rattle.router_core.specs.Laws.{AnswersAreLawful}
 use Rattle.router_core.specs.Scripts.{Script, Gives, Changing, ChangingAll, Asking, Routing, Looking, Noting, Fronting, Calling, Gating, Wanting, Requiring, Doing, Announcing, World, Comes, knowing}
@@ -14,19 +15,19 @@ use Rattle.router_core.proofs.Knowing.{seat_kept, change_home, changes_home, ans
 
 -- ## Deeds of actions
 
-one_deed : {N : Type 0} (action : Action N) (deed : Deed) → IsDoneBy action deed → AreDeedsOf action (deed ∷ [])
-one_deed (Write key bytes) deed d = (deed, d, refl)
-one_deed (Put to carried content) deed d = (deed, d, refl)
-one_deed (Announce signals carried) deed d = absurd d
-one_deed (Close key cause) deed d = (deed, d, refl)
-one_deed (Run name start) deed d = (deed, d, refl)
-
-more_done : {N : Type 0} (action : Action N) (actions : List (Action N)) (deed : Deed) (later : List Deed) → IsDoneBy action deed → AreDoneBy actions later → AreDoneBy (action ∷ actions) (deed ∷ later)
-more_done action actions deed later d done = (deed ∷ [], later, one_deed action deed d, done, refl)
+more_put : {N : Type 0} (note : Option N) (s : AddressedSignal) (conns : List Conn) → conns ≡ all_of s.to s.monitors → (actions : List (Action N)) (later : List Deed) → AreDoneBy actions later →
+    AreDoneBy (put_of note s conns ++ actions) (put_to conns (Tells (Signals s.signal)) ++ later)
+more_put note s [] is actions later done = done
+more_put note s (conn ∷ conns) is actions later done = (Puts (conn ∷ conns) (Tells (Signals s.signal)), later, ap (λ (all : List Conn). Puts all (Tells (Signals s.signal))) is, done, refl)
 
 more_announced : {N : Type 0} (signals : List AddressedSignal) (note : Option N) (actions : List (Action N)) (later : List Deed) → AreDoneBy actions later → AreDoneBy (announcement signals note ++ actions) (announced signals ++ later)
 more_announced [] carried actions later done = done
-more_announced (s ∷ signals) carried actions later done = (announced (s ∷ signals), later, refl, done, refl)
+more_announced {N = N} (s ∷ signals) carried actions later done =
+    let first = put_of carried s (all_of s.to s.monitors) in
+    let put = put_to (all_of s.to s.monitors) (Tells (Signals s.signal)) in
+    subst (λ (all : List (Action N)). AreDoneBy all ((put ++ announced signals) ++ later)) (sym (append_assoc first (announcement signals carried) actions))
+    (subst (λ (all : List Deed). AreDoneBy (first ++ (announcement signals carried ++ actions)) all) (sym (append_assoc put (announced signals) later))
+    (more_put carried s (all_of s.to s.monitors) refl (announcement signals carried ++ actions) (announced signals ++ later) (more_announced signals carried actions later done)))
 
 -- ## Scripts
 
@@ -205,7 +206,7 @@ listed {N = N} {G = G} told registry_of passes alone (Doing deed s) w x v p =
       actions = p.1.action ∷ l.actions;
       goes = (l.deeds, refl, l.goes);
       lawful = subst (λ (z : World N G). IsLawful alone z.view l.asked v.view) p.1.rest l.lawful;
-      done = more_done p.1.action l.actions deed l.deeds p.1.done l.done;
+      done = (deed, l.deeds, p.1.done, l.done, refl);
       added = snoc v.actions w.actions l.actions (p.1.action ∷ []) (l.added ∙ ap (λ (z : World N G). z.actions ++ l.actions) p.1.rest);
       shown = subst (λ (z : World N G). PassesAll passes z.gate (gated_in z.view.seat l.asked) v.gate) p.1.rest l.shown;
     }

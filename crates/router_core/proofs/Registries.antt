@@ -3,12 +3,13 @@ use Rattle.std.proofs.Common.{◌≡◌, ℕ, Bool, Option, List, [], ◌∷◌,
 use Rattle.std.specs.List.{AllByRecursion}
 use mathlib.Core.List.{append-nil}
 use Rattle.seq_bus_core.specs.Histories.{History}
+use Rattle.seq_bus_core.specs.declared.connection.Conn.{Conn}
 use Rattle.seq_bus_core.specs.declared.signal.AddressedSignal.{AddressedSignal}
 use Rattle.bus_view.specs.Views.{Knowledge}
 use Rattle.router_core.specs.declared.action.Action.{Action}
-use Rattle.router_core.specs.declared.action.Action.TheVariants.{Write, Put, Announce, Close, Run}
+use Rattle.router_core.specs.declared.action.Action.TheVariants.{Write, Put, Close, Run}
 use Rattle.router_core.specs.Acts.{world_of}
-use Rattle.router_core.specs.Deeds.{GatedCall, announcement, IsFurthest, CarriesFurthest, CarriesOwn}
+use Rattle.router_core.specs.Deeds.{GatedCall, all_of, announcement, put_of, IsFurthest, CarriesFurthest, CarriesOwn}
 use Rattle.router_core.specs.Events.{script, occasion_of}
 use Rattle.router_core.specs.Laws.{NotesAreOwn}
 use Rattle.router_core.specs.Scripts.{Script, Gives, Changing, ChangingAll, Asking, Routing, Looking, Noting, Fronting, Calling, Gating, Wanting, Requiring, Doing, Announcing, World, Comes}
@@ -18,14 +19,21 @@ module _ {N : Type 0} (told : N → History) (registry_of : N → ℕ) (alone : 
   own_of : (action : Action N) → CarriesFurthest told registry_of alone view action → CarriesOwn registry_of view.registry action
   own_of (Write key bytes) carries = tt
   own_of (Put to carried content) carries = carries.own
-  own_of (Announce signals carried) carries = carries.own
   own_of (Close key cause) carries = tt
   own_of (Run name start) carries = tt
+
+  own_put : (carried : Option N) (s : AddressedSignal) (conns : List Conn) (later : List (Action N)) → IsFurthest told registry_of alone view carried →
+      AllByRecursion (CarriesOwn registry_of view.registry) later → AllByRecursion (CarriesOwn registry_of view.registry) (put_of carried s conns ++ later)
+  own_put carried s [] later furthest own = own
+  own_put carried s (conn ∷ conns) later furthest own = (furthest.own, own)
 
   own_announced : (signals : List AddressedSignal) (carried : Option N) (later : List (Action N)) → IsFurthest told registry_of alone view carried →
       AllByRecursion (CarriesOwn registry_of view.registry) later → AllByRecursion (CarriesOwn registry_of view.registry) (announcement signals carried ++ later)
   own_announced [] carried later furthest own = own
-  own_announced (s ∷ signals) carried later furthest own = (furthest.own, own)
+  own_announced (s ∷ signals) carried later furthest own =
+      let first = put_of carried s (all_of s.to s.monitors) in
+      subst (λ (all : List (Action N)). AllByRecursion (CarriesOwn registry_of view.registry) all) (sym (append_assoc first (announcement signals carried) later))
+      (own_put carried s (all_of s.to s.monitors) (announcement signals carried ++ later) furthest (own_announced signals carried later furthest own))
 
 -- from one world to another the registry stayed, and what was done carries notes of it
 record KeepsOwn {N G : Type 0} (registry_of : N → ℕ) (w v : World N G) : Type 0 where

@@ -2,7 +2,7 @@
 use Rattle.std.specs.Prelude.{List, [], ◌∷◌}
 use Rattle.seq_bus_core.specs.declared.connection.Conn.{Conn}
 use Rattle.router_core.specs.declared.recipients.Held.{Held}
-use Rattle.router_core.specs.declared.recipients.Held.TheVariants.{One, Shown}
+use Rattle.router_core.specs.declared.recipients.Held.TheVariants.{One, Shown, Told}
 
 -- the recipients, and the monitors that are shown it; of these some may be recipients
 pub record Addressed : Type 0 where
@@ -12,3 +12,4 @@ pub record Addressed : Type 0 where
 abbrev pub addressed : Held → Addressed
 addressed (One conn) = record { to = conn ∷ []; monitors = [] }
 addressed (Shown verdict) = record { to = verdict.value.to; monitors = verdict.value.monitors }
+addressed (Told to monitors) = record { to = to; monitors = monitors }

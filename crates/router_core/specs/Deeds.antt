@@ -9,8 +9,10 @@ use Rattle.message_core.specs.Messages.{Message, IsWritten}
 use Rattle.driver.specs.declared.call.Call.{Call}
 use Rattle.bus_view.specs.Views.{Knowledge}
 use Rattle.outbox_core.specs.Contents.{Said, Tells, Signals, said_of}
+use Rattle.outbox_core.specs.declared.content.Content.TheVariants.{Own}
+use Rattle.outbox_core.specs.declared.bus_message.BusMessage.TheVariants.{Signal}
 use Rattle.router_core.specs.declared.action.Action.{Action}
-use Rattle.router_core.specs.declared.action.Action.TheVariants.{Write, Put, Announce, Close, Run}
+use Rattle.router_core.specs.declared.action.Action.TheVariants.{Write, Put, Close, Run}
 use Rattle.router_core.specs.declared.cause.CloseCause.{CloseCause}
 
 -- a call, and the seat that serves it
@@ -59,14 +61,18 @@ IsWriting key bytes deed = ⊥
 abbrev pub IsDoneBy : {N : Type 0} → Action N → Deed → Type 0
 IsDoneBy (Write key bytes) deed = IsWriting key bytes deed
 IsDoneBy (Put to carried content) deed = deed ≡ Puts (all_of to.to to.monitors) (said_of content)
-IsDoneBy (Announce signals carried) deed = ⊥
 IsDoneBy (Close key cause) deed = deed ≡ Closes key cause
 IsDoneBy (Run name start) deed = deed ≡ Runs name.value start
 
--- signals are announced in one action; where there are none, in none
+-- a signal of a change, by those who get it or are shown it; where there are none, it is not put
+abbrev pub put_of : {N : Type 0} → Option N → AddressedSignal → List Conn → List (Action N)
+put_of carried s [] = []
+put_of carried s (conn ∷ conns) = Put (record { to = s.to; monitors = s.monitors }) carried (Own (Signal s.signal)) ∷ []
+
+-- the signals of a change, in order
 abbrev pub announcement : {N : Type 0} → List AddressedSignal → Option N → List (Action N)
 announcement [] carried = []
-announcement (s ∷ signals) carried = Announce (s ∷ signals) carried ∷ []
+announcement (s ∷ signals) carried = put_of carried s (all_of s.to s.monitors) ++ announcement signals carried
 
 -- ## What actions carry
 
@@ -81,22 +87,16 @@ pub record IsFurthest {N : Type 0} (told : N → History) (registry_of : N → �
 
 abbrev pub CarriesFurthest : {N : Type 0} → (N → History) → (N → ℕ) → Bool → Knowledge → Action N → Type 0
 CarriesFurthest told registry_of alone view (Put to carried content) = IsFurthest told registry_of alone view carried
-CarriesFurthest told registry_of alone view (Announce signals carried) = IsFurthest told registry_of alone view carried
 CarriesFurthest told registry_of alone view other = Unit {0}
 
 -- what an action carries is of this registry
 abbrev pub CarriesOwn : {N : Type 0} → (N → ℕ) → (registry : ℕ) → Action N → Type 0
 CarriesOwn registry_of registry (Put to carried content) = IsOwnNote registry_of registry carried
-CarriesOwn registry_of registry (Announce signals carried) = IsOwnNote registry_of registry carried
 CarriesOwn registry_of registry other = Unit {0}
 
 -- ## What actions do
 
-abbrev pub AreDeedsOf : {N : Type 0} → Action N → List Deed → Type 0
-AreDeedsOf (Announce signals carried) deeds = deeds ≡ announced signals
-AreDeedsOf action deeds = (deed : Deed) × IsDoneBy action deed × (deeds ≡ deed ∷ [])
-
 -- the actions do these deeds, in order
 abbrev pub AreDoneBy : {N : Type 0} → List (Action N) → List Deed → Type 0
 AreDoneBy [] deeds = deeds ≡ []
-AreDoneBy (action ∷ actions) deeds = (first later : List Deed) × AreDeedsOf action first × AreDoneBy actions later × (deeds ≡ first ++ later)
+AreDoneBy (action ∷ actions) deeds = (deed : Deed) × (later : List Deed) × IsDoneBy action deed × AreDoneBy actions later × (deeds ≡ deed ∷ later)

@@ -5,7 +5,6 @@ use crate::recipients::Addressees;
 use crate::written::WrittenBytes;
 use names::BusName;
 use outbox_core::Content;
-use seq_bus_core::Signals;
 
 /// What a router does to the world. What is put carries the furthest note that the router had made
 /// or taken.
@@ -16,16 +15,12 @@ pub enum Action<N: Drop> {
         key: usize,
         bytes: WrittenBytes,
     },
-    /// A message is put to connections, each in an envelope of its own.
+    /// A message is put to connections, each in an envelope of its own. The signals of a change
+    /// are put one after the other.
     Put {
         to: Addressees,
         note: Option<N>,
         content: Content,
-    },
-    /// The signals of a change are put, in order, each to its recipients and to its monitors.
-    Announce {
-        signals: Signals,
-        note: Option<N>,
     },
     /// A connection is closed. Its key brings no more actions.
     Close {

@@ -41,6 +41,7 @@ mod fate;
 mod gate;
 mod joint;
 pub mod laws;
+pub mod limits;
 mod recipients;
 mod start_end;
 mod written;

@@ -2,11 +2,11 @@
 
 ghost use Rattle.std.specs.Prelude.{◌≡◌, [], ◌∷◌, IfSome};
 
-use seq_bus_core::{Conn, Verdict};
+use seq_bus_core::{Conn, Listeners, Verdict};
 use std::marker::Model;
 
 /// Those that a message is put to, each once. For one of them it takes no memory; several stand in
-/// the verdict that the bus told.
+/// the verdict that the bus told, those of a signal in lists of the signal's own.
 #[derive(Debug, Drop)]
 pub struct Addressees {
     held: Held,
@@ -16,6 +16,10 @@ pub struct Addressees {
 enum Held {
     One(Conn),
     Shown(Box<Verdict>),
+    Told {
+        to: Listeners,
+        monitors: Listeners,
+    },
 }
 
 impl Model for Addressees {
@@ -46,13 +50,22 @@ impl Addressees {
         }
     }
 
+    /// Those that a signal goes to, and the monitors that are shown it.
+    pub fn told(to: Listeners, monitors: Listeners) -> Self
+        ensures { result ≡ record { to = to; monitors = monitors } }
+    {
+        Addressees {
+            held: Held::Told { to, monitors },
+        }
+    }
+
     /// The verdict in which several stand. It is large, and may be told anew.
     pub fn into_verdict(self) -> Option<Box<Verdict>>
         ensures to { IfSome result (λ verdict. verdict.value.to ≡ self.to) }
         ensures monitors { IfSome result (λ verdict. verdict.value.monitors ≡ self.monitors) }
     {
         match self.held {
-            Held::One(_) => None,
+            Held::One(_) | Held::Told { to: _, monitors: _ } => None,
             Held::Shown(verdict) => Some(verdict),
         }
     }
@@ -64,6 +77,7 @@ impl Addressees {
         match &self.held {
             Held::One(conn) => std::slice::from_ref(conn),
             Held::Shown(verdict) => verdict.to.as_slice(),
+            Held::Told { to, monitors: _ } => to.as_slice(),
         }
     }
 
@@ -74,6 +88,7 @@ impl Addressees {
         match &self.held {
             Held::One(_) => &[],
             Held::Shown(verdict) => verdict.monitors.as_slice(),
+            Held::Told { to: _, monitors } => monitors.as_slice(),
         }
     }
 }

@@ -1,3 +1,2 @@
-pub mod Announcing
 pub mod Places
 pub mod Steps

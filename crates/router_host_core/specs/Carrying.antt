@@ -1,14 +1,11 @@
 -- What becomes of the actions of an event.
 use Rattle.std.specs.Prelude.{◌≡◌, ◌⊎◌, ℕ, Bool, true, false, Option, Some, None, List, [], ◌∷◌, ◌++◌, slice_index_or, slice_set}
 use Rattle.seq_bus_core.specs.declared.connection.Conn.{Conn}
-use Rattle.seq_bus_core.specs.declared.signal.AddressedSignal.{AddressedSignal}
 use Rattle.outbox_core.specs.Deliveries.{deliveries_of}
 use Rattle.outbox_core.specs.declared.content.Content.{Content}
-use Rattle.outbox_core.specs.declared.content.Content.TheVariants.{Own}
 use Rattle.outbox_core.specs.declared.envelope.Envelope.{Envelope}
-use Rattle.outbox_core.specs.declared.bus_message.BusMessage.TheVariants.{Signal}
 use Rattle.router_core.specs.declared.action.Action.{Action}
-use Rattle.router_core.specs.declared.action.Action.TheVariants.{Write, Put, Announce, Close, Run}
+use Rattle.router_core.specs.declared.action.Action.TheVariants.{Write, Put, Close, Run}
 use Rattle.router_host_core.specs.declared.ending.EndCause.{EndCause}
 use Rattle.router_host_core.specs.declared.post.StartRequest.{StartRequest}
 use Rattle.router_host_core.specs.declared.ending.EndCause.TheVariants.{Closed, NoMemory}
@@ -66,25 +63,17 @@ module _ {P N : Type 0} (puts : P → Conn → Envelope N → P → Type 0) wher
   IsRefused conn before after =
       after ≡ record before { full = slice_set before.full conn.slot (Some conn) }
 
-  -- An envelope for the connection is put, or it is refused. Where there is no message, for want of memory, it is refused.
-  abbrev pub IsPut : Option N → Option Content → Conn → Carried P → Carried P → Type 0
-  IsPut carried None conn before after = IsRefused conn before after
-  IsPut carried (Some content) conn before after =
+  -- An envelope for the connection is put, or it is refused.
+  abbrev pub IsPut : Option N → Content → Conn → Carried P → Carried P → Type 0
+  IsPut carried content conn before after =
       ((post : P) × puts before.post conn (envelope_for carried content conn) post
       × (after ≡ record before { post = post }))
       ⊎ IsRefused conn before after
 
   -- to the recipients, and to the monitors that are none of them
-  abbrev pub ArePut : Option N → Option Content → List Conn → List Conn → Carried P → Carried P →
-      Type 0
+  abbrev pub ArePut : Option N → Content → List Conn → List Conn → Carried P → Carried P → Type 0
   ArePut note content to monitors before after =
       Each (IsPut note content) (deliveries_of to monitors) before after
-
-  -- a signal; there may be no memory for it
-  abbrev pub IsAnnounced : Option N → AddressedSignal → Carried P → Carried P → Type 0
-  IsAnnounced note s before after =
-      ArePut note (Some (Own (Signal s.signal))) s.to s.monitors before after
-      ⊎ ArePut note None s.to s.monitors before after
 
 -- ## Actions
 
@@ -100,9 +89,7 @@ module _ {P N : Type 0} (puts : P → Conn → Envelope N → P → Type 0)
       × IsWrittenAt before.lines key bytes (line_at before.lines key) lines
       × (after ≡ record before { lines = lines })
   IsCarriedOut (Put to carried content) before after =
-      ArePut puts carried (Some content) to.to to.monitors before after
-  IsCarriedOut (Announce signals carried) before after =
-      Each (IsAnnounced puts carried) signals before after
+      ArePut puts carried content to.to to.monitors before after
   IsCarriedOut (Close key cause) before after =
       after ≡ record before
       { lines = ended_at before.lines key (Closed cause) (line_at before.lines key) }

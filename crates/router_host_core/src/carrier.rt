@@ -1,12 +1,10 @@
 //! What becomes of actions.
 
-ghost use Rattle.std.specs.Prelude.{◌≡◌, ◌<◌, ◌++◌, ◌∷◌, [], ◌↔◌, IfSome, IfErr, IsTrue, OnOk, OnErr, reverse, vec_capacity, vec_len};
-ghost use Rattle.outbox_core.specs.declared.content.Content.TheVariants.{Own};
-ghost use Rattle.outbox_core.specs.declared.bus_message.BusMessage.TheVariants.{Signal};
+ghost use Rattle.std.specs.Prelude.{◌≡◌, ◌<◌, ◌++◌, ◌∷◌, [], ◌↔◌, IfErr, IsTrue, OnOk, OnErr, reverse, vec_capacity, vec_len};
 ghost use Rattle.std.specs.List.{AllByRecursion};
 ghost use Rattle.router_core.specs.declared.action.Action.TheVariants.{Run};
 ghost use Rattle.router_core.specs.Deeds.{CarriesOwn, IsOwnNote};
-ghost use Rattle.router_host_core.specs.Carrying.{GoesOn, IsCarriedOut, IsStart, ArePut, IsPut, IsAnnounced, Each};
+ghost use Rattle.router_host_core.specs.Carrying.{GoesOn, IsCarriedOut, IsStart, ArePut, IsPut};
 
 use crate::ending::EndCause;
 use crate::lines::Lines;
@@ -16,9 +14,9 @@ use crate::slots::Slots;
 use crate::socket::Socket;
 use bus_view::{BusView, CheapCopy};
 use names::BusName;
-use outbox_core::{BusMessage, Content, Deliveries, Envelope};
+use outbox_core::{Content, Deliveries, Envelope};
 use router_core::Action;
-use seq_bus_core::{AddressedSignal, Conn, SharedSignal};
+use seq_bus_core::Conn;
 use std::alloc::Global;
 use std::marker::{Model, PhantomData};
 
@@ -56,16 +54,6 @@ fn copy_of<N: CheapCopy>(note: &Option<N>) -> Option<N>
     match note {
         Some(note) => Some(note.copy()),
         None => None,
-    }
-}
-
-/// A signal for one more who shares it. There is none where too many share it already.
-fn content_of(signal: &SharedSignal) -> Option<Content>
-    ensures { IfSome result (λ content. content ≡ Own (Signal signal.now)) }
-{
-    match signal.try_clone() {
-        Ok(signal) => Some(Content::Own(BusMessage::Signal(signal))),
-        Err(_) => None,
     }
 }
 
@@ -118,11 +106,7 @@ impl<V: BusView, P: Post<V>, S: Socket> Carrier<V, P, S> {
                 Ok(())
             }
             Action::Put { to, note, content } => {
-                self.put(right, to.to(), to.monitors(), &note, &Some(content));
-                Ok(())
-            }
-            Action::Announce { signals, note } => {
-                self.announce(right, signals.as_slice(), &note);
+                self.put(right, to.to(), to.monitors(), &note, &content);
                 Ok(())
             }
             Action::Close { key, cause } => {
@@ -153,15 +137,14 @@ impl<V: BusView, P: Post<V>, S: Socket> Carrier<V, P, S> {
         }
     }
 
-    /// Puts a message to its recipients, and to the monitors that are none of them. Where there is
-    /// no message for want of memory, they are to be put out.
+    /// Puts a message to its recipients, and to the monitors that are none of them.
     fn put(
         &mut self,
         right: &V::Right,
         to: &[Conn],
         monitors: &[Conn],
         note: &Option<V::Note>,
-        content: &Option<Content>,
+        content: &Content,
     )
         requires { IsOwnNote V.registry_of (P.registry self.old.post) note.now }
         ensures done { ArePut P.puts note.now content.now to.now monitors.now self.old self.new }
@@ -172,54 +155,18 @@ impl<V: BusView, P: Post<V>, S: Socket> Carrier<V, P, S> {
         }
     }
 
-    /// Puts the signals of a change, in order.
-    fn announce(&mut self, right: &V::Right, signals: &[AddressedSignal], note: &Option<V::Note>)
-        requires { IsOwnNote V.registry_of (P.registry self.old.post) note.now }
-        ensures done { Each (IsAnnounced P.puts note.now) signals.now self.old self.new }
-        ensures registry { P.registry self.new.post ≡ P.registry self.old.post }
-    {
-        for signal in signals {
-            self.announce_one(right, signal, note);
-        }
-    }
-
-    /// Puts a signal. Where it can't be shared any more, those who should have got it are to be put
-    /// out.
-    fn announce_one(
-        &mut self,
-        right: &V::Right,
-        addressed: &AddressedSignal,
-        note: &Option<V::Note>,
-    )
-        requires { IsOwnNote V.registry_of (P.registry self.old.post) note.now }
-        ensures done { IsAnnounced P.puts note.now addressed.now self.old self.new }
-        ensures registry { P.registry self.new.post ≡ P.registry self.old.post }
-    {
-        let to = addressed.to.as_slice();
-        let monitors = addressed.monitors.as_slice();
-        if to.is_empty() && monitors.is_empty() {
-            return;
-        }
-        let content = content_of(&addressed.signal);
-        self.put(right, to, monitors, note, &content);
-    }
-
     /// Puts a message to one connection. Where that can't be, it is to be put out.
     fn put_to(
         &mut self,
         right: &V::Right,
         to: Conn,
         note: &Option<V::Note>,
-        content: &Option<Content>,
+        content: &Content,
     )
         requires { IsOwnNote V.registry_of (P.registry self.old.post) note.now }
         ensures done { IsPut P.puts note.now content.now to self.old self.new }
         ensures registry { P.registry self.new.post ≡ P.registry self.old.post }
     {
-        let Some(content) = content else {
-            self.put_out.add(to);
-            return;
-        };
         let Ok(content) = content.try_clone() else {
             self.put_out.add(to);
             return;

@@ -1,26 +1,15 @@
 -- What actions write is what their deeds write.
 use Rattle.std.proofs.Common.{◌≡◌, ℕ, List, [], ◌∷◌, ◌++◌, refl, sym, ap, ◌∙◌, append_assoc}
 use mathlib.Core.List.{append-nil}
-use Rattle.seq_bus_core.specs.declared.connection.Conn.{Conn}
-use Rattle.seq_bus_core.specs.declared.signal.AddressedSignal.{AddressedSignal}
 use Rattle.message.specs.MessageBytes.{message_bytes}
-use Rattle.outbox_core.specs.Contents.{Said, Tells, Signals}
 use Rattle.router_core.specs.declared.action.Action.{Action}
-use Rattle.router_core.specs.declared.action.Action.TheVariants.{Write, Put, Announce, Close, Run}
-use Rattle.router_core.specs.Deeds.{Deed, Writes, Sends, Puts, Closes, Runs, all_of, put_to, announced, IsWriting, AreDeedsOf, AreDoneBy}
+use Rattle.router_core.specs.declared.action.Action.TheVariants.{Write, Put, Close, Run}
+use Rattle.router_core.specs.Deeds.{Deed, Writes, Sends, Puts, Closes, Runs, IsDoneBy, IsWriting, AreDoneBy}
 use Rattle.router_core.specs.OneThread.{bytes_if, opening_of, written_to}
 use Rattle.router_laws.specs.Outputs.{bytes_by, bytes_by_all}
 use Rattle.router.proofs.Writings.{written_once}
 
 module _ (opening : ℕ) (keys : List ℕ) where
-  nothing_put : (to : List Conn) (said : Said) (later : List Deed) → written_to opening keys (put_to to said ++ later) ≡ written_to opening keys later
-  nothing_put [] said later = refl
-  nothing_put (conn ∷ conns) said later = refl
-
-  nothing_announced : (signals : List AddressedSignal) → written_to opening keys (announced signals) ≡ []
-  nothing_announced [] = refl
-  nothing_announced (s ∷ signals) = nothing_put (all_of s.to s.monitors) (Tells (Signals s.signal)) (announced signals) ∙ nothing_announced signals
-
   append_written : (first later : List Deed) → written_to opening keys (first ++ later) ≡ written_to opening keys first ++ written_to opening keys later
   append_written [] later = refl
   append_written (Writes key bytes ∷ first) later =
@@ -47,18 +36,17 @@ module _ (opening : ℕ) (keys : List ℕ) where
   write_is key bytes (Closes k cause) d = absurd d
   write_is key bytes (Runs name start) d = absurd d
 
-  action_is : {N : Type 0} (action : Action N) (deeds : List Deed) → AreDeedsOf action deeds → written_to opening keys deeds ≡ bytes_by opening keys action
-  action_is (Write key bytes) deeds d = ap (λ (ds : List Deed). written_to opening keys ds) d.2 ∙ write_is key bytes d.0 d.1
-  action_is (Put to carried content) deeds d = ap (λ (ds : List Deed). written_to opening keys ds) (d.2 ∙ ap (λ (one : Deed). one ∷ []) d.1)
-  action_is (Announce signals carried) deeds d = ap (λ (ds : List Deed). written_to opening keys ds) d ∙ nothing_announced signals
-  action_is (Close key cause) deeds d = ap (λ (ds : List Deed). written_to opening keys ds) (d.2 ∙ ap (λ (one : Deed). one ∷ []) d.1)
-  action_is (Run name start) deeds d = ap (λ (ds : List Deed). written_to opening keys ds) (d.2 ∙ ap (λ (one : Deed). one ∷ []) d.1)
+  action_is : {N : Type 0} (action : Action N) (deed : Deed) → IsDoneBy action deed → written_to opening keys (deed ∷ []) ≡ bytes_by opening keys action
+  action_is (Write key bytes) deed d = write_is key bytes deed d
+  action_is (Put to carried content) deed d = ap (λ (one : Deed). written_to opening keys (one ∷ [])) d
+  action_is (Close key cause) deed d = ap (λ (one : Deed). written_to opening keys (one ∷ [])) d
+  action_is (Run name start) deed d = ap (λ (one : Deed). written_to opening keys (one ∷ [])) d
 
   pub actions_are : {N : Type 0} (actions : List (Action N)) (deeds : List Deed) → AreDoneBy actions deeds → written_to opening keys deeds ≡ bytes_by_all opening keys actions
   actions_are [] deeds d = ap (λ (ds : List Deed). written_to opening keys ds) d
   actions_are (action ∷ actions) deeds d =
       ap (λ (ds : List Deed). written_to opening keys ds) d.4
-      ∙ append_written d.0 d.1
+      ∙ append_written (d.0 ∷ []) d.1
       ∙ ap (λ (bs : List ℕ). bs ++ written_to opening keys d.1) (action_is action d.0 d.2)
       ∙ ap (λ (bs : List ℕ). bytes_by opening keys action ++ bs) (actions_are actions d.1 d.3)
 

@@ -1,6 +1,8 @@
 -- How a call comes to join others.
+use Rattle.std.specs.Prelude.{◌≡◌, []}
 use Rattle.message_core.specs.Messages.{Message}
 use Rattle.seq_bus_core.specs.declared.connection.Conn.{Conn}
+use Rattle.seq_bus_core.specs.declared.outcome.Outcome.{Outcome}
 use Rattle.router_core.specs.Serving.{Fated, routed}
 use Rattle.router_core.specs.Together.{Joining as Joins_in, Joins, Parts}
 use Rattle.router_steps.specs.Hearing.{heard_verdict}
@@ -18,3 +20,8 @@ parting_of m caller (parting.NotPut fault) = not_put fault m caller
 abbrev pub joining_of : Message → Conn → Joining → Joins_in
 joining_of m caller joining.Joins = Joins
 joining_of m caller (joining.Parts parting) = Parts (parting_of m caller parting)
+
+-- What adds or removes a rule brings no signals, and lets no call go that waited.
+pub record RepliesAlone (outcome : Outcome) : Type 0 where
+  pub signals : outcome.signals ≡ []
+  pub tickets : outcome.tickets ≡ []

@@ -2,8 +2,9 @@
 
 ghost use Rattle.std.specs.Prelude.{◌≡◌, ◌<◌, ◌≤◌, ◌+◌, Ok, Some, length, IfOk};
 ghost use Rattle.message_core.specs.Said.{said};
+ghost use Rattle.seq_bus_core.specs.Bounds.{IsBounded};
 ghost use Rattle.seq_bus_core.specs.Answers.{Answer};
-ghost use Rattle.seq_bus_core.specs.declared.limits.TheConstants.{MAX_TICKETS};
+ghost use Rattle.router_core.specs.declared.limits.TheConstants.{MAX_EFFECTS};
 ghost use Rattle.driver.specs.declared.call.Call.TheVariants.{RequestName, ReleaseName, AddMatch, RemoveMatch};
 ghost use Rattle.outbox_core.specs.Answers.{IsAnswerTo};
 ghost use Rattle.router_core.specs.Answers.{Says, error_for as error_for_refusal, refusal_of, unanswered_for};
@@ -95,11 +96,12 @@ pub(crate) fn tell_change<V: BusView, G: Gate>(
     caller: Conn,
     outcome: Outcome,
 )
-    requires room { length outcome.tickets + 1 < context.old.room }
+    requires room { length outcome.signals + length outcome.tickets < context.old.room }
     requires spare_verdicts { 0 < context.old.spare_verdicts }
     ensures comes { RunsTo V.BusView G.Gate (telling_change (said call.now) caller outcome)
         context.old.world tt context.new.world }
-    ensures room { context.old.room ≤ context.new.room + length outcome.tickets + 2 }
+    ensures room { context.old.room
+        ≤ context.new.room + length outcome.signals + length outcome.tickets + 1 }
 {
     context.announce(outcome.signals);
     context.answer_with(call, caller, answer_told(outcome.reply));
@@ -113,11 +115,12 @@ fn made_by<V: BusView, G: Gate>(
     caller: Conn,
     outcome: Outcome,
 ) -> PeerFate
-    requires room { length outcome.tickets + 1 < context.old.room }
+    requires room { length outcome.signals + length outcome.tickets < context.old.room }
     requires spare_verdicts { 0 < context.old.spare_verdicts }
     ensures comes { RunsTo V.BusView G.Gate (made_in (said call.now) caller (Says outcome))
         context.old.world result context.new.world }
-    ensures room { context.old.room ≤ context.new.room + length outcome.tickets + 2 }
+    ensures room { context.old.room
+        ≤ context.new.room + length outcome.signals + length outcome.tickets + 1 }
 {
     match outcome.reply {
         Reply::Gone => PeerFate::Closes(CloseCause::Left),
@@ -135,12 +138,12 @@ fn made<V: BusView, G: Gate>(
     caller: Conn,
     told: Result<Outcome, Cause>,
 ) -> PeerFate
-    requires room { MAX_TICKETS + 1 < context.old.room }
+    requires room { MAX_EFFECTS < context.old.room }
     requires spare_verdicts { 0 < context.old.spare_verdicts }
-    requires few { IfOk told (λ outcome. length outcome.tickets ≤ MAX_TICKETS) }
+    requires few { IfOk told IsBounded }
     ensures comes { RunsTo V.BusView G.Gate (made_in (said call.now) caller (heard_change told))
         context.old.world result context.new.world }
-    ensures room { context.old.room ≤ context.new.room + MAX_TICKETS + 2 }
+    ensures room { context.old.room ≤ context.new.room + MAX_EFFECTS + 1 }
 {
     match told {
         Ok(outcome) => made_by(context, call, caller, outcome),
@@ -209,12 +212,12 @@ fn make<V: BusView, G: Gate>(
     caller: Conn,
     change: Change,
 ) -> PeerFate
-    requires room { MAX_TICKETS + 1 < context.old.room }
+    requires room { MAX_EFFECTS < context.old.room }
     requires spare_verdicts { 0 < context.old.spare_verdicts }
     ensures comes { RunsTo V.BusView G.Gate
         (serving_request (said call.now) caller (Ok (Makes change)))
         context.old.world result context.new.world }
-    ensures room { context.old.room ≤ context.new.room + MAX_TICKETS + 2 }
+    ensures room { context.old.room ≤ context.new.room + MAX_EFFECTS + 1 }
 {
     let told = context.change(right, change);
     made(context, call, caller, told)
@@ -232,13 +235,13 @@ fn request_name<V: BusView, G: Gate>(
     name: &BusName,
     flags: RequestFlags,
 ) -> PeerFate
-    requires room { MAX_TICKETS + 1 < context.old.room }
+    requires room { MAX_EFFECTS < context.old.room }
     requires spare_verdicts { 0 < context.old.spare_verdicts }
     ensures comes { RunsTo V.BusView G.Gate
         (serving_request (said call.now) caller
         (request_in caller.number (RequestName name.now flags)))
         context.old.world result context.new.world }
-    ensures room { context.old.room ≤ context.new.room + MAX_TICKETS + 2 }
+    ensures room { context.old.room ≤ context.new.room + MAX_EFFECTS + 1 }
 {
     let change = Change::Request {
         connection: caller.number,
@@ -256,12 +259,12 @@ fn release_name<V: BusView, G: Gate>(
     caller: Conn,
     name: &BusName,
 ) -> PeerFate
-    requires room { MAX_TICKETS + 1 < context.old.room }
+    requires room { MAX_EFFECTS < context.old.room }
     requires spare_verdicts { 0 < context.old.spare_verdicts }
     ensures comes { RunsTo V.BusView G.Gate
         (serving_request (said call.now) caller (request_in caller.number (ReleaseName name.now)))
         context.old.world result context.new.world }
-    ensures room { context.old.room ≤ context.new.room + MAX_TICKETS + 2 }
+    ensures room { context.old.room ≤ context.new.room + MAX_EFFECTS + 1 }
 {
     let change = Change::Release {
         connection: caller.number,
@@ -278,12 +281,12 @@ fn add_match<V: BusView, G: Gate>(
     caller: Conn,
     rule: &Rule,
 ) -> PeerFate
-    requires room { MAX_TICKETS + 1 < context.old.room }
+    requires room { MAX_EFFECTS < context.old.room }
     requires spare_verdicts { 0 < context.old.spare_verdicts }
     ensures comes { RunsTo V.BusView G.Gate
         (serving_request (said call.now) caller (request_in caller.number (AddMatch rule.now)))
         context.old.world result context.new.world }
-    ensures room { context.old.room ≤ context.new.room + MAX_TICKETS + 2 }
+    ensures room { context.old.room ≤ context.new.room + MAX_EFFECTS + 1 }
 {
     let change = Change::AddMatch {
         connection: caller.number,
@@ -300,12 +303,12 @@ fn remove_match<V: BusView, G: Gate>(
     caller: Conn,
     rule: &Rule,
 ) -> PeerFate
-    requires room { MAX_TICKETS + 1 < context.old.room }
+    requires room { MAX_EFFECTS < context.old.room }
     requires spare_verdicts { 0 < context.old.spare_verdicts }
     ensures comes { RunsTo V.BusView G.Gate
         (serving_request (said call.now) caller (request_in caller.number (RemoveMatch rule.now)))
         context.old.world result context.new.world }
-    ensures room { context.old.room ≤ context.new.room + MAX_TICKETS + 2 }
+    ensures room { context.old.room ≤ context.new.room + MAX_EFFECTS + 1 }
 {
     let change = Change::RemoveMatch {
         connection: caller.number,
@@ -323,12 +326,12 @@ fn serve_request<V: BusView, G: Gate>(
     caller: Conn,
     call: &Call,
 ) -> PeerFate
-    requires room { MAX_TICKETS + 1 < context.old.room }
+    requires room { MAX_EFFECTS < context.old.room }
     requires spare_verdicts { 0 < context.old.spare_verdicts }
     ensures comes { RunsTo V.BusView G.Gate
         (serving_request (said message.now) caller (request_in caller.number call.now))
         context.old.world result context.new.world }
-    ensures room { context.old.room ≤ context.new.room + MAX_TICKETS + 2 }
+    ensures room { context.old.room ≤ context.new.room + MAX_EFFECTS + 1 }
 {
     match call {
         Call::Hello => refuse(context, message, caller, ErrorKind::Failed),
@@ -381,11 +384,11 @@ fn serve_reading<V: BusView, G: Gate>(
     caller: Conn,
     reading: &Result<Call, DriverFault>,
 ) -> PeerFate
-    requires room { MAX_TICKETS + 1 < context.old.room }
+    requires room { MAX_EFFECTS < context.old.room }
     requires spare_verdicts { 0 < context.old.spare_verdicts }
     ensures comes { RunsTo V.BusView G.Gate (serving_reading (said message.now) caller reading.now)
         context.old.world result context.new.world }
-    ensures room { context.old.room ≤ context.new.room + MAX_TICKETS + 2 }
+    ensures room { context.old.room ≤ context.new.room + MAX_EFFECTS + 1 }
 {
     match reading {
         Ok(call) => {
@@ -404,11 +407,11 @@ fn serve_call<V: BusView, G: Gate>(
     message: &Message,
     caller: Conn,
 ) -> PeerFate
-    requires room { MAX_TICKETS + 1 < context.old.room }
+    requires room { MAX_EFFECTS < context.old.room }
     requires spare_verdicts { 0 < context.old.spare_verdicts }
     ensures comes { RunsTo V.BusView G.Gate (serving_call (said message.now) caller)
         context.old.world result context.new.world }
-    ensures room { context.old.room ≤ context.new.room + MAX_TICKETS + 2 }
+    ensures room { context.old.room ≤ context.new.room + MAX_EFFECTS + 1 }
 {
     let reading = read_call(alloc, message);
     serve_reading(alloc, context, right, message, caller, &reading)
@@ -424,11 +427,11 @@ pub fn serve_bus<V: BusView, G: Gate>(
     message: &Message,
     sender: Conn,
 ) -> PeerFate
-    requires room { MAX_TICKETS + 1 < context.old.room }
+    requires room { MAX_EFFECTS < context.old.room }
     requires spare_verdicts { 0 < context.old.spare_verdicts }
     ensures comes { RunsTo V.BusView G.Gate (serving_bus (said message.now) sender)
         context.old.world result context.new.world }
-    ensures room { context.old.room ≤ context.new.room + MAX_TICKETS + 2 }
+    ensures room { context.old.room ≤ context.new.room + MAX_EFFECTS + 1 }
 {
     if is_method_call(message) {
         serve_call(alloc, context, right, message, sender)

@@ -3,13 +3,13 @@
 
 ghost use Rattle.std.specs.Prelude.{◌≡◌, ◌<◌, ◌≤◌, ◌+◌, [], Ok, Some, true, is_some};
 ghost use Rattle.message_core.specs.Said.{said};
-ghost use Rattle.seq_bus_core.specs.declared.limits.TheConstants.{MAX_TICKETS};
+ghost use Rattle.router_core.specs.declared.limits.TheConstants.{MAX_EFFECTS};
 ghost use Rattle.router_core.specs.Answers.{Says};
 ghost use Rattle.router_core.specs.Scripts.{Changing, RunsTo};
 ghost use Rattle.router_core.specs.Serving.{made as made_in};
 ghost use Rattle.router_core.specs.Together.{change_of_joint, join as joining, join_shown as joining_shown, join_to as joining_to, rule_call};
 ghost use Rattle.router_core.specs.declared.joint.RuleCall.{RuleCall as Rule_call};
-ghost use Rattle.router_serving.specs.Joinings.{joining_of, parting_of};
+ghost use Rattle.router_serving.specs.Joinings.{RepliesAlone, joining_of, parting_of};
 
 use crate::calls::{answer_told, error_for};
 use crate::routing::{ask_route, not_put, routed};
@@ -149,11 +149,11 @@ pub fn part<V: BusView, G: Gate>(
     caller: Conn,
     parting: Parting,
 ) -> PeerFate
-    requires room { MAX_TICKETS + 2 < context.old.room }
+    requires room { MAX_EFFECTS + 1 < context.old.room }
     requires spare_verdicts { 0 < context.old.spare_verdicts }
     ensures comes { RunsTo V.BusView G.Gate (parting_of (said message.now) caller parting)
         context.old.world result context.new.world }
-    ensures room { context.old.room ≤ context.new.room + MAX_TICKETS + 3 }
+    ensures room { context.old.room ≤ context.new.room + MAX_EFFECTS + 2 }
 {
     match parting {
         Parting::Routed(heard, verdict) => {
@@ -163,19 +163,20 @@ pub fn part<V: BusView, G: Gate>(
     }
 }
 
-/// Answers a call whose change was made. Such a change lets no call go that waited.
+/// Answers a call whose change was made. Such a change brings no signals and lets no call go that
+/// waited.
 pub fn answer<V: BusView, G: Gate>(
     context: &mut Context<V, G>,
     joint: &Joint,
     outcome: Outcome,
 ) -> PeerFate
-    requires room { 1 < context.old.room }
+    requires room { 0 < context.old.room }
     requires spare_verdicts { 0 < context.old.spare_verdicts }
-    requires alone { outcome.tickets ≡ [] }
+    requires alone { RepliesAlone outcome }
     ensures comes { RunsTo V.BusView G.Gate
         (made_in (said joint.now.message) joint.now.caller (Says outcome))
         context.old.world result context.new.world }
-    ensures room { context.old.room ≤ context.new.room + 2 }
+    ensures room { context.old.room ≤ context.new.room + 1 }
     ensures spare_verdicts { context.old.spare_verdicts ≤ context.new.spare_verdicts + 1 }
 {
     match outcome.reply {
@@ -194,13 +195,13 @@ pub fn make<V: BusView, G: Gate>(
     right: &V::Right,
     joint: &Joint,
 ) -> PeerFate
-    requires room { 1 < context.old.room }
+    requires room { 0 < context.old.room }
     requires spare_verdicts { 0 < context.old.spare_verdicts }
     ensures comes { RunsTo V.BusView G.Gate
         (Changing (change_of_joint joint.now)
         (λ heard. made_in (said joint.now.message) joint.now.caller heard))
         context.old.world result context.new.world }
-    ensures room { context.old.room ≤ context.new.room + 2 }
+    ensures room { context.old.room ≤ context.new.room + 1 }
     ensures spare_verdicts { context.old.spare_verdicts ≤ context.new.spare_verdicts + 1 }
 {
     match context.change(right, change_of(joint)) {

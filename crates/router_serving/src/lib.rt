@@ -7,11 +7,11 @@
 //! ```
 //! use bus_view::BusView;
 //! use message_core::Message;
+//! use router_core::limits::MAX_EFFECTS;
 //! use router_core::{Gate, PeerFate};
 //! use router_serving::serve;
 //! use router_steps::Context;
 //! use seq_bus_core::Conn;
-//! use seq_bus_core::limits::MAX_TICKETS;
 //! use std::alloc::{AllocError, Global};
 //!
 //! /// Serves a message of a connection, once there is room for what that may bring.
@@ -22,7 +22,7 @@
 //!     message: &Message,
 //!     sender: Conn,
 //! ) -> Result<PeerFate, AllocError> {
-//!     context.reserve(MAX_TICKETS + 3)?;
+//!     context.reserve(MAX_EFFECTS + 2)?;
 //!     context.reserve_verdicts(2)?;
 //!     Ok(serve(alloc, context, right, message, sender))
 //! }

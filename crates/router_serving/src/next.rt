@@ -1,7 +1,7 @@
 //! The next message of a connection.
 
 ghost use Rattle.std.specs.Prelude.{◌≡◌, ◌<◌, ◌≤◌, ◌+◌, Some, IfOk, IfSome, OnOk, OnErr};
-ghost use Rattle.seq_bus_core.specs.declared.limits.TheConstants.{MAX_TICKETS};
+ghost use Rattle.router_core.specs.declared.limits.TheConstants.{MAX_EFFECTS};
 ghost use Rattle.router_core.specs.Events.{next_at};
 ghost use Rattle.router_core.specs.Scripts.{RunsTo};
 ghost use Rattle.router_core.specs.Standing.{Standing, Named, peer_at, with_peer};
@@ -24,7 +24,7 @@ fn serve_next<V: BusView, G: Gate>(
     peer: &mut Peer,
     conn: Conn,
 ) -> Result<(), AllocError>
-    requires room { MAX_TICKETS + 3 < context.old.room }
+    requires room { MAX_EFFECTS + 2 < context.old.room }
     requires spare_verdicts { 1 < context.old.spare_verdicts }
     requires named { peer.old.stage ≡ Named conn }
     ensures comes { OnOk result (
@@ -59,7 +59,7 @@ pub fn next_in<V: BusView, G: Gate>(
     key: usize,
     entry: &mut Option<Peer>,
 ) -> Result<Option<HelloCall>, AllocError>
-    requires room { MAX_TICKETS + 3 < context.old.room }
+    requires room { MAX_EFFECTS + 2 < context.old.room }
     requires spare_verdicts { 1 < context.old.spare_verdicts }
     ensures next { IfOk result (λ call. ComesOfNext V.BusView G.Gate key call entry.old entry.new
         context.old.world context.new.world) }

@@ -4,7 +4,7 @@ ghost use Rattle.std.specs.Prelude.{◌≡◌, ◌<◌, ◌≤◌, ◌+◌, fals
 ghost use Rattle.match_rules.specs.FactsView.{argument_of};
 ghost use Rattle.match_rules.specs.Kinds.{kind_of};
 ghost use Rattle.message_core.specs.Said.{said};
-ghost use Rattle.seq_bus_core.specs.declared.limits.TheConstants.{MAX_TICKETS};
+ghost use Rattle.router_core.specs.declared.limits.TheConstants.{MAX_EFFECTS};
 ghost use Rattle.message.specs.FactsOf.{facts_of, first_arguments};
 ghost use Rattle.router_core.specs.Scripts.{Routes, RunsTo};
 ghost use Rattle.router_core.specs.Serving.{and_stays, err_if_call, is_unknown, relay as relaying, routed as routing, serve as serving};
@@ -111,13 +111,13 @@ fn relay_to_bus<V: BusView, G: Gate>(
     sender: Conn,
     verdict: Box<Verdict>,
 ) -> PeerFate
-    requires room { MAX_TICKETS + 2 < context.old.room }
+    requires room { MAX_EFFECTS + 1 < context.old.room }
     requires spare_verdicts { 0 < context.old.spare_verdicts }
     requires bus { verdict.value.kind ≡ VerdictKind.Bus }
     ensures comes { RunsTo V.BusView G.Gate
         (relaying (said message.now) sender verdict.value verdict.value.kind)
         context.old.world result context.new.world }
-    ensures room { context.old.room ≤ context.new.room + MAX_TICKETS + 3 }
+    ensures room { context.old.room ≤ context.new.room + MAX_EFFECTS + 2 }
 {
     match context.show(message, sender, verdict) {
         Ok(()) => serve_bus(alloc, context, right, message, sender),
@@ -157,12 +157,12 @@ fn relay<V: BusView, G: Gate>(
     sender: Conn,
     verdict: Box<Verdict>,
 ) -> PeerFate
-    requires room { MAX_TICKETS + 2 < context.old.room }
+    requires room { MAX_EFFECTS + 1 < context.old.room }
     requires spare_verdicts { 0 < context.old.spare_verdicts }
     ensures comes { RunsTo V.BusView G.Gate
         (relaying (said message.now) sender verdict.value verdict.value.kind)
         context.old.world result context.new.world }
-    ensures room { context.old.room ≤ context.new.room + MAX_TICKETS + 3 }
+    ensures room { context.old.room ≤ context.new.room + MAX_EFFECTS + 2 }
 {
     match verdict.kind {
         VerdictKind::Absent => PeerFate::Closes(CloseCause::Left),
@@ -184,12 +184,12 @@ pub(crate) fn routed<V: BusView, G: Gate>(
     verdict: Box<Verdict>,
     heard: Result<(), Gone>,
 ) -> PeerFate
-    requires room { MAX_TICKETS + 2 < context.old.room }
+    requires room { MAX_EFFECTS + 1 < context.old.room }
     requires spare_verdicts { 0 < context.old.spare_verdicts }
     ensures comes { RunsTo V.BusView G.Gate
         (routing (said message.now) sender (heard_verdict heard verdict.value))
         context.old.world result context.new.world }
-    ensures room { context.old.room ≤ context.new.room + MAX_TICKETS + 3 }
+    ensures room { context.old.room ≤ context.new.room + MAX_EFFECTS + 2 }
 {
     match heard {
         Ok(()) => relay(alloc, context, right, message, sender, verdict),
@@ -263,12 +263,12 @@ fn route_message<V: BusView, G: Gate>(
     message: &Message,
     sender: Conn,
 ) -> PeerFate
-    requires room { MAX_TICKETS + 2 < context.old.room }
+    requires room { MAX_EFFECTS + 1 < context.old.room }
     requires spare_verdicts { 1 < context.old.spare_verdicts }
     requires known { is_unknown (kind_of (said message.now).kind) ≡ false }
     ensures comes { RunsTo V.BusView G.Gate (serving (said message.now) sender)
         context.old.world result context.new.world }
-    ensures room { context.old.room ≤ context.new.room + MAX_TICKETS + 3 }
+    ensures room { context.old.room ≤ context.new.room + MAX_EFFECTS + 2 }
 {
     let mut verdict = context.take_verdict();
     let heard = ask_route(context, message, sender, &mut verdict);
@@ -286,11 +286,11 @@ pub fn serve<V: BusView, G: Gate>(
     message: &Message,
     sender: Conn,
 ) -> PeerFate
-    requires room { MAX_TICKETS + 2 < context.old.room }
+    requires room { MAX_EFFECTS + 1 < context.old.room }
     requires spare_verdicts { 1 < context.old.spare_verdicts }
     ensures comes { RunsTo V.BusView G.Gate (serving (said message.now) sender)
         context.old.world result context.new.world }
-    ensures room { context.old.room ≤ context.new.room + MAX_TICKETS + 3 }
+    ensures room { context.old.room ≤ context.new.room + MAX_EFFECTS + 2 }
 {
     match message.kind() {
         MessageKind::Unknown(_) => PeerFate::Stays,

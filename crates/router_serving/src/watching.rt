@@ -2,7 +2,7 @@
 
 ghost use Rattle.std.specs.Prelude.{◌≡◌, ◌<◌, ◌≤◌, ◌+◌, Ok, length};
 ghost use Rattle.message_core.specs.Said.{said};
-ghost use Rattle.seq_bus_core.specs.declared.limits.TheConstants.{MAX_TICKETS};
+ghost use Rattle.router_core.specs.declared.limits.TheConstants.{MAX_EFFECTS};
 ghost use Rattle.router_core.specs.Answers.{Says};
 ghost use Rattle.router_core.specs.Scripts.{RunsTo};
 ghost use Rattle.router_core.specs.Serving.{Watches, serve_request as serving_request, watch_told};
@@ -23,11 +23,12 @@ fn watched<V: BusView, G: Gate>(
     caller: Conn,
     outcome: Outcome,
 ) -> PeerFate
-    requires room { length outcome.tickets + 1 < context.old.room }
+    requires room { length outcome.signals + length outcome.tickets < context.old.room }
     requires spare_verdicts { 0 < context.old.spare_verdicts }
     ensures comes { RunsTo V.BusView G.Gate (watch_told (said call.now) caller (Says outcome))
         context.old.world result context.new.world }
-    ensures room { context.old.room ≤ context.new.room + length outcome.tickets + 2 }
+    ensures room { context.old.room
+        ≤ context.new.room + length outcome.signals + length outcome.tickets + 1 }
 {
     match outcome.reply {
         Reply::Gone => PeerFate::Closes(CloseCause::Left),
@@ -52,12 +53,12 @@ pub(crate) fn become_monitor<V: BusView, G: Gate>(
     caller: Conn,
     rules: &MonitorRules,
 ) -> PeerFate
-    requires room { MAX_TICKETS + 1 < context.old.room }
+    requires room { MAX_EFFECTS < context.old.room }
     requires spare_verdicts { 0 < context.old.spare_verdicts }
     ensures comes { RunsTo V.BusView G.Gate
         (serving_request (said call.now) caller (Ok (Watches rules.now)))
         context.old.world result context.new.world }
-    ensures room { context.old.room ≤ context.new.room + MAX_TICKETS + 2 }
+    ensures room { context.old.room ≤ context.new.room + MAX_EFFECTS + 1 }
 {
     let Ok(rules) = rules.copy(alloc) else {
         return refuse(context, call, caller, ErrorKind::NoMemory);

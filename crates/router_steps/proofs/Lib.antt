@@ -18,3 +18,4 @@ pub mod Answering
 pub mod Turning
 pub mod Stages
 pub mod Gathering
+pub mod Signals

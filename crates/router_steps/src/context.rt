@@ -2,28 +2,28 @@
 
 ghost use Rattle.std.specs.Prelude.{◌≡◌, ◌↔◌, ◌<◌, ◌≤◌, ◌+◌, ◌++◌, ◌∷◌, [], length, Option, IfOk, IfErr, IfSome, IsTrue, false, OnOk, OnErr};
 ghost use Rattle.message_core.specs.Messages.{Message, IsWritten};
-ghost use Rattle.seq_bus_core.specs.declared.limits.TheConstants.{MAX_TICKETS};
 ghost use Rattle.std.specs.List.{AllByRecursion, list_any};
 ghost use Rattle.seq_bus_core.specs.Answers.{Answer};
 ghost use Rattle.seq_bus_core.specs.Batches.{IsBatch};
+ghost use Rattle.seq_bus_core.specs.Bounds.{IsBounded};
 ghost use Rattle.seq_bus_core.specs.BusState.{is_monitor};
 ghost use Rattle.bus_view.specs.Views.{bus_seen, IsRead};
 ghost use Rattle.outbox_core.specs.Contents.{said_of};
 ghost use Rattle.router_core.specs.Answers.{Heard};
-ghost use Rattle.router_core.specs.Deeds.{Writes, Sends, Puts, Closes, all_of};
+ghost use Rattle.router_core.specs.Deeds.{IsFurthest, Writes, Sends, Puts, Closes, all_of, put_of};
 ghost use Rattle.router_core.specs.Scripts.{putting, having_done, Changes, ChangesAll, Asks, Routes, Looks, Takes, Passes, Performs, Emits, RunsTo};
 ghost use Rattle.router_core.specs.Serving.{nothing, run as running};
 ghost use Rattle.router_steps.specs.Hearing.{heard_change, heard_changes, heard_verdict, heard_present, IsTold};
 
 use crate::room::{blank_verdict, clear_actions, keep_verdict, push_reserved};
-use crate::verdicts::{is_for_nobody, only_one};
-use bus_view::{AskFault, Asked, BusView, Cause, Gone, RefusedAll};
+use crate::verdicts::{is_for_nobody, is_told_nobody, only_one};
+use bus_view::{AskFault, Asked, BusView, Cause, CheapCopy, Gone, RefusedAll};
 use driver::Call;
 use match_rules::Facts;
 use names::BusName;
-use outbox_core::Content;
+use outbox_core::{BusMessage, Content};
 use router_core::{Action, Addressees, CloseCause, Gate, WrittenBytes};
-use seq_bus_core::{Change, Outcome, Query, Signals, Verdict};
+use seq_bus_core::{AddressedSignal, Change, Outcome, Query, Signals, Verdict};
 use std::alloc::{AllocError, Global};
 use std::marker::Model;
 
@@ -203,6 +203,13 @@ impl<V: BusView, G: Gate> Context<V, G> {
         self.act(Action::Close { key, cause });
     }
 
+    /// The furthest note that was made or taken.
+    fn note(&self) -> Option<V::Note>
+        ensures { IsFurthest V.told V.registry_of V.alone self.now.world.view result }
+    {
+        self.view.note()
+    }
+
     /// Puts a message to these connections, with the furthest note.
     pub fn put(&mut self, to: Addressees, content: Content)
         requires { 0 < self.old.room }
@@ -211,7 +218,7 @@ impl<V: BusView, G: Gate> Context<V, G> {
         ensures room { self.new.room + 1 ≡ self.old.room }
         ensures spare_verdicts { self.new.spare_verdicts ≡ self.old.spare_verdicts }
     {
-        let note = self.view.note();
+        let note = self.note();
         self.act(Action::Put { to, note, content });
     }
 
@@ -237,16 +244,39 @@ impl<V: BusView, G: Gate> Context<V, G> {
         self.put(Addressees::shown(verdict), content);
     }
 
-    /// Puts the signals of a change, in order.
-    pub fn announce(&mut self, signals: Signals)
+    /// Puts a signal to those who get it and to the monitors that are shown it, if there are any.
+    fn put_signal(&mut self, addressed: AddressedSignal, note: Option<V::Note>)
         requires { 0 < self.old.room }
-        ensures announces { Emits V.BusView signals self.old.world self.new.world }
+        ensures world { self.new.world ≡ having_done self.old.world
+            (put_of note addressed (all_of addressed.to addressed.monitors)) }
         ensures room { self.old.room ≤ self.new.room + 1 }
         ensures spare_verdicts { self.new.spare_verdicts ≡ self.old.spare_verdicts }
     {
-        let note = self.view.note();
-        if !signals.as_slice().is_empty() {
-            self.act(Action::Announce { signals, note });
+        if is_told_nobody(&addressed) {
+            return;
+        }
+        let AddressedSignal {
+            signal,
+            to,
+            monitors,
+        } = addressed;
+        self.act(Action::Put {
+            to: Addressees::told(to, monitors),
+            note,
+            content: Content::Own(BusMessage::Signal(signal)),
+        });
+    }
+
+    /// Puts the signals of a change, in order, with the furthest note.
+    pub fn announce(&mut self, signals: Signals)
+        requires { length signals ≤ self.old.room }
+        ensures announces { Emits V.BusView signals self.old.world self.new.world }
+        ensures room { self.old.room ≤ self.new.room + length signals }
+        ensures spare_verdicts { self.new.spare_verdicts ≡ self.old.spare_verdicts }
+    {
+        let note = self.note();
+        for addressed in signals {
+            self.put_signal(addressed, note.copy());
         }
     }
 
@@ -262,12 +292,13 @@ impl<V: BusView, G: Gate> Context<V, G> {
         }
     }
 
-    /// Makes a change of the bus. One that is made settles 512 tickets at most.
+    /// Makes a change of the bus. One that is made settles 512 tickets and brings 194 signals at
+    /// most.
     #[tactic(auto, using(crate::proofs::Refusals::is_lost))]
     pub fn change(&mut self, right: &V::Right, change: Change) -> Result<Outcome, Cause>
         ensures changes { Changes V.alone change self.old.world (heard_change result)
             self.new.world }
-        ensures few { IfOk result (λ outcome. length outcome.tickets ≤ MAX_TICKETS) }
+        ensures few { IfOk result IsBounded }
         ensures room { self.new.room ≡ self.old.room }
         ensures spare_verdicts { self.new.spare_verdicts ≡ self.old.spare_verdicts }
     {
@@ -278,7 +309,7 @@ impl<V: BusView, G: Gate> Context<V, G> {
     }
 
     /// Makes 1 to 64 changes of the bus together, or hands them back and makes none of them. Each
-    /// that is made settles 512 tickets at most.
+    /// that is made settles 512 tickets and brings 194 signals at most.
     #[tactic(auto, using(crate::proofs::Refusals::all_lost))]
     pub fn change_all(
         &mut self,
@@ -288,8 +319,7 @@ impl<V: BusView, G: Gate> Context<V, G> {
         requires { IsBatch changes.items }
         ensures changes { ChangesAll V.alone changes.items self.old.world (heard_changes result)
             self.new.world }
-        ensures few { IfOk result (λ outcomes.
-            AllByRecursion (λ o. length o.tickets ≤ MAX_TICKETS) outcomes.items) }
+        ensures few { IfOk result (λ outcomes. AllByRecursion IsBounded outcomes.items) }
         ensures handed_back { IfErr result (λ refused. refused.changes ≡ changes) }
         ensures room { self.new.room ≡ self.old.room }
         ensures spare_verdicts { self.new.spare_verdicts ≡ self.old.spare_verdicts }

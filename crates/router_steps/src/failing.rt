@@ -2,7 +2,7 @@
 //! Services (Activation)")
 
 ghost use Rattle.std.specs.Prelude.{◌≡◌, ◌<◌, ◌≤◌, ◌+◌, Some, length, OnOk, OnErr};
-ghost use Rattle.seq_bus_core.specs.declared.limits.TheConstants.{MAX_TICKETS};
+ghost use Rattle.router_core.specs.declared.limits.TheConstants.{MAX_EFFECTS};
 ghost use Rattle.router_core.specs.Answers.{is_final as is_final_in, refusal_of};
 ghost use Rattle.router_core.specs.Events.{change_of as change_in, child as ending_child, error_of_end as error_in};
 ghost use Rattle.router_core.specs.Scripts.{Wanting, RunsTo};
@@ -13,7 +13,7 @@ use crate::context::Context;
 use crate::releasing::wants_reply;
 use bus_view::{BusView, Cause};
 use driver::ReplyTo;
-use outbox_core::{BusMessage, CallToAnswer};
+use outbox_core::BusMessage;
 use router_core::{Gate, HowEnded, StartEnd};
 use seq_bus_core::{Change, Conn, Ending, ErrorKind, Ticket, Tickets};
 use std::alloc::AllocError;
@@ -72,10 +72,7 @@ impl<V: BusView, G: Gate> Context<V, G> {
         if self.reserve_verdicts(1).is_err() {
             return;
         }
-        let to = CallToAnswer::new(ReplyTo {
-            caller: Some(caller.number),
-            call: serial,
-        });
+        let to = ReplyTo::new(Some(caller.number), serial);
         self.tell(caller, BusMessage::Error { to, error });
     }
 
@@ -106,7 +103,7 @@ impl<V: BusView, G: Gate> Context<V, G> {
     /// Tells the bus of the end of a start, and those whose calls waited for it. Without memory
     /// nothing changes, and the end is refused.
     pub fn end_start(&mut self, right: &V::Right, ended: &StartEnd) -> Result<(), AllocError>
-        requires { MAX_TICKETS < self.old.room }
+        requires { MAX_EFFECTS ≤ self.old.room }
         ensures comes { OnOk result ((s : Standing) →
             RunsTo V.BusView G.Gate (ending_child s ended.now) self.old.world s self.new.world) }
         ensures world { OnErr result (self.new.world ≡ self.old.world) }

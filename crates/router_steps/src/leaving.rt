@@ -1,7 +1,10 @@
 //! The Leaves of the numbers of connections that are gone.
 
-ghost use Rattle.std.specs.Prelude.{◌≡◌, ◌<◌, ◌≤◌, ◌+◌, length, drop, map, vec_len, vec_capacity, true, IfOk};
+ghost use Rattle.std.specs.Prelude.{◌≡◌, ◌<◌, ◌≤◌, ◌+◌, ◌*◌, length, drop, map, vec_len, vec_capacity, true, IfOk};
+ghost use Rattle.std.specs.List.{AllByRecursion};
 ghost use Rattle.seq_bus_core.specs.Batches.{IsBatch, max_batch};
+ghost use Rattle.seq_bus_core.specs.Bounds.{IsBounded};
+ghost use Rattle.seq_bus_core.specs.declared.limits.TheConstants.{MAX_SIGNALS};
 ghost use Rattle.seq_bus_core.specs.declared.change.Change.TheVariants.{Leave};
 ghost use Rattle.router_core.specs.Events.{leave as leaving, leave_of as leaving_of, leave_each as leaving_each, leave_if as leaving_if, leave_together as leaving_together, leave_by as leaving_by, leave_all as leaving_all, announce_all as announcing_all};
 ghost use Rattle.router_core.specs.Scripts.{World, RunsTo};
@@ -32,12 +35,12 @@ fn leaves_of(alloc: Global, numbers: &[u64]) -> Result<Vec<Change>, AllocError>
 impl<V: BusView, G: Gate> Context<V, G> {
     /// Makes the Leave of a number and announces it. A Leave that is refused is kept.
     pub fn leave(&mut self, right: &V::Right, number: u64, leaves: &mut Vec<u64>)
-        requires room { 0 < self.old.room }
+        requires room { MAX_SIGNALS ≤ self.old.room }
         requires spare { vec_len leaves.old < vec_capacity leaves.old }
         ensures comes { (s : Standing) →
             RunsTo V.BusView G.Gate (leaving (record s { due_leaves = leaves.old.items }) number)
             self.old.world (record s { due_leaves = leaves.new.items }) self.new.world }
-        ensures room { self.old.room ≤ self.new.room + 1 }
+        ensures room { self.old.room ≤ self.new.room + MAX_SIGNALS }
         ensures len { vec_len leaves.new ≤ vec_len leaves.old + 1 }
         ensures capacity { vec_capacity leaves.old ≤ vec_capacity leaves.new }
     {
@@ -49,7 +52,7 @@ impl<V: BusView, G: Gate> Context<V, G> {
 
     /// Makes the Leave of a connection that has a number.
     pub fn leave_of(&mut self, right: &V::Right, conn: Option<Conn>, leaves: &mut Vec<u64>)
-        requires room { 0 < self.old.room }
+        requires room { MAX_SIGNALS ≤ self.old.room }
         requires spare { vec_len leaves.old < vec_capacity leaves.old }
         ensures comes { (s : Standing) →
             RunsTo V.BusView G.Gate (leaving_of (record s { due_leaves = leaves.old.items }) conn)
@@ -64,13 +67,13 @@ impl<V: BusView, G: Gate> Context<V, G> {
     /// Makes the Leaves of these numbers, in order, each by itself. Those that are refused are
     /// kept.
     fn leave_each(&mut self, right: &V::Right, numbers: &[u64], leaves: &mut Vec<u64>)
-        requires room { length numbers.now ≤ self.old.room }
+        requires room { MAX_SIGNALS * length numbers.now ≤ self.old.room }
         requires spare { vec_len leaves.old + length numbers.now ≤ vec_capacity leaves.old }
         ensures comes { (s : Standing) →
             RunsTo V.BusView G.Gate
             (leaving_each numbers.now (record s { due_leaves = leaves.old.items }))
             self.old.world (record s { due_leaves = leaves.new.items }) self.new.world }
-        ensures room { self.old.room ≤ self.new.room + length numbers.now }
+        ensures room { self.old.room ≤ self.new.room + MAX_SIGNALS * length numbers.now }
         ensures len { vec_len leaves.new ≤ vec_len leaves.old + length numbers.now }
         ensures capacity { vec_capacity leaves.old ≤ vec_capacity leaves.new }
     {
@@ -81,10 +84,11 @@ impl<V: BusView, G: Gate> Context<V, G> {
 
     /// Announces several changes, in order.
     fn announce_all(&mut self, outcomes: Vec<Outcome>)
-        requires { length outcomes.items ≤ self.old.room }
+        requires few { AllByRecursion IsBounded outcomes.items }
+        requires room { MAX_SIGNALS * length outcomes.items ≤ self.old.room }
         ensures comes { RunsTo V.BusView G.Gate (announcing_all outcomes.items)
             self.old.world tt self.new.world }
-        ensures room { self.old.room ≤ self.new.room + length outcomes.items }
+        ensures room { self.old.room ≤ self.new.room + MAX_SIGNALS * length outcomes.items }
     {
         for outcome in outcomes {
             self.announce(outcome.signals);
@@ -102,13 +106,13 @@ impl<V: BusView, G: Gate> Context<V, G> {
     )
         requires leaves { changes.items ≡ map Leave numbers.now }
         requires batch { IsBatch changes.items }
-        requires room { length numbers.now ≤ self.old.room }
+        requires room { MAX_SIGNALS * length numbers.now ≤ self.old.room }
         requires spare { vec_len leaves.old + length numbers.now ≤ vec_capacity leaves.old }
         ensures comes { (s : Standing) →
             RunsTo V.BusView G.Gate
             (leaving_if (record s { due_leaves = leaves.old.items }) numbers.now true)
             self.old.world (record s { due_leaves = leaves.new.items }) self.new.world }
-        ensures room { self.old.room ≤ self.new.room + length numbers.now }
+        ensures room { self.old.room ≤ self.new.room + MAX_SIGNALS * length numbers.now }
         ensures len { vec_len leaves.new ≤ vec_len leaves.old + length numbers.now }
         ensures capacity { vec_capacity leaves.old ≤ vec_capacity leaves.new }
     {
@@ -122,13 +126,13 @@ impl<V: BusView, G: Gate> Context<V, G> {
     /// are kept.
     fn leave_together(&mut self, right: &V::Right, numbers: &[u64], leaves: &mut Vec<u64>)
         requires few { length numbers.now ≤ max_batch }
-        requires room { length numbers.now ≤ self.old.room }
+        requires room { MAX_SIGNALS * length numbers.now ≤ self.old.room }
         requires spare { vec_len leaves.old + length numbers.now ≤ vec_capacity leaves.old }
         ensures comes { (s : Standing) →
             RunsTo V.BusView G.Gate
             (leaving_together (record s { due_leaves = leaves.old.items }) numbers.now)
             self.old.world (record s { due_leaves = leaves.new.items }) self.new.world }
-        ensures room { self.old.room ≤ self.new.room + length numbers.now }
+        ensures room { self.old.room ≤ self.new.room + MAX_SIGNALS * length numbers.now }
         ensures len { vec_len leaves.new ≤ vec_len leaves.old + length numbers.now }
         ensures capacity { vec_capacity leaves.old ≤ vec_capacity leaves.new }
     {
@@ -154,7 +158,7 @@ impl<V: BusView, G: Gate> Context<V, G> {
         requires there { place < length numbers.now }
         requires within { start ≤ place }
         requires few { place ≤ start + max_batch }
-        requires room { length numbers.now ≤ self.old.room + start }
+        requires room { MAX_SIGNALS * length numbers.now ≤ self.old.room + MAX_SIGNALS * start }
         requires spare { vec_len leaves.old + length numbers.now ≤ vec_capacity leaves.old + start }
         ensures comes { (s end : Standing) (v : World V.Note G) →
             RunsTo V.BusView G.Gate
@@ -168,7 +172,7 @@ impl<V: BusView, G: Gate> Context<V, G> {
         ensures start { start ≤ result }
         ensures within { result ≤ place }
         ensures few { place + 1 ≤ result + max_batch }
-        ensures room { self.old.room + start ≤ self.new.room + result }
+        ensures room { self.old.room + MAX_SIGNALS * start ≤ self.new.room + MAX_SIGNALS * result }
         ensures len { vec_len leaves.new + start ≤ vec_len leaves.old + result }
         ensures capacity { vec_capacity leaves.old ≤ vec_capacity leaves.new }
     {
@@ -182,13 +186,13 @@ impl<V: BusView, G: Gate> Context<V, G> {
     /// Makes the Leaves of these numbers, in order, 64 at most together. Those that are refused are
     /// kept.
     pub fn leave_all(&mut self, right: &V::Right, numbers: &[u64], leaves: &mut Vec<u64>)
-        requires room { length numbers.now ≤ self.old.room }
+        requires room { MAX_SIGNALS * length numbers.now ≤ self.old.room }
         requires spare { vec_len leaves.old + length numbers.now ≤ vec_capacity leaves.old }
         ensures comes { (s : Standing) →
             RunsTo V.BusView G.Gate
             (leaving_all numbers.now (record s { due_leaves = leaves.old.items }))
             self.old.world (record s { due_leaves = leaves.new.items }) self.new.world }
-        ensures room { self.old.room ≤ self.new.room + length numbers.now }
+        ensures room { self.old.room ≤ self.new.room + MAX_SIGNALS * length numbers.now }
     {
         let mut start = 0;
         for place in 0..numbers.len() {

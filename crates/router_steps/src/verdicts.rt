@@ -2,7 +2,7 @@
 
 ghost use Rattle.std.specs.Prelude.{◌≡◌, ◌↔◌, ◌∷◌, [], IfSome, IsTrue};
 
-use seq_bus_core::{Conn, Verdict};
+use seq_bus_core::{AddressedSignal, Conn, Verdict};
 
 /// The one connection that a message goes to, if it goes to one and no monitor is shown it.
 pub fn only_one(verdict: &Verdict) -> Option<Conn>
@@ -23,6 +23,13 @@ pub fn is_for_nobody(verdict: &Verdict) -> bool
     ensures { IsTrue result ↔ ((verdict.now.to ≡ []) × (verdict.now.monitors ≡ [])) }
 {
     verdict.to.as_slice().is_empty() && verdict.monitors.as_slice().is_empty()
+}
+
+/// Whether a signal goes to nobody, and no monitor is shown it.
+pub fn is_told_nobody(signal: &AddressedSignal) -> bool
+    ensures { IsTrue result ↔ ((signal.now.to ≡ []) × (signal.now.monitors ≡ [])) }
+{
+    signal.to.as_slice().is_empty() && signal.monitors.as_slice().is_empty()
 }
 
 /// It goes to the monitors alone.

@@ -4,6 +4,7 @@ use Rattle.std.specs.Prelude.{Option, option_map, option_and_then}
 use Rattle.std.specs.List.{AllByRecursion}
 use Rattle.names.specs.Texts.{Text}
 use Rattle.owner_queues.specs.declared.request.Profile.{Profile}
+use Rattle.seq_bus_core.specs.Bounds.{IsBounded}
 use Rattle.seq_bus_core.specs.BusState.{BusState, conn_of, connection_of}
 use Rattle.seq_bus_core.specs.Batches.{entries_of, outcomes_of}
 use Rattle.seq_bus_core.specs.Changes.{as_seen}
@@ -20,7 +21,7 @@ use Rattle.seq_bus_core.proofs.ConsistencyLaws.{buses_are_consistent}
 use Rattle.seq_bus_core.proofs.ChangeLaws.{steps_see_no_more}
 use Rattle.seq_bus_core.proofs.Extending.{after_more, legal_more}
 use Rattle.seq_bus_core.proofs.LimitLaws.{steps_keep_limits, buses_are_within_limits}
-use Rattle.activation.proofs.FewTickets.{few_settled}
+use Rattle.activation.proofs.Bounds.{bounded}
 use Rattle.activation.specs.Holdings.{Calls, IsHolding}
 use Rattle.activation.specs.Settling.{IsAtStep, caller_of}
 use Rattle.registry.specs.PreparedChanges.{state_along}
@@ -28,7 +29,7 @@ use Rattle.registry.proofs.Along.{entries_along}
 use Rattle.registry.proofs.Openings.{opened_still}
 use Rattle.settling.specs.Batches.{SettleAlong, bus_along}
 use Rattle.settling.specs.Settlings.{Settling}
-use Rattle.settling.proofs.Along.{along_entries, few_along, limits_along}
+use Rattle.settling.proofs.Along.{along_entries, bounded_along, limits_along}
 use Rattle.seq_bus.specs.PlainBus.{AreOwnEntries, IsKept, opened_as}
 
 -- ## Entries of one seat
@@ -99,9 +100,9 @@ at_step s calls history change caller told kept called is = record {
   stepped = is ∙ ap (λ (now : BusState). (step now 1 change).1) (sym kept.now);
 }
 
--- what it settles is no more than can wait
-pub few_settled_at : (s : BusState) (calls : Calls) (history : History) (change : Change) → IsKept s calls history → length (bus_step (bus_after (opened_as s) history) 1 change).1.tickets ≤ 512
-few_settled_at s calls history change kept = few_settled (bus_after (opened_as s) history) 1 change (subst IsWithinLimits (sym kept.now) kept.within_limits)
+-- what it is told is bounded
+pub bounded_at : (s : BusState) (calls : Calls) (history : History) (change : Change) → IsKept s calls history → IsBounded (bus_step (bus_after (opened_as s) history) 1 change).1
+bounded_at s calls history change kept = bounded (bus_after (opened_as s) history) 1 change (subst IsWithinLimits (sym kept.now) kept.within_limits)
 
 -- ## A batch that was absorbed
 
@@ -136,8 +137,8 @@ kept_along s t calls later history number changes kept is count holding =
 pub along_history : (s : BusState) (calls : Calls) (history : History) (changes : List Change) (settlings : List Settling) → IsKept s calls history → SettleAlong s 1 changes settlings → SettleAlong (bus_after (opened_as s) history).state 1 changes settlings
 along_history s calls history changes settlings kept along = subst (λ (t : BusState). SettleAlong t 1 changes settlings) (sym kept.now) along
 
--- each of its changes settles no more than can wait
-pub few_along_history : (s : BusState) (calls : Calls) (history : History) (changes : List Change) (outcomes : List Outcome) → IsKept s calls history → outcomes ≡ outcomes_of (bus_after (opened_as s) history) 1 changes → AllByRecursion (λ o. length o.tickets ≤ 512) outcomes
-few_along_history s calls history changes outcomes kept told =
-    subst (λ (os : List Outcome). AllByRecursion (λ o. length o.tickets ≤ 512) os) (sym told)
-    (few_along (bus_after (opened_as s) history) 1 changes kept.holding.consistent (subst IsWithinLimits (sym kept.now) kept.within_limits))
+-- what each of its changes is told is bounded
+pub bounded_along_history : (s : BusState) (calls : Calls) (history : History) (changes : List Change) (outcomes : List Outcome) → IsKept s calls history → outcomes ≡ outcomes_of (bus_after (opened_as s) history) 1 changes → AllByRecursion IsBounded outcomes
+bounded_along_history s calls history changes outcomes kept told =
+    subst (AllByRecursion IsBounded) (sym told)
+    (bounded_along (bus_after (opened_as s) history) 1 changes kept.holding.consistent (subst IsWithinLimits (sym kept.now) kept.within_limits))

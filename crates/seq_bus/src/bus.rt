@@ -3,12 +3,13 @@
 ghost use Rattle.std.specs.List.{AllByRecursion};
 ghost use Rattle.std.specs.Prelude.{◌≡◌, ◌≤◌, ◌+◌, ◌++◌, [], length, is_some, vec_capacity, IfOk, OnOk, OnErr, IfErr};
 ghost use Rattle.seq_bus_core.specs.Batches.{IsBatch, entries_of};
+ghost use Rattle.seq_bus_core.specs.Bounds.{IsBounded};
 ghost use Rattle.seq_bus_core.specs.BusState.{connection_of};
 ghost use Rattle.seq_bus_core.specs.Answers.{answer};
 ghost use Rattle.seq_bus_core.specs.Recipients.{recipients};
 ghost use Rattle.seq_bus_core.specs.Histories.{CanOpen, IsLegal};
 ghost use Rattle.seq_bus_core.specs.Tickets.{opening_bus};
-ghost use Rattle.seq_bus_core.specs.declared.limits.TheConstants.{MAX_BATCH, MAX_TICKETS};
+ghost use Rattle.seq_bus_core.specs.declared.limits.TheConstants.{MAX_BATCH};
 ghost use Rattle.bus_view.specs.Bodies.{Answers};
 ghost use Rattle.bus_view.specs.declared.refusal.Cause.TheVariants.{NoMemory};
 ghost use Rattle.bus_view.specs.declared.answer.AskFault.TheVariants.{NoMemory as AskNoMemory};
@@ -86,7 +87,7 @@ impl SeqBus {
     /// them, and does not copy them.
     pub fn change(&mut self, change: Change) -> Result<Outcome, Refused>
         ensures made { IfOk result (λ outcome. IsMade self.old self.new change outcome) }
-        ensures few { IfOk result (λ outcome. length outcome.tickets ≤ MAX_TICKETS) }
+        ensures few { IfOk result IsBounded }
         ensures handed_back { IfErr result (λ refused.
             refused ≡ record { change = change; cause = NoMemory }) }
         ensures unchanged { OnErr result (self.new ≡ self.old) }
@@ -124,8 +125,7 @@ impl SeqBus {
     pub fn change_all(&mut self, changes: Vec<Change>) -> Result<Vec<Outcome>, RefusedAll>
         ensures made { IfOk result (λ outcomes.
             AreMade self.old self.new changes.items outcomes.items) }
-        ensures few { IfOk result (λ outcomes.
-            AllByRecursion (λ o. length o.tickets ≤ MAX_TICKETS) outcomes.items) }
+        ensures few { IfOk result (λ outcomes. AllByRecursion IsBounded outcomes.items) }
         ensures batch { OnOk result (IsBatch changes.items) }
         ensures handed_back { IfErr result (λ refused. refused.changes ≡ changes) }
         ensures memory { IfErr result (λ refused. IsBatch changes.items →

@@ -5,6 +5,7 @@ pub mod Answers
 pub mod Histories
 pub mod Tickets
 pub mod Batches
+pub mod Bounds
 pub mod Changes
 pub mod TicketRooms
 pub mod HandedOut

@@ -28,13 +28,13 @@
 //! ```
 #![tactic(auto)]
 
-mod addressees;
 mod change;
 mod connection;
 mod entry;
 mod error_kind;
 pub mod laws;
 pub mod limits;
+mod listeners;
 mod monitor_rules;
 mod outcome;
 mod query;
@@ -44,11 +44,11 @@ mod signal;
 mod ticket;
 mod verdict;
 
-pub use addressees::Addressees;
 pub use change::{CallHead, Change, Ending};
 pub use connection::Conn;
 pub use entry::Entry;
 pub use error_kind::ErrorKind;
+pub use listeners::Listeners;
 pub use monitor_rules::MonitorRules;
 pub use outcome::{NumberedOutcome, Outcome, Reply};
 pub use query::Query;

@@ -30,6 +30,10 @@ pub const MAX_RULES_OF_MONITOR: usize = 64;
 /// The most tickets that wait.
 pub const MAX_TICKETS: usize = 512;
 
+/// The most signals that one change brings: a connection that becomes a monitor and had as many
+/// names as one may have gives up each, with three signals, and its unique name with two.
+pub const MAX_SIGNALS: usize = 194;
+
 /// The last number that a connection, a ticket or a start can have.
 pub const MAX_NUMBER: u64 = 9_223_372_036_854_775_808;
 

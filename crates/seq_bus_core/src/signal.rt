@@ -3,7 +3,7 @@
 ghost use Rattle.std.specs.Prelude.{◌≡◌, [], ◌∷◌, ◌++◌, IfOk, OnOk, OnErr};
 ghost use Rattle.seq_bus_core.specs.Recipients.{addressed_to};
 
-use crate::{Addressees, Conn, SharedSignal};
+use crate::{Conn, Listeners, SharedSignal};
 use names::BusName;
 use std::alloc::{AllocError, Global};
 use std::marker::Model;
@@ -36,9 +36,9 @@ pub enum BusSignal {
 pub struct AddressedSignal {
     pub signal: SharedSignal,
     /// Its recipients, by rising number.
-    pub to: Addressees,
+    pub to: Listeners,
     /// The monitors that are shown it, by rising number. None of them is a recipient.
-    pub monitors: Addressees,
+    pub monitors: Listeners,
 }
 
 impl AddressedSignal {
@@ -53,8 +53,8 @@ impl AddressedSignal {
     {
         Ok(AddressedSignal {
             signal: SharedSignal::new(alloc, signal)?,
-            to: Addressees::of(alloc, to)?,
-            monitors: Addressees::of(alloc, monitors)?,
+            to: Listeners::of(alloc, to)?,
+            monitors: Listeners::of(alloc, monitors)?,
         })
     }
 }

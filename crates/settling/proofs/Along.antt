@@ -2,10 +2,11 @@
 use Rattle.std.proofs.Common.{◌≡◌, ℕ, suc, ◌+◌, ◌≤◌, List, [], ◌∷◌, ◌++◌, length, drop, get_or, refl, ap, sym, ◌∙◌, subst}
 use Rattle.std.specs.List.{AllByRecursion}
 use Rattle.activation.specs.Holdings.{Calls, IsHolding}
-use Rattle.activation.proofs.FewTickets.{few_settled}
+use Rattle.activation.proofs.Bounds.{bounded}
 use Rattle.registry.specs.PreparedChanges.{ArePreparedFor, IsPreparedFor, PreparedChange, prepared_along, prepared_on, state_along}
 use Rattle.registry.proofs.Along.{prepared_for_more, state_more}
 use Rattle.seq_bus_core.specs.Batches.{entries_of, outcomes_of}
+use Rattle.seq_bus_core.specs.Bounds.{IsBounded}
 use Rattle.seq_bus_core.specs.BusState.{BusState}
 use Rattle.seq_bus_core.specs.Consistency.{IsConsistent, IsWithinLimits}
 use Rattle.seq_bus_core.specs.Steps.{step}
@@ -87,10 +88,10 @@ limits_along b seat [] consistent within = within
 limits_along b seat (change ∷ changes) consistent within =
     limits_along (bus_step b seat change).0 seat changes (steps_keep_consistency b.state seat change consistent) (steps_keep_limits b.state seat change consistent within)
 
--- each change settles no more calls than can wait
-pub few_along : (b : WholeBus) (seat : ℕ) (changes : List Change) → IsConsistent b.state → IsWithinLimits b.state → AllByRecursion (λ o. length o.tickets ≤ 512) (outcomes_of b seat changes)
-few_along b seat [] consistent within = tt
-few_along b seat (change ∷ changes) consistent within = (
-  few_settled b seat change within,
-  few_along (bus_step b seat change).0 seat changes (steps_keep_consistency b.state seat change consistent) (steps_keep_limits b.state seat change consistent within),
+-- what each change is told is bounded
+pub bounded_along : (b : WholeBus) (seat : ℕ) (changes : List Change) → IsConsistent b.state → IsWithinLimits b.state → AllByRecursion IsBounded (outcomes_of b seat changes)
+bounded_along b seat [] consistent within = tt
+bounded_along b seat (change ∷ changes) consistent within = (
+  bounded b seat change within,
+  bounded_along (bus_step b seat change).0 seat changes (steps_keep_consistency b.state seat change consistent) (steps_keep_limits b.state seat change consistent within),
 )

@@ -10,7 +10,7 @@ fn calls_that_waited_come_behind_the_reply(rt: HostRuntime) {
     come(&rt, rt.alloc(), &mut engine, 2);
     let actions = served(&rt, rt.alloc(), &mut engine, 2, REQUEST);
     let expected = [
-        Told::Signals,
+        Told::Acquired(THIRD),
         Told::Number(THIRD, 2, 1),
         Told::Number(FIRST, 7, 1),
         Told::Call(THIRD, 0),

@@ -1,12 +1,11 @@
 //! An engine of a plain bus with two services: what is sent to it, and what it does, told shortly.
 
 use crate::waiting_calls::new_bus;
-use driver::ReplyTo;
 use outbox_core::{BusMessage, Content, ReplyContent};
 use router::Engine;
 use router_core::{Action, Event, OpenGate};
 use seq_bus::SeqBus;
-use seq_bus_core::{Conn, ErrorKind};
+use seq_bus_core::{BusSignal, Conn, ErrorKind};
 use std::alloc::Global;
 use std::process::Abort;
 use test_support::messages::HELLO;
@@ -56,7 +55,8 @@ const CALLS: [WaitingCall; 3] = [
 /// What is done, told shortly.
 #[derive(Clone, Copy, PartialEq, Eq)]
 pub(crate) enum Told {
-    Signals,
+    /// The signal that it has a name.
+    Acquired(Conn),
     /// A reply with a number, to the call of this serial.
     Number(Conn, u32, u32),
     /// An error, to the call of this serial.
@@ -70,17 +70,15 @@ pub(crate) enum Told {
 
 fn told_of_own(conn: Conn, message: &BusMessage) -> Told {
     match message {
+        BusMessage::Signal(signal) => match signal.get() {
+            BusSignal::NameAcquired { .. } => Told::Acquired(conn),
+            _ => Told::Other,
+        },
         BusMessage::Reply {
             to,
             content: ReplyContent::Number(number),
-        } => {
-            let ReplyTo { call, .. } = to.reply_to();
-            Told::Number(conn, call, *number)
-        }
-        BusMessage::Error { to, error } => {
-            let ReplyTo { call, .. } = to.reply_to();
-            Told::Error(conn, call, *error)
-        }
+        } => Told::Number(conn, to.call(), *number),
+        BusMessage::Error { to, error } => Told::Error(conn, to.call(), *error),
         _ => Told::Other,
     }
 }
@@ -100,7 +98,6 @@ fn told_of_put(conn: Conn, content: &Content) -> Told {
 
 pub(crate) fn told_of(action: &Action<()>) -> Told {
     match action {
-        Action::Announce { .. } => Told::Signals,
         Action::Put { to, content, .. } => match (to.to(), to.monitors()) {
             ([conn], []) => told_of_put(*conn, content),
             _ => Told::Other,

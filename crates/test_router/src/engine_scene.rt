@@ -35,7 +35,7 @@ use crate::words::Words;
 use anyhow::{Context, Result, bail, ensure};
 use bus_view::can_open;
 use names::WellKnown;
-use outbox_core::{BusMessage, Content, Deliveries};
+use outbox_core::{Content, Deliveries};
 use owner_queues::Profile;
 use router::Engine;
 use router_core::{Action, Addressees, Event, OpenGate};
@@ -307,15 +307,6 @@ impl EngineScene {
                 note: _,
                 content,
             } => self.put(to.to(), to.monitors(), content, journal),
-            Action::Announce { signals, note: _ } => {
-                for addressed in signals.as_slice() {
-                    let signal = addressed.signal.try_clone()?;
-                    let content = Content::Own(BusMessage::Signal(signal));
-                    let monitors = addressed.monitors.as_slice();
-                    self.put(addressed.to.as_slice(), monitors, &content, journal)?;
-                }
-                Ok(())
-            }
             Action::Close { key, cause } => {
                 journal.begin("close")?;
                 write!(journal.text, " {key}: {cause}")?;

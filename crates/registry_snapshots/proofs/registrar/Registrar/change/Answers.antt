@@ -5,7 +5,7 @@ use Rattle.seq_bus_core.specs.Histories.{entry_alone}
 use Rattle.seq_bus_core.specs.Steps.{step}
 use Rattle.seq_bus_core.specs.Tickets.{bus_step, bus_after}
 use Rattle.registry_snapshots_core.specs.Copies.{PrefixView, SnapView}
-use Rattle.registry_snapshots.proofs.Changes.{calls_more, changed, few_told, settles_after}
+use Rattle.registry_snapshots.proofs.Changes.{calls_more, changed, bounded_told, settles_after}
 use Rattle.registry_snapshots.proofs.registrar.Registrar.change.Goals as goal
 
 pub settle-outcome-requires : goal.settle-outcome-requires
@@ -56,4 +56,4 @@ returns-clause-few g c =
     let unspent : c.self.inside.copies.1 ≡ false = search rules in
     let settles = settles_after g.J.Naming.book g.J.Naming.opening s c.self.inside.third seat change c.in-Ok.settling c.published-shown.ensures.kept (c.self.invariant.same unspent) c.in-Ok.ensures.settles in
     let settled = c.settle-outcome.ensures b seat c.self.invariant.waiting.holding settles in
-    few_told g.J.Naming.opening s.prefix.log seat change c.self.inside.calls c.settle-outcome.result c.self.invariant.waiting settled.1
+    bounded_told g.J.Naming.opening s.prefix.log seat change c.self.inside.calls c.settle-outcome.result c.self.invariant.waiting settled.1

@@ -8,7 +8,7 @@ use Rattle.seq_bus_core.specs.declared.change.Change.{Change}
 use Rattle.settling.specs.Batches.{IsSomeBusAlong, SettleAlong}
 use Rattle.settling.specs.Settlings.{Settling}
 use Rattle.registry_snapshots_core.specs.Copies.{PrefixView, SnapView}
-use Rattle.registry_snapshots.proofs.Changes.{all_changed, calls_along, few_told_all, settle_after}
+use Rattle.registry_snapshots.proofs.Changes.{all_changed, calls_along, bounded_told_all, settle_after}
 use Rattle.registry_snapshots.proofs.registrar.Registrar.change_all.Goals as goal
 
 pub settle-outcomes-requires : goal.settle-outcomes-requires
@@ -71,4 +71,4 @@ returns-clause-few g c =
     let here : SettleAlong c.self.inside.third seat changes settlings = subst (λ (cs : List Change). SettleAlong c.self.inside.third seat cs settlings) c.deref.ensures.value c.in-Ok-prepare_all.ensures.settles in
     let along = settle_after g.J.Naming.book g.J.Naming.opening s c.self.inside.third seat changes settlings c.published-shown.ensures.kept (c.self.invariant.same unspent) here in
     let settled = (rw c.deref-2.ensures.value at c.settle-outcomes.ensures) b seat c.self.invariant.waiting.holding along in
-    few_told_all g.J.Naming.opening s.prefix.log seat changes c.self.inside.calls c.settle-outcomes.result.items c.self.invariant.waiting settled.1
+    bounded_told_all g.J.Naming.opening s.prefix.log seat changes c.self.inside.calls c.settle-outcomes.result.items c.self.invariant.waiting settled.1

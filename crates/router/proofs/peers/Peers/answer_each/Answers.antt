@@ -1,15 +1,13 @@
-use Rattle.std.proofs.Common.{◌≡◌, ◌<◌, ◌∷◌, [], List, length, drop, refl, sym, subst, ◌∙◌, arith}
+use Rattle.std.proofs.Common.{◌≡◌, ◌<◌, ◌∷◌, [], List, length, drop, sym, subst, ◌∙◌, arith}
+use Rattle.std.proofs.lemmas.List.{nil_from_length}
 use Rattle.std.specs.List.{AllByRecursion}
 use Rattle.std.specs.Vec.Iter.{into_iter_items}
 use Rattle.seq_bus_core.specs.declared.outcome.Outcome.{Outcome}
 use Rattle.router_core.specs.Events.{answer_each}
 use Rattle.router_core.specs.Scripts.{Comes}
+use Rattle.router_serving.specs.Joinings.{RepliesAlone}
 use Rattle.router.proofs.Turnings.{answers_more, answers_none}
 use Rattle.router.proofs.peers.Peers.answer_each.Goals as goal
-
-nothing_left : {X : Type 0} (l : List X) → length l ≡ 0 → l ≡ []
-nothing_left [] h = refl
-nothing_left (x ∷ xs) h = absurd (omega arith)
 
 pub loop-outcome-preserved-then-place-joints : goal.loop-outcome-preserved-then-place-joints
 loop-outcome-preserved-then-place-joints g c =
@@ -18,7 +16,7 @@ loop-outcome-preserved-then-place-joints g c =
     let rest = into_iter_items c.next.new.self in
     let steps : into_iter_items at.outcome-iterator ≡ c.in-Some.outcome ∷ rest = c.in-Some.ensures.steps.0 in
     let inside : at.place < length joints = omega arith in
-    let left = subst (λ (os : List Outcome). AllByRecursion (λ (o : Outcome). o.tickets ≡ []) os) steps at.invariant.alone in
+    let left = subst (AllByRecursion RepliesAlone) steps at.invariant.alone in
     record {
       within = omega arith;
       room = omega arith;
@@ -38,7 +36,7 @@ returns-clause-comes g c =
     let at = c.loop-outcome in
     let joints = c.args.joints.now in
     let none : length (into_iter_items at.outcome-iterator) ≡ 0 = sym at.outcome-iterator.rest.ok.0 ∙ c.in-None.ensures.steps.0 in
-    let empty : into_iter_items at.outcome-iterator ≡ [] = nothing_left _ none in
+    let empty : into_iter_items at.outcome-iterator ≡ [] = nil_from_length _ none in
     let end = at.self.standing in
     let v = at.self.work.world in
     let done = at.invariant.comes end v (subst (λ (os : List Outcome). Comes told registry_of passes alone (answer_each (drop at.place joints) os end) v end v) (sym empty) (answers_none told registry_of passes alone (drop at.place joints) end v)) in

@@ -4,12 +4,12 @@ use Rattle.router_core.specs.Answers.{Says, Refuses, refusal_of_batch}
 use Rattle.router_core.specs.Events.{make_if}
 use Rattle.router_core.specs.Scripts.{ChangesAll, Comes}
 use Rattle.router.specs.Tables.{Table}
-use Rattle.router.proofs.Turnings.{settle_none}
+use Rattle.router.proofs.Turnings.{replies_alone}
 use Rattle.router.proofs.peers.Peers.make_batch.Goals as goal
 
 pub answer_each-requires-clause-alone : goal.answer_each-requires-clause-alone
 answer_each-requires-clause-alone g c =
-    settle_none _ _ c.args.joints.now c.args.changes.items c.in-Ok.outcomes.items c.requires.changes c.in-Ok.ensures.changes.hears.told
+    replies_alone _ _ c.args.joints.now c.args.changes.items c.in-Ok.outcomes.items c.requires.changes c.in-Ok.ensures.changes.hears.told
 
 pub returns-in-Ok-clause-comes : goal.returns-in-Ok-clause-comes
 returns-in-Ok-clause-comes g c =

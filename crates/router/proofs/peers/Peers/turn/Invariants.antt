@@ -8,7 +8,7 @@ abbrev pub invariant-loop-key : goal.invariant-loop-key
 invariant-loop-key g l = record {
   few : length l.joints.items ≤ l.key-index;
   capacity : length l.keys ≤ vec_capacity l.joints;
-  room : 3 * length l.joints.items ≤ l.self.work.room;
+  room : 2 * length l.joints.items ≤ l.self.work.room;
   spare_verdicts : length l.joints.items ≤ l.self.work.spare_verdicts;
   joints : l.begun ≡ false → l.joints.items ≡ [];
   standing : l.begun ≡ false → l.self.standing ≡ l.initial.self.standing;

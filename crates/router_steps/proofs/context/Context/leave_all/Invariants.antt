@@ -1,4 +1,4 @@
-use Rattle.std.proofs.Common.{◌+◌, ◌≤◌, [], drop, vec_len, vec_capacity}
+use Rattle.std.proofs.Common.{◌+◌, ◌*◌, ◌≤◌, [], drop, vec_len, vec_capacity}
 use Rattle.seq_bus_core.specs.Batches.{max_batch}
 use Rattle.router_core.specs.Events.{leave_by}
 use Rattle.router_core.specs.Scripts.{World, Comes}
@@ -10,7 +10,7 @@ abbrev pub invariant-loop-place : goal.invariant-loop-place
 invariant-loop-place g l = record {
   within : l.start ≤ l.place;
   few : l.place ≤ l.start + max_batch;
-  room : l.initial.self.room ≤ l.self.room + l.start;
+  room : l.initial.self.room ≤ l.self.room + 194 * l.start;
   len : vec_len l.leaves ≤ vec_len l.initial.leaves + l.start;
   capacity : vec_capacity l.initial.leaves ≤ vec_capacity l.leaves;
   comes : (s : Standing) (end : Standing) (v : World g.row.V-Note.Denot g.row.G.Denot) →

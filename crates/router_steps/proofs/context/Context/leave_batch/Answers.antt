@@ -14,7 +14,7 @@ pub announce_all-requires : goal.announce_all-requires
 announce_all-requires g c =
     let many : length c.in-Ok.outcomes.items ≡ length c.args.numbers.now =
     ap length c.in-Ok.ensures.changes.hears.told ∙ as_many _ _ c.args.changes.items ∙ ap length c.requires.leaves ∙ length-map c.args.numbers.now Leave in
-    omega (arith, many, c.in-Ok.ensures.room, c.requires.room)
+    record { few = c.in-Ok.ensures.few; room = omega (arith, many, c.in-Ok.ensures.room, c.requires.room) }
 
 pub returns-in-Ok-clause-comes : goal.returns-in-Ok-clause-comes
 returns-in-Ok-clause-comes g c s =

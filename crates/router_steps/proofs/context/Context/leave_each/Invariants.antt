@@ -1,4 +1,4 @@
-use Rattle.std.proofs.Common.{◌+◌, ◌≤◌, length, drop, vec_len, vec_capacity}
+use Rattle.std.proofs.Common.{◌+◌, ◌*◌, ◌≤◌, length, drop, vec_len, vec_capacity}
 use Rattle.router_core.specs.Events.{leave_each}
 use Rattle.router_core.specs.Scripts.{World, Comes}
 use Rattle.router_core.specs.Standing.{Standing}
@@ -6,7 +6,7 @@ use Rattle.router_steps.proofs.context.Context.leave_each.Given as goal
 
 abbrev pub invariant-loop-number : goal.invariant-loop-number
 invariant-loop-number g l = record {
-  room : l.initial.self.room ≤ l.self.room + l.number-index;
+  room : l.initial.self.room ≤ l.self.room + 194 * l.number-index;
   spare : vec_len l.leaves + length l.numbers ≤ vec_capacity l.leaves + l.number-index;
   len : vec_len l.leaves ≤ vec_len l.initial.leaves + l.number-index;
   capacity : vec_capacity l.initial.leaves ≤ vec_capacity l.leaves;

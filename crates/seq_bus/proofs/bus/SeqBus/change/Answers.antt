@@ -9,7 +9,7 @@ use Rattle.seq_bus_core.specs.declared.outcome.Outcome.{Outcome}
 use Rattle.activation.specs.Rooms.{IsRoomFor}
 use Rattle.registry.specs.PreparedChanges.{PreparedChange}
 use Rattle.seq_bus.specs.PlainBus.{PlainBus, bus_now, next_entry, opened_as}
-use Rattle.seq_bus.proofs.HistoryLemmas.{at_step, few_settled_at, kept_more, opened_after}
+use Rattle.seq_bus.proofs.HistoryLemmas.{at_step, bounded_at, kept_more, opened_after}
 use Rattle.seq_bus.proofs.bus.SeqBus.change.Goals as goal
 
 pub settle-outcome-requires-clause-step : goal.settle-outcome-requires-clause-step
@@ -68,4 +68,4 @@ returns-clause-few c =
     let told_is = c.take_outcome-told.ensures.taken ∙ ap (λ (q : PreparedChange). q.outcome) c.in-Ok.ensures in
     let here = at_step s before.calls before.seen.items c.args.change c.caller-caller.result c.take_outcome-told.result c.self.invariant (c.caller-caller.ensures ∙ ap (λ (q : PreparedChange). q.caller) c.in-Ok.ensures) told_is in
     let settled = c.settle-outcome.ensures (bus_after (opened_as s) before.seen.items) 1 here in
-    subst (λ (o : Outcome). length o.tickets ≤ 512) (sym settled.1) (few_settled_at s before.calls before.seen.items c.args.change c.self.invariant)
+    subst IsBounded (sym settled.1) (bounded_at s before.calls before.seen.items c.args.change c.self.invariant)

@@ -8,7 +8,7 @@ use Rattle.registry.specs.PreparedChanges.{state_along}
 use Rattle.settling.specs.Batches.{IsSomeBusAlong, SettleAlong}
 use Rattle.settling.specs.Settlings.{Settling}
 use Rattle.seq_bus.specs.PlainBus.{PlainBus, bus_now, opened_as}
-use Rattle.seq_bus.proofs.HistoryLemmas.{along_history, few_along_history, kept_along, opened_along}
+use Rattle.seq_bus.proofs.HistoryLemmas.{along_history, bounded_along_history, kept_along, opened_along}
 use Rattle.seq_bus.proofs.bus.SeqBus.change_all.Goals as goal
 
 pub settle-outcomes-requires : goal.settle-outcomes-requires
@@ -66,4 +66,4 @@ returns-clause-few c =
     let here : SettleAlong s 1 changes settlings = subst (λ (cs : List Change). SettleAlong s 1 cs settlings) c.deref.ensures.value c.in-Ok.ensures.settles in
     let along = along_history s before.calls before.seen.items changes settlings c.self.invariant here in
     let settled = (rw c.deref-2.ensures.value at c.settle-outcomes.ensures) (bus_after (opened_as s) before.seen.items) 1 c.self.invariant.holding along in
-    few_along_history s before.calls before.seen.items changes c.settle-outcomes.result.items c.self.invariant settled.1
+    bounded_along_history s before.calls before.seen.items changes c.settle-outcomes.result.items c.self.invariant settled.1

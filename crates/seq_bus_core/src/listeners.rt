@@ -1,4 +1,4 @@
-//! Who gets a signal of the bus.
+//! Who gets a signal of the bus, or is shown it.
 
 ghost use Rattle.std.specs.Prelude.{◌≡◌, IfOk, []};
 
@@ -6,13 +6,14 @@ use crate::Conn;
 use std::alloc::{AllocError, Global};
 use std::marker::Model;
 
-/// Connections that a signal of the bus goes to. They take room for as many as they are.
+/// Connections that a signal of the bus goes to, or that are shown it. They take room for as many
+/// as they are.
 #[derive(Debug, Drop)]
-pub struct Addressees {
+pub struct Listeners {
     connections: Vec<Conn>,
 }
 
-impl Model for Addressees {
+impl Model for Listeners {
     ghost use Rattle.std.specs.Prelude.{List};
     ghost use Rattle.seq_bus_core.specs.declared.connection.Conn.{Conn};
 
@@ -21,13 +22,13 @@ impl Model for Addressees {
     ghost view = { λ a. a.connections.items };
 }
 
-impl Addressees {
+impl Listeners {
     /// These connections, in their order. It takes memory, but for none of them.
-    pub fn of(alloc: Global, connections: &[Conn]) -> Result<Addressees, AllocError>
-        ensures { IfOk result (λ addressees. addressees ≡ connections.now) }
+    pub fn of(alloc: Global, connections: &[Conn]) -> Result<Listeners, AllocError>
+        ensures { IfOk result (λ listeners. listeners ≡ connections.now) }
     {
         let connections = Vec::from_slice(alloc, connections)?;
-        Ok(Addressees { connections })
+        Ok(Listeners { connections })
     }
 
     /// The connections, in order.
