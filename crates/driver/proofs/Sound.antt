@@ -1,5 +1,5 @@
 -- The fields of the messages of the bus.
-use Rattle.std.proofs.Common.{ℕ, ◌<◌, ◌^◌, List, ◌∷◌, refl, lit<, arith}
+use Rattle.std.proofs.Common.{◌≡◌, ℕ, ◌<◌, ◌^◌, Option, List, ◌∷◌, refl, ap, ◌∙◌, lit<, arith}
 use Rattle.names.specs.BusName.{bus_text}
 use Rattle.names.specs.Member.{IsMember}
 use Rattle.names.proofs.Faults.{none_interface, none_member}
@@ -14,7 +14,7 @@ use Rattle.seq_bus_core.specs.declared.signal.BusSignal.TheVariants.{NameOwnerCh
 use Rattle.message_core.specs.declared.header_field.HeaderField.TheVariants as field
 use Rattle.message_core.specs.HeaderFields.{Field}
 use Rattle.message_core.specs.Headers.{known_field}
-use Rattle.driver.specs.declared.reply.ReplyTo.{ReplyTo}
+use Rattle.driver.specs.Answered.{ReplyTo}
 use Rattle.driver.specs.OwnMessages.{bus_path, signal_member, signal_destination, signal_texts, string_types}
 use Rattle.driver.specs.Layout.{end_fields, IsNamed}
 use Rattle.driver.proofs.Errors.{fits}
@@ -29,6 +29,13 @@ error_fields to error types = known_field field.ErrorName (a_string (error_name 
 abbrev pub signal_fields : BusSignal → Tys → List Field
 signal_fields signal types =
     known_field field.Path (an_object_path bus_path) ∷ known_field field.Interface (a_string bus_text) ∷ known_field field.Member (a_string (signal_member signal)) ∷ end_fields (signal_destination signal) types
+
+-- The caller and the serial are all of it.
+pub reply_is : (to : ReplyTo) (caller : Option ℕ) (call : ℕ) → caller ≡ to.caller → call ≡ to.call → record { caller = caller; call = call } ≡ to
+reply_is to caller call same_caller same_call =
+    let by_caller : Option ℕ → ReplyTo = λ c. record { caller = c; call = call } in
+    let by_call : ℕ → ReplyTo = λ n. record { caller = to.caller; call = n } in
+    ap by_caller same_caller ∙ ap by_call same_call
 
 pub reply_sound : (serial : ℕ) (to : ReplyTo) (types : Tys) → (0 < serial) × (serial < 2 ^ 32) → 0 < to.call → IsNamed to.caller → Sound kind.MethodReturn serial (reply_fields to types) types
 reply_sound serial to types is call named = record {

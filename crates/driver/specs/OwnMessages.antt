@@ -18,7 +18,7 @@ use Rattle.message_core.specs.declared.header.Header.{Header}
 use Rattle.message_core.specs.declared.header.TheConstants.{NO_REPLY_EXPECTED}
 use Rattle.message_core.specs.Messages.{Message, IsWritten}
 use Rattle.message_core.specs.Headers.{message_of}
-use Rattle.driver.specs.declared.reply.ReplyTo.{ReplyTo}
+use Rattle.driver.specs.Answered.{ReplyTo}
 use Rattle.driver.specs.declared.reply.ReplyBody.{ReplyBody}
 use Rattle.driver.specs.declared.reply.ReplyBody.TheVariants as carries
 

@@ -20,15 +20,52 @@ use match_rules::MessageKind;
 use message_core::HeaderField;
 use seq_bus_core::ErrorKind;
 use std::alloc::AllocError;
+use std::marker::Model;
 
-/// The call that a reply or an error answers.
+/// The call that a reply or an error answers. Its serial is not 0, as that of each message.
 #[derive(Clone, Copy, Debug, PartialEq, Eq)]
 pub struct ReplyTo {
+    caller: Option<u64>,
+    call: u32,
+}
+
+impl Model for ReplyTo {
+    ghost use Rattle.std.specs.Prelude.{◌<◌};
+    ghost use Rattle.driver.specs.Answered.{ReplyTo as Answered};
+
+    ghost Value = { Answered };
+
+    ghost view = { λ to. record { caller = to.caller; call = to.call } };
+
+    ghost invariant = { λ to. 0 < to.call };
+
+    ghost inverse = { λ to. record { caller = to.caller; call = to.call } };
+}
+
+impl ReplyTo {
+    /// The call of this caller with this serial.
+    pub fn new(caller: Option<u64>, call: u32) -> Self
+        requires { 0 < call }
+        ensures { result ≡ record { caller = caller; call = call } }
+    {
+        ReplyTo { caller, call }
+    }
+
     /// The number of the caller, `n` in its unique name `:1.n`. It has none before its Hello is
     /// answered.
-    pub caller: Option<u64>,
-    /// The serial of the call, which is not 0.
-    pub call: u32,
+    pub fn caller(self) -> Option<u64>
+        ensures { result ≡ self.caller }
+    {
+        self.caller
+    }
+
+    /// The serial of the call.
+    pub fn call(self) -> u32
+        ensures value { result ≡ self.call }
+        ensures positive { 0 < result }
+    {
+        self.call
+    }
 }
 
 /// What a reply carries. Bodies in bytes are in little-endian order as from offset 0 on, as the bus
@@ -56,7 +93,6 @@ fn put_reply(
     out: &mut Vec<u8>,
 ) -> Result<(), AllocError>
     requires serial { 0 < serial }
-    requires call { 0 < to.call }
     requires short { length signature.now ≤ 16 }
     ensures ok { (types : Tys) (values : Vals) → signature.now ≡ signature_text types
         → Spells Little 0 types values body.now
@@ -65,15 +101,14 @@ fn put_reply(
     ensures err { OnErr result (out.new.items ≡ out.old.items) }
 {
     let mut fields = Vec::with_capacity(*out.allocator(), ROOM)?;
-    put_reply_serial(&mut fields, to.call);
-    put_end(&mut fields, to.caller, signature);
+    put_reply_serial(&mut fields, to.call());
+    put_end(&mut fields, to.caller(), signature);
     lay_out(MessageKind::MethodReturn, serial, &fields, body, out)
 }
 
 /// Appends a reply with a number.
 fn put_number(serial: u32, to: ReplyTo, number: u32, out: &mut Vec<u8>) -> Result<(), AllocError>
     requires serial { 0 < serial }
-    requires call { 0 < to.call }
     ensures ok { OnOk result (Writes out.old.items out.new.items
         (message_of (reply_header serial to) number_types (number_values number))) }
     ensures err { OnErr result (out.new.items ≡ out.old.items) }
@@ -91,7 +126,6 @@ fn put_unique_name(
     out: &mut Vec<u8>,
 ) -> Result<(), AllocError>
     requires serial { 0 < serial }
-    requires call { 0 < to.call }
     ensures ok { OnOk result (Writes out.old.items out.new.items
         (of_strings (reply_header serial to) (unique_text number ∷ []))) }
     ensures err { OnErr result (out.new.items ≡ out.old.items) }
@@ -114,7 +148,6 @@ pub fn write_reply(
     out: &mut Vec<u8>,
 ) -> Result<(), AllocError>
     requires serial { 0 < serial }
-    requires call { 0 < to.call }
     ensures ok { (types : Tys) (values : Vals) → IsReplyBody body.entry types values
         → OnOk result (Writes out.old.items out.new.items
         (message_of (reply_header serial to) types values)) }
@@ -143,14 +176,13 @@ pub fn write_error(
     out: &mut Vec<u8>,
 ) -> Result<(), AllocError>
     requires serial { 0 < serial }
-    requires call { 0 < to.call }
     ensures ok { OnOk result (Writes out.old.items out.new.items (error_message serial to error)) }
     ensures err { OnErr result (out.new.items ≡ out.old.items) }
 {
     let mut fields = Vec::with_capacity(*out.allocator(), ROOM)?;
     put_string(&mut fields, HeaderField::ErrorName, error_name(error));
-    put_reply_serial(&mut fields, to.call);
-    put_end(&mut fields, to.caller, "s");
+    put_reply_serial(&mut fields, to.call());
+    put_end(&mut fields, to.caller(), "s");
     let mut text = ArrayVec::<u8, { strings::ROOM }>::new();
     strings::put_string(&mut text, error_text(error));
     lay_out(MessageKind::Error, serial, &fields, text.as_slice(), out)

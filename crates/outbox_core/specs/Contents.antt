@@ -9,7 +9,7 @@ use Rattle.seq_bus_core.specs.declared.signal.BusSignal.{BusSignal}
 use Rattle.bus_view.specs.Bodies.{answer_type, answer_value}
 use Rattle.message_core.specs.Messages.{Message}
 use Rattle.message_core.specs.Headers.{message_of}
-use Rattle.driver.specs.declared.reply.ReplyTo.{ReplyTo}
+use Rattle.driver.specs.Answered.{ReplyTo}
 use Rattle.driver.specs.OwnMessages.{number_types, number_values, string_types, string_values, reply_header, error_message, signal_message}
 use Rattle.outbox_core.specs.declared.content.Content.{Content}
 use Rattle.outbox_core.specs.declared.content.Content.TheVariants as content

@@ -185,12 +185,12 @@ impl BusMessage {
         match self {
             BusMessage::Signal(signal) => BusMessageNames::of_signal(signal.get()),
             BusMessage::Reply { to, content } => BusMessageNames {
-                destination: name_of(to.reply_to().caller),
+                destination: name_of(to.caller()),
                 first: name_of(content.number()),
                 second: None,
             },
             BusMessage::Error { to, error: _ } => BusMessageNames {
-                destination: name_of(to.reply_to().caller),
+                destination: name_of(to.caller()),
                 first: None,
                 second: None,
             },

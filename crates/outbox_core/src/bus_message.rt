@@ -5,8 +5,7 @@ ghost use Rattle.driver.specs.OwnMessages.{IsReplyBody, Writes};
 ghost use Rattle.outbox_core.specs.Contents.{Answered, carried_of, own_of, carried_types, carried_values, bus_message};
 
 use crate::answer::{AnswerBody, BodyKind};
-use crate::call::CallToAnswer;
-use driver::{ReplyBody, write_error, write_reply, write_signal};
+use driver::{ReplyBody, ReplyTo, write_error, write_reply, write_signal};
 use seq_bus_core::{ErrorKind, SharedSignal};
 use std::alloc::AllocError;
 
@@ -57,11 +56,11 @@ impl ReplyContent {
 pub enum BusMessage {
     Signal(SharedSignal),
     Reply {
-        to: CallToAnswer,
+        to: ReplyTo,
         content: ReplyContent,
     },
     Error {
-        to: CallToAnswer,
+        to: ReplyTo,
         error: ErrorKind,
     },
 }
@@ -81,10 +80,8 @@ impl BusMessage {
     {
         match self {
             BusMessage::Signal(signal) => write_signal(serial, signal.get(), out),
-            BusMessage::Reply { to, content } => {
-                write_reply(serial, to.reply_to(), content.body(), out)
-            }
-            BusMessage::Error { to, error } => write_error(serial, to.reply_to(), *error, out),
+            BusMessage::Reply { to, content } => write_reply(serial, *to, content.body(), out),
+            BusMessage::Error { to, error } => write_error(serial, *to, *error, out),
         }
     }
 

@@ -25,7 +25,6 @@
 mod answer;
 mod bus_facts;
 mod bus_message;
-mod call;
 mod content;
 mod deliveries;
 mod envelope;
@@ -34,7 +33,6 @@ pub mod laws;
 pub use answer::AnswerBody;
 pub use bus_facts::{BusMessageNames, OwnArguments};
 pub use bus_message::{BusMessage, ReplyContent};
-pub use call::CallToAnswer;
 pub use content::Content;
 pub use deliveries::Deliveries;
 pub use envelope::Envelope;

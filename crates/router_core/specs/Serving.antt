@@ -35,7 +35,7 @@ use Rattle.message.specs.MessageBytes.{message_bytes, is_too_long}
 use Rattle.message.specs.Senders.{sent_by}
 use Rattle.driver.specs.declared.call.Call.{Call}
 use Rattle.driver.specs.declared.call.Call.TheVariants as call
-use Rattle.driver.specs.declared.reply.ReplyTo.{ReplyTo}
+use Rattle.driver.specs.Answered.{ReplyTo}
 use Rattle.driver.specs.Calls.{Reading, expects_reply, error_of}
 use Rattle.outbox_core.specs.Contents.{Own, Replies, Errs, Carried, Nothing, Number, Answered, Relays, Tells, bus_message}
 use Rattle.router_core.specs.declared.cause.CloseCause.{CloseCause}

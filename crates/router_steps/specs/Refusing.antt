@@ -3,7 +3,7 @@ use Rattle.std.specs.Prelude.{ℕ, None, List}
 use Rattle.seq_bus_core.specs.declared.error_kind.ErrorKind.{ErrorKind}
 use Rattle.seq_bus_core.specs.declared.error_kind.ErrorKind.TheVariants as error
 use Rattle.message_core.specs.Messages.{Message, IsWritten}
-use Rattle.driver.specs.declared.reply.ReplyTo.{ReplyTo}
+use Rattle.driver.specs.Answered.{ReplyTo}
 use Rattle.outbox_core.specs.Contents.{Errs, bus_message}
 
 -- The caller of a Hello has no name yet.

@@ -18,7 +18,7 @@ use crate::verdicts::tell_monitors_alone;
 use bus_view::{BusView, Cause};
 use driver::{ReplyTo, expects_reply};
 use message_core::Message;
-use outbox_core::{BusMessage, CallToAnswer, Content};
+use outbox_core::{BusMessage, Content};
 use router_core::{CloseCause, Gate, WrittenBytes};
 use seq_bus_core::ErrorKind;
 use std::alloc::{AllocError, Global};
@@ -29,10 +29,7 @@ fn refusal(hello: &Message, error: ErrorKind) -> BusMessage
     ensures { own_of result ≡ Errs (hello_of (said hello.now)) error }
 {
     let _bytes = hello.as_bytes();
-    let to = CallToAnswer::new(ReplyTo {
-        caller: None,
-        call: hello.serial(),
-    });
+    let to = ReplyTo::new(None, hello.serial());
     BusMessage::Error { to, error }
 }
 

@@ -9,7 +9,7 @@ use crate::context::Context;
 use bus_view::BusView;
 use driver::ReplyTo;
 use message_core::NO_REPLY_EXPECTED;
-use outbox_core::{BusMessage, CallToAnswer, Content, ReplyContent};
+use outbox_core::{BusMessage, Content, ReplyContent};
 use router_core::{Addressees, Gate};
 use seq_bus_core::{Conn, Ticket, Tickets};
 
@@ -38,10 +38,7 @@ impl<V: BusView, G: Gate> Context<V, G> {
         if self.reserve_verdicts(1).is_err() {
             return;
         }
-        let to = CallToAnswer::new(ReplyTo {
-            caller: Some(caller.number),
-            call: serial,
-        });
+        let to = ReplyTo::new(Some(caller.number), serial);
         let content = ReplyContent::Number(1);
         self.tell(caller, BusMessage::Reply { to, content });
     }

@@ -16,19 +16,16 @@ use bus_view::BusView;
 use driver::{ReplyTo, expects_reply};
 use match_rules::MessageKind;
 use message_core::Message;
-use outbox_core::{BusMessage, CallToAnswer, Content, ReplyContent};
+use outbox_core::{BusMessage, Content, ReplyContent};
 use router_core::Gate;
 use seq_bus_core::{Conn, ErrorKind, Verdict};
 
 /// The call, as it is answered.
-fn call_of(message: &Message, caller: Conn) -> CallToAnswer
+fn call_of(message: &Message, caller: Conn) -> ReplyTo
     ensures { result ≡ call_in (said message.now) caller }
 {
     let _bytes = message.as_bytes();
-    CallToAnswer::new(ReplyTo {
-        caller: Some(caller.number),
-        call: message.serial(),
-    })
+    ReplyTo::new(Some(caller.number), message.serial())
 }
 
 /// Whether the message calls a method.

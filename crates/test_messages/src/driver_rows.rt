@@ -82,13 +82,11 @@ fn read(reading: &Result<Call, DriverFault>) -> &'static str {
 
 fn put_reply(alloc: Global, row: &Row<'_>, output: &mut Vec<u8>) -> Result<(), AllocError> {
     let serial: u32 = row.text(1).parse().unwrap_or(0);
-    let to = ReplyTo {
-        caller: row.text(2).parse().ok(),
-        call: row.text(3).parse().unwrap_or(0),
-    };
-    if serial == 0 || to.call == 0 {
+    let call: u32 = row.text(3).parse().unwrap_or(0);
+    if serial == 0 || call == 0 {
         return Ok(());
     }
+    let to = ReplyTo::new(row.text(2).parse().ok(), call);
     if row.text(0) == "error-reply" {
         return write_error(serial, to, ErrorKind::NoMemory, output);
     }
@@ -105,7 +103,7 @@ fn put_body(
     to: ReplyTo,
     output: &mut Vec<u8>,
 ) -> Result<(), AllocError>
-    requires { (0 < serial) × (0 < to.call) }
+    requires { 0 < serial }
 {
     let body = match row.text(4) {
         "number" => ReplyBody::Number(row.text(5).parse().unwrap_or(0)),

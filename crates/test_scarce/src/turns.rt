@@ -60,13 +60,13 @@ fn answered(action: &Action<()>) -> Option<u32> {
         return None;
     };
     match content {
-        Content::Own(BusMessage::Reply { to, content: _ }) => Some(to.reply_to().call),
+        Content::Own(BusMessage::Reply { to, content: _ }) => Some(to.call()),
         Content::Own(
             BusMessage::Error {
                 to,
                 error: ErrorKind::NoMemory,
             },
-        ) => Some(to.reply_to().call),
+        ) => Some(to.call()),
         _ => None,
     }
 }

@@ -88,10 +88,7 @@ fn reply(
     requires { 0 < serial }
 {
     let _bytes = call.as_bytes();
-    let to = ReplyTo {
-        caller: Some(conn.number),
-        call: call.serial(),
-    };
+    let to = ReplyTo::new(Some(conn.number), call.serial());
     Ok(write_reply(serial, to, body, out)?)
 }
 

@@ -1,7 +1,7 @@
 use Rattle.std.proofs.Common.{sym, subst, ◌∙◌}
 use Rattle.message_core.specs.Said.{said}
 use Rattle.driver.specs.Calls.{expects_reply}
-use Rattle.driver.specs.declared.reply.ReplyTo.{ReplyTo}
+use Rattle.driver.specs.Answered.{ReplyTo}
 use Rattle.outbox_core.specs.Contents.{Replies, carried_of}
 use Rattle.router_core.specs.Scripts.{Comes}
 use Rattle.router_core.specs.Serving.{call_of, nothing, tell}

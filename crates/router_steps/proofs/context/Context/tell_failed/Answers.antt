@@ -1,5 +1,5 @@
 use Rattle.std.proofs.Common.{Some, true, subst}
-use Rattle.driver.specs.declared.reply.ReplyTo.{ReplyTo}
+use Rattle.driver.specs.Answered.{ReplyTo}
 use Rattle.outbox_core.specs.Contents.{Errs}
 use Rattle.router_core.specs.Scripts.{World, Comes}
 use Rattle.router_core.specs.Serving.{tell}
