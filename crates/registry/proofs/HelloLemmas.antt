@@ -14,7 +14,7 @@ use Rattle.seq_bus_core.specs.declared.outcome.Reply.TheVariants.{LimitsExceeded
 use Rattle.seq_bus_core.proofs.LimitLaws.{steps_keep_limits}
 use Rattle.seq_bus_core.proofs.Lists.{each_weaker}
 use Rattle.registry_core.specs.Listening.{conns_that, has_fitting, wants_by, watches_by}
-use Rattle.registry_core.proofs.Places.{one_done}
+use Rattle.match_index.proofs.Lists.{one_done}
 use Rattle.registry.specs.Hellos.{next_conn, client_at, welcomed_as}
 use Rattle.registry.proofs.ListeningLemmas.{none_fits, push_none, rules_below, shown_same}
 

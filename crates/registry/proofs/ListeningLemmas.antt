@@ -16,7 +16,7 @@ use Rattle.registry_core.specs.declared.member.Member.{Member}
 use Rattle.registry_core.specs.Listening.{conns_that, has_fitting, has_number, member_wants, stays, wants_by, watched, watches_by}
 use Rattle.registry_core.specs.MemberTables.{member_of}
 use Rattle.registry_core.proofs.Members.{filter_alike}
-use Rattle.registry_core.proofs.Places.{one_done}
+use Rattle.match_index.proofs.Lists.{one_done}
 
 pub watches_same : (s : BusState) (facts : Facts) (c : Connection) → watches s facts c ≡ watches_by (head_of s) facts c
 watches_same s facts c = by_rules c.monitor

@@ -20,7 +20,8 @@ use Rattle.registry_core.specs.Listening.{Rising, has_fitting, has_number, membe
 use Rattle.registry_core.specs.RuleTables.{added, added_rule}
 use Rattle.registry_core.specs.RulesOf.{rules_by}
 use Rattle.registry_core.proofs.Members.{filter_alike}
-use Rattle.registry_core.proofs.Places.{filter-map, list_any-map}
+use Rattle.match_index.proofs.Lists.{list_any-map}
+use Rattle.registry_core.proofs.Places.{filter-map}
 
 pub by_added : (c : ℕ) (rules : List OwnedRule) → rules_by_in c rules ≡ rules_by c (added rules)
 by_added c rules = sym (ap (map (λ (r : AddedRule). r.rule)) (filter-map (λ (r : AddedRule). r.connection == c) added_rule rules)

@@ -17,7 +17,8 @@ use Rattle.registry_core.specs.MemberTables.{rules_among, connection_in, connect
 use Rattle.registry_core.specs.declared.member.Member.{Member}
 use Rattle.registry_core.proofs.MemberTableLemmas.{other_rules, same_connection, left_monitors, few_monitors, few_others, rising_members}
 use Rattle.registry_core.proofs.Members.{found_at, found_nowhere}
-use Rattle.registry_core.proofs.Places.{find-map, first_place, position_is}
+use Rattle.match_index.proofs.Lists.{first_place, position_is}
+use Rattle.registry_core.proofs.Places.{find-map}
 
 abbrev pub marked : ℕ → Member → Member
 marked number m = record m { is_monitor = (m.conn.number == number) || m.is_monitor }

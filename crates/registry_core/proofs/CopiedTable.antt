@@ -11,7 +11,7 @@ use Rattle.seq_bus_core.proofs.Lists.{each_map}
 use Rattle.registry_core.specs.NameIndexes.{IndexedNames, name_at}
 use Rattle.registry_core.specs.NameTables.{Entry, owned_name, numbered, numbers_of, values_of, waits_here, AreIndexed, AreInTable}
 use Rattle.registry_core.specs.declared.name_table.NameEntry.{NameEntry}
-use Rattle.registry_core.proofs.Places.{done_is}
+use Rattle.match_index.proofs.Lists.{done_is}
 
 each_unmap : {X Y : Type 0} (Q : Y → Type 0) (f : X → Y) (xs : List X) → Each Q (map f xs) → Each (λ x. Q (f x)) xs
 each_unmap Q f [] h = tt

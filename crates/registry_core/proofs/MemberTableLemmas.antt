@@ -17,7 +17,8 @@ use Rattle.registry_core.specs.Listening.{conns_that, watches_by, Rising}
 use Rattle.registry_core.specs.MemberTables.{rules_among, connection_in, connections_in, member_of, newcomer, those_without, Ascending, AreMembers}
 use Rattle.registry_core.specs.declared.member.Member.{Member}
 use Rattle.registry_core.proofs.Members.{found_at, found_nowhere}
-use Rattle.registry_core.proofs.Places.{find-map, first_place}
+use Rattle.match_index.proofs.Lists.{first_place}
+use Rattle.registry_core.proofs.Places.{find-map}
 
 -- ## Members and connections
 

@@ -12,7 +12,8 @@ use Rattle.seq_bus_core.proofs.Lists.{each_weaker}
 use Rattle.seq_bus_core.specs.declared.connection.Conn.{Conn}
 use Rattle.registry_core.specs.declared.member.Member.{Member}
 use Rattle.registry_core.specs.Listening.{stays, wants_by, conns_that, connection_of_member, member_wants, rules_of_monitor, Rising}
-use Rattle.registry_core.proofs.Places.{first_place, filter-map, list_any-map}
+use Rattle.match_index.proofs.Lists.{first_place, list_any-map}
+use Rattle.registry_core.proofs.Places.{filter-map}
 
 pub filter_alike : {X : Type 0} (p q : X → Bool) (xs : List X) → ((x : X) → p x ≡ q x) → filter p xs ≡ filter q xs
 filter_alike p q [] same = refl

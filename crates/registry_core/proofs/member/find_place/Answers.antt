@@ -1,6 +1,6 @@
 use Rattle.std.proofs.Common.{◌≡◌, ◌==◌, false, sym, ap, ◌∙◌, arith}
 use Rattle.registry_core.specs.declared.member.Member.{Member}
-use Rattle.registry_core.proofs.Places.{position_is}
+use Rattle.match_index.proofs.Lists.{position_is}
 use Rattle.registry_core.proofs.Members.{first_at, none_at}
 use Rattle.registry_core.proofs.member.find_place.Goals as goal
 

@@ -1,14 +1,11 @@
-use Rattle.std.proofs.Common.{◌≡◌, ◌∙◌, ◌+◌, ◌-◌, ◌++◌, ◌∷◌, [], List, length, refl, ap, sym, arith, append_assoc, append-nil, length-append, rules}
+use Rattle.std.proofs.Common.{◌≡◌, ◌∙◌, ◌+◌, ◌-◌, ◌++◌, ◌∷◌, [], List, length, ap, sym, arith, append_assoc, append-nil, length-append, rules}
+use Rattle.std.proofs.lemmas.List.{nil_from_length}
 use Rattle.std.specs.Vec.Iter.{into_iter_items}
 use Rattle.seq_bus_core.specs.Batches.{entries_of}
 use Rattle.seq_bus_core.specs.Histories.{History}
 use Rattle.seq_bus_core.specs.declared.change.Change.{Change}
 use Rattle.seq_bus_core.specs.declared.entry.Entry.{Entry}
 use Rattle.seq_bus.proofs.bus.add_entries.Goals as goal
-
-nothing_left : {X : Type 0} (l : List X) → length l ≡ 0 → l ≡ []
-nothing_left [] h = refl
-nothing_left (x ∷ xs) h = absurd (omega arith)
 
 -- the entry of a change, and those of the changes behind it
 next_entry : (seen : History) (change : Change) (later : List Change) (e : Entry) → e ≡ record { seat = 1; number = length seen + 1; change = change; left = length later }
@@ -48,6 +45,6 @@ pub returns : goal.returns
 returns c =
     let at = c.loop-change in
     let none : length (into_iter_items at.change-iterator) ≡ 0 = sym at.change-iterator.rest.ok.0 ∙ c.in-None.ensures.steps.0 in
-    let empty : into_iter_items at.change-iterator ≡ [] = nothing_left _ none in
+    let empty : into_iter_items at.change-iterator ≡ [] = nil_from_length _ none in
     sym (append-nil at.seen.items) ∙ sym (ap (λ (cs : List Change). at.seen.items ++ entries_of 1 (length at.seen.items + 1) cs) empty) ∙ at.invariant.all
     ∙ ap (λ (cs : List Change). c.args.seen.now.items ++ entries_of 1 (length c.args.seen.now.items + 1) cs) c.into_iter-change-iterator.ensures.into_iter_gives.0

@@ -1,7 +1,7 @@
 use Rattle.std.proofs.Common.{◌≡◌, ◌+◌, ◌∷◌, ◌++◌, [], List, take, ap, sym, ◌∙◌}
 use Rattle.seq_bus_core.specs.BusState.{BusState}
 use Rattle.seq_bus_core.specs.Steps.{step}
-use Rattle.registry_core.proofs.Places.{done_is}
+use Rattle.match_index.proofs.Lists.{done_is}
 use Rattle.registry.specs.PreparedChanges.{PreparedChange, absorbed_along}
 use Rattle.registry.proofs.Along.{absorbed_more}
 use Rattle.registry.proofs.registry.Registry.absorb_all.Goals as goal

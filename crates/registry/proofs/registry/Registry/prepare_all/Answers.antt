@@ -1,7 +1,7 @@
 use Rattle.std.proofs.Common.{◌≡◌, ◌∙◌, ◌+◌, ◌++◌, ◌∷◌, [], List, take, ap, sym, arith}
 use Rattle.registry.specs.PreparedChanges.{PreparedChange, prepared_along, prepared_on, state_along}
 use Rattle.registry.proofs.Along.{made_next, prepared_more}
-use Rattle.registry_core.proofs.Places.{done_is}
+use Rattle.match_index.proofs.Lists.{done_is}
 use Rattle.seq_bus_core.specs.BusState.{BusState}
 use Rattle.seq_bus_core.specs.declared.change.Change.{Change}
 use Rattle.registry.proofs.registry.Registry.prepare_all.Goals as goal

@@ -8,7 +8,7 @@ use Rattle.registry_core.specs.MemberTables.{connections_in, AreMembers}
 use Rattle.registry_core.specs.declared.member.Member.{Member}
 use Rattle.registry_core.proofs.BecomingMonitor.{Becomes, becomes, nobody_becomes}
 use Rattle.registry_core.proofs.MemberTableLemmas.{rising_members}
-use Rattle.registry_core.proofs.Places.{first_place, position_is}
+use Rattle.match_index.proofs.Lists.{first_place, position_is}
 use Rattle.registry_core.proofs.member_table.MemberTable.become_monitor.Goals.{After-add}
 use Rattle.registry_core.proofs.member_table.MemberTable.become_monitor.Goals as goal
 

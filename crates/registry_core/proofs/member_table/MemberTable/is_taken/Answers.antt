@@ -2,7 +2,7 @@ use Rattle.std.proofs.Common.{◌==◌, Bool, ap, ◌∙◌}
 use Rattle.std.specs.List.{list_any}
 use Rattle.registry_core.specs.MemberTables.{member_of}
 use Rattle.registry_core.specs.declared.member.Member.{Member}
-use Rattle.registry_core.proofs.Places.{list_any-map}
+use Rattle.match_index.proofs.Lists.{list_any-map}
 use Rattle.registry_core.proofs.member_table.MemberTable.is_taken.Goals as goal
 
 pub returns : goal.returns

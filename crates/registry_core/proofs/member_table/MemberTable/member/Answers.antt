@@ -5,7 +5,7 @@ use Rattle.registry_core.specs.Listening.{Rising}
 use Rattle.registry_core.specs.MemberTables.{member_of}
 use Rattle.registry_core.specs.declared.member.Member.{Member}
 use Rattle.registry_core.proofs.MemberTableLemmas.{member_found, member_nowhere, rising_members}
-use Rattle.registry_core.proofs.Places.{first_place, position_is}
+use Rattle.match_index.proofs.Lists.{first_place, position_is}
 use Rattle.registry_core.proofs.member_table.MemberTable.member.Goals as goal
 
 pub find_place-requires : goal.find_place-requires

@@ -4,7 +4,7 @@ use Rattle.seq_bus_core.specs.BusState.{max_names}
 use Rattle.registry_core.specs.NameIndexes.{IndexedNames}
 use Rattle.registry_core.specs.NameTables.{Entry, owned_name, numbers_of, values_of, AreIndexed, AreInTable}
 use Rattle.registry_core.proofs.CopiedTable.{indexed_by, names_by, table_by}
-use Rattle.registry_core.proofs.Places.{written_back}
+use Rattle.match_index.proofs.IndexLemmas.{written_back}
 use Rattle.registry_core.proofs.name_table.NameTable.copy_from.Goals as goal
 
 pub invariant_of-self : goal.invariant_of-self

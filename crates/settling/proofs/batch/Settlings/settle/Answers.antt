@@ -1,7 +1,7 @@
 use Rattle.std.proofs.Common.{◌≡◌, ◌∙◌, ◌<◌, ◌+◌, ◌++◌, ◌∷◌, [], ℕ, List, length, get_or, take, drop, refl, ap, sym, subst, arith, length-append, length-drop}
 use Rattle.std.proofs.lemmas.List.{take_all}
 use Rattle.activation.specs.Holdings.{Calls, IsHolding}
-use Rattle.registry_core.proofs.Places.{done_is, next_is}
+use Rattle.match_index.proofs.Lists.{done_is, next_is}
 use Rattle.seq_bus_core.specs.Batches.{outcomes_of}
 use Rattle.seq_bus_core.specs.Tickets.{WholeBus}
 use Rattle.seq_bus_core.specs.declared.change.Change.{Change}

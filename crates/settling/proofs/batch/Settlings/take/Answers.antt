@@ -1,7 +1,7 @@
 use Rattle.std.proofs.Common.{◌≡◌, ◌<◌, ◌+◌, ◌∷◌, ℕ, List, length, take, drop, get_or, sym, subst, arith, drop-set-lt}
 use Rattle.std.proofs.lemmas.List.{drop_more, take_all, take_more_set}
 use Rattle.registry.specs.PreparedChanges.{ArePreparedFor, PreparedChange}
-use Rattle.registry_core.proofs.Places.{done_is, next_is}
+use Rattle.match_index.proofs.Lists.{done_is, next_is}
 use Rattle.seq_bus_core.specs.BusState.{BusState}
 use Rattle.seq_bus_core.specs.declared.change.Change.{Change}
 use Rattle.settling.specs.Batches.{SettleAlong}
