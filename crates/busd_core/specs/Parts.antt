@@ -2,8 +2,10 @@
 use Rattle.std.specs.Prelude.{◌≡◌, ◌⊎◌, ℕ, Bool, List, [], ◌++◌, Option, Result, Ok, Err}
 use Rattle.std.specs.Io.KnownBytes.{Consumes, Appends}
 use Rattle.seq_bus_core.specs.Histories.{History}
+use Rattle.bus_view.specs.declared.view.BusView.{Ghosts as BusView}
 use Rattle.router_core.specs.declared.action.Action.{Action}
 use Rattle.router_core.specs.declared.event.Event.{Event}
+use Rattle.router_core.specs.declared.gate.Gate.{Ghosts as Gate}
 use Rattle.router_core.specs.Acts.{State, Brings}
 use Rattle.router_core.specs.Deeds.{GatedCall}
 use Rattle.busd_core.specs.declared.fault.RunFault.{RunFault}
@@ -58,3 +60,7 @@ module _ {N G : Type 0} (told : N → History) (passes : G → GatedCall → G �
   abbrev pub IsCarriedOut : State G → Event N → (wrote_old wrote_new : Option (List ℕ)) → State G → Result (Unit {0}) RunFault → Type 0
   IsCarriedOut before event wrote_old wrote_new after result =
       (written : List ℕ) × Appends wrote_old wrote_new written × HappensSo before event written after result
+
+-- the same of deliveries, by a view and a gate
+abbrev pub DeliversBy : {V N R G : Type 0} → BusView V N R → Gate G → (seat key : ℕ) → State G → List Delivery → (wrote_old wrote_new : Option (List ℕ)) → State G → Result (Unit {0}) RunFault → Type 0
+DeliversBy view gate seat key before deliveries wrote_old wrote_new after result = Delivers view.told gate.passes view.alone seat key before deliveries wrote_old wrote_new after result

@@ -1,8 +1,10 @@
 -- What an event brings, and what it brings over the bus of one thread.
 use Rattle.std.specs.Prelude.{◌≡◌, Bool, true, List}
 use Rattle.seq_bus_core.specs.Histories.{History}
+use Rattle.bus_view.specs.declared.view.BusView.{Ghosts as BusView}
 use Rattle.router_core.specs.declared.action.Action.{Action}
 use Rattle.router_core.specs.declared.event.Event.{Event}
+use Rattle.router_core.specs.declared.gate.Gate.{Ghosts as Gate}
 use Rattle.router_core.specs.Acts.{IsGranted, IsServed, State}
 use Rattle.router_core.specs.Deeds.{GatedCall}
 use Rattle.router_core.specs.Events.{occasion_of}
@@ -18,3 +20,7 @@ pub record IsServedWell {N G : Type 0} (told : N → History) (passes : G → Ga
   pub served : IsServed told passes alone before event actions after
   pub one_thread : alone ≡ true → IsGranted served.asked → (readers : Readers) → AreReadBy readers served.asked →
       (served.deeds ≡ (given readers (rest_in before) (occasion_of told event)).0) × (rest_in after ≡ (given readers (rest_in before) (occasion_of told event)).1)
+
+-- the same by a view and a gate
+abbrev pub IsServedWellBy : {V N R G : Type 0} → BusView V N R → Gate G → State G → Event N → List (Action N) → State G → Type 0
+IsServedWellBy view gate before event actions after = IsServedWell view.told gate.passes view.alone before event actions after

@@ -2,13 +2,13 @@
 
 ghost use Rattle.std.specs.Prelude.{◌≡◌, ◌≢◌, ◌↔◌, [], IsTrue, true, false, is_some, OnErr, IfOk, position, count_by};
 ghost use Rattle.std.specs.List.{AllByRecursion};
-ghost use Rattle.router_core.specs.Acts.{Brings};
+ghost use Rattle.router_core.specs.Acts.{BringsBy};
 ghost use Rattle.router_core.specs.Deeds.{CarriesOwn};
 ghost use Rattle.router_core.specs.Events.{CanHappen, IsFree};
 ghost use Rattle.router_core.specs.Standing.{fresh, has_slot, is_unnamed};
 ghost use Rattle.router_core.specs.declared.event.Event.TheVariants.{Opened, Bytes, Next, Turn, Mail, Closed, Full, Tick};
 ghost use Rattle.router.specs.Numbers.{number_at};
-ghost use Rattle.router.specs.OneEvent.{IsServedWell};
+ghost use Rattle.router.specs.OneEvent.{IsServedWellBy};
 ghost use Rattle.router.specs.Upcoming.{HasNoNext};
 
 use crate::login::Login;
@@ -96,7 +96,7 @@ impl<V: BusView, G: Gate> Engine<V, G> {
         requires { CanHappen V.registry_of self.old.view.registry self.old.standing
             (Opened key challenge) }
         ensures brings { IfOk result
-            (λ actions. Brings V.told V.registry_of G.passes V.alone self.old (Opened key challenge)
+            (λ actions. BringsBy V.BusView G.Gate self.old (Opened key challenge)
             actions.items self.new) }
         ensures err { OnErr result (self.new ≡ self.old) }
     {
@@ -107,7 +107,7 @@ impl<V: BusView, G: Gate> Engine<V, G> {
     /// Bytes of a connection came. Without memory they stay where they were.
     fn bytes(&mut self, key: usize, piece: &mut Vec<u8>) -> Result<Vec<Action<V::Note>>, AllocError>
         ensures brings { IfOk result
-            (λ actions. Brings V.told V.registry_of G.passes V.alone self.old (Bytes key piece.old)
+            (λ actions. BringsBy V.BusView G.Gate self.old (Bytes key piece.old)
             actions.items self.new) }
         ensures err { OnErr result (self.new ≡ self.old) }
         ensures kept { OnErr result (piece.new ≡ piece.old) }
@@ -165,7 +165,7 @@ impl<V: BusView, G: Gate> Engine<V, G> {
     /// The next whole message of a connection is served. There are no actions where there is none.
     fn next(&mut self, right: &V::Right, key: usize) -> Result<Vec<Action<V::Note>>, AllocError>
         ensures brings { IfOk result
-            (λ actions. Brings V.told V.registry_of G.passes V.alone self.old (Next key)
+            (λ actions. BringsBy V.BusView G.Gate self.old (Next key)
             actions.items self.new) }
         ensures err { OnErr result (self.new ≡ self.old) }
     {
@@ -183,7 +183,7 @@ impl<V: BusView, G: Gate> Engine<V, G> {
         requires { CanHappen V.registry_of self.old.view.registry self.old.standing
             (Turn keys.now) }
         ensures brings { IfOk result
-            (λ actions. Brings V.told V.registry_of G.passes V.alone self.old (Turn keys.now)
+            (λ actions. BringsBy V.BusView G.Gate self.old (Turn keys.now)
             actions.items self.new) }
         ensures err { OnErr result (self.new ≡ self.old) }
     {
@@ -200,7 +200,7 @@ impl<V: BusView, G: Gate> Engine<V, G> {
         requires { CanHappen V.registry_of self.old.view.registry self.old.standing
             (Mail slot envelope.now) }
         ensures brings { IfOk result
-            (λ actions. Brings V.told V.registry_of G.passes V.alone self.old
+            (λ actions. BringsBy V.BusView G.Gate self.old
             (Mail slot envelope.now) actions.items self.new) }
         ensures err { OnErr result (self.new ≡ self.old) }
     {
@@ -211,7 +211,7 @@ impl<V: BusView, G: Gate> Engine<V, G> {
     /// A connection is gone, and its key is free.
     fn closed(&mut self, right: &V::Right, key: usize) -> Result<Vec<Action<V::Note>>, AllocError>
         ensures brings { IfOk result
-            (λ actions. Brings V.told V.registry_of G.passes V.alone self.old (Closed key)
+            (λ actions. BringsBy V.BusView G.Gate self.old (Closed key)
             actions.items self.new) }
         ensures err { OnErr result (self.new ≡ self.old) }
     {
@@ -222,7 +222,7 @@ impl<V: BusView, G: Gate> Engine<V, G> {
     /// The connection of a number takes no more mail.
     fn full(&mut self, right: &V::Right, number: u64) -> Result<Vec<Action<V::Note>>, AllocError>
         ensures brings { IfOk result
-            (λ actions. Brings V.told V.registry_of G.passes V.alone self.old (Full number)
+            (λ actions. BringsBy V.BusView G.Gate self.old (Full number)
             actions.items self.new) }
         ensures err { OnErr result (self.new ≡ self.old) }
     {
@@ -233,7 +233,7 @@ impl<V: BusView, G: Gate> Engine<V, G> {
     /// Time has passed.
     fn tick(&mut self, right: &V::Right) -> Result<Vec<Action<V::Note>>, AllocError>
         ensures brings { IfOk result
-            (λ actions. Brings V.told V.registry_of G.passes V.alone self.old Tick actions.items
+            (λ actions. BringsBy V.BusView G.Gate self.old Tick actions.items
             self.new) }
         ensures err { OnErr result (self.new ≡ self.old) }
     {
@@ -249,7 +249,7 @@ impl<V: BusView, G: Gate> Engine<V, G> {
     ) -> Result<Vec<Action<V::Note>>, AllocError>
         requires { CanHappen V.registry_of self.old.view.registry self.old.standing event.old }
         ensures brings { IfOk result
-            (λ actions. Brings V.told V.registry_of G.passes V.alone self.old event.old
+            (λ actions. BringsBy V.BusView G.Gate self.old event.old
             actions.items self.new) }
         ensures err { OnErr result (self.new ≡ self.old) }
         ensures kept { OnErr result (event.new ≡ event.old) }
@@ -286,10 +286,10 @@ impl<V: BusView, G: Gate> Engine<V, G> {
     ) -> Result<Vec<Action<V::Note>>, AllocError>
         requires { CanHappen V.registry_of self.old.view.registry self.old.standing event.old }
         ensures brings { IfOk result
-            (λ actions. Brings V.told V.registry_of G.passes V.alone self.old event.old
+            (λ actions. BringsBy V.BusView G.Gate self.old event.old
             actions.items self.new) }
         ensures served { IfOk result
-            (λ actions. IsServedWell V.told G.passes V.alone self.old event.old actions.items
+            (λ actions. IsServedWellBy V.BusView G.Gate self.old event.old actions.items
             self.new) }
         ensures notes { IfOk result
             (λ actions. AllByRecursion (CarriesOwn V.registry_of self.old.view.registry)

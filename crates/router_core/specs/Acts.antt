@@ -11,8 +11,10 @@ use Rattle.message_core.specs.Messages.{Message}
 use Rattle.driver.specs.declared.call.Call.{Call}
 use Rattle.driver.specs.Calls.{Reading, IsCall}
 use Rattle.bus_view.specs.Views.{Knowledge, IsNoted}
+use Rattle.bus_view.specs.declared.view.BusView.{Ghosts as BusView}
 use Rattle.router_core.specs.declared.action.Action.{Action}
 use Rattle.router_core.specs.declared.event.Event.{Event}
+use Rattle.router_core.specs.declared.gate.Gate.{Ghosts as Gate}
 use Rattle.router_core.specs.Answers.{Heard, Refuses, HearsChange, HearsChanges, HearsAnswer, HearsVerdict, HearsPresent}
 use Rattle.router_core.specs.Deeds.{Deed, GatedCall, PassesAll, announced, AreDoneBy}
 use Rattle.router_core.specs.Events.{Occasion, occasion_of, script}
@@ -101,6 +103,10 @@ pub record Brings {N G : Type 0} (told : N → History) (registry_of : N → ℕ
   pub view : after.view ≡ ends.view
   pub gate : after.gate ≡ ends.gate
   pub done : actions ≡ ends.actions
+
+-- the same by a view and a gate
+abbrev pub BringsBy : {V N R G : Type 0} → BusView V N R → Gate G → State G → Event N → List (Action N) → State G → Type 0
+BringsBy view gate before event actions after = Brings view.told view.registry_of gate.passes view.alone before event actions after
 
 -- The occasion is served so: all that was asked and answered, and the deeds.
 pub record IsServedBy (alone : Bool) (before : Standing) (knew : Knowledge) (occasion : Occasion) (asked : List Exchange) (deeds : List Deed) (after : Standing) (knows : Knowledge) : Type 0 where

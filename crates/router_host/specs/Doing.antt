@@ -2,12 +2,15 @@
 use Rattle.std.specs.Prelude.{◌≡◌, ◌⊎◌, ℕ, Bool, Some, None, Option, List, slice_set}
 use Rattle.seq_bus_core.specs.Histories.{History}
 use Rattle.seq_bus_core.specs.declared.connection.Conn.{Conn}
+use Rattle.bus_view.specs.declared.view.BusView.{Ghosts as BusView}
 use Rattle.outbox_core.specs.declared.envelope.Envelope.{Envelope}
 use Rattle.router_core.specs.declared.event.Event.{Event}
 use Rattle.router_core.specs.declared.event.Event.TheVariants as event
+use Rattle.router_core.specs.declared.gate.Gate.{Ghosts as Gate}
 use Rattle.router_core.specs.Deeds.{GatedCall}
 use Rattle.router_host_core.specs.declared.ending.EndCause.{EndCause}
 use Rattle.router_host_core.specs.declared.post.StartRequest.{StartRequest}
+use Rattle.router_host_core.specs.declared.post.Post.{Ghosts as Post}
 use Rattle.router_host_core.specs.Carrying.{Each, line_at, ended_at}
 use Rattle.router_host_core.specs.Sockets.{IsFlushedAt, IsTakenOut, cause_of, let_go}
 use Rattle.router_host_core.specs.States.{LineState}
@@ -103,3 +106,9 @@ module _ {P N G : Type 0} (told : N → History) (passes : G → GatedCall → G
   pub record Does (before after : Hosted P G N) : Type 0 where
     pub deeds : List (Deed N)
     pub done : Each IsDone deeds before after
+
+-- the same by a view, a gate and a post
+abbrev pub DoesBy : {V N R G P : Type 0} → BusView V N R → Gate G → Post P V N R → Hosted P G N →
+    Hosted P G N → Type 0
+DoesBy view gate post before after =
+    Does view.told gate.passes view.alone post.puts post.starts post.takes before after

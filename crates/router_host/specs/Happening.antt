@@ -2,13 +2,16 @@
 use Rattle.std.specs.Prelude.{◌≡◌, ℕ, Bool, Some, List, [], position}
 use Rattle.seq_bus_core.specs.Histories.{History}
 use Rattle.seq_bus_core.specs.declared.connection.Conn.{Conn}
+use Rattle.bus_view.specs.declared.view.BusView.{Ghosts as BusView}
 use Rattle.outbox_core.specs.declared.envelope.Envelope.{Envelope}
 use Rattle.router_core.specs.declared.action.Action.{Action}
 use Rattle.router_core.specs.declared.event.Event.{Event}
+use Rattle.router_core.specs.declared.gate.Gate.{Ghosts as Gate}
 use Rattle.router_core.specs.Deeds.{GatedCall}
 use Rattle.router_core.specs.Standing.{has_slot}
 use Rattle.router.specs.OneEvent.{IsServedWell}
 use Rattle.router_host_core.specs.declared.post.StartRequest.{StartRequest}
+use Rattle.router_host_core.specs.declared.post.Post.{Ghosts as Post}
 use Rattle.router_host_core.specs.Carrying.{GoesOn, IsBlockedAt}
 use Rattle.router_host.specs.States.{Hosted}
 
@@ -33,6 +36,12 @@ pub record Happens {P N G : Type 0} (told : N → History) (passes : G → Gated
   pub serves : IsServedWell told passes alone between.engine event actions after.engine
   pub carried : GoesOn puts starts actions between.carried after.undone after.carried
   pub kept : after.kept ≡ between.kept
+
+-- the same by a view, a gate and a post
+abbrev pub HappensBy : {V N R G P : Type 0} → BusView V N R → Gate G → Post P V N R → Hosted P G N →
+    Event N → Hosted P G N → Type 0
+HappensBy view gate post before event after =
+    Happens view.told gate.passes view.alone post.puts post.starts before event after
 
 -- The socket of the connection that has the slot took no more bytes.
 abbrev pub IsSlotBlocked : {P G N : Type 0} → Hosted P G N → ℕ → Type 0

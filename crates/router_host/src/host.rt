@@ -5,7 +5,7 @@ ghost use Rattle.router_host_core.specs.Carrying.{line_at};
 ghost use Rattle.router_host_core.specs.Sockets.{unblocked_at};
 ghost use Rattle.router_core.specs.declared.event.Event.TheVariants.{Child};
 ghost use Rattle.router_host.specs.Doing.{with_lines};
-ghost use Rattle.router_host.specs.Happening.{CatchesUp, Happens};
+ghost use Rattle.router_host.specs.Happening.{CatchesUp, HappensBy};
 ghost use Rattle.router_host.specs.Opening.{MakesRoom, Opens};
 
 use crate::kept::Kept;
@@ -159,7 +159,7 @@ impl<V: BusView, G: Gate, P: Post<V>, S: Socket> Host<V, G, P, S> {
     /// be told again.
     pub fn end_start(&mut self, right: &V::Right, end: Box<StartEnd>) -> Result<(), AllocError>
         ensures happens { OnOk result
-            (Happens V.told G.passes V.alone P.puts P.starts self.old (Child end) self.new) }
+            (HappensBy V.BusView G.Gate P.Post self.old (Child end) self.new) }
         ensures err { OnErr result (CatchesUp P.puts P.starts self.old self.new) }
     {
         self.bring(right, &mut Event::Child(end))

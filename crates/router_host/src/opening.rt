@@ -5,7 +5,7 @@ ghost use Rattle.std.specs.List.{AllByRecursion};
 ghost use Rattle.router_core.specs.Deeds.{CarriesOwn};
 ghost use Rattle.router_core.specs.Events.{IsFree};
 ghost use Rattle.router_core.specs.declared.event.Event.TheVariants as event;
-ghost use Rattle.router.specs.OneEvent.{IsServedWell};
+ghost use Rattle.router.specs.OneEvent.{IsServedWellBy};
 
 use bus_view::BusView;
 use router::Engine;
@@ -45,7 +45,7 @@ pub(crate) fn open<V: BusView, G: Gate>(
     ensures notes { IfOk result (λ opened.
         AllByRecursion (CarriesOwn V.registry_of engine.old.view.registry) opened.actions.items) }
     ensures key { IfOk result (λ opened. IsFree engine.old.standing opened.key) }
-    ensures served { IfOk result (λ opened. IsServedWell V.told G.passes V.alone engine.old
+    ensures served { IfOk result (λ opened. IsServedWellBy V.BusView G.Gate engine.old
         (event.Opened opened.key challenge) opened.actions.items engine.new) }
     ensures registry { engine.new.view.registry ≡ engine.old.view.registry }
     ensures err { OnErr result (engine.new ≡ engine.old) }

@@ -6,8 +6,8 @@ ghost use Rattle.router_core.specs.Deeds.{CarriesOwn};
 ghost use Rattle.router_core.specs.Events.{CanHappen};
 ghost use Rattle.router_core.specs.declared.event.Event.TheVariants.{Full, Tick};
 ghost use Rattle.router_host_core.specs.Carrying.{GoesOn};
-ghost use Rattle.router_host.specs.Doing.{Does, IsBrought};
-ghost use Rattle.router_host.specs.Happening.{CatchesUp, Happens, IsSlotBlocked};
+ghost use Rattle.router_host.specs.Doing.{DoesBy, IsBrought};
+ghost use Rattle.router_host.specs.Happening.{CatchesUp, HappensBy, IsSlotBlocked};
 ghost use Rattle.router_host.specs.Keeping.{CanWait};
 
 use crate::host::Host;
@@ -38,7 +38,7 @@ impl<V: BusView, G: Gate, P: Post<V>, S: Socket> Host<V, G, P, S> {
     /// There was no memory for something, or no room for a start. It is done first in the next
     /// turn, which is to come some time later.
     pub fn turn(&mut self, right: &V::Right) -> Result<(), AllocError>
-        ensures does { Does V.told G.passes V.alone P.puts P.starts P.takes self.old self.new }
+        ensures does { DoesBy V.BusView G.Gate P.Post self.old self.new }
         ensures ok { OnOk result (self.new.kept ≡ None) }
     {
         let done = self.do_all(right);
@@ -47,7 +47,7 @@ impl<V: BusView, G: Gate, P: Post<V>, S: Socket> Host<V, G, P, S> {
     }
 
     fn do_all(&mut self, right: &V::Right) -> Result<(), AllocError>
-        ensures does { Does V.told G.passes V.alone P.puts P.starts P.takes self.old self.new }
+        ensures does { DoesBy V.BusView G.Gate P.Post self.old self.new }
         ensures ok { OnOk result (self.new.kept ≡ None) }
     {
         let served = self.serve_all(right);
@@ -58,7 +58,7 @@ impl<V: BusView, G: Gate, P: Post<V>, S: Socket> Host<V, G, P, S> {
 
     /// Gives each socket what waits for it.
     fn flush_all(&mut self)
-        ensures does { Does V.told G.passes V.alone P.puts P.starts P.takes self.old self.new }
+        ensures does { DoesBy V.BusView G.Gate P.Post self.old self.new }
         ensures same { self.new.kept ≡ self.old.kept }
     {
         self.carrier.lines.flush_all();
@@ -82,7 +82,7 @@ impl<V: BusView, G: Gate, P: Post<V>, S: Socket> Host<V, G, P, S> {
     /// There was no memory for it. A tick is wanted still.
     pub fn tick(&mut self, right: &V::Right) -> Result<(), AllocError>
         ensures happens { OnOk result
-            (Happens V.told G.passes V.alone P.puts P.starts self.old Tick self.new) }
+            (HappensBy V.BusView G.Gate P.Post self.old Tick self.new) }
         ensures err { OnErr result (CatchesUp P.puts P.starts self.old self.new) }
     {
         self.bring(right, &mut Event::Tick)?;
@@ -92,7 +92,7 @@ impl<V: BusView, G: Gate, P: Post<V>, S: Socket> Host<V, G, P, S> {
     }
 
     fn serve_all(&mut self, right: &V::Right) -> Result<(), AllocError>
-        ensures does { Does V.told G.passes V.alone P.puts P.starts P.takes self.old self.new }
+        ensures does { DoesBy V.BusView G.Gate P.Post self.old self.new }
         ensures ok { OnOk result (self.new.kept ≡ None) }
     {
         self.catch_up(right)?;
@@ -103,7 +103,7 @@ impl<V: BusView, G: Gate, P: Post<V>, S: Socket> Host<V, G, P, S> {
 
     fn let_go_all(&mut self, right: &V::Right) -> Result<(), AllocError>
         requires none { self.old.kept ≡ None }
-        ensures does { Does V.told G.passes V.alone P.puts P.starts P.takes self.old self.new }
+        ensures does { DoesBy V.BusView G.Gate P.Post self.old self.new }
         ensures ok { OnOk result (self.new.kept ≡ None) }
     {
         self.close_over(right)?;
@@ -155,7 +155,7 @@ impl<V: BusView, G: Gate, P: Post<V>, S: Socket> Host<V, G, P, S> {
         requires { CanHappen V.registry_of self.old.engine.view.registry
             self.old.engine.standing event.old }
         ensures happens { OnOk result
-            (Happens V.told G.passes V.alone P.puts P.starts self.old event.old self.new) }
+            (HappensBy V.BusView G.Gate P.Post self.old event.old self.new) }
         ensures err { OnErr result (CatchesUp P.puts P.starts self.old self.new) }
         ensures handed_back { OnErr result (event.new ≡ event.old) }
     {
@@ -185,7 +185,7 @@ impl<V: BusView, G: Gate, P: Post<V>, S: Socket> Host<V, G, P, S> {
 
     /// Serves what was kept.
     fn serve_kept(&mut self, right: &V::Right) -> Result<(), AllocError>
-        ensures does { Does V.told G.passes V.alone P.puts P.starts P.takes self.old self.new }
+        ensures does { DoesBy V.BusView G.Gate P.Post self.old self.new }
         ensures ok { OnOk result (self.new.kept ≡ None) }
     {
         match self.kept.take() {
@@ -198,7 +198,7 @@ impl<V: BusView, G: Gate, P: Post<V>, S: Socket> Host<V, G, P, S> {
     /// Serves each connection that is ready.
     fn serve_ready(&mut self, right: &V::Right) -> Result<(), AllocError>
         requires none { self.old.kept ≡ None }
-        ensures does { Does V.told G.passes V.alone P.puts P.starts P.takes self.old self.new }
+        ensures does { DoesBy V.BusView G.Gate P.Post self.old self.new }
         ensures ok { OnOk result (self.new.kept ≡ None) }
     {
         match self.carrier.lines.take_ready() {
@@ -221,7 +221,7 @@ impl<V: BusView, G: Gate, P: Post<V>, S: Socket> Host<V, G, P, S> {
     /// is read first.
     fn serve_line(&mut self, right: &V::Right, key: usize) -> Result<(), AllocError>
         requires none { self.old.kept ≡ None }
-        ensures does { Does V.told G.passes V.alone P.puts P.starts P.takes self.old self.new }
+        ensures does { DoesBy V.BusView G.Gate P.Post self.old self.new }
         ensures ok { OnOk result (self.new.kept ≡ None) }
     {
         let named = self.engine.number_of(key).is_some();
@@ -241,7 +241,7 @@ impl<V: BusView, G: Gate, P: Post<V>, S: Socket> Host<V, G, P, S> {
     /// many at once each time that those before seem to have changed rules.
     fn serve_share(&mut self, right: &V::Right, key: usize) -> Result<(), AllocError>
         requires none { self.old.kept ≡ None }
-        ensures does { Does V.told G.passes V.alone P.puts P.starts P.takes self.old self.new }
+        ensures does { DoesBy V.BusView G.Gate P.Post self.old self.new }
         ensures ok { OnOk result (self.new.kept ≡ None) }
     {
         let mut left = SHARE;
@@ -264,7 +264,7 @@ impl<V: BusView, G: Gate, P: Post<V>, S: Socket> Host<V, G, P, S> {
     /// Serves the next messages of a connection, so many at most.
     fn serve_up_to(&mut self, right: &V::Right, key: usize, count: usize) -> Result<(), AllocError>
         requires none { self.old.kept ≡ None }
-        ensures does { Does V.told G.passes V.alone P.puts P.starts P.takes self.old self.new }
+        ensures does { DoesBy V.BusView G.Gate P.Post self.old self.new }
         ensures ok { OnOk result (self.new.kept ≡ None) }
     {
         if count < 2 {
@@ -277,7 +277,7 @@ impl<V: BusView, G: Gate, P: Post<V>, S: Socket> Host<V, G, P, S> {
     /// Reads from a connection, once.
     fn read(&mut self, right: &V::Right, key: usize) -> Result<(), AllocError>
         requires none { self.old.kept ≡ None }
-        ensures does { Does V.told G.passes V.alone P.puts P.starts P.takes self.old self.new }
+        ensures does { DoesBy V.BusView G.Gate P.Post self.old self.new }
         ensures ok { OnOk result (self.new.kept ≡ None) }
     {
         match self.carrier.lines.pull(key, &mut self.room) {
@@ -293,7 +293,7 @@ impl<V: BusView, G: Gate, P: Post<V>, S: Socket> Host<V, G, P, S> {
     /// The engine is given the first bytes of the room.
     fn feed(&mut self, right: &V::Right, key: usize, count: usize) -> Result<(), AllocError>
         requires none { self.old.kept ≡ None }
-        ensures does { Does V.told G.passes V.alone P.puts P.starts P.takes self.old self.new }
+        ensures does { DoesBy V.BusView G.Gate P.Post self.old self.new }
         ensures ok { OnOk result (self.new.kept ≡ None) }
     {
         let bytes = self.room.get(..count).unwrap_or(b"");
@@ -309,7 +309,7 @@ impl<V: BusView, G: Gate, P: Post<V>, S: Socket> Host<V, G, P, S> {
     /// Takes the mail that came for the slots of this router.
     fn take_mail(&mut self, right: &V::Right) -> Result<(), AllocError>
         requires none { self.old.kept ≡ None }
-        ensures does { Does V.told G.passes V.alone P.puts P.starts P.takes self.old self.new }
+        ensures does { DoesBy V.BusView G.Gate P.Post self.old self.new }
         ensures ok { OnOk result (self.new.kept ≡ None) }
     {
         match self.carrier.slots.take() {
@@ -335,7 +335,7 @@ impl<V: BusView, G: Gate, P: Post<V>, S: Socket> Host<V, G, P, S> {
     /// socket takes no more bytes, none is taken.
     fn take_mail_of(&mut self, right: &V::Right, slot: u16) -> Result<(), AllocError>
         requires none { self.old.kept ≡ None }
-        ensures does { Does V.told G.passes V.alone P.puts P.starts P.takes self.old self.new }
+        ensures does { DoesBy V.BusView G.Gate P.Post self.old self.new }
         ensures ok { OnOk result (self.new.kept ≡ None) }
         ensures blocked { IsSlotBlocked self.old slot → self.new ≡ self.old }
     {
@@ -372,7 +372,7 @@ impl<V: BusView, G: Gate, P: Post<V>, S: Socket> Host<V, G, P, S> {
     /// Takes an envelope of a slot. Tells whether there may be more to be taken now.
     fn take_one(&mut self, right: &V::Right, slot: u16) -> Result<bool, AllocError>
         requires none { self.old.kept ≡ None }
-        ensures does { Does V.told G.passes V.alone P.puts P.starts P.takes self.old self.new }
+        ensures does { DoesBy V.BusView G.Gate P.Post self.old self.new }
         ensures ok { OnOk result (self.new.kept ≡ None) }
         ensures blocked { IsSlotBlocked self.old slot → self.new ≡ self.old }
     {
@@ -389,7 +389,7 @@ impl<V: BusView, G: Gate, P: Post<V>, S: Socket> Host<V, G, P, S> {
     /// Lets go of the connections that are over.
     fn close_over(&mut self, right: &V::Right) -> Result<(), AllocError>
         requires none { self.old.kept ≡ None }
-        ensures does { Does V.told G.passes V.alone P.puts P.starts P.takes self.old self.new }
+        ensures does { DoesBy V.BusView G.Gate P.Post self.old self.new }
         ensures ok { OnOk result (self.new.kept ≡ None) }
     {
         match self.carrier.lines.take_over() {
@@ -411,7 +411,7 @@ impl<V: BusView, G: Gate, P: Post<V>, S: Socket> Host<V, G, P, S> {
     /// Lets go of a connection, where it is over.
     fn close(&mut self, right: &V::Right, key: usize) -> Result<(), AllocError>
         requires none { self.old.kept ≡ None }
-        ensures does { Does V.told G.passes V.alone P.puts P.starts P.takes self.old self.new }
+        ensures does { DoesBy V.BusView G.Gate P.Post self.old self.new }
         ensures ok { OnOk result (self.new.kept ≡ None) }
     {
         let Some(cause) = self.carrier.lines.let_go(key) else {
@@ -433,7 +433,7 @@ impl<V: BusView, G: Gate, P: Post<V>, S: Socket> Host<V, G, P, S> {
 
     /// Puts out whoever took no more mail. What that announces may put out more.
     fn put_out_all(&mut self, right: &V::Right) -> Result<(), AllocError>
-        ensures does { Does V.told G.passes V.alone P.puts P.starts P.takes self.old self.new }
+        ensures does { DoesBy V.BusView G.Gate P.Post self.old self.new }
         ensures same { self.new.kept ≡ self.old.kept }
     {
         for _ in 0..SLOTS {
@@ -446,7 +446,7 @@ impl<V: BusView, G: Gate, P: Post<V>, S: Socket> Host<V, G, P, S> {
 
     /// Puts out one who took no more mail. Tells whether there was one.
     fn put_out_one(&mut self, right: &V::Right) -> Result<bool, AllocError>
-        ensures does { Does V.told G.passes V.alone P.puts P.starts P.takes self.old self.new }
+        ensures does { DoesBy V.BusView G.Gate P.Post self.old self.new }
         ensures same { self.new.kept ≡ self.old.kept }
     {
         let Some(conn) = self.carrier.put_out.take() else {
@@ -467,7 +467,7 @@ impl<V: BusView, G: Gate, P: Post<V>, S: Socket> Host<V, G, P, S> {
     /// The engine is told that a connection took no more mail.
     fn tell_full(&mut self, right: &V::Right, conn: Conn) -> Result<(), AllocError>
         ensures happens { OnOk result
-            (Happens V.told G.passes V.alone P.puts P.starts self.old (Full conn.number) self.new) }
+            (HappensBy V.BusView G.Gate P.Post self.old (Full conn.number) self.new) }
         ensures err { OnErr result (CatchesUp P.puts P.starts self.old self.new) }
     {
         self.bring(

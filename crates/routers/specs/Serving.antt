@@ -2,10 +2,13 @@
 use Rattle.std.specs.Prelude.{◌≡◌, ◌⊎◌, ℕ, Bool, Option, List}
 use Rattle.seq_bus_core.specs.Histories.{History}
 use Rattle.seq_bus_core.specs.declared.connection.Conn.{Conn}
+use Rattle.bus_view.specs.declared.view.BusView.{Ghosts as BusView}
 use Rattle.outbox_core.specs.declared.envelope.Envelope.{Envelope}
 use Rattle.router_core.specs.declared.event.Event.TheVariants.{Tick}
+use Rattle.router_core.specs.declared.gate.Gate.{Ghosts as Gate}
 use Rattle.router_core.specs.Deeds.{GatedCall}
 use Rattle.router_host_core.specs.declared.post.StartRequest.{StartRequest}
+use Rattle.router_host_core.specs.declared.post.Post.{Ghosts as Post}
 use Rattle.router_host_core.specs.Carrying.{Each, line_at}
 use Rattle.router_host_core.specs.Sockets.{unblocked_at}
 use Rattle.router_host.specs.Doing.{Does, with_lines}
@@ -44,3 +47,9 @@ module _ {P N G : Type 0} (told : N → History) (passes : G → GatedCall → G
   pub record WorksOn (before after : Hosted P G N) : Type 0 where
     pub happenings : List Happening
     pub happened : Each HasHappened happenings before after
+
+-- the same by a view, a gate and a post
+abbrev pub WorksOnBy : {V N R G P : Type 0} → BusView V N R → Gate G → Post P V N R → Hosted P G N →
+    Hosted P G N → Type 0
+WorksOnBy view gate post before after =
+    WorksOn view.told gate.passes view.alone post.puts post.starts post.takes before after

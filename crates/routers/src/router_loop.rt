@@ -1,7 +1,7 @@
 //! One router, as long as it serves.
 
 ghost use Rattle.std.specs.Prelude.{◌≡◌};
-ghost use Rattle.routers.specs.Serving.{WorksOn};
+ghost use Rattle.routers.specs.Serving.{WorksOnBy};
 
 use crate::coordinator::{Coordinator, Wake};
 use crate::fault::Fault;
@@ -77,7 +77,7 @@ impl<'a, V: BusView, G: Gate, P: Post<V>, S: Socket, E: Source<S>, W: Wake + Dro
         right: &V::Right,
         recorder: &mut T,
     ) -> Result<(), Fault>
-        ensures serves { WorksOn V.told G.passes V.alone P.puts P.starts P.takes self.old self.new }
+        ensures serves { WorksOnBy V.BusView G.Gate P.Post self.old self.new }
     {
         for _ in rt.forever() {
             self.rest()?;
@@ -124,7 +124,7 @@ impl<'a, V: BusView, G: Gate, P: Post<V>, S: Socket, E: Source<S>, W: Wake + Dro
 
     /// Tells the host what happened, and whether nothing happens any more.
     fn take_events<R: Wait>(&mut self, rt: &R, right: &V::Right) -> bool
-        ensures serves { WorksOn V.told G.passes V.alone P.puts P.starts P.takes self.old self.new }
+        ensures serves { WorksOnBy V.BusView G.Gate P.Post self.old self.new }
     {
         self.coordinator.look_for_connections(self.me);
         for _ in rt.forever() {
@@ -140,7 +140,7 @@ impl<'a, V: BusView, G: Gate, P: Post<V>, S: Socket, E: Source<S>, W: Wake + Dro
 
     /// Tells the host of an event, and whether it is the last.
     fn take_event(&mut self, right: &V::Right, event: SourceEvent<S>) -> bool
-        ensures serves { WorksOn V.told G.passes V.alone P.puts P.starts P.takes self.old self.new }
+        ensures serves { WorksOnBy V.BusView G.Gate P.Post self.old self.new }
     {
         match event {
             SourceEvent::Accepted { socket, challenge } => {
@@ -161,7 +161,7 @@ impl<'a, V: BusView, G: Gate, P: Post<V>, S: Socket, E: Source<S>, W: Wake + Dro
 
     /// A connection came. It is dropped where there is no room for it.
     fn open(&mut self, right: &V::Right, mut socket: S, challenge: Option<[u8; 16]>)
-        ensures serves { WorksOn V.told G.passes V.alone P.puts P.starts P.takes self.old self.new }
+        ensures serves { WorksOnBy V.BusView G.Gate P.Post self.old self.new }
     {
         if !self.source.watch(self.host.free_key(), &mut socket) {
             return;
@@ -171,7 +171,7 @@ impl<'a, V: BusView, G: Gate, P: Post<V>, S: Socket, E: Source<S>, W: Wake + Dro
 
     /// Does what there is to do.
     fn turn(&mut self, right: &V::Right)
-        ensures serves { WorksOn V.told G.passes V.alone P.puts P.starts P.takes self.old self.new }
+        ensures serves { WorksOnBy V.BusView G.Gate P.Post self.old self.new }
     {
         self.take_flags();
         let ticked = self.tick(right);
@@ -182,7 +182,7 @@ impl<'a, V: BusView, G: Gate, P: Post<V>, S: Socket, E: Source<S>, W: Wake + Dro
 
     /// Time has passed, where a tick is wanted.
     fn tick(&mut self, right: &V::Right) -> Result<(), AllocError>
-        ensures serves { WorksOn V.told G.passes V.alone P.puts P.starts P.takes self.old self.new }
+        ensures serves { WorksOnBy V.BusView G.Gate P.Post self.old self.new }
     {
         if !self.host.wants_tick() {
             return Ok(());

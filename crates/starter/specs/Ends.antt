@@ -5,12 +5,15 @@ use Rattle.seq_bus_core.specs.Histories.{History}
 use Rattle.seq_bus_core.specs.declared.connection.Conn.{Conn}
 use Rattle.seq_bus_core.specs.declared.change.Change.{Change}
 use Rattle.seq_bus_core.specs.declared.change.Change.TheVariants.{ChildEnded, StartTimedOut}
+use Rattle.bus_view.specs.declared.view.BusView.{Ghosts as BusView}
 use Rattle.outbox_core.specs.declared.envelope.Envelope.{Envelope}
 use Rattle.router_core.specs.declared.event.Event.TheVariants.{Child}
 use Rattle.router_core.specs.declared.start_end.StartEnd.{StartEnd}
 use Rattle.router_core.specs.declared.start_end.HowEnded.TheVariants.{Program, TimedOut}
+use Rattle.router_core.specs.declared.gate.Gate.{Ghosts as Gate}
 use Rattle.router_core.specs.Deeds.{GatedCall}
 use Rattle.router_host_core.specs.declared.post.StartRequest.{StartRequest}
+use Rattle.router_host_core.specs.declared.post.Post.{Ghosts as Post}
 use Rattle.router_host_core.specs.Carrying.{Each}
 use Rattle.router_host.specs.States.{Hosted}
 use Rattle.router_host.specs.Happening.{CatchesUp, Happens}
@@ -54,6 +57,12 @@ module _ {P N G : Type 0} (told : N → History) (passes : G → GatedCall → G
     pub happens : Each IsDone done before between
     pub catches_up : MayCatchUp between after
 
+-- the same by a view, a gate and a post
+abbrev pub MayCatchUpBy : {V N R G P : Type 0} → BusView V N R → Gate G → Post P V N R →
+    Hosted P G N → Hosted P G N → Type 0
+MayCatchUpBy view gate post before after =
+    MayCatchUp view.told gate.passes view.alone post.puts post.starts before after
+
 -- What a starter does to its host.
 pub data Step : Type 0 where
   -- What the supervisor decided is done.
@@ -76,3 +85,9 @@ module _ {P N G : Type 0} (told : N → History) (passes : G → GatedCall → G
   pub record MakesSteps (before after : Hosted P G N) : Type 0 where
     pub steps : List Step
     pub made : Each IsStep steps before after
+
+-- the same by a view, a gate and a post
+abbrev pub MakesStepsBy : {V N R G P : Type 0} → BusView V N R → Gate G → Post P V N R →
+    Hosted P G N → Hosted P G N → Type 0
+MakesStepsBy view gate post before after =
+    MakesSteps view.told gate.passes view.alone post.puts post.starts post.takes before after

@@ -1,7 +1,7 @@
 //! The programs of services: which are run, and what routers are told of them.
 
 ghost use Rattle.std.specs.Prelude.{◌≡◌, ◌<◌, ◌++◌, ◌∷◌, [], IfErr, IfSome, OnOk, OnErr, reverse, vec_capacity, vec_len};
-ghost use Rattle.starter.specs.Ends.{AreDone, HasEnded, IsDone, MakesSteps, MayCatchUp, end_of};
+ghost use Rattle.starter.specs.Ends.{AreDone, HasEnded, IsDone, MakesStepsBy, MayCatchUpBy, end_of};
 
 use bus_view::BusView;
 use names::BusName;
@@ -104,8 +104,7 @@ impl<V: BusView, G: Gate, P: Post<V>, S: Socket, Q: Programs + Drop> Starter<V, 
     /// There was no memory for something. It is done first in the next turn, which is to come some
     /// time later.
     pub fn turn<R: Wait>(&mut self, rt: &R, right: &V::Right, now: u64) -> Result<bool, AllocError>
-        ensures steps { MakesSteps V.told G.passes V.alone P.puts P.starts P.takes
-            self.old.host self.new.host }
+        ensures steps { MakesStepsBy V.BusView G.Gate P.Post self.old.host self.new.host }
     {
         let told = self.tell_all(rt, right, now);
         let ticked = self.tick(right);
@@ -115,8 +114,7 @@ impl<V: BusView, G: Gate, P: Post<V>, S: Socket, Q: Programs + Drop> Starter<V, 
 
     /// Time has passed, where a tick is wanted.
     fn tick(&mut self, right: &V::Right) -> Result<(), AllocError>
-        ensures steps { MakesSteps V.told G.passes V.alone P.puts P.starts P.takes
-            self.old.host self.new.host }
+        ensures steps { MakesStepsBy V.BusView G.Gate P.Post self.old.host self.new.host }
     {
         if !self.host.wants_tick() {
             return Ok(());
@@ -151,8 +149,7 @@ impl<V: BusView, G: Gate, P: Post<V>, S: Socket, Q: Programs + Drop> Starter<V, 
     }
 
     fn tell_all<R: Wait>(&mut self, rt: &R, right: &V::Right, now: u64) -> Result<bool, AllocError>
-        ensures steps { MakesSteps V.told G.passes V.alone P.puts P.starts P.takes
-            self.old.host self.new.host }
+        ensures steps { MakesStepsBy V.BusView G.Gate P.Post self.old.host self.new.host }
     {
         self.go_on(right)?;
         self.tell(right, Event::Tick { now })?;
@@ -167,8 +164,7 @@ impl<V: BusView, G: Gate, P: Post<V>, S: Socket, Q: Programs + Drop> Starter<V, 
 
     /// Something happened to a program, or is asked for.
     fn tell(&mut self, right: &V::Right, event: Event) -> Result<(), AllocError>
-        ensures steps { MakesSteps V.told G.passes V.alone P.puts P.starts P.takes
-            self.old.host self.new.host }
+        ensures steps { MakesStepsBy V.BusView G.Gate P.Post self.old.host self.new.host }
     {
         self.happened = Some(event);
         self.go_on(right)
@@ -176,8 +172,7 @@ impl<V: BusView, G: Gate, P: Post<V>, S: Socket, Q: Programs + Drop> Starter<V, 
 
     /// Does what is left to be done. A program that can't be run is one more thing that happened.
     fn go_on(&mut self, right: &V::Right) -> Result<(), AllocError>
-        ensures steps { MakesSteps V.told G.passes V.alone P.puts P.starts P.takes
-            self.old.host self.new.host }
+        ensures steps { MakesStepsBy V.BusView G.Gate P.Post self.old.host self.new.host }
     {
         self.do_all(right)?;
         self.supervise(right)?;
@@ -186,8 +181,7 @@ impl<V: BusView, G: Gate, P: Post<V>, S: Socket, Q: Programs + Drop> Starter<V, 
 
     /// Tells the supervisor what happened, and does what it decides.
     fn supervise(&mut self, right: &V::Right) -> Result<(), AllocError>
-        ensures steps { MakesSteps V.told G.passes V.alone P.puts P.starts P.takes
-            self.old.host self.new.host }
+        ensures steps { MakesStepsBy V.BusView G.Gate P.Post self.old.host self.new.host }
     {
         let Some(event) = self.happened else {
             return Ok(());
@@ -220,7 +214,7 @@ impl<V: BusView, G: Gate, P: Post<V>, S: Socket, Q: Programs + Drop> Starter<V, 
     fn do_one(&mut self, right: &V::Right, deed: Deed) -> Result<(), Deed>
         ensures done { OnOk result
             (IsDone V.told G.passes V.alone P.puts P.starts deed self.old.host self.new.host) }
-        ensures err { OnErr result (MayCatchUp V.told G.passes V.alone P.puts P.starts
+        ensures err { OnErr result (MayCatchUpBy V.BusView G.Gate P.Post
             self.old.host self.new.host) }
         ensures back { IfErr result (λ later. later ≡ deed) }
         ensures deeds { self.new.deeds ≡ self.old.deeds }
@@ -244,7 +238,7 @@ impl<V: BusView, G: Gate, P: Post<V>, S: Socket, Q: Programs + Drop> Starter<V, 
     fn report(&mut self, right: &V::Right, change: &Change) -> Result<(), AllocError>
         ensures happens { OnOk result (HasEnded V.told G.passes V.alone P.puts P.starts
             (end_of change.now) self.old.host self.new.host) }
-        ensures err { OnErr result (MayCatchUp V.told G.passes V.alone P.puts P.starts
+        ensures err { OnErr result (MayCatchUpBy V.BusView G.Gate P.Post
             self.old.host self.new.host) }
         ensures deeds { self.new.deeds ≡ self.old.deeds }
         ensures supervisor { self.new.supervisor ≡ self.old.supervisor }
