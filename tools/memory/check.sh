@@ -1,6 +1,7 @@
 #!/usr/bin/env bash
 # Refuses each allocation of busd, of bus-check and of test_scarce in turn, on all processors, and fails where one
-# answers otherwise than it should.
+# answers otherwise than it should. A program that has passed on this machine is not tried again: what passed is kept in
+# the user's cache, by the checksum of all that was run and compared.
 set -euo pipefail
 cd "$(dirname "$0")/../.."
 crates=$PWD/crates
@@ -8,6 +9,7 @@ room=$(mktemp -d)
 trap 'rm -rf "$room"' EXIT
 cc -O2 -shared -fPIC -o "$room/refuse.so" tools/memory/refuse.c
 workers=$(nproc)
+kept=${XDG_CACHE_HOME:-${HOME:-/nonexistent}/.cache}/bizsorke/refused
 # What a run lets go of stays with it: to give large blocks back to the system takes a quarter of the time.
 export MALLOC_MMAP_THRESHOLD_=1073741824 MALLOC_TRIM_THRESHOLD_=1073741824
 
@@ -76,9 +78,19 @@ worker() {
     done
 }
 
+# sum PROGRAM: the checksum of a program, of what it reads and should write, and of what refuses and judges
+sum() {
+    cat "$crates/$1/out/$1" "$crates/$1"/std* examples/*.stream tools/memory/* | sha256sum | cut -d ' ' -f 1
+}
+
 # each NAME PROGRAM: counts the allocations of a run in which none is refused, of which there are some, and refuses each
 each() {
-    local first count failed=0 running=()
+    local first count passed failed=0 running=()
+    passed=$kept/$(sum "$2")
+    if [ -s "$passed" ]; then
+        echo "$2: $(< "$passed") allocations were refused in turn before, each answered as it should be"
+        return
+    fi
     own=$room
     "run_$1" 0
     said 0 "$crates/$2/stdout" "" || wrong
@@ -92,6 +104,7 @@ each() {
         wait "$worker" || failed=1
     done
     [ "$failed" = 0 ]
+    { mkdir -p "$kept" && echo "$count" > "$passed"; } 2> /dev/null || true
     echo "$2: $count allocations refused in turn, each answered as it should be"
 }
 
