@@ -3,8 +3,7 @@
 use crate::playing::play;
 use crate::scenario::{ClientMessage, Condition, Scenario, Step, Tracing};
 use std::test::Fail;
-use trace_check_core::check;
-use traces::Verdict;
+use trace_check_core::{Verdict, check};
 
 /// Room for whatever comes.
 const ROOM: usize = 1_000_000;

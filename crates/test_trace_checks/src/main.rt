@@ -11,8 +11,7 @@
 use std::alloc::{AllocError, Global};
 use std::io;
 use std::io::{BufRead, BufReader};
-use trace_check_core::{check, told_at};
-use traces::{Cause, Verdict};
+use trace_check_core::{Cause, Verdict, check, told_at};
 
 /// Appends lines that name so many services.
 fn push_services(alloc: Global, trace: &mut String, count: u16) -> Result<(), AllocError> {

@@ -4,8 +4,8 @@ use Rattle.std.specs.declared.io.ErrorKind.{ErrorKind as IoErrorKind}
 use Rattle.std.specs.declared.io.ErrorKind.TheVariants.{InvalidData}
 use Rattle.clap.specs.declared.error.kind.ErrorKind.{ErrorKind}
 use Rattle.clap.specs.declared.error.kind.ErrorKind.TheVariants.{DisplayHelp, DisplayVersion, OutOfMemory}
-use Rattle.traces.specs.declared.verdict.Verdict.{Verdict}
-use Rattle.traces.specs.declared.verdict.Verdict.TheVariants.{Yes, No}
+use Rattle.trace_check_core.specs.declared.verdict.Verdict.{Verdict}
+use Rattle.trace_check_core.specs.declared.verdict.Verdict.TheVariants.{Yes, No}
 use Rattle.trace_check.specs.declared.fault.CheckFault.{CheckFault}
 use Rattle.trace_check.specs.declared.fault.CheckFault.TheVariants.{Input, Output, Memory}
 

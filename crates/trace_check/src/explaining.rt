@@ -3,8 +3,7 @@
 use crate::fault::CheckFault;
 use std::alloc::Global;
 use std::str;
-use trace_check_core::told_at;
-use traces::Cause;
+use trace_check_core::{Cause, told_at};
 
 /// The text of the line of this number, from 1.
 fn line_text(file: &[u8], number: u64) -> &str {

@@ -5,7 +5,7 @@ ghost use Rattle.std.specs.Prelude.{◌≡◌, ◌⊎◌, IfOk};
 ghost use Rattle.std.specs.IoError.{error_kind};
 ghost use Rattle.std.specs.Process.{exit_status};
 ghost use Rattle.clap.specs.Values.{kind_of};
-ghost use Rattle.traces.specs.Verdicts.{verdict_of_file};
+ghost use Rattle.trace_check_core.specs.Verdicts.{verdict_of_file};
 ghost use Rattle.trace_check.specs.Statuses.{refusal_status, status_of, unread_status, verdict_status};
 ghost use Rattle.trace_check.specs.declared.fault.CheckFault.TheVariants.{Output};
 
@@ -21,8 +21,7 @@ use std::io::{Read, Write};
 use std::process::ExitCode;
 use std::rt::{Env, Files};
 use std::{env, fs, io};
-use trace_check_core::check;
-use traces::Verdict;
+use trace_check_core::{Verdict, check};
 
 /// What stands behind the help.
 const NOTES: &str = "Example, a trace that `busd serve --trace DIR` wrote:

@@ -7,16 +7,16 @@ use Rattle.std.proofs.lemmas.List.{get_or-take}
 use Rattle.seq_bus_core.specs.BusState.{BusState}
 use Rattle.seq_bus_core.specs.Histories.{after}
 use Rattle.trace_lines.specs.Lines.{Line}
-use Rattle.traces.specs.KeptLines.{IsSeated}
-use Rattle.traces.specs.Legality.{changes_in, number_made, places_before, state_at}
-use Rattle.traces.specs.Placing.{LinesThere, lines_by_place, numbered, place_seen}
-use Rattle.traces.specs.Traces.{Trace}
-use Rattle.traces.specs.Verdicts.{first_line, is_placed, misplaced}
-use Rattle.traces.specs.Walks.{bus_told_of, change_entries, line_at, state_before}
-use Rattle.traces.specs.declared.places.Place.{Place}
-use Rattle.traces.proofs.LegalityLaws.{all_within}
-use Rattle.traces.proofs.PlaceLemmas.{count_places, seen_at}
-use Rattle.traces.proofs.WalkLaws.{all_pass, found_entries, once, state_next}
+use Rattle.trace_check_core.specs.KeptLines.{IsSeated}
+use Rattle.trace_check_core.specs.Legality.{changes_in, number_made, places_before, state_at}
+use Rattle.trace_check_core.specs.Placing.{LinesThere, lines_by_place, numbered, place_seen}
+use Rattle.trace_check_core.specs.Traces.{Trace}
+use Rattle.trace_check_core.specs.Verdicts.{first_line, is_placed, misplaced}
+use Rattle.trace_check_core.specs.Walks.{bus_told_of, change_entries, line_at, state_before}
+use Rattle.trace_check_core.specs.declared.places.Place.{Place}
+use Rattle.trace_check_core.proofs.LegalityLaws.{all_within}
+use Rattle.trace_check_core.proofs.PlaceLemmas.{count_places, seen_at}
+use Rattle.trace_check_core.proofs.WalkLaws.{all_pass, found_entries, once, state_next}
 
 pub few_places : (t : Trace) (places : List Place) (place : ℕ) → map place_seen places ≡ lines_by_place t → place ≤ changes_in t.lines → place < length places
 few_places t places place seen within =

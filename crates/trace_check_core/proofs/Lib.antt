@@ -1,3 +1,13 @@
+pub mod FileLines
+pub mod HeldTraces
+pub mod KeptLaws
+pub mod LegalityLaws
+pub mod LineLaws
+pub mod Openings
+pub mod PlaceLemmas
+pub mod Refusals
+pub mod SeatLemmas
+pub mod WalkLaws
 pub mod BusBefore
 pub mod Listings
 pub mod Walking

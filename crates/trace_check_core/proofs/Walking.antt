@@ -3,14 +3,14 @@ use Rattle.std.proofs.Common.{◌≡◌, ℕ, ◌+◌, ◌<◌, ◌≤◌, Optio
 use Rattle.std.specs.List.{take-map, AllByRecursion as Each}
 use Rattle.std.proofs.lemmas.List.{length-map, map-append, take_more}
 use Rattle.seq_bus_core.specs.BusState.{BusState}
-use Rattle.traces.specs.KeptLines.{IsSeated}
-use Rattle.traces.specs.Placing.{LinesThere, line_seen, lines_by_place, place_seen}
-use Rattle.traces.specs.Traces.{Trace}
-use Rattle.traces.specs.Verdicts.{misplaced, wrong}
-use Rattle.traces.specs.Walks.{Walk, first_step, in_turn, walked, walked_along}
-use Rattle.traces.specs.declared.places.NumberedLine.{NumberedLine as KeptWithNumber}
-use Rattle.traces.specs.declared.places.Place.{Place}
-use Rattle.traces.proofs.WalkLaws.{places_more, walk_finds_wrong, walked_more}
+use Rattle.trace_check_core.specs.KeptLines.{IsSeated}
+use Rattle.trace_check_core.specs.Placing.{LinesThere, line_seen, lines_by_place, place_seen}
+use Rattle.trace_check_core.specs.Traces.{Trace}
+use Rattle.trace_check_core.specs.Verdicts.{misplaced, wrong}
+use Rattle.trace_check_core.specs.Walks.{Walk, first_step, in_turn, walked, walked_along}
+use Rattle.trace_check_core.specs.declared.places.NumberedLine.{NumberedLine as KeptWithNumber}
+use Rattle.trace_check_core.specs.declared.places.Place.{Place}
+use Rattle.trace_check_core.proofs.WalkLaws.{places_more, walk_finds_wrong, walked_more}
 
 one_more : {X Y : Type 0} (f : X → Y) (xs : List X) (i : ℕ) (x : X) → i < length xs → x ≡ get_or xs i x → map f (take i xs) ++ f x ∷ [] ≡ map f (take (i + 1) xs)
 one_more f xs i x within is =

@@ -1,13 +1,13 @@
 //! The check of a file.
 
 ghost use Rattle.std.specs.Prelude.{◌≡◌, ◌↔◌, ℕ, IfOk};
-ghost use Rattle.traces.specs.Legality.{IsLegalWithLines};
-ghost use Rattle.traces.specs.Verdicts.{verdict_of_file, verdict_on};
-ghost use Rattle.traces.specs.declared.verdict.Verdict.TheVariants.{No, Yes};
+ghost use Rattle.trace_check_core.specs.Legality.{IsLegalWithLines};
+ghost use Rattle.trace_check_core.specs.Verdicts.{verdict_of_file, verdict_on};
+ghost use Rattle.trace_check_core.specs.declared.verdict.Verdict.TheVariants.{No, Yes};
 
 use crate::walk::wrong;
+use crate::{Cause, Trace, Verdict};
 use std::alloc::{AllocError, Global};
-use traces::{Cause, Trace, Verdict};
 
 /// Checks a file. A yes says that it is a legal trace, and how many lines stand behind its head; a
 /// no names the least line of the first cause that has one. It takes memory, and steps one bus

@@ -4,18 +4,18 @@ ghost use Rattle.std.specs.Prelude.{◌≡◌, IfOk, OnOk, string_bytes};
 ghost use Rattle.seq_bus_core.specs.Histories.{after};
 ghost use Rattle.seq_bus_core.specs.Recipients.{recipients};
 ghost use Rattle.seq_bus_core.specs.Steps.{step};
-ghost use Rattle.traces.specs.Walks.{records_told};
+ghost use Rattle.trace_check_core.specs.Walks.{records_told};
 ghost use Rattle.trace_words.specs.RouteViews.{route_facts};
 ghost use Rattle.trace_lines.specs.Texts.{outcome_text, verdict_text};
 ghost use Rattle.trace_lines.specs.LineViews.{deed_told};
-ghost use Rattle.traces.specs.Legality.{entries_of, told};
+ghost use Rattle.trace_check_core.specs.Legality.{entries_of, told};
 
+use crate::KeptLine;
 use crate::answers::answer_text;
 use registry::Registry;
 use seq_bus_core::Change;
 use std::alloc::{AllocError, Global};
 use trace_lines::{Deed, Route, outcome_text, verdict_text};
-use traces::KeptLine;
 
 /// Whether a line records what the bus tells. Where it is a change, the bus makes it.
 pub(crate) fn step_along(

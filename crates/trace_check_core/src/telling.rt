@@ -2,15 +2,15 @@
 
 ghost use Rattle.std.specs.Prelude.{◌≡◌, ◌<◌, length, None, IfOk, OnOk, map, option_map, string_bytes};
 ghost use Rattle.seq_bus_core.specs.Histories.{after};
-ghost use Rattle.traces.specs.Legality.{due};
-ghost use Rattle.traces.specs.Placing.{lines_by_place, place_seen};
-ghost use Rattle.traces.specs.Verdicts.{misplaced};
-ghost use Rattle.traces.specs.Walks.{bus_told_of, change_entries, due_at, due_in, line_at};
+ghost use Rattle.trace_check_core.specs.Legality.{due};
+ghost use Rattle.trace_check_core.specs.Placing.{lines_by_place, place_seen};
+ghost use Rattle.trace_check_core.specs.Verdicts.{misplaced};
+ghost use Rattle.trace_check_core.specs.Walks.{bus_told_of, change_entries, due_at, due_in, line_at};
 
 use crate::stepping::tell;
+use crate::{KeptLine, Place, Trace};
 use registry::Registry;
 use std::alloc::{AllocError, Global};
-use traces::{KeptLine, Place, Trace};
 
 /// What the bus tells where the line of this number stands, as it would stand behind the arrow. It
 /// says none where the file is no trace with a place for each change, or has no such line behind

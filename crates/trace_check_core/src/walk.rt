@@ -1,14 +1,14 @@
 //! The walk along the lines of a trace, in order of place.
 
 ghost use Rattle.std.specs.Prelude.{◌≡◌, None, Some, IfOk, map};
-ghost use Rattle.traces.specs.Walks.{in_turn, lesser, walked, walked_along};
-ghost use Rattle.traces.specs.Placing.{line_seen, lines_by_place, place_seen};
-ghost use Rattle.traces.specs.Verdicts.{misplaced, wrong};
+ghost use Rattle.trace_check_core.specs.Walks.{in_turn, lesser, walked, walked_along};
+ghost use Rattle.trace_check_core.specs.Placing.{line_seen, lines_by_place, place_seen};
+ghost use Rattle.trace_check_core.specs.Verdicts.{misplaced, wrong};
 
 use crate::stepping::step_along;
+use crate::{NumberedLine, Place, Trace};
 use registry::Registry;
 use std::alloc::{AllocError, Global};
-use traces::{NumberedLine, Place, Trace};
 
 /// The number of the first line that records something else than the bus tells where it stands.
 pub(crate) fn wrong(

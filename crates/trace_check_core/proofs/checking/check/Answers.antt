@@ -1,7 +1,7 @@
 use Rattle.std.proofs.Common.{ℕ, sym, ap, ◌∙◌}
 use Rattle.std.specs.Prelude.{Result}
 use Rattle.std.specs.Result.{result_map_both}
-use Rattle.traces.specs.Traces.{Trace}
+use Rattle.trace_check_core.specs.Traces.{Trace}
 use Rattle.trace_check_core.proofs.Yes.{yes_exactly}
 use Rattle.trace_check_core.proofs.checking.check.Goals as goal
 

@@ -1,11 +1,11 @@
 use Rattle.std.proofs.Common.{◌≡◌, ◌<◌, ℕ, List, true, false, length, length-take, take, sym, ap, ◌∙◌, subst, arith}
 use Rattle.std.specs.Prelude.{is_some}
 use Rattle.std.specs.List.{AllByRecursion as Each}
-use Rattle.traces.specs.KeptLines.{IsSeated}
-use Rattle.traces.specs.Legality.{number_made}
-use Rattle.traces.specs.Traces.{Trace}
-use Rattle.traces.specs.Walks.{state_before}
-use Rattle.traces.specs.declared.places.Place.{Place}
+use Rattle.trace_check_core.specs.KeptLines.{IsSeated}
+use Rattle.trace_check_core.specs.Legality.{number_made}
+use Rattle.trace_check_core.specs.Traces.{Trace}
+use Rattle.trace_check_core.specs.Walks.{state_before}
+use Rattle.trace_check_core.specs.declared.places.Place.{Place}
 use Rattle.trace_check_core.proofs.BusBefore.{change_made, change_told_of, one_made, read_told_of}
 use Rattle.trace_check_core.proofs.telling.bus_before.Goals as goal
 

@@ -1,5 +1,5 @@
 use Rattle.std.proofs.Common.{◌≡◌}
-use Rattle.traces.specs.Walks.{state_before}
+use Rattle.trace_check_core.specs.Walks.{state_before}
 use Rattle.trace_check_core.proofs.telling.bus_before.Given as goal
 
 abbrev pub invariant-loop-place : goal.invariant-loop-place

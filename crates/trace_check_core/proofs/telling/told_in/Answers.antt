@@ -1,9 +1,9 @@
 use Rattle.std.proofs.Common.{◌≡◌, None, Some, map, option_map, sym, ap, ◌∙◌, rules}
 use Rattle.trace_lines.specs.Lines.{Line}
-use Rattle.traces.specs.Placing.{lines_by_place, place_seen}
-use Rattle.traces.specs.Traces.{Trace}
-use Rattle.traces.specs.Verdicts.{misplaced}
-use Rattle.traces.specs.Walks.{line_at}
+use Rattle.trace_check_core.specs.Placing.{lines_by_place, place_seen}
+use Rattle.trace_check_core.specs.Traces.{Trace}
+use Rattle.trace_check_core.specs.Verdicts.{misplaced}
+use Rattle.trace_check_core.specs.Walks.{line_at}
 use Rattle.trace_check_core.proofs.BusBefore.{few_places, line_within}
 use Rattle.trace_check_core.proofs.telling.told_in.Goals as goal
 

@@ -1,6 +1,6 @@
 use Rattle.std.proofs.Common.{◌≡◌, take, map}
-use Rattle.traces.specs.Placing.{line_seen}
-use Rattle.traces.specs.Walks.{walked_along}
+use Rattle.trace_check_core.specs.Placing.{line_seen}
+use Rattle.trace_check_core.specs.Walks.{walked_along}
 use Rattle.trace_check_core.proofs.walk.walk_place.Given as goal
 
 abbrev pub invariant-loop-read : goal.invariant-loop-read

@@ -1,7 +1,7 @@
 use Rattle.std.proofs.Common.{subst, arith}
 use Rattle.std.specs.List.{AllByRecursion as Each}
-use Rattle.traces.specs.KeptLines.{IsSeated}
-use Rattle.traces.specs.Walks.{first_step}
+use Rattle.trace_check_core.specs.KeptLines.{IsSeated}
+use Rattle.trace_check_core.specs.Walks.{first_step}
 use Rattle.trace_check_core.proofs.Walking.{all_walked, place_walked}
 use Rattle.trace_check_core.proofs.walk.wrong.Goals as goal
 

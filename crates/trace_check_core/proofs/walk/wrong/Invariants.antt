@@ -1,6 +1,6 @@
 use Rattle.std.proofs.Common.{◌≡◌, take, map, flat_map}
-use Rattle.traces.specs.Placing.{place_seen}
-use Rattle.traces.specs.Walks.{first_step, in_turn, walked_along}
+use Rattle.trace_check_core.specs.Placing.{place_seen}
+use Rattle.trace_check_core.specs.Walks.{first_step, in_turn, walked_along}
 use Rattle.trace_check_core.proofs.walk.wrong.Given as goal
 
 abbrev pub invariant-loop-place : goal.invariant-loop-place

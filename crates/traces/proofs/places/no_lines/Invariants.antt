@@ -1,6 +1,0 @@
-use Rattle.std.proofs.Common.{◌≡◌, map, replicate}
-use Rattle.traces.specs.Placing.{no_line_there, place_seen}
-use Rattle.traces.proofs.places.no_lines.Given as goal
-
-abbrev pub invariant-loop : goal.invariant-loop
-invariant-loop l = map place_seen l.places.items ≡ replicate l.counter no_line_there
