@@ -6,20 +6,19 @@
 //! routers by a [`Post`]. The host waits for nothing and knows no clock: the loop round it does.
 //!
 //! ```
-//! use router::Engine;
-//! use router_core::OpenGate;
-//! use router_host::{Ended, Host, LocalPost, Socket};
-//! use seq_bus::SeqBus;
-//! use std::alloc::Global;
+//! use bus_view::BusView;
+//! use router_core::Gate;
+//! use router_host::{Ended, Host, Post, Socket};
 //!
-//! /// A connection comes to a bus of one thread, and can be read: what is over after a turn.
-//! fn serve_turn<S: Socket>(alloc: Global, bus: SeqBus, socket: S) -> Option<Vec<Ended>> {
-//!     let engine = Engine::new(alloc, bus, OpenGate, None).ok()?;
-//!     let post = LocalPost::new(alloc).ok()?;
-//!     let mut host = Host::new(alloc, engine, post, 0, 256).ok()?;
-//!     let key = host.open(&(), socket, None).ok()?;
+//! /// A connection comes, and can be read: what is over after a turn.
+//! fn serve_turn<V: BusView, G: Gate, P: Post<V>, S: Socket>(
+//!     host: &mut Host<V, G, P, S>,
+//!     right: &V::Right,
+//!     socket: S,
+//! ) -> Option<Vec<Ended>> {
+//!     let key = host.open(right, socket, None).ok()?;
 //!     host.readable(key, false);
-//!     host.turn(&()).ok()?;
+//!     host.turn(right).ok()?;
 //!     Some(host.take_ended())
 //! }
 //! ```
@@ -27,13 +26,11 @@
 
 mod host;
 mod kept;
-mod local_post;
 mod opening;
 mod trace;
 mod turn;
 
 pub use host::Host;
-pub use local_post::LocalPost;
 pub use opening::OpenFault;
 pub use router_host_core::{
     EndCause, Ended, Full, Post, Socket, StartRequest, TooManyStarts, Written,

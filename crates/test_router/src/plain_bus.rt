@@ -8,9 +8,9 @@ use anyhow::{Result, bail};
 use bus_view::can_open;
 use owner_queues::Profile;
 use router_core::OpenGate;
-use router_host::LocalPost;
 use seq_bus::SeqBus;
 use std::alloc::Global;
+use test_post::LocalPost;
 
 /// The answers of a plain bus, whose one router has the places of one of so many.
 pub fn play(alloc: Global, scenario: Scenario<'_>) -> Result<String> {

@@ -4,11 +4,12 @@ use bus_view::can_open;
 use owner_queues::Profile;
 use router::Engine;
 use router_core::OpenGate;
-use router_host::{Host, LocalPost, OpenFault, Socket};
+use router_host::{Host, OpenFault, Socket};
 use seq_bus::SeqBus;
 use std::alloc::{AllocError, Global};
 use std::io;
 use std::io::{ErrorKind, IoSlice};
+use test_post::LocalPost;
 use test_support::messages::{ACQUIRED, GET_NAME_OWNER, HELLO, OWNER, WELCOME};
 
 /// How many bytes a socket takes at most.

@@ -1,7 +1,7 @@
 //! Mail in memory.
 
 ghost use Rattle.std.specs.Prelude.{◌≡◌, ◌∷◌, ◌++◌, [], IfErr, IfNone, IfSome, OnErr, OnOk};
-ghost use Rattle.router_host.specs.LocalMail.{Puts, Takes};
+ghost use Rattle.test_post.specs.LocalMail.{Puts, Takes};
 
 use outbox_core::Envelope;
 use router_host_core::{Full, Post, SLOTS, StartRequest, TooManyStarts};
@@ -92,7 +92,7 @@ impl LocalPost {
 
 impl Post<SeqBus> for LocalPost {
     ghost use Rattle.std.specs.Prelude.{◌≡◌};
-    ghost use Rattle.router_host.specs.LocalMail.{Puts, Takes};
+    ghost use Rattle.test_post.specs.LocalMail.{Puts, Takes};
 
     ghost registry = { λ _. 0 };
 
