@@ -11,7 +11,7 @@ use Rattle.seq_bus_core.proofs.ConsistencyLaws.{steps_keep_consistency}
 use Rattle.seq_bus_core.proofs.LimitLaws.{steps_keep_limits}
 use Rattle.seq_bus_core.proofs.Lists.{each_map, each_weaker}
 use Rattle.registry_core.specs.Listening.{Rising}
-use Rattle.registry_core.specs.MemberTables.{member_of}
+use Rattle.registry_core.specs.ConnectionTables.{entry_of}
 use Rattle.registry.specs.declared.registry.Registry.TheInside.{Inside}
 use Rattle.registry.proofs.Openings.{services_stay}
 use Rattle.registry.specs.Tables.{state_of, IsKept}
@@ -32,6 +32,6 @@ given_below r h =
     each_weaker (IsGiven r.next_number) (λ c. c.number < 2 ^ 64) (λ c g. omega (arith, g.given, h.within_limits.next_number)) (state_of r).connections h.consistent.connections_given
 
 -- connections stand in their table by rising number
-pub members_rise : (cs : List Connection) → Pairwise (λ a b. a.number < b.number) cs → Rising (map member_of cs)
-members_rise [] h = tt
-members_rise (c ∷ cs) h = (each_map (λ d. c.number < d.number) (λ m. c.number < m.conn.number) member_of (λ d less. less) cs h.0, members_rise cs h.1)
+pub entries_rise : (cs : List Connection) → Pairwise (λ a b. a.number < b.number) cs → Rising (map entry_of cs)
+entries_rise [] h = tt
+entries_rise (c ∷ cs) h = (each_map (λ d. c.number < d.number) (λ m. c.number < m.conn.number) entry_of (λ d less. less) cs h.0, entries_rise cs h.1)

@@ -15,7 +15,7 @@ use Rattle.seq_bus_core.specs.declared.change.Change.TheVariants.{Leave}
 use Rattle.seq_bus_core.specs.declared.outcome.Reply.TheVariants.{Done, Gone}
 use Rattle.seq_bus_core.specs.declared.signal.BusSignal.{BusSignal}
 use Rattle.registry_core.specs.Listening.{stays, conns_that, has_fitting, wants_by, watches_by}
-use Rattle.registry_core.proofs.Members.{filter_alike}
+use Rattle.registry_core.proofs.ConnectionEntries.{filter_alike}
 use Rattle.registry.specs.Partings.{signals_of_name, told_of_name}
 use Rattle.registry.specs.declared.leave.Parting.{Parting}
 use Rattle.registry.proofs.ListeningLemmas.{shown_same}

@@ -14,4 +14,4 @@ pub mod StartLemmas
 pub mod LeaveLemmas
 pub mod MonitorLemmas
 pub mod AfterLemmas
-pub mod MemberLemmas
+pub mod EntryLemmas

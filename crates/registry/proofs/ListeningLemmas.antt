@@ -12,10 +12,10 @@ use Rattle.seq_bus_core.specs.Consistency.{IsGiven, IsConsistent, Pairwise}
 use Rattle.seq_bus_core.specs.Recipients.{all_that_want, conn_at, monitors_shown, watches}
 use Rattle.seq_bus_core.specs.declared.connection.Conn.{Conn}
 use Rattle.seq_bus_core.proofs.Lists.{any_having, any_map, each_weaker}
-use Rattle.registry_core.specs.declared.member.Member.{Member}
-use Rattle.registry_core.specs.Listening.{conns_that, has_fitting, has_number, member_wants, stays, wants_by, watched, watches_by}
-use Rattle.registry_core.specs.MemberTables.{member_of}
-use Rattle.registry_core.proofs.Members.{filter_alike}
+use Rattle.registry_core.specs.declared.connection_entry.ConnectionEntry.{ConnectionEntry}
+use Rattle.registry_core.specs.Listening.{conns_that, has_fitting, has_number, entry_wants, stays, wants_by, watched, watches_by}
+use Rattle.registry_core.specs.ConnectionTables.{entry_of}
+use Rattle.registry_core.proofs.ConnectionEntries.{filter_alike}
 use Rattle.match_index.proofs.Lists.{one_done}
 
 pub watches_same : (s : BusState) (facts : Facts) (c : Connection) → watches s facts c ≡ watches_by (head_of s) facts c
@@ -120,27 +120,27 @@ conn_at_is s n o h is = ap option_to_list is ∙ by_found (find (λ c. c.number 
 
 -- ## In their table
 
-pub members_that_want : (heads : Heads) (rules : List AddedRule) (facts : Facts) (leaver : Option ℕ) (cs : List Connection) →
-    map (λ m. m.conn) (filter (λ m. stays leaver m.conn.number && member_wants heads rules facts m) (map member_of cs))
+pub entries_that_want : (heads : Heads) (rules : List AddedRule) (facts : Facts) (leaver : Option ℕ) (cs : List Connection) →
+    map (λ m. m.conn) (filter (λ m. stays leaver m.conn.number && entry_wants heads rules facts m) (map entry_of cs))
     ≡ conns_that (λ c. stays leaver c.number && wants_by heads rules facts c) cs
-members_that_want heads rules facts leaver [] = refl
-members_that_want heads rules facts leaver (c ∷ cs) = by_test (stays leaver c.number && wants_by heads rules facts c) (members_that_want heads rules facts leaver cs)
+entries_that_want heads rules facts leaver [] = refl
+entries_that_want heads rules facts leaver (c ∷ cs) = by_test (stays leaver c.number && wants_by heads rules facts c) (entries_that_want heads rules facts leaver cs)
   where
-    others : List Member
-    others = filter (λ m. stays leaver m.conn.number && member_wants heads rules facts m) (map member_of cs)
+    others : List ConnectionEntry
+    others = filter (λ m. stays leaver m.conn.number && entry_wants heads rules facts m) (map entry_of cs)
 
-    by_test : (b : Bool) → map (λ (m : Member). m.conn) others ≡ conns_that (λ d. stays leaver d.number && wants_by heads rules facts d) cs →
-        map (λ (m : Member). m.conn) (cond b (member_of c ∷ others) others)
+    by_test : (b : Bool) → map (λ (m : ConnectionEntry). m.conn) others ≡ conns_that (λ d. stays leaver d.number && wants_by heads rules facts d) cs →
+        map (λ (m : ConnectionEntry). m.conn) (cond b (entry_of c ∷ others) others)
         ≡ map conn_of (cond b (c ∷ filter (λ d. stays leaver d.number && wants_by heads rules facts d) cs) (filter (λ d. stays leaver d.number && wants_by heads rules facts d) cs))
     by_test true rest = ap (λ conns. conn_of c ∷ conns) rest
     by_test false rest = rest
 
 -- each rule is of a connection that stands there
-pub rules_owned : (s : BusState) → IsConsistent s → Each (λ r. has_number (map member_of s.connections) r.connection ≡ true) s.rules
-rules_owned s h = each_weaker (λ (r : AddedRule). is_client s.connections r.connection ≡ true) (λ (r : AddedRule). has_number (map member_of s.connections) r.connection ≡ true) (λ r is. there r.connection s.connections is) s.rules h.rules_of_clients
+pub rules_owned : (s : BusState) → IsConsistent s → Each (λ r. has_number (map entry_of s.connections) r.connection ≡ true) s.rules
+rules_owned s h = each_weaker (λ (r : AddedRule). is_client s.connections r.connection ≡ true) (λ (r : AddedRule). has_number (map entry_of s.connections) r.connection ≡ true) (λ r is. there r.connection s.connections is) s.rules h.rules_of_clients
   where
-    there : (n : ℕ) (cs : List Connection) → is_client cs n ≡ true → has_number (map member_of cs) n ≡ true
-    there n cs is = any_map (λ c. (c.number == n) && not (is_monitor c)) (λ m. m.conn.number == n) member_of (λ c both. first (c.number == n) (not (is_monitor c)) both) cs is
+    there : (n : ℕ) (cs : List Connection) → is_client cs n ≡ true → has_number (map entry_of cs) n ≡ true
+    there n cs is = any_map (λ c. (c.number == n) && not (is_monitor c)) (λ m. m.conn.number == n) entry_of (λ c both. first (c.number == n) (not (is_monitor c)) both) cs is
       where
         first : (a b : Bool) → (a && b) ≡ true → a ≡ true
         first true b e = refl

@@ -13,8 +13,8 @@ use Rattle.seq_bus_core.specs.Consistency.{IsConsistent, IsOwned, IsWithinLimits
 use Rattle.seq_bus_core.specs.Histories.{max_services}
 use Rattle.seq_bus_core.proofs.Lists.{each_weaker}
 use Rattle.seq_bus_core.proofs.OwnedLemmas.{queue_of_each}
-use Rattle.registry_core.specs.MemberTables.{member_of}
-use Rattle.registry_core.specs.declared.member.Member.{Member}
+use Rattle.registry_core.specs.ConnectionTables.{entry_of}
+use Rattle.registry_core.specs.declared.connection_entry.ConnectionEntry.{ConnectionEntry}
 use Rattle.registry.specs.NamesListed.{only, names_in}
 use Rattle.registry.specs.declared.listed.NamesOf.{NamesOf}
 use Rattle.registry.specs.declared.listed.NamesOf.TheVariants.{All, Services, Bus, Client, Queued}
@@ -70,15 +70,15 @@ same_listed (text ∷ texts) = ap (λ rest. text ∷ rest) (same_listed texts)
 
 -- the unique names of the connections that are no monitors
 pub clients_listed : (cs : List Connection)
-    → flat_map (λ m. only (if m.is_monitor then None else Some (unique_text m.conn.number))) (map member_of cs)
+    → flat_map (λ m. only (if m.is_monitor then None else Some (unique_text m.conn.number))) (map entry_of cs)
     ≡ map (λ c. unique_text c.number) (filter (λ c. not (is_monitor c)) cs)
 clients_listed [] = refl
 clients_listed (c ∷ cs) = by_test (is_monitor c) (clients_listed cs)
   where
     by_test : (b : Bool)
-        → flat_map (λ (m : Member). only (if m.is_monitor then None else Some (unique_text m.conn.number))) (map member_of cs)
+        → flat_map (λ (m : ConnectionEntry). only (if m.is_monitor then None else Some (unique_text m.conn.number))) (map entry_of cs)
         ≡ map (λ (d : Connection). unique_text d.number) (filter (λ d. not (is_monitor d)) cs)
-        → only (if b then None else Some (unique_text c.number)) ++ flat_map (λ (m : Member). only (if m.is_monitor then None else Some (unique_text m.conn.number))) (map member_of cs)
+        → only (if b then None else Some (unique_text c.number)) ++ flat_map (λ (m : ConnectionEntry). only (if m.is_monitor then None else Some (unique_text m.conn.number))) (map entry_of cs)
         ≡ map (λ (d : Connection). unique_text d.number) (cond (not b) (c ∷ filter (λ d. not (is_monitor d)) cs) (filter (λ d. not (is_monitor d)) cs))
     by_test true rest = rest
     by_test false rest = ap (λ names. unique_text c.number ∷ names) rest

@@ -19,7 +19,7 @@ use Rattle.names.specs.BusName.{is_bus, is_unique}
 use Rattle.owner_queues.specs.Queues.{queue_head}
 use Rattle.seq_bus_core.specs.BusState.{queue_of}
 use Rattle.registry_core.specs.Listening.{conns_that, stays, wants_by, watched, watches_by}
-use Rattle.registry_core.proofs.Members.{filter_alike}
+use Rattle.registry_core.proofs.ConnectionEntries.{filter_alike}
 use Rattle.registry.specs.Monitors.{is_privileged, reply_to_monitor}
 use Rattle.registry.proofs.LeaveLemmas.{fits_other, none_above}
 use Rattle.registry.proofs.MatchLemmas.{some_found}

@@ -48,7 +48,7 @@ impl Registry {
         ensures { IfOk result (λ outcome.
             outcome ≡ (step self.now seat (BecomeMonitor connection rules.now)).1) }
     {
-        let _ = &self.members;
+        let _ = &self.connections;
         match self.reply_to_monitor(connection) {
             Reply::Done => {
                 let mut outcome = replied(alloc, Reply::Done);
@@ -100,7 +100,7 @@ impl Registry {
     {
         match self.reply_to_monitor(connection) {
             Reply::Done => {
-                self.members.become_monitor(connection, rules);
+                self.connections.become_monitor(connection, rules);
                 self.names.leave(connection);
                 self.rules.remove_all(connection);
             }
@@ -114,7 +114,7 @@ impl Registry {
         if !self.is_client(connection) {
             return Reply::Gone;
         }
-        if self.members.is_privileged(connection) {
+        if self.connections.is_privileged(connection) {
             Reply::Done
         } else {
             Reply::AccessDenied

@@ -44,7 +44,7 @@ impl Registry {
         let Some(conn) = self.next_conn(seat) else {
             return Ok(replied(alloc, Reply::LimitsExceeded));
         };
-        let _ = &self.members;
+        let _ = &self.connections;
         let name = BusName::from(UniqueName::of(conn.number));
         let after = After {
             registry: self,
@@ -71,7 +71,7 @@ impl Registry {
         let Some(conn) = self.next_conn(seat) else {
             return;
         };
-        self.members.join(conn, privileged);
+        self.connections.join(conn, privileged);
         self.next_number += 1;
     }
 
@@ -110,6 +110,6 @@ impl Registry {
     fn is_taken(&self, slot: u16) -> bool
         ensures { result ≡ is_taken self.now slot }
     {
-        self.members.is_taken(slot)
+        self.connections.is_taken(slot)
     }
 }

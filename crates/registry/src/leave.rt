@@ -56,7 +56,7 @@ impl Registry {
     ) -> Result<NumberedOutcome, AllocError>
         ensures { IfOk result (λ outcome. outcome ≡ (step self.now seat (Leave connection)).1) }
     {
-        let _ = &self.members;
+        let _ = &self.connections;
         if !self.present(connection) {
             return Ok(replied(alloc, Reply::Gone));
         }
@@ -121,7 +121,7 @@ impl Registry {
         if !self.present(connection) {
             return;
         }
-        self.members.leave(connection);
+        self.connections.leave(connection);
         self.names.leave(connection);
         self.rules.remove_all(connection);
     }
@@ -130,7 +130,7 @@ impl Registry {
     pub(crate) fn head_without(&self, leaver: u64, name: &str) -> Option<u64>
         ensures { result ≡ head_of (without_connection self.now leaver) name.now }
     {
-        let _ = &self.members;
+        let _ = &self.connections;
         if !is_unique(name) {
             return self.owner_without(leaver, name);
         }

@@ -12,7 +12,7 @@ use crate::registry::Registry;
 use bus_view::{AskFault, Asked, begin_names, end_names, push_connection, push_name, undo_names};
 use names::{BusName, ConnectionName, WellKnown};
 use owner_queues::QueuedOwner;
-use registry_core::{Member, NameEntry};
+use registry_core::{ConnectionEntry, NameEntry};
 use std::alloc::AllocError;
 
 /// What may stand in a list of names.
@@ -36,7 +36,7 @@ trait Listed {
 }
 
 /// A connection stands there by its unique name, unless it is a monitor.
-impl Listed for Member {
+impl Listed for ConnectionEntry {
     ghost use Rattle.std.specs.Prelude.{Some, None, if◌then◌else◌};
     ghost use Rattle.names.specs.UniqueName.{unique_text};
 
@@ -105,7 +105,7 @@ impl Registry {
         ensures fault { IfErr result (λ fault. fault ≡ NoMemory) }
         ensures unanswered { OnErr result (body.new.items ≡ body.old.items) }
     {
-        let _ = &self.members;
+        let _ = &self.connections;
         let start = begin_names(body)?;
         match self.push_list(list, body, start) {
             Ok(()) => Ok(end_names(body, start)),
@@ -125,7 +125,7 @@ impl Registry {
         match list {
             NamesOf::All => {
                 push_name(body, start, &BusName::bus())?;
-                push_all(body, start, self.members.as_slice())?;
+                push_all(body, start, self.connections.as_slice())?;
                 push_all(body, start, self.names.as_slice())
             }
             NamesOf::Services => {

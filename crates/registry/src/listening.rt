@@ -20,7 +20,7 @@ impl Registry {
     pub(crate) fn has_rules(&self) -> bool
         ensures { result ≡ false → self.now.rules ≡ [] }
     {
-        let _ = &self.members;
+        let _ = &self.connections;
         self.rules.len() != 0
     }
 
@@ -40,7 +40,7 @@ impl Registry {
         ensures consistent { IsConsistent self.now }
     {
         add_those_that_want(
-            self.members.as_slice(),
+            self.connections.as_slice(),
             &self.rules,
             facts,
             owners,
@@ -62,8 +62,8 @@ impl Registry {
             (wants_by (O.heads owners.now) self.now.rules facts.now) self.now.connections }
         ensures cost { steps.new ≤ steps.old + near_rules facts.now self.now.rules }
     {
-        let members = self.members.as_slice();
-        add_all_that_want(members, &self.rules, facts, owners, to, steps);
+        let entries = self.connections.as_slice();
+        add_all_that_want(entries, &self.rules, facts, owners, to, steps);
     }
 
     /// Adds the monitors that are shown a message. No other connection is looked at.
@@ -79,7 +79,7 @@ impl Registry {
         ensures few { length self.now.connections ≤ Recipients.MAX }
         ensures consistent { IsConsistent self.now }
     {
-        self.members.shown(facts, owners, shown);
+        self.connections.shown(facts, owners, shown);
     }
 
     /// Adds the monitors that are shown a message once a connection is a monitor with these rules.
@@ -97,7 +97,7 @@ impl Registry {
             (with_monitor self.now connection rules.now).connections }
         ensures few { length self.now.connections ≤ Recipients.MAX }
     {
-        let _ = &self.members;
+        let _ = &self.connections;
         self.add_monitors_shown(facts, owners, shown);
         if !is_watched(rules, facts, owners) {
             return;

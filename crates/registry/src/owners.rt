@@ -20,7 +20,7 @@ impl Owners for Registry {
     ghost heads = { head_of };
 
     fn head(&self, name: &str) -> Option<u64> {
-        let _ = &self.members;
+        let _ = &self.connections;
         if is_unique(name) {
             return self.client_named(name);
         }
@@ -36,7 +36,7 @@ impl Registry {
     fn client_named(&self, name: &str) -> Option<u64>
         ensures { result ≡ client_named self.now.connections name.now }
     {
-        let _ = &self.members;
+        let _ = &self.connections;
         match number_of(name) {
             Some(number) => {
                 if self.is_client(number) {

@@ -7,7 +7,7 @@ ghost use Rattle.seq_bus_core.specs.BusState.{AddedRule, connection_of, conn_of,
 ghost use Rattle.seq_bus_core.specs.Consistency.{IsConsistent, IsWithinLimits};
 ghost use Rattle.seq_bus_core.specs.Histories.{CanOpen, max_services, opening};
 ghost use Rattle.seq_bus_core.specs.Steps.{step};
-ghost use Rattle.registry_core.specs.Listening.{connection_of_member};
+ghost use Rattle.registry_core.specs.Listening.{connection_of_entry};
 ghost use Rattle.registry_core.specs.NameTables.{owned_name};
 ghost use Rattle.registry_core.specs.RulesOf.{rules_by, rules_left};
 ghost use Rattle.registry.specs.PreparedChanges.{prepared_on};
@@ -18,7 +18,9 @@ use match_rules::Owners;
 use monitor::Monitor;
 use names::{BusName, WellKnown};
 use owner_queues::{Profile, Queue, QueuedOwner};
-use registry_core::{Member, MemberTable, NameEntry, NameTable, RuleTable, RulesOf, StartTable};
+use registry_core::{
+    ConnectionEntry, ConnectionTable, NameEntry, NameTable, RuleTable, RulesOf, StartTable,
+};
 use seq_bus_core::{Change, Conn};
 use std::alloc::{AllocError, Global};
 use std::marker::Model;
@@ -33,7 +35,7 @@ pub struct Registry {
     /// By rising bytes.
     pub(crate) services: ServiceTable,
     /// By rising number.
-    pub(crate) members: MemberTable,
+    pub(crate) connections: ConnectionTable,
     pub(crate) names: NameTable,
     pub(crate) rules: RuleTable,
     pub(crate) starts: StartTable,
@@ -76,7 +78,7 @@ impl Registry {
             profile,
             routers,
             services: ServiceTable::new(alloc, services)?,
-            members: MemberTable::new(alloc)?,
+            connections: ConnectionTable::new(alloc)?,
             names: NameTable::new(alloc)?,
             rules: RuleTable::new(alloc)?,
             starts: StartTable::new(alloc)?,
@@ -208,7 +210,7 @@ impl Registry {
         self.profile = other.profile;
         self.routers = other.routers;
         self.services.copy_from(&other.services);
-        self.members.copy_from(&other.members);
+        self.connections.copy_from(&other.connections);
         self.names.copy_from(&other.names);
         self.rules.copy_from(&other.rules);
         self.starts.copy_from(&other.starts);
@@ -221,7 +223,7 @@ impl Registry {
     pub fn conn(&self, number: u64) -> Option<Conn>
         ensures { result ≡ option_map conn_of (connection_of self.now number) }
     {
-        self.members.conn(number)
+        self.connections.conn(number)
     }
 
     /// Whether there is a connection of this number.
@@ -235,14 +237,14 @@ impl Registry {
     pub fn is_client(&self, number: u64) -> bool
         ensures { result ≡ is_client self.now.connections number }
     {
-        self.members.is_client(number)
+        self.connections.is_client(number)
     }
 
     /// Whether any connection is a monitor.
     pub fn has_monitors(&self) -> bool
         ensures { result ≡ list_any is_monitor self.now.connections }
     {
-        self.members.has_monitors()
+        self.connections.has_monitors()
     }
 
     /// The connection that messages to a name are delivered to: the owner of a well-known name, the
@@ -279,18 +281,18 @@ impl Registry {
     }
 
     /// The connections, by rising number.
-    pub fn members(&self) -> &[Member]
-        ensures { (rules : List AddedRule) × (map (connection_of_member rules) result.now
+    pub fn connections(&self) -> &[ConnectionEntry]
+        ensures { (rules : List AddedRule) × (map (connection_of_entry rules) result.now
             ≡ self.now.connections) }
     {
-        self.members.as_slice()
+        self.connections.as_slice()
     }
 
     /// The monitors, by rising number, with their rules.
     pub fn monitors(&self) -> &[Monitor]
         ensures { result.now ≡ monitors_of self.now.connections }
     {
-        self.members.monitors()
+        self.connections.monitors()
     }
 
     /// The names that programs can be started for, by rising bytes.

@@ -126,7 +126,7 @@ impl Registry {
         ensures change { IfOk result (λ asked. changed queue.new asked.change
             ≡ when_requested self.now connection name.now flags) }
     {
-        let _ = &self.members;
+        let _ = &self.connections;
         let found = copy_queue(&self.names, name, queue);
         let owner = queue.head();
         let change = self.when_requested(connection, name, found, flags, queue);
@@ -162,7 +162,7 @@ impl Registry {
         ensures change { IfOk result (λ asked. changed queue.new asked.change
             ≡ when_released self.now connection name.now) }
     {
-        let _ = &self.members;
+        let _ = &self.connections;
         let found = copy_queue(&self.names, name, queue);
         let owner = queue.head();
         let change = self.when_released(connection, name, queue);

@@ -89,7 +89,7 @@ impl Registry {
         ensures value { option_to_list result ≡ conn_at self.now (Some number) }
         ensures consistent { IsConsistent self.now }
     {
-        let _ = &self.members;
+        let _ = &self.connections;
         self.conn(number)
     }
 

@@ -15,11 +15,11 @@ use Rattle.match_index.proofs.LawProofs.{few_connections}
 use Rattle.seq_bus_core.specs.BusState.{AddedRule, rules_of}
 use Rattle.seq_bus_core.specs.Steps.{is_rule_of, rules_without, without_first}
 use Rattle.seq_bus_core.proofs.Lists.{each_map}
-use Rattle.registry_core.specs.declared.member.Member.{Member}
-use Rattle.registry_core.specs.Listening.{Rising, has_fitting, has_number, member_wants, near_rules, stays}
+use Rattle.registry_core.specs.declared.connection_entry.ConnectionEntry.{ConnectionEntry}
+use Rattle.registry_core.specs.Listening.{Rising, has_fitting, has_number, entry_wants, near_rules, stays}
 use Rattle.registry_core.specs.RuleTables.{added, added_rule}
 use Rattle.registry_core.specs.RulesOf.{rules_by}
-use Rattle.registry_core.proofs.Members.{filter_alike}
+use Rattle.registry_core.proofs.ConnectionEntries.{filter_alike}
 use Rattle.match_index.proofs.Lists.{list_any-map}
 use Rattle.registry_core.proofs.Places.{filter-map}
 
@@ -65,29 +65,29 @@ first_added c rule (r ∷ rules) = by_test (is_rule_in c rule r) (first_added c 
 
 -- ## Rules of few connections
 
-abbrev numbers_of : List Member → List ℕ
-numbers_of members = map (λ m. m.conn.number) members
+abbrev numbers_of : List ConnectionEntry → List ℕ
+numbers_of entries = map (λ m. m.conn.number) entries
 
-numbers_rise : (members : List Member) → Rising members → AreRising (numbers_of members)
+numbers_rise : (entries : List ConnectionEntry) → Rising entries → AreRising (numbers_of entries)
 numbers_rise [] h = tt
-numbers_rise (m ∷ members) h = (each_map (λ d. m.conn.number < d.conn.number) (λ n. m.conn.number < n) (λ (d : Member). d.conn.number) (λ d less. less) members h.0, numbers_rise members h.1)
+numbers_rise (m ∷ entries) h = (each_map (λ d. m.conn.number < d.conn.number) (λ n. m.conn.number < n) (λ (d : ConnectionEntry). d.conn.number) (λ d less. less) entries h.0, numbers_rise entries h.1)
 
-numbers_have : (members : List Member) (rules : List OwnedRule) → Each (λ r. has_number members r.connection ≡ true) (added rules) → Each (λ r. is_in r.connection (numbers_of members) ≡ true) rules
-numbers_have members [] h = tt
-numbers_have members (r ∷ rules) h = (list_any-map (λ n. n == r.connection) (λ (m : Member). m.conn.number) members ∙ h.0, numbers_have members rules h.1)
+numbers_have : (entries : List ConnectionEntry) (rules : List OwnedRule) → Each (λ r. has_number entries r.connection ≡ true) (added rules) → Each (λ r. is_in r.connection (numbers_of entries) ≡ true) rules
+numbers_have entries [] h = tt
+numbers_have entries (r ∷ rules) h = (list_any-map (λ n. n == r.connection) (λ (m : ConnectionEntry). m.conn.number) entries ∙ h.0, numbers_have entries rules h.1)
 
-pub few_owners : (members : List Member) (rules : List OwnedRule) (added_rules : List AddedRule) → added rules ≡ added_rules → Rising members → Each (λ r. has_number members r.connection ≡ true) added_rules →
-    length (connections_of rules) ≤ length members
-few_owners members rules added_rules are rising owned =
-    subst (λ n. length (connections_of rules) ≤ n) (length-map members (λ (m : Member). m.conn.number))
-    (few_connections (numbers_of members) rules (numbers_rise members rising) (numbers_have members rules (subst (Each (λ r. has_number members r.connection ≡ true)) (sym are) owned)))
+pub few_owners : (entries : List ConnectionEntry) (rules : List OwnedRule) (added_rules : List AddedRule) → added rules ≡ added_rules → Rising entries → Each (λ r. has_number entries r.connection ≡ true) added_rules →
+    length (connections_of rules) ≤ length entries
+few_owners entries rules added_rules are rising owned =
+    subst (λ n. length (connections_of rules) ≤ n) (length-map entries (λ (m : ConnectionEntry). m.conn.number))
+    (few_connections (numbers_of entries) rules (numbers_rise entries rising) (numbers_have entries rules (subst (Each (λ r. has_number entries r.connection ≡ true)) (sym are) owned)))
 
 -- those that are found want the message
-pub found_members : (heads : Heads) (facts : Facts) (leaver : Option ℕ) (rules : List OwnedRule) (added_rules : List AddedRule) → added rules ≡ added_rules →
-    (found : List ℕ) → ((c : ℕ) → is_in c found ≡ has_fitting_in heads rules facts c) → (members : List Member) →
-    map (λ (m : Member). m.conn) (filter (λ (m : Member). stays leaver m.conn.number && (not m.is_monitor && is_in m.conn.number found)) members)
-    ≡ map (λ (m : Member). m.conn) (filter (λ (m : Member). stays leaver m.conn.number && member_wants heads added_rules facts m) members)
-found_members heads facts leaver rules added_rules are found fitting members =
-    ap (map (λ (m : Member). m.conn))
-    (filter_alike (λ (m : Member). stays leaver m.conn.number && (not m.is_monitor && is_in m.conn.number found)) (λ (m : Member). stays leaver m.conn.number && member_wants heads added_rules facts m) members
+pub found_entries : (heads : Heads) (facts : Facts) (leaver : Option ℕ) (rules : List OwnedRule) (added_rules : List AddedRule) → added rules ≡ added_rules →
+    (found : List ℕ) → ((c : ℕ) → is_in c found ≡ has_fitting_in heads rules facts c) → (entries : List ConnectionEntry) →
+    map (λ (m : ConnectionEntry). m.conn) (filter (λ (m : ConnectionEntry). stays leaver m.conn.number && (not m.is_monitor && is_in m.conn.number found)) entries)
+    ≡ map (λ (m : ConnectionEntry). m.conn) (filter (λ (m : ConnectionEntry). stays leaver m.conn.number && entry_wants heads added_rules facts m) entries)
+found_entries heads facts leaver rules added_rules are found fitting entries =
+    ap (map (λ (m : ConnectionEntry). m.conn))
+    (filter_alike (λ (m : ConnectionEntry). stays leaver m.conn.number && (not m.is_monitor && is_in m.conn.number found)) (λ (m : ConnectionEntry). stays leaver m.conn.number && entry_wants heads added_rules facts m) entries
     (λ m. ap (λ fits. stays leaver m.conn.number && (not m.is_monitor && fits)) (fitting m.conn.number ∙ fitting_added heads facts m.conn.number rules ∙ ap (λ rs. has_fitting heads rs facts m.conn.number) are)))

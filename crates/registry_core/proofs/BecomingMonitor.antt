@@ -13,27 +13,27 @@ use Rattle.seq_bus_core.specs.Steps.{monitor_if}
 use Rattle.seq_bus_core.specs.declared.connection.Conn.{Conn}
 use Rattle.seq_bus_core.proofs.Lists.{each_weaker, find_none, find_passes, found_having, pairs_map}
 use Rattle.registry_core.specs.Listening.{Rising}
-use Rattle.registry_core.specs.MemberTables.{rules_among, connection_in, connections_in, those_without, Ascending, AreMembers}
-use Rattle.registry_core.specs.declared.member.Member.{Member}
-use Rattle.registry_core.proofs.MemberTableLemmas.{other_rules, same_connection, left_monitors, few_monitors, few_others, rising_members}
-use Rattle.registry_core.proofs.Members.{found_at, found_nowhere}
+use Rattle.registry_core.specs.ConnectionTables.{rules_among, connection_in, connections_in, those_without, Ascending, AreEntries}
+use Rattle.registry_core.specs.declared.connection_entry.ConnectionEntry.{ConnectionEntry}
+use Rattle.registry_core.proofs.ConnectionTableLemmas.{other_rules, same_connection, left_monitors, few_monitors, few_others, rising_entries}
+use Rattle.registry_core.proofs.ConnectionEntries.{found_at, found_nowhere}
 use Rattle.match_index.proofs.Lists.{first_place, position_is}
 use Rattle.registry_core.proofs.Places.{find-map}
 
-abbrev pub marked : ℕ → Member → Member
+abbrev pub marked : ℕ → ConnectionEntry → ConnectionEntry
 marked number m = record m { is_monitor = (m.conn.number == number) || m.is_monitor }
 
-none_marked : (number : ℕ) (ms : List Member) → Each (λ m. number < m.conn.number) ms → map (marked number) ms ≡ ms
+none_marked : (number : ℕ) (ms : List ConnectionEntry) → Each (λ m. number < m.conn.number) ms → map (marked number) ms ≡ ms
 none_marked number [] h = refl
 none_marked number (m ∷ ms) h =
     let other : (m.conn.number == number) ≡ false = let above : number < m.conn.number = h.0 in grind (arith, nat_tests) in
     rw other (ap (λ ns. m ∷ ns) (none_marked number ms h.1))
 
-abbrev with_mark : Member → ℕ → List Member → List Member
+abbrev with_mark : ConnectionEntry → ℕ → List ConnectionEntry → List ConnectionEntry
 with_mark d i ms = set ms i (record (get_or ms i d) { is_monitor = true })
 
 -- the place of the connection is where it is marked
-pub marked_at : (number : ℕ) (ms : List Member) (d : Member) (i : ℕ) → Rising ms → first_place (λ m. m.conn.number == number) ms ≡ Some i →
+pub marked_at : (number : ℕ) (ms : List ConnectionEntry) (d : ConnectionEntry) (i : ℕ) → Rising ms → first_place (λ m. m.conn.number == number) ms ≡ Some i →
     with_mark d i ms ≡ map (marked number) ms
 marked_at number [] d i rising e = cc
 marked_at number (m ∷ ms) d i rising e = by_test (m.conn.number == number) refl e (λ j found. marked_at number ms d j rising.1 found)
@@ -79,7 +79,7 @@ own_rules monitor (m ∷ monitors) = by_test (m.conn.number == monitor.conn.numb
 
 -- ## Connections
 
-become_one : (monitor : Monitor) (monitors : List Monitor) (m : Member) →
+become_one : (monitor : Monitor) (monitors : List Monitor) (m : ConnectionEntry) →
     connection_in (inserted monitor (without monitor.conn.number monitors)) (marked monitor.conn.number m) ≡ monitor_if monitor.conn.number monitor.rules (connection_in monitors m)
 become_one monitor monitors m = by_test (m.conn.number == number) refl
   where
@@ -98,7 +98,7 @@ become_one monitor monitors m = by_test (m.conn.number == number) refl
         let other : (monitor.conn.number == m.conn.number) ≡ false = grind (arith, nat_tests) in
         rw is (same_connection monitors next m (inserted_rules monitor m.conn.number (without monitor.conn.number monitors) other ∙ other_rules monitor.conn.number m.conn.number monitors is))
 
-pub become_view : (monitor : Monitor) (monitors : List Monitor) (ms : List Member) →
+pub become_view : (monitor : Monitor) (monitors : List Monitor) (ms : List ConnectionEntry) →
     connections_in (inserted monitor (without monitor.conn.number monitors)) (map (marked monitor.conn.number) ms) ≡ map (monitor_if monitor.conn.number monitor.rules) (connections_in monitors ms)
 become_view monitor monitors [] = refl
 become_view monitor monitors (m ∷ ms) =
@@ -183,9 +183,9 @@ room_for_one number cs c monitors found watching =
     let fewer : length (those_without number cs) < length cs = fewer_others number cs c found in
     omega (arith, ap length is, few, fewer)
 
-pub table_became : (conn : Conn) (rules : List Rule) (monitors : List Monitor) (ms : List Member) (c : Connection) (room next_room : ℕ) → AreMembers ms monitors room →
+pub table_became : (conn : Conn) (rules : List Rule) (monitors : List Monitor) (ms : List ConnectionEntry) (c : Connection) (room next_room : ℕ) → AreEntries ms monitors room →
     find (λ d. d.number == conn.number) (connections_in monitors ms) ≡ Some c → conn ≡ conn_of c → room ≤ next_room →
-    AreMembers (map (marked conn.number) ms) (inserted (record { conn = conn; rules = rules }) (without conn.number monitors)) next_room
+    AreEntries (map (marked conn.number) ms) (inserted (record { conn = conn; rules = rules }) (without conn.number monitors)) next_room
 table_became conn rules monitors ms c room next_room h found is more =
     let cs = connections_in monitors ms in
     let monitor : Monitor = record { conn = conn; rules = rules } in
@@ -209,40 +209,40 @@ table_became conn rules monitors ms c room next_room h found is more =
 
 -- ## At a place
 
--- what becomes of a table whose member at a place is one of a number
-pub record Becomes (number : ℕ) (rules : List Rule) (monitors : List Monitor) (ms : List Member) (i : ℕ) (m : Member) (room : ℕ) : Type 0 where
+-- what becomes of a table whose entry at a place is one of a number
+pub record Becomes (number : ℕ) (rules : List Rule) (monitors : List Monitor) (ms : List ConnectionEntry) (i : ℕ) (m : ConnectionEntry) (room : ℕ) : Type 0 where
   pub fewer : length (without number monitors) < length ms
-  pub table : AreMembers (set ms i (record m { is_monitor = true })) (inserted (record { conn = m.conn; rules = rules }) (without number monitors)) room
+  pub table : AreEntries (set ms i (record m { is_monitor = true })) (inserted (record { conn = m.conn; rules = rules }) (without number monitors)) room
   pub view : connections_in (inserted (record { conn = m.conn; rules = rules }) (without number monitors)) (set ms i (record m { is_monitor = true })) ≡ map (monitor_if number rules) (connections_in monitors ms)
 
-of_own_number : (rules : List Rule) (monitors : List Monitor) (ms : List Member) (i : ℕ) (m : Member) (room next_room : ℕ) → AreMembers ms monitors room →
+of_own_number : (rules : List Rule) (monitors : List Monitor) (ms : List ConnectionEntry) (i : ℕ) (m : ConnectionEntry) (room next_room : ℕ) → AreEntries ms monitors room →
     first_place (λ x. x.conn.number == m.conn.number) ms ≡ Some i → m ≡ get_or ms i m → room ≤ next_room → Becomes m.conn.number rules monitors ms i m next_room
 of_own_number rules monitors ms i m room next_room h found is more =
     let cs = connections_in monitors ms in
     let monitor : Monitor = record { conn = m.conn; rules = rules } in
     let c : Connection = connection_in monitors (get_or ms i m) in
     let there : find (λ d. d.number == m.conn.number) cs ≡ Some c = find-map (λ d. d.number == m.conn.number) (connection_in monitors) ms ∙ ap (option_map (connection_in monitors)) (found_at m.conn.number ms m i found) in
-    let conn_is : m.conn ≡ conn_of c = ap (λ (x : Member). x.conn) is in
+    let conn_is : m.conn ≡ conn_of c = ap (λ (x : ConnectionEntry). x.conn) is in
     let set_is : set ms i (record m { is_monitor = true }) ≡ map (marked m.conn.number) ms =
-    ap (λ (x : Member). set ms i (record x { is_monitor = true })) is ∙ marked_at m.conn.number ms m i (rising_members monitors ms h.rise) found in
+    ap (λ (x : ConnectionEntry). set ms i (record x { is_monitor = true })) is ∙ marked_at m.conn.number ms m i (rising_entries monitors ms h.rise) found in
     let next : List Monitor = inserted monitor (without m.conn.number monitors) in
     record {
       fewer = (let fewer : length (without m.conn.number monitors) < length cs = room_for_one m.conn.number cs c monitors there h.watching in omega (arith, fewer, length-map ms (connection_in monitors)));
-      table = subst (λ (ns : List Member). AreMembers ns next next_room) (sym set_is) (table_became m.conn rules monitors ms c room next_room h there conn_is more);
+      table = subst (λ (ns : List ConnectionEntry). AreEntries ns next next_room) (sym set_is) (table_became m.conn rules monitors ms c room next_room h there conn_is more);
       view = ap (connections_in next) set_is ∙ become_view monitor monitors ms;
     }
 
-pub becomes : (number : ℕ) (rules : List Rule) (monitors : List Monitor) (ms : List Member) (i : ℕ) (m : Member) (room : ℕ) → AreMembers ms monitors room →
+pub becomes : (number : ℕ) (rules : List Rule) (monitors : List Monitor) (ms : List ConnectionEntry) (i : ℕ) (m : ConnectionEntry) (room : ℕ) → AreEntries ms monitors room →
     ◌≡◌ {A = Option ℕ} (position (λ x. x.conn.number == number) ms) (Some i) → m ≡ get_or ms i m → Becomes number rules monitors ms i m room
 becomes number rules monitors ms i m room h at is =
     let found : first_place (λ x. x.conn.number == number) ms ≡ Some i = sym (position_is (λ x. x.conn.number == number) ms) ∙ at in
     let passes : ((get_or ms i m).conn.number == number) ≡ true = find_passes (λ x. x.conn.number == number) ms (get_or ms i m) (found_at number ms m i found) in
-    let same : m.conn.number ≡ number = ap (λ (x : Member). x.conn.number) is ∙ eqb-true (get_or ms i m).conn.number number passes in
+    let same : m.conn.number ≡ number = ap (λ (x : ConnectionEntry). x.conn.number) is ∙ eqb-true (get_or ms i m).conn.number number passes in
     subst (λ n. first_place (λ x. x.conn.number == n) ms ≡ Some i → Becomes n rules monitors ms i m room) same
     (λ own. of_own_number rules monitors ms i m room room h own is (omega arith)) found
 
 -- no connection has the number
-pub nobody_becomes : (number : ℕ) (rules : List Rule) (monitors : List Monitor) (ms : List Member) → ◌≡◌ {A = Option ℕ} (first_place (λ m. m.conn.number == number) ms) None →
+pub nobody_becomes : (number : ℕ) (rules : List Rule) (monitors : List Monitor) (ms : List ConnectionEntry) → ◌≡◌ {A = Option ℕ} (first_place (λ m. m.conn.number == number) ms) None →
     map (monitor_if number rules) (connections_in monitors ms) ≡ connections_in monitors ms
 nobody_becomes number rules monitors ms found =
     all_stay number rules (connections_in monitors ms) (find_none (λ c. c.number == number) (connections_in monitors ms)

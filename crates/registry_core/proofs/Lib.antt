@@ -2,10 +2,10 @@ pub mod Places
 pub mod CountLemmas
 pub mod NameTableLemmas
 pub mod AddedRules
-pub mod Members
+pub mod ConnectionEntries
 pub mod IndexLemmas
 pub mod TableIndex
 pub mod StartLemmas
-pub mod MemberTableLemmas
+pub mod ConnectionTableLemmas
 pub mod BecomingMonitor
 pub mod CopiedTable

@@ -4,4 +4,4 @@ pub mod RulesOf
 pub mod StartTables
 pub mod Listening
 pub mod NameIndexes
-pub mod MemberTables
+pub mod ConnectionTables

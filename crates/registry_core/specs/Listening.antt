@@ -10,7 +10,7 @@ use Rattle.match_index.specs.Near.{is_near}
 use Rattle.seq_bus_core.specs.BusState.{Connection, AddedRule, is_monitor, conn_of}
 use Rattle.seq_bus_core.specs.Consistency.{Pairwise}
 use Rattle.seq_bus_core.specs.declared.connection.Conn.{Conn}
-use Rattle.registry_core.specs.declared.member.Member.{Member}
+use Rattle.registry_core.specs.declared.connection_entry.ConnectionEntry.{ConnectionEntry}
 
 -- not the connection that leaves
 abbrev pub stays : Option ℕ → ℕ → Bool
@@ -48,8 +48,8 @@ abbrev pub rules_of_monitor : ℕ → List AddedRule → List Rule
 rules_of_monitor number rules = map (λ r. r.rule) (filter (λ r. r.connection == number) rules)
 
 -- a connection, with its rules among those of all monitors if it is one
-abbrev pub connection_of_member : List AddedRule → Member → Connection
-connection_of_member monitor_rules m = record {
+abbrev pub connection_of_entry : List AddedRule → ConnectionEntry → Connection
+connection_of_entry monitor_rules m = record {
   number = m.conn.number;
   router = m.conn.router;
   slot = m.conn.slot;
@@ -57,12 +57,12 @@ connection_of_member monitor_rules m = record {
   monitor = if m.is_monitor then Some (rules_of_monitor m.conn.number monitor_rules) else None;
 }
 
-abbrev pub member_wants : Heads → List AddedRule → Facts → Member → Bool
-member_wants heads rules facts m = not m.is_monitor && has_fitting heads rules facts m.conn.number
+abbrev pub entry_wants : Heads → List AddedRule → Facts → ConnectionEntry → Bool
+entry_wants heads rules facts m = not m.is_monitor && has_fitting heads rules facts m.conn.number
 
 -- whether a connection of this number is among them
-abbrev pub has_number : List Member → ℕ → Bool
-has_number members number = list_any (λ m. m.conn.number == number) members
+abbrev pub has_number : List ConnectionEntry → ℕ → Bool
+has_number entries number = list_any (λ m. m.conn.number == number) entries
 
-abbrev pub Rising : List Member → Type 0
-Rising members = Pairwise (λ a b. a.conn.number < b.conn.number) members
+abbrev pub Rising : List ConnectionEntry → Type 0
+Rising entries = Pairwise (λ a b. a.conn.number < b.conn.number) entries

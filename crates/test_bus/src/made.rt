@@ -181,7 +181,7 @@ impl Both {
     /// Whether both have one connection, the second, without rules, and no names.
     fn are_left(&self) -> bool {
         [&self.absorbing, &self.making].iter().all(|registry| {
-            registry.members().len() == 1
+            registry.connections().len() == 1
                 && registry.is_client(2)
                 && !registry.has_monitors()
                 && registry.rules(2).next().is_none()

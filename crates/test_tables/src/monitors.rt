@@ -4,7 +4,7 @@ ghost use Rattle.std.specs.Prelude.{◌≡◌};
 
 use match_rules::{Owners, Rule};
 use monitor::Monitors;
-use registry_core::MemberTable;
+use registry_core::ConnectionTable;
 use seq_bus_core::{Conn, MonitorRules, Recipients};
 use std::alloc::{AllocError, Global};
 use std::process::Abort;
@@ -136,15 +136,15 @@ fn all_have_room_for_their_rules(rt: HostRuntime) {
 }
 
 /// Two connections, of which one proved to be its user's.
-fn two(alloc: Global) -> Result<MemberTable, AllocError> {
-    let mut table = MemberTable::new(alloc)?;
+fn two(alloc: Global) -> Result<ConnectionTable, AllocError> {
+    let mut table = ConnectionTable::new(alloc)?;
     table.join(conn(1), true);
     table.join(conn(2), false);
     Ok(table)
 }
 
 /// The first of two connections becomes a monitor, and leaves.
-fn watch_and_leave(rt: &impl Abort, table: &mut MemberTable, rules: &MonitorRules) {
+fn watch_and_leave(rt: &impl Abort, table: &mut ConnectionTable, rules: &MonitorRules) {
     assert!(rt; table.is_privileged(1) && !table.is_privileged(2) && !table.has_monitors());
     table.become_monitor(1, rules);
     assert!(rt; !table.is_client(1) && table.is_client(2) && table.conn(1) == Some(conn(1)));

@@ -56,7 +56,7 @@ fn queued(alloc: Global, registry: &Registry, name: &BusName) -> Result<Vec<BusN
 fn all_names(alloc: Global, registry: &Registry) -> Result<Vec<BusName>, AllocError> {
     let mut names = Vec::new(alloc);
     names.push(BusName::bus())?;
-    for member in registry.members() {
+    for member in registry.connections() {
         names.push(BusName::from(UniqueName::of(member.conn.number)))?;
     }
     for entry in registry.names() {

@@ -8,8 +8,8 @@ use Rattle.names.specs.BusName.{bus_text, is_bus, is_unique}
 use Rattle.names.specs.UniqueName.{unique_text}
 use Rattle.owner_queues.specs.Queues.{Queue}
 use Rattle.owner_queues.specs.declared.owner.QueuedOwner.{QueuedOwner}
-use Rattle.registry_core.specs.Listening.{connection_of_member}
-use Rattle.registry_core.specs.declared.member.Member.{Member}
+use Rattle.registry_core.specs.Listening.{connection_of_entry}
+use Rattle.registry_core.specs.declared.connection_entry.ConnectionEntry.{ConnectionEntry}
 use Rattle.seq_bus_core.specs.Answers.{NameList, names_there, owner_name, queue_names, queued_names}
 use Rattle.seq_bus_core.specs.BusState.{AddedRule, BusState, Connection, OwnedName, is_monitor, queue_of}
 use Rattle.trace_lines.specs.Texts.{answer_text}
@@ -19,22 +19,22 @@ use Rattle.trace_check_core.specs.Listings.{behind_comma, client_listed, waiting
 list_written : (first : Text) (names : List Text) → answer_text (Some (NameList (first ∷ names))) ≡ first ++ flat_map behind_comma names
 list_written first names = refl
 
-pub clients_written : (rules : List AddedRule) (members : List Member) → flat_map client_listed members ≡ flat_map behind_comma (map (λ c. unique_text c.number) (filter (λ c. not (is_monitor c)) (map (connection_of_member rules) members)))
+pub clients_written : (rules : List AddedRule) (members : List ConnectionEntry) → flat_map client_listed members ≡ flat_map behind_comma (map (λ c. unique_text c.number) (filter (λ c. not (is_monitor c)) (map (connection_of_entry rules) members)))
 clients_written rules [] = refl
 clients_written rules (m ∷ members) = by_test m.is_monitor (clients_written rules members)
   where
     others : List Connection
-    others = filter (λ c. not (is_monitor c)) (map (connection_of_member rules) members)
+    others = filter (λ c. not (is_monitor c)) (map (connection_of_entry rules) members)
 
     c : Bool → Connection
-    c b = connection_of_member rules (record m { is_monitor = b })
+    c b = connection_of_entry rules (record m { is_monitor = b })
 
     by_test : (b : Bool) → flat_map client_listed members ≡ flat_map behind_comma (map (λ (c : Connection). unique_text c.number) others) →
         client_listed (record m { is_monitor = b }) ++ flat_map client_listed members ≡ flat_map behind_comma (map (λ (c : Connection). unique_text c.number) (cond (not (is_monitor (c b))) (c b ∷ others) others))
     by_test true rest = rest
     by_test false rest = ap (λ (t : Text). behind_comma (unique_text m.conn.number) ++ t) rest
 
-pub names_written : (s : BusState) (rules : List AddedRule) (members : List Member) → map (connection_of_member rules) members ≡ s.connections →
+pub names_written : (s : BusState) (rules : List AddedRule) (members : List ConnectionEntry) → map (connection_of_entry rules) members ≡ s.connections →
     answer_text (Some (NameList (bus_text ∷ names_there s))) ≡ bus_text ++ (flat_map client_listed members ++ flat_map (λ (n : OwnedName). behind_comma n.name) s.names)
 names_written s rules members is =
     let unique : Connection → Text = λ c. unique_text c.number in
@@ -50,7 +50,7 @@ queue_written owner waiting = ap (λ (t : Text). unique_text owner.connection ++
 
 -- ## What the code appends
 
-pub names_told : (s : BusState) (rules : List AddedRule) (members : List Member) (names : List OwnedName) (bus first whole : Text) → map (connection_of_member rules) members ≡ s.connections → names ≡ s.names →
+pub names_told : (s : BusState) (rules : List AddedRule) (members : List ConnectionEntry) (names : List OwnedName) (bus first whole : Text) → map (connection_of_entry rules) members ≡ s.connections → names ≡ s.names →
     bus ≡ bus_text → first ≡ bus ++ flat_map client_listed members → whole ≡ first ++ flat_map (λ (n : OwnedName). behind_comma n.name) names →
     whole ≡ answer_text (Some (NameList (bus_text ∷ names_there s)))
 names_told s rules members names bus first whole connections same is_bus clients told =

@@ -9,7 +9,7 @@ ghost use Rattle.trace_lines.specs.Texts.{answer_text};
 use names::{BusName, BusNameKind, UniqueName, WellKnown};
 use owner_queues::QueuedOwner;
 use registry::Registry;
-use registry_core::{Member, NameEntry};
+use registry_core::{ConnectionEntry, NameEntry};
 use seq_bus_core::Query;
 use std::alloc::{AllocError, Global};
 
@@ -62,7 +62,7 @@ fn names_text(alloc: Global, registry: &Registry) -> Result<String, AllocError>
         ≡ answer_text (Some (NameList (bus_text ∷ names_there registry.now)))) }
 {
     let mut text = String::from_str(alloc, BusName::bus().as_str())?;
-    push_clients(&mut text, registry.members())?;
+    push_clients(&mut text, registry.connections())?;
     push_names(&mut text, registry.names())?;
     Ok(text)
 }
@@ -109,7 +109,7 @@ fn push_name(text: &mut String, name: &str) -> Result<(), AllocError>
 }
 
 /// Appends the connections that are no monitors.
-fn push_clients(text: &mut String, members: &[Member]) -> Result<(), AllocError>
+fn push_clients(text: &mut String, members: &[ConnectionEntry]) -> Result<(), AllocError>
     ensures { OnOk result (string_bytes text.new
         ≡ string_bytes text.old ++ flat_map client_listed members.now) }
 {
@@ -119,7 +119,7 @@ fn push_clients(text: &mut String, members: &[Member]) -> Result<(), AllocError>
     Ok(())
 }
 
-fn push_client(text: &mut String, member: &Member) -> Result<(), AllocError>
+fn push_client(text: &mut String, member: &ConnectionEntry) -> Result<(), AllocError>
     ensures { OnOk result (string_bytes text.new
         ≡ string_bytes text.old ++ client_listed member.now) }
 {

@@ -3,32 +3,32 @@ use Rattle.std.specs.List.{AllByRecursion}
 use Rattle.std.proofs.lemmas.List.{length-map}
 use Rattle.seq_bus_core.specs.BusState.{BusState, AddedRule, max_connections}
 use Rattle.seq_bus_core.specs.declared.connection.Conn.{Conn}
-use Rattle.registry_core.specs.declared.member.Member.{Member}
-use Rattle.registry_core.specs.Listening.{Rising, has_number, stays, member_wants, wants_by, conns_that}
-use Rattle.registry_core.specs.MemberTables.{member_of}
+use Rattle.registry_core.specs.declared.connection_entry.ConnectionEntry.{ConnectionEntry}
+use Rattle.registry_core.specs.Listening.{Rising, has_number, stays, entry_wants, wants_by, conns_that}
+use Rattle.registry_core.specs.ConnectionTables.{entry_of}
 use Rattle.registry.specs.Tables.{state_of}
-use Rattle.registry.proofs.Kept.{members_rise}
-use Rattle.registry.proofs.ListeningLemmas.{members_that_want, rules_owned}
+use Rattle.registry.proofs.Kept.{entries_rise}
+use Rattle.registry.proofs.ListeningLemmas.{entries_that_want, rules_owned}
 use Rattle.registry.proofs.registry.Registry.add_all_that_want.Goals as goal
 
 pub add_all_that_want-requires-clause-rising : goal.add_all_that_want-requires-clause-rising
-add_all_that_want-requires-clause-rising g c = subst Rising (sym c.as_slice-members.ensures) (members_rise (state_of c.self.inside).connections c.self.invariant.consistent.connections_rise)
+add_all_that_want-requires-clause-rising g c = subst Rising (sym c.as_slice-entries.ensures) (entries_rise (state_of c.self.inside).connections c.self.invariant.consistent.connections_rise)
 
 pub add_all_that_want-requires-clause-few : goal.add_all_that_want-requires-clause-few
 add_all_that_want-requires-clause-few g c =
-    subst (λ (ms : List Member). length ms ≤ max_connections) (sym c.as_slice-members.ensures)
-    (subst (λ n. n ≤ max_connections) (sym (length-map (state_of c.self.inside).connections member_of)) c.self.invariant.within_limits.connections)
+    subst (λ (ms : List ConnectionEntry). length ms ≤ max_connections) (sym c.as_slice-entries.ensures)
+    (subst (λ n. n ≤ max_connections) (sym (length-map (state_of c.self.inside).connections entry_of)) c.self.invariant.within_limits.connections)
 
 pub add_all_that_want-requires-clause-owned : goal.add_all_that_want-requires-clause-owned
 add_all_that_want-requires-clause-owned g c =
-    subst (λ (ms : List Member). AllByRecursion (λ (r : AddedRule). has_number ms r.connection ≡ true) c.self.inside.rules) (sym c.as_slice-members.ensures)
+    subst (λ (ms : List ConnectionEntry). AllByRecursion (λ (r : AddedRule). has_number ms r.connection ≡ true) c.self.inside.rules) (sym c.as_slice-entries.ensures)
     (rules_owned (state_of c.self.inside) c.self.invariant.consistent)
 
 pub returns-clause-value : goal.returns-clause-value
 returns-clause-value g c =
     let s = state_of c.self.inside in
     let heads = g.O.Owners.heads c.args.owners.now in
-    let found : List Member → List Conn = λ ms. map (λ m. m.conn) (filter (λ m. stays None m.conn.number && member_wants heads c.self.inside.rules c.args.facts.now m) ms) in
-    c.add_all_that_want.ensures.value ∙ ap found c.as_slice-members.ensures
-    ∙ members_that_want heads s.rules c.args.facts.now None s.connections
+    let found : List ConnectionEntry → List Conn = λ ms. map (λ m. m.conn) (filter (λ m. stays None m.conn.number && entry_wants heads c.self.inside.rules c.args.facts.now m) ms) in
+    c.add_all_that_want.ensures.value ∙ ap found c.as_slice-entries.ensures
+    ∙ entries_that_want heads s.rules c.args.facts.now None s.connections
     ∙ ap (λ (t : BusState). conns_that (λ d. stays None d.number && wants_by heads t.rules c.args.facts.now d) t.connections) c.self.view_is

@@ -13,7 +13,7 @@ use Rattle.registry.proofs.registry.Registry.become_monitor.Goals as goal
 use Rattle.registry.proofs.registry.Registry.become_monitor.Goals.{After-remove_all}
 
 next : After-remove_all → Inside
-next c = record c.self.inside { members = c.become_monitor.new.self; names = c.leave.new.self; rules = c.remove_all.new.self }
+next c = record c.self.inside { connections = c.become_monitor.new.self; names = c.leave.new.self; rules = c.remove_all.new.self }
 
 after : (c : After-remove_all) → (step (state_of c.self.inside) c.args.seat (BecomeMonitor c.args.connection c.args.rules.now)).0 ≡ state_of (next c)
 unfolding next

@@ -13,7 +13,7 @@ pub returns-then-not-present : goal.returns-then-not-present
 returns-then-not-present c = sym (leave_gone c.args.self.now c.args.seat c.args.connection (sym c.if-not-present.ensures)).0
 
 next : After-remove_all → Inside
-next c = record c.self.inside { members = c.leave.new.self; names = c.leave-2.new.self; rules = c.remove_all.new.self }
+next c = record c.self.inside { connections = c.leave.new.self; names = c.leave-2.new.self; rules = c.remove_all.new.self }
 
 after : (c : After-remove_all) → (step (state_of c.self.inside) c.args.seat (Leave c.args.connection)).0 ≡ state_of (next c)
 unfolding next

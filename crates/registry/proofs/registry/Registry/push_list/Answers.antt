@@ -8,7 +8,7 @@ use Rattle.seq_bus_core.specs.Answers.{names_there}
 use Rattle.seq_bus_core.specs.BusState.{BusState, Connection, OwnedName, is_monitor, queue_of}
 use Rattle.bus_view.specs.Bodies.{AreListed}
 use Rattle.registry_core.specs.NameTables.{owned_name}
-use Rattle.registry_core.specs.declared.member.Member.{Member}
+use Rattle.registry_core.specs.declared.connection_entry.ConnectionEntry.{ConnectionEntry}
 use Rattle.registry_core.specs.declared.name_table.NameEntry.{NameEntry}
 use Rattle.registry.specs.NamesListed.{only, names_in}
 use Rattle.registry.specs.Tables.{state_of}
@@ -20,17 +20,17 @@ use Rattle.registry.proofs.registry.Registry.push_list.Goals as goal
 pub returns-in_ok-push_all-in-All-clause-listed : goal.returns-in_ok-push_all-in-All-clause-listed
 returns-in_ok-push_all-in-All-clause-listed c =
     let s : BusState = state_of c.self.inside in
-    let member : Member → List Text = λ m. only (if m.is_monitor then None else Some (unique_text m.conn.number)) in
+    let client : ConnectionEntry → List Text = λ m. only (if m.is_monitor then None else Some (unique_text m.conn.number)) in
     let entry : Box NameEntry Global → List Text = λ b. only (Some b.value.name) in
-    let clients : flat_map member c.as_slice.result.now ≡ map (λ (d : Connection). unique_text d.number) (filter (λ d. not (is_monitor d)) s.connections) =
-    ap (flat_map member) c.as_slice.ensures ∙ clients_listed s.connections in
+    let clients : flat_map client c.as_slice.result.now ≡ map (λ (d : Connection). unique_text d.number) (filter (λ d. not (is_monitor d)) s.connections) =
+    ap (flat_map client) c.as_slice.ensures ∙ clients_listed s.connections in
     let owned : flat_map entry c.as_slice-in-All.result.now ≡ map (λ (n : OwnedName). n.name) s.names =
     owned_listed (λ b. b.value.name) (λ b. owned_name b.value) c.as_slice-in-All.result.now (λ b. refl) ∙ ap (map (λ (n : OwnedName). n.name)) c.as_slice-in-All.ensures.value in
-    let all : c.bus.result ∷ (flat_map member c.as_slice.result.now ++ flat_map entry c.as_slice-in-All.result.now) ≡ bus_text ∷ names_there s = λ i. c.bus.ensures i ∷ (clients i ++ owned i) in
+    let all : c.bus.result ∷ (flat_map client c.as_slice.result.now ++ flat_map entry c.as_slice-in-All.result.now) ≡ bus_text ∷ names_there s = λ i. c.bus.ensures i ∷ (clients i ++ owned i) in
     let names = all ∙ ap (λ (t : BusState). names_in t All) c.self.view_is ∙ ap (names_in c.args.self.now) (sym c.in-All.is) in
     on_ok_weaker c.push_all-in-All.result
     (λ listed before at empty. subst (λ (ns : List Text). AreListed before ns c.push_all-in-All.new.body.items) names
-    (listed before (c.bus.result ∷ flat_map member c.as_slice.result.now) at
+    (listed before (c.bus.result ∷ flat_map client c.as_slice.result.now) at
     (c.in_ok-push_all-in-All.ensures.listed before (c.bus.result ∷ []) at (c.in_ok-push_name-in-All.ensures.listed before [] at empty))))
     c.push_all-in-All.ensures.listed
 

@@ -23,7 +23,7 @@ join-requires-clause-above c =
     above_all s c.in-Some.conn.number c.self.invariant.consistent (next_number_is s c.args.seat c.in-Some.conn made).0
 
 next : After-self-1 → Inside
-next c = record c.self.inside { members = c.join.new.self; next_number = c.self.inside.next_number + 1 }
+next c = record c.self.inside { connections = c.join.new.self; next_number = c.self.inside.next_number + 1 }
 
 after : (c : After-self-1) → (step (state_of c.self.inside) c.args.seat (Hello c.args.privileged)).0 ≡ state_of (next c)
 unfolding next

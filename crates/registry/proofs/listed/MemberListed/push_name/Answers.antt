@@ -1,4 +1,0 @@
-use Rattle.registry.proofs.listed.MemberListed.push_name.Goals as goal
-
-pub returns-clause-listed : goal.returns-clause-listed
-returns-clause-listed c = rw c.if-self.false (rw c.of.ensures at c.push_connection.ensures.listed)
