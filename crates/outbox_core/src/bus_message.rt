@@ -55,14 +55,8 @@ impl ReplyContent {
 #[derive(Debug, Drop)]
 pub enum BusMessage {
     Signal(SharedSignal),
-    Reply {
-        to: ReplyTo,
-        content: ReplyContent,
-    },
-    Error {
-        to: ReplyTo,
-        error: ErrorKind,
-    },
+    Reply { to: ReplyTo, content: ReplyContent },
+    Error { to: ReplyTo, error: ErrorKind },
 }
 
 impl BusMessage {

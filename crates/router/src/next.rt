@@ -9,8 +9,8 @@ ghost use Rattle.router.specs.Upcoming.{HasNoNext};
 
 use crate::peers::Peers;
 use bus_view::BusView;
-use router_core::limits::MAX_EFFECTS;
 use router_core::Gate;
+use router_core::limits::MAX_EFFECTS;
 use router_serving::next_in;
 use router_steps::{HelloCall, Peer};
 use std::alloc::AllocError;

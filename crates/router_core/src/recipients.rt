@@ -16,10 +16,7 @@ pub struct Addressees {
 enum Held {
     One(Conn),
     Shown(Box<Verdict>),
-    Told {
-        to: Listeners,
-        monitors: Listeners,
-    },
+    Told { to: Listeners, monitors: Listeners },
 }
 
 impl Model for Addressees {
