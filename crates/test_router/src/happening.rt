@@ -71,6 +71,10 @@ pub fn event_of(alloc: Global, row: &str) -> Result<Event<()>> {
             key,
             piece: sent::message(alloc, words)?,
         },
+        "fullest" => Event::Bytes {
+            key,
+            piece: sent::fullest(alloc)?,
+        },
         "serves" => Event::Next { key },
         "turn" => Event::Turn {
             keys: turn(alloc, key, words)?,

@@ -116,3 +116,18 @@ fn texts(alloc: Global, words: &mut Words<'_>) -> Result<Value, AllocError> {
     }
     Ok(Value::Array(DataType::Basic(BasicType::String), texts))
 }
+
+/// A signal whose header fields take the 67,108,864 bytes that an array may have, nearly all of
+/// them for its path.
+pub fn fullest(alloc: Global) -> Result<Vec<u8>, AllocError> {
+    let mut message = Vec::from_slice(
+        alloc,
+        b"l\x04\0\x01\0\0\0\0\x02\0\0\0\0\0\0\x04\x01\x01o\0\xd7\xff\xff\x03/",
+    )?;
+    let path = Vec::from_elem(alloc, b'a', 67_108_822)?;
+    message.extend_from_slice(path.as_slice())?;
+    message.extend_from_slice(
+        b"\0\x02\x01s\0\x03\0\0\0a.b\0\0\0\0\0\x03\x01s\0\x07\0\0\0Changed\0",
+    )?;
+    Ok(message)
+}
