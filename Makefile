@@ -51,6 +51,7 @@ memory:
 bench:
 	@$(MAKE) -s -C crates/bench_bytes/rust bench
 	@$(MAKE) -s -C crates/bench_bus/rust bench
+	@cd crates/bench_host && rt run -- --time
 
 # The edits that the gate leaves out, of all crates or of one: `make edits CRATE=names`. The prover must refuse each.
 edits:
