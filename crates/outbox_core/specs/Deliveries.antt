@@ -1,27 +1,12 @@
 -- Who gets a message that is put. (D-Bus Specification: "Message Bus Message Routing")
-use Rattle.std.specs.Prelude.{◌≡◌, Bool, ◌==◌, ◌||◌, not, List, ◌++◌, filter, map}
-use Rattle.std.specs.List.{IsDistinct, flat_map}
+use Rattle.std.specs.Prelude.{◌≡◌, Bool, ◌==◌, ◌||◌, not, List, ◌++◌, filter}
+use Rattle.std.specs.List.{IsDistinct}
 use Rattle.seq_bus_core.specs.Steps.{is_among}
 use Rattle.seq_bus_core.specs.declared.connection.Conn.{Conn}
-use Rattle.seq_bus_core.specs.declared.signal.AddressedSignal.{AddressedSignal}
-use Rattle.outbox_core.specs.Contents.{Said, Tells, Signals}
 
 -- each recipient, and then each monitor that is none of them
 abbrev pub deliveries_of : List Conn → List Conn → List Conn
 deliveries_of to monitors = to ++ filter (λ m. not (is_among to m)) monitors
-
--- one of them, with what it gets
-pub record Delivery : Type 0 where
-  pub to : Conn
-  pub said : Said
-
--- a message that is put
-abbrev pub delivered : Said → List Conn → List Conn → List Delivery
-delivered said to monitors = map (λ conn. record { to = conn; said = said }) (deliveries_of to monitors)
-
--- the signals of a change, one after the other
-abbrev pub signals_delivered : List AddressedSignal → List Delivery
-signals_delivered signals = flat_map (λ s. delivered (Tells (Signals s.signal)) s.to s.monitors) signals
 
 -- ## Laws
 

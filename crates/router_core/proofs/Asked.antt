@@ -5,9 +5,10 @@ use Rattle.seq_bus_core.specs.Histories.{History}
 use Rattle.seq_bus_core.specs.declared.connection.Conn.{Conn}
 use Rattle.seq_bus_core.specs.declared.signal.AddressedSignal.{AddressedSignal}
 use Rattle.outbox_core.specs.Contents.{Tells, Signals}
+use Rattle.outbox_core.specs.Deliveries.{deliveries_of}
 use Rattle.router_core.specs.declared.action.Action.{Action}
 use Rattle.router_core.specs.Acts.{Exchange, Changed, ChangedAll, Asked, Routed, Looked, Noted, Fronted, Called, Gated, Wanted, Goes, IsLawful, gated_in, world_of}
-use Rattle.router_core.specs.Deeds.{Deed, GatedCall, PassesAll, Puts, all_of, announced, announcement, put_of, put_to, IsDoneBy, AreDoneBy}
+use Rattle.router_core.specs.Deeds.{Deed, GatedCall, PassesAll, Puts, announced, announcement, put_of, put_to, IsDoneBy, AreDoneBy}
 use Rattle.router_core.specs.Events.{script, occasion_of}
 use Rattle.router_core.specs.Laws.{AnswersAreLawful}
 use Rattle.router_core.specs.Scripts.{Script, Gives, Changing, ChangingAll, Asking, Routing, Looking, Noting, Fronting, Calling, Gating, Wanting, Requiring, Doing, Announcing, World, Comes, knowing}
@@ -15,7 +16,7 @@ use Rattle.router_core.proofs.Knowing.{seat_kept, change_home, changes_home, ans
 
 -- ## Deeds of actions
 
-more_put : {N : Type 0} (note : Option N) (s : AddressedSignal) (conns : List Conn) → conns ≡ all_of s.to s.monitors → (actions : List (Action N)) (later : List Deed) → AreDoneBy actions later →
+more_put : {N : Type 0} (note : Option N) (s : AddressedSignal) (conns : List Conn) → conns ≡ deliveries_of s.to s.monitors → (actions : List (Action N)) (later : List Deed) → AreDoneBy actions later →
     AreDoneBy (put_of note s conns ++ actions) (put_to conns (Tells (Signals s.signal)) ++ later)
 more_put note s [] is actions later done = done
 more_put note s (conn ∷ conns) is actions later done = (Puts (conn ∷ conns) (Tells (Signals s.signal)), later, ap (λ (all : List Conn). Puts all (Tells (Signals s.signal))) is, done, refl)
@@ -23,11 +24,11 @@ more_put note s (conn ∷ conns) is actions later done = (Puts (conn ∷ conns) 
 more_announced : {N : Type 0} (signals : List AddressedSignal) (note : Option N) (actions : List (Action N)) (later : List Deed) → AreDoneBy actions later → AreDoneBy (announcement signals note ++ actions) (announced signals ++ later)
 more_announced [] carried actions later done = done
 more_announced {N = N} (s ∷ signals) carried actions later done =
-    let first = put_of carried s (all_of s.to s.monitors) in
-    let put = put_to (all_of s.to s.monitors) (Tells (Signals s.signal)) in
+    let first = put_of carried s (deliveries_of s.to s.monitors) in
+    let put = put_to (deliveries_of s.to s.monitors) (Tells (Signals s.signal)) in
     subst (λ (all : List (Action N)). AreDoneBy all ((put ++ announced signals) ++ later)) (sym (append_assoc first (announcement signals carried) actions))
     (subst (λ (all : List Deed). AreDoneBy (first ++ (announcement signals carried ++ actions)) all) (sym (append_assoc put (announced signals) later))
-    (more_put carried s (all_of s.to s.monitors) refl (announcement signals carried ++ actions) (announced signals ++ later) (more_announced signals carried actions later done)))
+    (more_put carried s (deliveries_of s.to s.monitors) refl (announcement signals carried ++ actions) (announced signals ++ later) (more_announced signals carried actions later done)))
 
 -- ## Scripts
 

@@ -6,10 +6,11 @@ use Rattle.seq_bus_core.specs.Histories.{History}
 use Rattle.seq_bus_core.specs.declared.connection.Conn.{Conn}
 use Rattle.seq_bus_core.specs.declared.signal.AddressedSignal.{AddressedSignal}
 use Rattle.bus_view.specs.Views.{Knowledge}
+use Rattle.outbox_core.specs.Deliveries.{deliveries_of}
 use Rattle.router_core.specs.declared.action.Action.{Action}
 use Rattle.router_core.specs.declared.action.Action.TheVariants.{Write, Put, Close, Run}
 use Rattle.router_core.specs.Acts.{world_of}
-use Rattle.router_core.specs.Deeds.{GatedCall, all_of, announcement, put_of, IsFurthest, CarriesFurthest, CarriesOwn}
+use Rattle.router_core.specs.Deeds.{GatedCall, announcement, put_of, IsFurthest, CarriesFurthest, CarriesOwn}
 use Rattle.router_core.specs.Events.{script, occasion_of}
 use Rattle.router_core.specs.Laws.{NotesAreOwn}
 use Rattle.router_core.specs.Scripts.{Script, Gives, Changing, ChangingAll, Asking, Routing, Looking, Noting, Fronting, Calling, Gating, Wanting, Requiring, Doing, Announcing, World, Comes}
@@ -31,9 +32,9 @@ module _ {N : Type 0} (told : N → History) (registry_of : N → ℕ) (alone : 
       AllByRecursion (CarriesOwn registry_of view.registry) later → AllByRecursion (CarriesOwn registry_of view.registry) (announcement signals carried ++ later)
   own_announced [] carried later furthest own = own
   own_announced (s ∷ signals) carried later furthest own =
-      let first = put_of carried s (all_of s.to s.monitors) in
+      let first = put_of carried s (deliveries_of s.to s.monitors) in
       subst (λ (all : List (Action N)). AllByRecursion (CarriesOwn registry_of view.registry) all) (sym (append_assoc first (announcement signals carried) later))
-      (own_put carried s (all_of s.to s.monitors) (announcement signals carried ++ later) furthest (own_announced signals carried later furthest own))
+      (own_put carried s (deliveries_of s.to s.monitors) (announcement signals carried ++ later) furthest (own_announced signals carried later furthest own))
 
 -- from one world to another the registry stayed, and what was done carries notes of it
 record KeepsOwn {N G : Type 0} (registry_of : N → ℕ) (w v : World N G) : Type 0 where

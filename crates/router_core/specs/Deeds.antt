@@ -1,14 +1,14 @@
 -- What a router does, in the terms of the definitions.
-use Rattle.std.specs.Prelude.{◌≡◌, ℕ, Bool, false, not, Option, option_map, IfSome, List, [], ◌∷◌, ◌++◌, filter}
+use Rattle.std.specs.Prelude.{◌≡◌, ℕ, Bool, false, Option, option_map, IfSome, List, [], ◌∷◌, ◌++◌}
 use Rattle.names.specs.Texts.{Text}
 use Rattle.seq_bus_core.specs.Histories.{History}
-use Rattle.seq_bus_core.specs.Steps.{is_among}
 use Rattle.seq_bus_core.specs.declared.connection.Conn.{Conn}
 use Rattle.seq_bus_core.specs.declared.signal.AddressedSignal.{AddressedSignal}
 use Rattle.message_core.specs.Messages.{Message, IsWritten}
 use Rattle.driver.specs.declared.call.Call.{Call}
 use Rattle.bus_view.specs.Views.{Knowledge}
 use Rattle.outbox_core.specs.Contents.{Said, Tells, Signals, said_of}
+use Rattle.outbox_core.specs.Deliveries.{deliveries_of}
 use Rattle.outbox_core.specs.declared.content.Content.TheVariants.{Own}
 use Rattle.outbox_core.specs.declared.bus_message.BusMessage.TheVariants.{Signal}
 use Rattle.router_core.specs.declared.action.Action.{Action}
@@ -36,10 +36,6 @@ pub data Deed : Type 0 where
   -- the program of a service is to be run, for a start of this number
   Runs : Text → (start : ℕ) → Deed
 
--- the recipients, then the monitors that are none of them
-abbrev pub all_of : List Conn → List Conn → List Conn
-all_of to monitors = to ++ filter (λ m. not (is_among to m)) monitors
-
 -- a message that nobody gets is not put
 abbrev pub put_to : List Conn → Said → List Deed
 put_to [] said = []
@@ -48,7 +44,7 @@ put_to (conn ∷ conns) said = Puts (conn ∷ conns) said ∷ []
 -- the signals of a change, in order
 abbrev pub announced : List AddressedSignal → List Deed
 announced [] = []
-announced (s ∷ signals) = put_to (all_of s.to s.monitors) (Tells (Signals s.signal)) ++ announced signals
+announced (s ∷ signals) = put_to (deliveries_of s.to s.monitors) (Tells (Signals s.signal)) ++ announced signals
 
 -- ## What an action does
 
@@ -60,7 +56,7 @@ IsWriting key bytes deed = ⊥
 -- the one deed that the action does
 abbrev pub IsDoneBy : {N : Type 0} → Action N → Deed → Type 0
 IsDoneBy (Write key bytes) deed = IsWriting key bytes deed
-IsDoneBy (Put to carried content) deed = deed ≡ Puts (all_of to.to to.monitors) (said_of content)
+IsDoneBy (Put to carried content) deed = deed ≡ Puts (deliveries_of to.to to.monitors) (said_of content)
 IsDoneBy (Close key cause) deed = deed ≡ Closes key cause
 IsDoneBy (Run name start) deed = deed ≡ Runs name.value start
 
@@ -72,7 +68,7 @@ put_of carried s (conn ∷ conns) = Put (record { to = s.to; monitors = s.monito
 -- the signals of a change, in order
 abbrev pub announcement : {N : Type 0} → List AddressedSignal → Option N → List (Action N)
 announcement [] carried = []
-announcement (s ∷ signals) carried = put_of carried s (all_of s.to s.monitors) ++ announcement signals carried
+announcement (s ∷ signals) carried = put_of carried s (deliveries_of s.to s.monitors) ++ announcement signals carried
 
 -- ## What actions carry
 

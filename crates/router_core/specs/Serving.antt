@@ -38,12 +38,13 @@ use Rattle.driver.specs.declared.call.Call.TheVariants as call
 use Rattle.driver.specs.Answered.{ReplyTo}
 use Rattle.driver.specs.Calls.{Reading, expects_reply, error_of}
 use Rattle.outbox_core.specs.Contents.{Own, Replies, Errs, Carried, Nothing, Number, Answered, Relays, Tells, bus_message}
+use Rattle.outbox_core.specs.Deliveries.{deliveries_of}
 use Rattle.router_core.specs.declared.cause.CloseCause.{CloseCause}
 use Rattle.router_core.specs.declared.cause.CloseCause.TheVariants.{TooLong, Left}
 use Rattle.router_core.specs.declared.fate.PeerFate.{PeerFate}
 use Rattle.router_core.specs.declared.fate.PeerFate.TheVariants as fate
 use Rattle.router_core.specs.Answers.{Heard, Says, Refuses, error_for}
-use Rattle.router_core.specs.Deeds.{Puts, Runs, all_of}
+use Rattle.router_core.specs.Deeds.{Puts, Runs}
 use Rattle.router_core.specs.Scripts.{Script, Gives, Changing, Asking, Routing, Calling, Gating, Wanting, Doing, Announcing, and_then, putting}
 
 -- a script that only does things
@@ -76,7 +77,7 @@ monitors_in (Refuses refusal) = []
 
 -- to a connection, and to the monitors that are shown it
 abbrev pub tell : Conn → Own → Work
-tell conn own = Routing 0 (facts_of (bus_message 1 own)) (λ heard. putting (all_of (conn ∷ []) (monitors_in heard)) (Tells own) nothing)
+tell conn own = Routing 0 (facts_of (bus_message 1 own)) (λ heard. putting (deliveries_of (conn ∷ []) (monitors_in heard)) (Tells own) nothing)
 
 abbrev pub call_of : Message → Conn → ReplyTo
 call_of m caller = record { caller = Some caller.number; call = m.serial }
@@ -359,7 +360,7 @@ hold m caller (Some name) = Wanting (λ granted. hold_if m caller name granted)
 abbrev pub relay : Message → Conn → Verdict → VerdictKind → Fated
 relay m sender v verdict.Absent = closes_for Left
 relay m sender v verdict.Bus = shown m sender v.monitors (serve_bus m sender)
-relay m sender v verdict.Plain = relayed m sender (all_of v.to v.monitors) stays_open
+relay m sender v verdict.Plain = relayed m sender (deliveries_of v.to v.monitors) stays_open
 relay m sender v verdict.Nobody = relayed m sender v.monitors (and_stays (err_if_call m sender error.ServiceUnknown))
 relay m sender v verdict.Start = relayed m sender v.monitors (hold m sender (text_field field.Destination m.fields))
 

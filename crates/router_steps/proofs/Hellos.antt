@@ -8,15 +8,16 @@ use Rattle.message_core.specs.Messages.{Message}
 use Rattle.message.specs.FactsOf.{facts_of}
 use Rattle.driver.specs.Calls.{expects_reply}
 use Rattle.outbox_core.specs.Contents.{Said, Own, Tells, Errs, bus_message}
+use Rattle.outbox_core.specs.Deliveries.{deliveries_of}
 use Rattle.router_core.specs.Answers.{Heard}
-use Rattle.router_core.specs.Deeds.{GatedCall, Sends, all_of}
+use Rattle.router_core.specs.Deeds.{GatedCall, Sends}
 use Rattle.router_core.specs.Events.{OfPeer, for_slot, refuse, refuse_with}
 use Rattle.router_core.specs.Scripts.{Gives, Routing, World, Routes, Does, Comes, putting}
 use Rattle.router_core.specs.Serving.{nothing, monitors_in}
 use Rattle.router_core.specs.Standing.{Peer, next_serial}
 use Rattle.router_steps.specs.Refusing.{hello_of}
 use Rattle.router_steps.proofs.Sequels.{comes_then}
-use Rattle.router_steps.proofs.Signing.{all_of_none}
+use Rattle.router_steps.proofs.Signing.{deliveries_of_none}
 
 module _ {N G : Type 0} (told : N → History) (registry_of : N → ℕ) (passes : G → GatedCall → G → Type 0) (alone : Bool) where
   put_then : (to : List Conn) (said : Said) (q : Peer) (w n : World N G) → Comes told registry_of passes alone (putting to said nothing) w tt n → Comes told registry_of passes alone (putting to said (Gives q)) w q n
@@ -25,10 +26,10 @@ module _ {N G : Type 0} (told : N → History) (registry_of : N → ℕ) (passes
 
   -- the error is written, and put to the monitors
   pub refused : (key : ℕ) (own : Own) (p : Peer) (w r s n : World N G) (heard : Heard Verdict) (monitors : List Conn) → Routes alone 0 (facts_of (bus_message 1 own)) w heard r → monitors ≡ monitors_in heard →
-      Does told registry_of alone (Sends key (bus_message (next_serial p.serial) own)) r s → Comes told registry_of passes alone (putting (all_of [] monitors) (Tells own) nothing) s tt n →
+      Does told registry_of alone (Sends key (bus_message (next_serial p.serial) own)) r s → Comes told registry_of passes alone (putting (deliveries_of [] monitors) (Tells own) nothing) s tt n →
       Comes told registry_of passes alone (Routing 0 (facts_of (bus_message 1 own)) (λ (h : Heard Verdict). refuse key own p h)) w (record p { serial = next_serial p.serial }) n
   refused key own p w r s n heard monitors routes are does put =
-      let to_monitors = subst (λ (to : List Conn). Comes told registry_of passes alone (putting to (Tells own) nothing) s tt n) (all_of_none monitors ∙ are) put in
+      let to_monitors = subst (λ (to : List Conn). Comes told registry_of passes alone (putting to (Tells own) nothing) s tt n) (deliveries_of_none monitors ∙ are) put in
       (heard, r, routes, (s, does, put_then (monitors_in heard) (Tells own) (record p { serial = next_serial p.serial }) s n to_monitors))
 
   -- a Hello that wants an answer

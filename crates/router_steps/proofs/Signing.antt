@@ -7,10 +7,11 @@ use Rattle.message.specs.declared.fault.RelayFault.{RelayFault}
 use Rattle.message.specs.declared.fault.RelayFault.TheVariants as relay
 use Rattle.message.specs.MessageBytes.{message_bytes, is_too_long}
 use Rattle.outbox_core.specs.Contents.{Said, Relays}
+use Rattle.outbox_core.specs.Deliveries.{deliveries_of}
 use Rattle.router_core.specs.declared.fate.PeerFate.{PeerFate}
 use Rattle.router_core.specs.declared.cause.CloseCause.TheVariants as cause
 use Rattle.seq_bus_core.specs.declared.error_kind.ErrorKind.TheVariants as error
-use Rattle.router_core.specs.Deeds.{GatedCall, all_of}
+use Rattle.router_core.specs.Deeds.{GatedCall}
 use Rattle.router_core.specs.Scripts.{World, Comes, putting}
 use Rattle.router_core.specs.Serving.{Fated, nothing, closes_for, signed, copied, relayed, and_stays, err_if_call}
 use Rattle.router_steps.specs.OncePut.{is_for_length, is_long, not_put}
@@ -24,13 +25,13 @@ long_is (Err relay.TooLong) true h = refl
 long_is (Err relay.TooLong) false h = let e : false ≡ true = h.0 refl in cc
 
 -- each monitor is shown it where it has no recipients
-pub all_of_none : (monitors : List Conn) → all_of [] monitors ≡ monitors
-all_of_none [] = refl
-all_of_none (conn ∷ conns) = ap (λ rest. conn ∷ rest) (all_of_none conns)
+pub deliveries_of_none : (monitors : List Conn) → deliveries_of [] monitors ≡ monitors
+deliveries_of_none [] = refl
+deliveries_of_none (conn ∷ conns) = ap (λ rest. conn ∷ rest) (deliveries_of_none conns)
 
 -- the one recipient, where no monitor is shown it
-pub all_of_one : (to monitors : List Conn) (conn : Conn) → (to ≡ conn ∷ []) × (monitors ≡ []) → conn ∷ [] ≡ all_of to monitors
-all_of_one to monitors conn is = sym (ap (λ (conns : List Conn). all_of conns monitors) is.0 ∙ ap (λ (shown : List Conn). all_of (conn ∷ []) shown) is.1)
+pub deliveries_of_one : (to monitors : List Conn) (conn : Conn) → (to ≡ conn ∷ []) × (monitors ≡ []) → conn ∷ [] ≡ deliveries_of to monitors
+deliveries_of_one to monitors conn is = sym (ap (λ (conns : List Conn). deliveries_of conns monitors) is.0 ∙ ap (λ (shown : List Conn). deliveries_of (conn ∷ []) shown) is.1)
 
 module _ {N G : Type 0} (told : N → History) (registry_of : N → ℕ) (passes : G → GatedCall → G → Type 0) (alone : Bool) (m : Message) (sender : Conn) (goes_on : Fated) (fate : PeerFate) (end : World N G) where
   fits : (to : List Conn) (w : World N G) → is_too_long (signed m sender) ≡ false → Comes told registry_of passes alone (copied m sender to goes_on) w fate end → Comes told registry_of passes alone (relayed m sender to goes_on) w fate end
@@ -45,12 +46,12 @@ module _ {N G : Type 0} (told : N → History) (registry_of : N → ℕ) (passes
   relays to said w n short is p q = fits to w short (put to w n (subst (λ (s : Said). Comes told registry_of passes alone (putting to s nothing) w tt n) is p) q)
 
   dropped : (to monitors : List Conn) (w : World N G) → ((to ≡ []) × (monitors ≡ []) → ⊥) → Comes told registry_of passes alone (and_stays (err_if_call m sender error.NoMemory)) w fate end →
-      Comes told registry_of passes alone (copied m sender (all_of to monitors) goes_on) w fate end
+      Comes told registry_of passes alone (copied m sender (deliveries_of to monitors) goes_on) w fate end
   dropped (conn ∷ conns) monitors w some p = (false, p)
   dropped [] (conn ∷ conns) w some p = (false, p)
   dropped [] [] w some p = absurd (some (refl, refl))
 
   pub refuses : (fault : RelayFault) (to monitors : List Conn) (w : World N G) → is_too_long (signed m sender) ≡ is_for_length fault → ((to ≡ []) × (monitors ≡ []) → ⊥) →
-      Comes told registry_of passes alone (not_put fault m sender) w fate end → Comes told registry_of passes alone (relayed m sender (all_of to monitors) goes_on) w fate end
-  refuses relay.NoMemory to monitors w long some p = fits (all_of to monitors) w long (dropped to monitors w some p)
-  refuses relay.TooLong to monitors w long some p = subst (λ (b : Bool). Comes told registry_of passes alone (if b then closes_for cause.TooLong else copied m sender (all_of to monitors) goes_on) w fate end) (sym long) p
+      Comes told registry_of passes alone (not_put fault m sender) w fate end → Comes told registry_of passes alone (relayed m sender (deliveries_of to monitors) goes_on) w fate end
+  refuses relay.NoMemory to monitors w long some p = fits (deliveries_of to monitors) w long (dropped to monitors w some p)
+  refuses relay.TooLong to monitors w long some p = subst (λ (b : Bool). Comes told registry_of passes alone (if b then closes_for cause.TooLong else copied m sender (deliveries_of to monitors) goes_on) w fate end) (sym long) p

@@ -9,8 +9,9 @@ ghost use Rattle.seq_bus_core.specs.Bounds.{IsBounded};
 ghost use Rattle.seq_bus_core.specs.BusState.{is_monitor};
 ghost use Rattle.bus_view.specs.Views.{bus_seen, IsRead};
 ghost use Rattle.outbox_core.specs.Contents.{said_of};
+ghost use Rattle.outbox_core.specs.Deliveries.{deliveries_of};
 ghost use Rattle.router_core.specs.Answers.{Heard};
-ghost use Rattle.router_core.specs.Deeds.{IsFurthest, Writes, Sends, Puts, Closes, all_of, put_of};
+ghost use Rattle.router_core.specs.Deeds.{IsFurthest, Writes, Sends, Puts, Closes, put_of};
 ghost use Rattle.router_core.specs.Scripts.{putting, having_done, Changes, ChangesAll, Asks, Routes, Looks, Takes, Passes, Performs, Emits, RunsTo};
 ghost use Rattle.router_core.specs.Serving.{nothing, run as running};
 ghost use Rattle.router_steps.specs.Hearing.{heard_change, heard_changes, heard_verdict, heard_present, IsTold};
@@ -213,7 +214,7 @@ impl<V: BusView, G: Gate> Context<V, G> {
     /// Puts a message to these connections, with the furthest note.
     pub fn put(&mut self, to: Addressees, content: Content)
         requires { 0 < self.old.room }
-        ensures does { Performs V.BusView (Puts (all_of to.to to.monitors) (said_of content))
+        ensures does { Performs V.BusView (Puts (deliveries_of to.to to.monitors) (said_of content))
             self.old.world self.new.world }
         ensures room { self.new.room + 1 ≡ self.old.room }
         ensures spare_verdicts { self.new.spare_verdicts ≡ self.old.spare_verdicts }
@@ -227,7 +228,7 @@ impl<V: BusView, G: Gate> Context<V, G> {
     pub fn put_to(&mut self, verdict: Box<Verdict>, content: Content)
         requires { 0 < self.old.room }
         ensures comes { RunsTo V.BusView G.Gate
-            (putting (all_of verdict.value.to verdict.value.monitors) (said_of content) nothing)
+            (putting (deliveries_of verdict.value.to verdict.value.monitors) (said_of content) nothing)
             self.old.world tt self.new.world }
         ensures room { self.old.room ≤ self.new.room + 1 }
         ensures spare_verdicts { self.old.spare_verdicts ≤ self.new.spare_verdicts }
@@ -248,7 +249,7 @@ impl<V: BusView, G: Gate> Context<V, G> {
     fn put_signal(&mut self, addressed: AddressedSignal, note: Option<V::Note>)
         requires { 0 < self.old.room }
         ensures world { self.new.world ≡ having_done self.old.world
-            (put_of note addressed (all_of addressed.to addressed.monitors)) }
+            (put_of note addressed (deliveries_of addressed.to addressed.monitors)) }
         ensures room { self.old.room ≤ self.new.room + 1 }
         ensures spare_verdicts { self.new.spare_verdicts ≡ self.old.spare_verdicts }
     {

@@ -4,7 +4,7 @@ ghost use Rattle.std.specs.Prelude.{◌≡◌, ◌≢◌, ◌<◌, ◌≤◌, �
 ghost use Rattle.message_core.specs.Said.{said};
 ghost use Rattle.message.specs.MessageBytes.{message_bytes, is_too_long};
 ghost use Rattle.outbox_core.specs.Contents.{Relays};
-ghost use Rattle.router_core.specs.Deeds.{all_of};
+ghost use Rattle.outbox_core.specs.Deliveries.{deliveries_of};
 ghost use Rattle.router_core.specs.Scripts.{World, RunsTo, putting};
 ghost use Rattle.router_core.specs.Serving.{Fated, nothing, signed, relayed, shown};
 ghost use Rattle.router_core.specs.declared.fate.PeerFate.{PeerFate as Fate};
@@ -57,10 +57,10 @@ impl<V: BusView, G: Gate> Context<V, G> {
             (once_put result (said message.now) sender goes_on) self.new.world fate end →
             RunsTo V.BusView G.Gate
             (relayed (said message.now) sender
-            (all_of verdict.value.to verdict.value.monitors) goes_on)
+            (deliveries_of verdict.value.to verdict.value.monitors) goes_on)
             self.old.world fate end }
         ensures put { OnOk result (RunsTo V.BusView G.Gate
-            (putting (all_of verdict.value.to verdict.value.monitors)
+            (putting (deliveries_of verdict.value.to verdict.value.monitors)
             (Relays (message_bytes (signed (said message.now) sender))) nothing)
             self.old.world tt self.new.world) }
         ensures unput { OnErr result (self.new.world ≡ self.old.world) }

@@ -2,7 +2,8 @@ use Rattle.std.proofs.Common.{◌≡◌, ◌∷◌, [], List, length, sym, ap, �
 use Rattle.std.proofs.lemmas.List.{nil_from_length}
 use Rattle.std.specs.Vec.Iter.{into_iter_items}
 use Rattle.seq_bus_core.specs.declared.signal.AddressedSignal.{AddressedSignal}
-use Rattle.router_core.specs.Deeds.{all_of, announcement, put_of}
+use Rattle.outbox_core.specs.Deliveries.{deliveries_of}
+use Rattle.router_core.specs.Deeds.{announcement, put_of}
 use Rattle.router_core.specs.Scripts.{having_done}
 use Rattle.router_steps.proofs.Signals.{nothing_done, puts_more}
 use Rattle.router_steps.proofs.context.Context.announce.Goals as goal
@@ -14,7 +15,7 @@ loop-addressed-preserved g c =
     let w = at.self.world in
     let steps : into_iter_items at.addressed-iterator ≡ s ∷ into_iter_items c.next.new.self = c.in-Some.ensures.steps.0 in
     let long = ap length steps in
-    let done = c.put_signal.ensures.world ∙ ap (λ note. having_done w (put_of note s (all_of s.to s.monitors))) c.copy.ensures in
+    let done = c.put_signal.ensures.world ∙ ap (λ note. having_done w (put_of note s (deliveries_of s.to s.monitors))) c.copy.ensures in
     record {
       room = omega (arith, long, at.invariant.room, c.put_signal.ensures.room);
       acted = omega (arith, long, at.invariant.acted, c.put_signal.ensures.room);
