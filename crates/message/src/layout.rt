@@ -75,7 +75,7 @@ pub struct Layout<'a> {
 
 /// Where the parts stand of a message with those of these fields that have known codes, sent by a
 /// name.
-pub fn lay_out<'a>(fields: &'a [FieldPlace], name: &str) -> Result<Layout<'a>, RelayFault>
+pub fn layout_of<'a>(fields: &'a [FieldPlace], name: &str) -> Result<Layout<'a>, RelayFault>
     requires within { AreWithin (2 ^ 33) fields.now }
     requires short { length name.now ≤ 255 }
     ensures before { IfOk result (λ layout. layout.before.now

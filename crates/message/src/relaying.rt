@@ -13,7 +13,7 @@ ghost use Rattle.message.specs.Senders.{sent_by};
 ghost use Rattle.message.specs.Layout.{AreWithin, behind as place_behind, fields_end as end_of, copied, sender_bytes, last_end};
 
 use crate::fault::RelayFault;
-use crate::layout::{Layout, behind, fields_end, lay_out};
+use crate::layout::{Layout, behind, fields_end, layout_of};
 use crate::parts::parts_of;
 use crate::putting::{put_fields, put_sender};
 use marshal_core::Order;
@@ -53,7 +53,7 @@ fn make_room(output: &mut Vec<u8>, end: usize, body: usize) -> Result<(), RelayF
 }
 
 /// Puts the fixed part of a message, and how long its array of fields is.
-fn put_start(output: &mut Vec<u8>, order: Order, bytes: &[u8], end: usize)
+fn put_fixed_part(output: &mut Vec<u8>, order: Order, bytes: &[u8], end: usize)
     requires long { 12 ≤ length bytes.now }
     requires begins { 16 ≤ end }
     requires small { end ≤ last_end }
@@ -123,7 +123,7 @@ pub fn write(message: &Message, output: &mut Vec<u8>) -> Result<(), RelayFault>
     let parts = parts_of(message);
     let end = fields_end(FIXED_LENGTH, parts.fields)?;
     make_room(output, end, parts.body.len())?;
-    put_start(output, parts.order, parts.bytes, end);
+    put_fixed_part(output, parts.order, parts.bytes, end);
     put_fields(output, parts.bytes, parts.fields, FIXED_LENGTH);
     put_body(output, end, parts.body);
     Ok(())
@@ -183,7 +183,7 @@ pub fn relayed_length(message: &Message, sender: &ConnectionName) -> Result<usiz
         (length (message_bytes (sent_by sender.now (said message.now))))) }
 {
     let parts = parts_of(message);
-    let layout = lay_out(parts.fields, sender.as_str())?;
+    let layout = layout_of(parts.fields, sender.as_str())?;
     whole_length(layout.end, parts.body.len())
 }
 
@@ -203,9 +203,9 @@ fn put_sent(message: &Message, name: &str, output: &mut Vec<u8>) -> Result<(), R
         + length (message_bytes (sent_by name.now (said message.now))) }
 {
     let parts = parts_of(message);
-    let layout = lay_out(parts.fields, name)?;
+    let layout = layout_of(parts.fields, name)?;
     make_room(output, layout.end, parts.body.len())?;
-    put_start(output, parts.order, parts.bytes, layout.end);
+    put_fixed_part(output, parts.order, parts.bytes, layout.end);
     put_sent_fields(output, parts.order, parts.bytes, &layout, name);
     put_body(output, layout.end, parts.body);
     Ok(())

@@ -15,8 +15,8 @@ use Rattle.message.proofs.Ready.{ready_written}
 use Rattle.message.proofs.Refusals.{fields_too_long, whole_too_long, bad}
 use Rattle.message.proofs.relaying.put_sent.Goals as goal
 
-pub lay_out-requires-clause-within : goal.lay_out-requires-clause-within
-lay_out-requires-clause-within c =
+pub layout_of-requires-clause-within : goal.layout_of-requires-clause-within
+layout_of-requires-clause-within c =
     let ps = c.parts_of-parts.result.fields.now in
     let body = c.parts_of-parts.result.body.now in
     let f = facts c.args.message.now body ps c.parts_of-parts.ensures.lies in
@@ -81,8 +81,8 @@ returns-in_err-make_room-clause-memory c =
     let same = p.1 ∙ ap bad p.2 ∙ sym c.in_err-make_room.was in
     λ k. omega (arith, size, c.make_room.ensures.memory (sym same ∙ k))
 
-pub put_start-requires-clause-begins : goal.put_start-requires-clause-begins
-put_start-requires-clause-begins c =
+pub put_fixed_part-requires-clause-begins : goal.put_fixed_part-requires-clause-begins
+put_fixed_part-requires-clause-begins c =
     let ps = c.parts_of-parts.result.fields.now in
     let body = c.parts_of-parts.result.body.now in
     let f = facts c.args.message.now body ps c.parts_of-parts.ensures.lies in
@@ -96,8 +96,8 @@ put_start-requires-clause-begins c =
     let short : layout.end ≤ last_end = omega (arith, c.in_ok-layout.ensures.end, c.in_ok-layout.ensures.too_long) in
     omega (arith, end)
 
-pub put_start-requires-clause-room : goal.put_start-requires-clause-room
-put_start-requires-clause-room c =
+pub put_fixed_part-requires-clause-room : goal.put_fixed_part-requires-clause-room
+put_fixed_part-requires-clause-room c =
     let ps = c.parts_of-parts.result.fields.now in
     let body = c.parts_of-parts.result.body.now in
     let f = facts c.args.message.now body ps c.parts_of-parts.ensures.lies in
@@ -143,8 +143,8 @@ put_body-requires c =
     let put : List ℕ = copied there 16 layout.before.now ++ ((pads 8 layout.sender ++ sender_bytes order name) ++ copied there layout.next layout.after.now) in
     let fields : put ≡ fields_bytes m =
     sent_fields_are bytes there name name (known_places ps) layout.before.now layout.after.now layout.sender layout.next order c.parts_of-parts.ensures.bytes refl c.in_ok-layout.ensures.before c.in_ok-layout.ensures.after c.in_ok-layout.ensures.sender c.in_ok-layout.ensures.next c.parts_of-parts.ensures.order s in
-    let out : length c.put_start.new.output.items ≡ length c.make_room.new.output.items + 16 = started order there c.make_room.new.output.items c.put_start.new.output.items (layout.end - 16) (rw c.parts_of-parts.ensures.bytes f.long) c.put_start.ensures.items in
-    omega (arith, out, ap length fields, end, ap length c.put_sent_fields.ensures.items, length-append c.put_start.new.output.items put, ap length c.make_room.ensures.kept, c.in_ok-make_room.ensures.room, c.put_start.ensures.capacity, c.put_sent_fields.ensures.capacity)
+    let out : length c.put_fixed_part.new.output.items ≡ length c.make_room.new.output.items + 16 = started order there c.make_room.new.output.items c.put_fixed_part.new.output.items (layout.end - 16) (rw c.parts_of-parts.ensures.bytes f.long) c.put_fixed_part.ensures.items in
+    omega (arith, out, ap length fields, end, ap length c.put_sent_fields.ensures.items, length-append c.put_fixed_part.new.output.items put, ap length c.make_room.ensures.kept, c.in_ok-make_room.ensures.room, c.put_fixed_part.ensures.capacity, c.put_sent_fields.ensures.capacity)
 
 pub returns-clause-appended : goal.returns-clause-appended
 returns-clause-appended c =
@@ -167,8 +167,8 @@ returns-clause-appended c =
     sent_fields_are bytes there name name (known_places ps) layout.before.now layout.after.now layout.sender layout.next order c.parts_of-parts.ensures.bytes refl c.in_ok-layout.ensures.before c.in_ok-layout.ensures.after c.in_ok-layout.ensures.sender c.in_ok-layout.ensures.next c.parts_of-parts.ensures.order s in
     let old : List ℕ = c.args.output.now.items in
     let word : List ℕ = number_bytes m.order w32 (layout.end - 16) in
-    let one : c.put_start.new.output.items ≡ old ++ (take 12 bytes ++ word) =
-    c.put_start.ensures.items ∙ ap (λ (x : List ℕ). x ++ (take 12 there ++ number_bytes order w32 (layout.end - 16))) c.make_room.ensures.kept
+    let one : c.put_fixed_part.new.output.items ≡ old ++ (take 12 bytes ++ word) =
+    c.put_fixed_part.ensures.items ∙ ap (λ (x : List ℕ). x ++ (take 12 there ++ number_bytes order w32 (layout.end - 16))) c.make_room.ensures.kept
     ∙ ap (λ (x : List ℕ). old ++ (take 12 x ++ number_bytes order w32 (layout.end - 16))) c.parts_of-parts.ensures.bytes ∙ ap (λ (o : Order). old ++ (take 12 bytes ++ number_bytes o w32 (layout.end - 16))) c.parts_of-parts.ensures.order in
     let two : c.put_sent_fields.new.output.items ≡ (old ++ (take 12 bytes ++ word)) ++ put = c.put_sent_fields.ensures.items ∙ ap (λ (x : List ℕ). x ++ put) one in
     put_together m bytes body old put c.put_body.new.output.items layout.end f.start_is body_is fields end (c.put_body.ensures.items ∙ ap (λ (x : List ℕ). x ++ (pads 8 layout.end ++ body)) two)

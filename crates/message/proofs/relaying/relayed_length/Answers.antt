@@ -8,8 +8,8 @@ use Rattle.message.proofs.PartLemmas.{facts, sent_facts, length_is}
 use Rattle.message.proofs.Refusals.{length_refused, length_told}
 use Rattle.message.proofs.relaying.relayed_length.Goals as goal
 
-pub lay_out-requires-clause-within : goal.lay_out-requires-clause-within
-lay_out-requires-clause-within c =
+pub layout_of-requires-clause-within : goal.layout_of-requires-clause-within
+layout_of-requires-clause-within c =
     let ps = c.parts_of-parts.result.fields.now in
     let body = c.parts_of-parts.result.body.now in
     let f = facts c.args.message.now body ps c.parts_of-parts.ensures.lies in

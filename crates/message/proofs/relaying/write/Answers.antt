@@ -61,15 +61,15 @@ returns-in_err-make_room-clause-memory c =
     let same = p.1 ∙ ap bad p.2 ∙ sym c.in_err-make_room.was in
     λ k. omega (arith, size, c.make_room.ensures.memory (sym same ∙ k))
 
-pub put_start-requires-clause-begins : goal.put_start-requires-clause-begins
-put_start-requires-clause-begins c =
+pub put_fixed_part-requires-clause-begins : goal.put_fixed_part-requires-clause-begins
+put_fixed_part-requires-clause-begins c =
     let ps = c.parts_of-parts.result.fields.now in
     let f = facts c.args.message.now c.parts_of-parts.result.body.now ps c.parts_of-parts.ensures.lies in
     let a = accepted last_end (fields_end 16 ps) c.in_ok-end.end c.in_ok-end.ensures in
     omega (arith, a.0, end_is c.args.message.now c.parts_of-parts.result.body.now ps f)
 
-pub put_start-requires-clause-room : goal.put_start-requires-clause-room
-put_start-requires-clause-room c =
+pub put_fixed_part-requires-clause-room : goal.put_fixed_part-requires-clause-room
+put_fixed_part-requires-clause-room c =
     let ps = c.parts_of-parts.result.fields.now in
     let f = facts c.args.message.now c.parts_of-parts.result.body.now ps c.parts_of-parts.ensures.lies in
     let a = accepted last_end (fields_end 16 ps) c.in_ok-end.end c.in_ok-end.ensures in
@@ -88,9 +88,9 @@ put_body-requires c =
     let f = facts c.args.message.now body ps c.parts_of-parts.ensures.lies in
     let a = accepted last_end (fields_end 16 ps) c.in_ok-end.end c.in_ok-end.ensures in
     let end : c.in_ok-end.end ≡ 16 + length (fields_bytes m) = a.0 ∙ end_is c.args.message.now body ps f in
-    let out : length c.put_start.new.output.items ≡ length c.make_room.new.output.items + 16 = started c.parts_of-parts.result.order c.parts_of-parts.result.bytes.now c.make_room.new.output.items c.put_start.new.output.items (c.in_ok-end.end - 16) (rw c.parts_of-parts.ensures.bytes f.long) c.put_start.ensures.items in
+    let out : length c.put_fixed_part.new.output.items ≡ length c.make_room.new.output.items + 16 = started c.parts_of-parts.result.order c.parts_of-parts.result.bytes.now c.make_room.new.output.items c.put_fixed_part.new.output.items (c.in_ok-end.end - 16) (rw c.parts_of-parts.ensures.bytes f.long) c.put_fixed_part.ensures.items in
     let fields : length (copied c.parts_of-parts.result.bytes.now 16 ps) ≡ length (fields_bytes m) = ap (λ (b : List ℕ). length (copied b 16 ps)) c.parts_of-parts.ensures.bytes ∙ ap length f.fields in
-    omega (arith, out, fields, end, ap length c.put_fields.ensures.items, length-append c.put_start.new.output.items (copied c.parts_of-parts.result.bytes.now 16 ps), ap length c.make_room.ensures.kept, c.in_ok-make_room.ensures.room, c.put_start.ensures.capacity, c.put_fields.ensures.capacity)
+    omega (arith, out, fields, end, ap length c.put_fields.ensures.items, length-append c.put_fixed_part.new.output.items (copied c.parts_of-parts.result.bytes.now 16 ps), ap length c.make_room.ensures.kept, c.in_ok-make_room.ensures.room, c.put_fixed_part.ensures.capacity, c.put_fields.ensures.capacity)
 
 pub returns-clause-appended : goal.returns-clause-appended
 returns-clause-appended c =
@@ -103,8 +103,8 @@ returns-clause-appended c =
     let old : List ℕ = c.args.output.now.items in
     let bytes : List ℕ = c.args.message.now in
     let word : List ℕ = number_bytes m.order w32 (c.in_ok-end.end - 16) in
-    let one : c.put_start.new.output.items ≡ old ++ (take 12 bytes ++ word) =
-    c.put_start.ensures.items ∙ ap (λ (x : List ℕ). x ++ (take 12 c.parts_of-parts.result.bytes.now ++ number_bytes c.parts_of-parts.result.order w32 (c.in_ok-end.end - 16))) c.make_room.ensures.kept
+    let one : c.put_fixed_part.new.output.items ≡ old ++ (take 12 bytes ++ word) =
+    c.put_fixed_part.ensures.items ∙ ap (λ (x : List ℕ). x ++ (take 12 c.parts_of-parts.result.bytes.now ++ number_bytes c.parts_of-parts.result.order w32 (c.in_ok-end.end - 16))) c.make_room.ensures.kept
     ∙ ap (λ (x : List ℕ). old ++ (take 12 x ++ number_bytes c.parts_of-parts.result.order w32 (c.in_ok-end.end - 16))) c.parts_of-parts.ensures.bytes ∙ ap (λ (o : Order). old ++ (take 12 bytes ++ number_bytes o w32 (c.in_ok-end.end - 16))) c.parts_of-parts.ensures.order in
     let two : c.put_fields.new.output.items ≡ (old ++ (take 12 bytes ++ word)) ++ copied bytes 16 ps =
     c.put_fields.ensures.items ∙ ap (λ (x : List ℕ). x ++ copied c.parts_of-parts.result.bytes.now 16 ps) one ∙ ap (λ (x : List ℕ). (old ++ (take 12 bytes ++ word)) ++ copied x 16 ps) c.parts_of-parts.ensures.bytes in

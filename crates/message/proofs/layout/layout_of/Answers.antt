@@ -7,7 +7,7 @@ use Rattle.message.specs.declared.fault.RelayFault.TheVariants.{TooLong}
 use Rattle.message.specs.Layout.{count_below, fields_end, known_places, before_end, last_end}
 use Rattle.message.proofs.Lines.{within_take, within_drop, sent_after}
 use Rattle.message.proofs.Known.{within_known}
-use Rattle.message.proofs.layout.lay_out.Goals as goal
+use Rattle.message.proofs.layout.layout_of.Goals as goal
 
 refused : (n : ℕ) (x : RelayFault) → Err x ≡ (if nat_lt last_end n then Err TooLong else Ok n) → (x ≡ TooLong) × (last_end < n)
 refused n x e = at (nat_lt last_end n) refl e where
