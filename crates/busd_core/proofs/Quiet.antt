@@ -9,7 +9,7 @@ use Rattle.router_core.specs.declared.action.Action.TheVariants.{Write, Put, Clo
 use Rattle.router_core.specs.declared.event.Event.TheVariants.{Mail}
 use Rattle.router_core.specs.Acts.{State, Brings}
 use Rattle.router_core.specs.Deeds.{GatedCall, Writes, Sends, IsDoneBy}
-use Rattle.router_core.specs.Events.{write, for_peer, mail_found, noted}
+use Rattle.router_core.specs.Events.{writing, for_peer, mail_found, noted}
 use Rattle.router_core.specs.Scripts.{World, Comes}
 use Rattle.router_core.specs.Standing.{Peer, Standing, peer_at, is_conn}
 use Rattle.busd_core.specs.Happenings.{mails_of, closed_by}
@@ -40,7 +40,7 @@ module _ {N G : Type 0} (told : N → History) (registry_of : N → ℕ) (passes
   nothing : (w v : World N G) → v ≡ w → Adds w v
   nothing w v same = record { more = []; quiet = (refl, refl); grown = ap (λ (k : World N G). k.actions) same ∙ sym (append-nil w.actions) }
 
-  by_peer : (s t : Standing) (to : ℕ) (said : Said) (peer : Option Peer) (w v : World N G) → Comes told registry_of passes alone (for_peer s to peer (write to said)) w t v → Adds w v
+  by_peer : (s t : Standing) (to : ℕ) (said : Said) (peer : Option Peer) (w v : World N G) → Comes told registry_of passes alone (for_peer s to peer (writing to said)) w t v → Adds w v
   by_peer s t to said None w v comes = nothing w v comes.1
   by_peer s t to (Relays bytes) (Some p) w v comes =
       let does = comes.1 in

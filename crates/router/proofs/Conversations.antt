@@ -12,7 +12,7 @@ use Rattle.sasl.proofs.Runs.{conversation_goes_on}
 use Rattle.sasl.proofs.Outcomes.{outcome, outcome_is}
 use Rattle.router_core.specs.declared.cause.CloseCause.TheVariants as cause
 use Rattle.router_core.specs.Deeds.{Deed, Writes, Closes}
-use Rattle.router_core.specs.Events.{Bytes, Stands, for_peer, fed, is_user, answering, conversed_to, hear}
+use Rattle.router_core.specs.Events.{Bytes, Stands, for_peer, fed, is_user, answering, conversed_to, hearing}
 use Rattle.router_core.specs.OneThread.{Readers, Rest, given, bytes_if, opening_of, written_to}
 use Rattle.router_core.specs.Scripts.{Gives, and_then}
 use Rattle.router_core.specs.Standing.{Stage, Authenticating, Unnamed, Shut, Peer, SpeaksDBus, peer_at, with_peer, conn_of, shut}
@@ -112,8 +112,8 @@ module _ (readers : Readers) (key : ℕ) where
       given readers r (Bytes key piece) ≡ heard_so r setting p (conversed setting state [] (p.unread ++ piece)) (conversed setting state [] (p.unread ++ piece)).state.phase
   hear_given r p setting state here is piece =
       let said = conversed setting state [] (p.unread ++ piece) in
-      ap (λ (o : Option Peer). come_to readers r (for_peer r.standing key o (λ q. hear key piece q q.stage))) here
-      ∙ ap (λ (stage : Stage). come_to readers r (and_then (and_then (hear key piece p stage) (λ q. Gives (Some q))) (λ q. Gives (with_peer r.standing key q)))) is
+      ap (λ (o : Option Peer). come_to readers r (for_peer r.standing key o (λ q. hearing key piece q q.stage))) here
+      ∙ ap (λ (stage : Stage). come_to readers r (and_then (and_then (hearing key piece p stage) (λ q. Gives (Some q))) (λ q. Gives (with_peer r.standing key q)))) is
       ∙ by_sent r setting p said said.sent said.state.phase
 
   -- ## The bytes that go to it

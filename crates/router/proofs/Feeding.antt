@@ -28,11 +28,11 @@ use Rattle.router_core.specs.declared.fate.PeerFate.{PeerFate}
 use Rattle.router_core.specs.declared.fate.PeerFate.TheVariants as fate
 use Rattle.router_core.specs.Answers.{Heard, Says, Refuses, error_for}
 use Rattle.router_core.specs.Deeds.{Deed, Closes, Sends}
-use Rattle.router_core.specs.Events.{Bytes, Mail, Next, OfPeer, Stands, hear, closing, fated, send, write, for_slot, for_peer, fed, refuse, refuse_with, close_found, close_former, welcome, turn_away, greeted_by, greeted, greet, serve_named, serve_at, read, next_at, next, mail_found}
+use Rattle.router_core.specs.Events.{Bytes, Mail, Next, OfPeer, Stands, hearing, closing, fated, send, writing, for_slot, for_peer, fed, refuse, refuse_with, close_found, close_former, welcome, turn_away, greeted_by, greeted, greet, serve_named, serve_at, read, next_at, coming_next, mail_found}
 use Rattle.router_core.specs.Fronts.{Front, Waits, Whole, Faulty}
 use Rattle.router_core.specs.OneThread.{Readers, Rest, Course, alone, given, rest_of}
 use Rattle.router_core.specs.Scripts.{Script, Gives, Changing, ChangingAll, Asking, Routing, Looking, Noting, Fronting, Calling, Gating, Wanting, Requiring, Doing, Announcing, and_then, putting}
-use Rattle.router_core.specs.Serving.{monitors_in, reply_with, serve}
+use Rattle.router_core.specs.Serving.{monitors_in, replying, serving}
 use Rattle.router_core.specs.Standing.{Stage, Authenticating, Unnamed, Named, Shut, Peer, Standing, SpeaksDBus, peer_at, with_peer, shut, next_serial, has_slot, is_conn}
 
 -- ## Scripts one after the other
@@ -231,7 +231,7 @@ module _ (piece : List ℕ) (key : ℕ) where
       ap (λ (n : ℕ). sent k own (more p) (next_serial n)) (serial_same p p.stage)
       ∙ ap (λ (q : Peer). Doing (Sends k (bus_message (next_serial p.serial) own)) (Gives q)) (numbered_more p (next_serial p.serial) p.stage)
 
-  write_natural : (k : ℕ) (said : Said) → Natural (write k said)
+  write_natural : (k : ℕ) (said : Said) → Natural (writing k said)
   write_natural k (Relays bytes) p = refl
   write_natural k (Tells own) p = send_natural k own p
 
@@ -265,10 +265,10 @@ module _ (piece : List ℕ) (key : ℕ) where
   turn_away_natural : (k : ℕ) (m : Message) → Natural (turn_away k m)
   turn_away_natural k m = then_natural (refuse_with k m LimitsExceeded) (closing k cause.LimitsExceeded) (refuse_with_natural k m LimitsExceeded) (closing_natural k cause.LimitsExceeded)
 
-  serve_natural : (k : ℕ) (m : Message) (conn : Conn) → Natural (λ p. and_then (serve m conn) (λ fate. fated k fate p))
+  serve_natural : (k : ℕ) (m : Message) (conn : Conn) → Natural (λ p. and_then (serving m conn) (λ fate. fated k fate p))
   serve_natural k m conn p =
-      after_same (serve m conn) (λ fate. fated k fate (more p)) (λ fate. seen_as more (fated k fate p)) (λ fate. fated_natural k fate p)
-      ∙ sym (and_then_assoc (serve m conn) (λ fate. fated k fate p) (λ q. Gives (more q)))
+      after_same (serving m conn) (λ fate. fated k fate (more p)) (λ fate. seen_as more (fated k fate p)) (λ fate. fated_natural k fate p)
+      ∙ sym (and_then_assoc (serving m conn) (λ fate. fated k fate p) (λ q. Gives (more q)))
 
   -- ## What is done for the connection of a key among all
 
@@ -298,7 +298,7 @@ module _ (piece : List ℕ) (key : ℕ) where
 
   mail_at : (s : Standing) (said : Said) (found : Option ℕ) → mail_found (with_more s) said found ≡ seen_as with_more (mail_found s said found)
   mail_at s said None = refl
-  mail_at s said (Some k) = at_key s k (write k said) (write_natural k said) (cases_eq k key)
+  mail_at s said (Some k) = at_key s k (writing k said) (write_natural k said) (cases_eq k key)
 
   pub mail_more : (s : Standing) (slot number : ℕ) (said : Said) →
       mail_found (with_more s) said (position (is_conn slot number) (with_more s).peers) ≡ seen_as with_more (mail_found s said (position (is_conn slot number) s.peers))
@@ -326,9 +326,9 @@ module _ (piece : List ℕ) (key : ℕ) where
 
     welcome_more : (o : Outcome) (conn : Conn) (t : Standing) → welcome key m (more p) o conn (with_more t) ≡ seen_as with_more (welcome key m p o conn t)
     welcome_more o conn t =
-        ap (λ (u : Standing). and_then (reply_with m conn (UniqueName conn.number)) (λ done. Announcing o.signals (Gives u)))
+        ap (λ (u : Standing). and_then (replying m conn (UniqueName conn.number)) (λ done. Announcing o.signals (Gives u)))
         (set_of_more t (Some (named (more p) conn)) ∙ ap (λ (q : Peer). with_peer t key (Some q)) (named_more conn) ∙ sym (more_of_set t (Some (named p conn))))
-        ∙ sym (and_then_assoc (reply_with m conn (UniqueName conn.number)) (λ done. Announcing o.signals (Gives (with_peer t key (Some (named p conn))))) (λ u. Gives (with_more u)))
+        ∙ sym (and_then_assoc (replying m conn (UniqueName conn.number)) (λ done. Announcing o.signals (Gives (with_peer t key (Some (named p conn))))) (λ u. Gives (with_more u)))
 
     welcomed_more : (s : Standing) (o : Outcome) (conn : Conn) →
         and_then (close_former (with_more s) conn) (λ t. welcome key m (more p) o conn t) ≡ seen_as with_more (and_then (close_former s conn) (λ t. welcome key m p o conn t))
@@ -369,7 +369,7 @@ module _ (piece : List ℕ) (key : ℕ) where
     hello_more s true = greet_more s
     hello_more s false = here s (closing key cause.NotHello) (closing_natural key cause.NotHello) (Some p)
 
-  -- ## The next message
+  -- ## The coming_next message
 
   watches_same : (p : Peer) (stage : Stage) → (fed piece p stage).watches ≡ p.watches
   watches_same p (Authenticating setting state) = refl
@@ -379,7 +379,7 @@ module _ (piece : List ℕ) (key : ℕ) where
 
   named_serve : (s : Standing) (m : Message) (p : Peer) (conn : Conn) (watches : Bool) → serve_named (with_more s) key m (more p) conn watches ≡ seen_as with_more (serve_named s key m p conn watches)
   named_serve s m p conn true = here s (closing key cause.MonitorSent) (closing_natural key cause.MonitorSent) (Some p)
-  named_serve s m p conn false = here s (λ q. and_then (serve m conn) (λ fate. fated key fate q)) (serve_natural key m conn) (Some p)
+  named_serve s m p conn false = here s (λ q. and_then (serving m conn) (λ fate. fated key fate q)) (serve_natural key m conn) (Some p)
 
   pub serve_more : (s : Standing) (m : Message) (p : Peer) (stage : Stage) → p.stage ≡ stage → serve_at (with_more s) key m (more p) stage ≡ seen_as with_more (serve_at s key m p stage)
   serve_more s m p (Authenticating setting state) is = refl
@@ -413,7 +413,7 @@ module _ (readers : Readers) (piece : List ℕ) (key : ℕ) where
   bytes_given r begun = by_peer (peer_at r.standing key) begun
     where
       heard : Peer → Stage → Stands
-      heard p stage = and_then (and_then (hear key piece p stage) (λ q. Gives (Some q))) (λ q. Gives (with_peer r.standing key q))
+      heard p stage = and_then (and_then (hearing key piece p stage) (λ q. Gives (Some q))) (λ q. Gives (with_peer r.standing key q))
 
       by_stage : (p : Peer) (stage : Stage) → SpeaksDBus stage → come_to readers r (heard p stage) ≡ ([], standing_so r (with_peer r.standing key (Some (fed piece p stage))))
       by_stage p (Authenticating setting state) begun = absurd begun
@@ -422,7 +422,7 @@ module _ (readers : Readers) (piece : List ℕ) (key : ℕ) where
       by_stage p (Shut conn) begun = refl
 
       by_peer : (o : Option Peer) → IfSome o (λ p. SpeaksDBus p.stage) →
-          come_to readers r (for_peer r.standing key o (λ p. hear key piece p p.stage)) ≡ ([], standing_so r (with_peer r.standing key (more_if piece key o)))
+          come_to readers r (for_peer r.standing key o (λ p. hearing key piece p p.stage)) ≡ ([], standing_so r (with_peer r.standing key (more_if piece key o)))
       by_peer None begun = refl
       by_peer (Some p) begun = by_stage p p.stage begun
 
@@ -463,11 +463,11 @@ module _ (readers : Readers) (piece : List ℕ) (key : ℕ) where
       let s2 : Standing = with_more piece key s in
       let c : Course = record { view = r.view; deeds = [] } in
       let now : peer_at s2 key ≡ Some (more piece key p) = peer_with_more piece key s ∙ ap (λ (o : Option Peer). more_if piece key o) here in
-      ap (λ (o : Option Peer). come_to readers r (next s2 key o)) now
+      ap (λ (o : Option Peer). come_to readers r (coming_next s2 key o)) now
       ∙ ap (λ (st : Stage). come_to readers r (next_at s2 key (more piece key p) st)) (stage_same piece key p p.stage)
       ∙ ap (λ (end : Standing × Course). let at : List Deed × Rest = (end.1.deeds, rest_of end) in at) (turn_at s p message rest p.stage refl front later c)
       ∙ come_to_more r (next_at s key p p.stage)
-      ∙ ap (λ (o : Option Peer). end_more piece key (come_to readers r (next s key o))) (sym here)
+      ∙ ap (λ (o : Option Peer). end_more piece key (come_to readers r (coming_next s key o))) (sym here)
 
 -- ## When nothing is to be served, or no message comes
 
@@ -489,7 +489,7 @@ module _ (key : ℕ) where
 
 module _ (readers : Readers) (key : ℕ) where
   abbrev next_so : Rest → Option Peer → List Deed × Rest
-  next_so r o = come_to readers r (next r.standing key o)
+  next_so r o = come_to readers r (coming_next r.standing key o)
 
   pub none_given : (r : Rest) → peer_at r.standing key ≡ None → given readers r (Next key) ≡ ([], r)
   none_given r here = ap (next_so r) here

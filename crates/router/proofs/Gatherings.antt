@@ -9,10 +9,10 @@ use Rattle.driver.specs.declared.call.Call.{Call}
 use Rattle.router_core.specs.declared.joint.Joint.{Joint}
 use Rattle.router_core.specs.declared.joint.RuleCall.{RuleCall}
 use Rattle.router_core.specs.Deeds.{GatedCall}
-use Rattle.router_core.specs.Events.{Gathered, apart, gather, joined}
+use Rattle.router_core.specs.Events.{Gathered, apart, gathering, joined}
 use Rattle.router_core.specs.Scripts.{World, Comes, and_then}
 use Rattle.router_core.specs.Standing.{Peer, Standing, has_slot, peer_at, with_peer}
-use Rattle.router_core.specs.Together.{join, rule_call}
+use Rattle.router_core.specs.Together.{joining, rule_call}
 use Rattle.router.specs.Dues.{IsDue}
 use Rattle.router.specs.declared.turn.Due.{Due}
 use Rattle.router.specs.declared.turn.Due.TheVariants as due
@@ -52,42 +52,42 @@ as_it_was s key old new there same =
 
 module _ {N G : Type 0} (told : N → History) (registry_of : N → ℕ) (passes : G → GatedCall → G → Type 0) (alone : Bool) (joints : List Joint) (s : Standing) (key : ℕ) (old new : Option Peer) (there : peer_at s key ≡ old) (w : World N G) where
   -- nothing is next
-  pub gathers_idle : IsDue due.Nothing old new → Comes told registry_of passes alone (gather joints s key (peer_at s key)) w (record { joints = joints; standing = with_peer s key new; served = false }) w
+  pub gathers_idle : IsDue due.Nothing old new → Comes told registry_of passes alone (gathering joints s key (peer_at s key)) w (record { joints = joints; standing = with_peer s key new; served = false }) w
   gathers_idle is = of_slot old there is
     where
-      of_slot : (o : Option Peer) → peer_at s key ≡ o → IsDue due.Nothing o new → Comes told registry_of passes alone (gather joints s key (peer_at s key)) w (record { joints = joints; standing = with_peer s key new; served = false }) w
+      of_slot : (o : Option Peer) → peer_at s key ≡ o → IsDue due.Nothing o new → Comes told registry_of passes alone (gathering joints s key (peer_at s key)) w (record { joints = joints; standing = with_peer s key new; served = false }) w
       of_slot o at is =
-          subst (λ (t : Standing). let end : Gathered = record { joints = joints; standing = t; served = false } in Comes told registry_of passes alone (gather joints s key (peer_at s key)) w end w) (sym (as_it_was s key o new at (idle_same o new is)))
-          (subst (λ (x : Option Peer). let end : Gathered = record { joints = joints; standing = s; served = false } in Comes told registry_of passes alone (gather joints s key x) w end w) (sym at) (in_slot o is))
+          subst (λ (t : Standing). let end : Gathered = record { joints = joints; standing = t; served = false } in Comes told registry_of passes alone (gathering joints s key (peer_at s key)) w end w) (sym (as_it_was s key o new at (idle_same o new is)))
+          (subst (λ (x : Option Peer). let end : Gathered = record { joints = joints; standing = s; served = false } in Comes told registry_of passes alone (gathering joints s key x) w end w) (sym at) (in_slot o is))
         where
-          in_slot : (o : Option Peer) → IsDue due.Nothing o new → Comes told registry_of passes alone (gather joints s key o) w (record { joints = joints; standing = s; served = false }) w
+          in_slot : (o : Option Peer) → IsDue due.Nothing o new → Comes told registry_of passes alone (gathering joints s key o) w (record { joints = joints; standing = s; served = false }) w
           in_slot None is = (refl, refl)
           in_slot (Some p) is = gathers_none told registry_of passes alone joints s key p w is.0
 
   module _ (v : World N G) (end : Gathered) where
     -- what is next is served by itself
-    pub gathers_one : IsDue due.Apart old new → Comes told registry_of passes alone (apart joints (with_peer s key new) key) w end v → Comes told registry_of passes alone (gather joints s key (peer_at s key)) w end v
+    pub gathers_one : IsDue due.Apart old new → Comes told registry_of passes alone (apart joints (with_peer s key new) key) w end v → Comes told registry_of passes alone (gathering joints s key (peer_at s key)) w end v
     gathers_one is served =
-        subst (λ (o : Option Peer). Comes told registry_of passes alone (gather joints s key o) w end v) (sym there) (of_slot old there is)
+        subst (λ (o : Option Peer). Comes told registry_of passes alone (gathering joints s key o) w end v) (sym there) (of_slot old there is)
       where
-        of_slot : (o : Option Peer) → peer_at s key ≡ o → IsDue due.Apart o new → Comes told registry_of passes alone (gather joints s key o) w end v
+        of_slot : (o : Option Peer) → peer_at s key ≡ o → IsDue due.Apart o new → Comes told registry_of passes alone (gathering joints s key o) w end v
         of_slot None at is = absurd is
         of_slot (Some p) at is =
             gathers_apart told registry_of passes alone joints s key p w v end is.0
             (subst (λ (t : Standing). Comes told registry_of passes alone (apart joints t key) w end v) (as_it_was s key (Some p) new at is.1) served)
 
-    -- it is a call that may join the others
+    -- it is a call that may joining the others
     pub gathers_call : (conn : Conn) (message : List ℕ) (call : Call) → IsDue (due.Rule conn message call) old new →
         ((c : RuleCall) → rule_call (Ok call) ≡ Some c →
-        Comes told registry_of passes alone (and_then (join (said message) conn c) (λ it. joined joints (with_peer s key new) (record { key = key; message = message; caller = conn; call = c }) it)) w end v) →
-        Comes told registry_of passes alone (gather joints s key (peer_at s key)) w end v
+        Comes told registry_of passes alone (and_then (joining (said message) conn c) (λ it. joined joints (with_peer s key new) (record { key = key; message = message; caller = conn; call = c }) it)) w end v) →
+        Comes told registry_of passes alone (gathering joints s key (peer_at s key)) w end v
     gathers_call conn message call is served =
-        subst (λ (o : Option Peer). Comes told registry_of passes alone (gather joints s key o) w end v) (sym there) (of_slot old is)
+        subst (λ (o : Option Peer). Comes told registry_of passes alone (gathering joints s key o) w end v) (sym there) (of_slot old is)
       where
-        of_slot : (o : Option Peer) → IsDue (due.Rule conn message call) o new → Comes told registry_of passes alone (gather joints s key o) w end v
+        of_slot : (o : Option Peer) → IsDue (due.Rule conn message call) o new → Comes told registry_of passes alone (gathering joints s key o) w end v
         of_slot None is = absurd is
         of_slot (Some p) is =
             let reads = is_there (rule_call (Ok call)) is.8 in
-            let joining = λ (o : Option Peer). and_then (join (said message) conn reads.0) (λ it. joined joints (with_peer s key o) (record { key = key; message = message; caller = conn; call = reads.0 }) it) in
+            let joins = λ (o : Option Peer). and_then (joining (said message) conn reads.0) (λ it. joined joints (with_peer s key o) (record { key = key; message = message; caller = conn; call = reads.0 }) it) in
             gathers_rule told registry_of passes alone joints s key p is.0 conn message call reads.0 w v end is.2 is.3 is.4 is.5 is.6 is.7 reads.1
-            (subst (λ (o : Option Peer). Comes told registry_of passes alone (joining o) w end v) is.1 (served reads.0 reads.1))
+            (subst (λ (o : Option Peer). Comes told registry_of passes alone (joins o) w end v) is.1 (served reads.0 reads.1))

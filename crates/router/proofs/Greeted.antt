@@ -16,10 +16,10 @@ use Rattle.outbox_core.specs.Contents.{UniqueName}
 use Rattle.router_core.specs.declared.cause.CloseCause.TheVariants as cause
 use Rattle.router_core.specs.Answers.{Heard, Says, Refuses, error_for}
 use Rattle.router_core.specs.Deeds.{GatedCall, Closes}
-use Rattle.router_core.specs.Events.{OfPeer, Stands, closing, for_slot, for_peer, close_found, welcome, turn_away, refuse_with, greeted_by, greeted, greet, serve_at, next_at, next}
+use Rattle.router_core.specs.Events.{OfPeer, Stands, closing, for_slot, for_peer, close_found, welcome, turn_away, refuse_with, greeted_by, greeted, greet, serve_at, next_at, coming_next}
 use Rattle.router_core.specs.Fronts.{Whole, IsFront}
 use Rattle.router_core.specs.Scripts.{Gives, Doing, Announcing, World, Comes, and_then}
-use Rattle.router_core.specs.Serving.{reply_with}
+use Rattle.router_core.specs.Serving.{replying}
 use Rattle.router_core.specs.Standing.{Peer, Standing, Stage, Named, Unnamed, peer_at, with_peer, has_slot, shut}
 use Rattle.router_steps.specs.Reading.{IsRest}
 
@@ -59,7 +59,7 @@ module _ (s : Standing) (key : ℕ) (left : Option Peer) where
     module _ (conn : Conn) where
       -- the name is the one of a connection, whoever else is there
       welcome_same : (t u : Standing) → ((q : Option Peer) → with_peer t key q ≡ with_peer u key q) → welcome key m p o conn t ≡ welcome key m p o conn u
-      welcome_same t u same = λ i. and_then (reply_with m conn (UniqueName conn.number)) (λ done. Announcing o.signals (Gives (same (Some (record p { stage = Named conn })) i)))
+      welcome_same t u same = λ i. and_then (replying m conn (UniqueName conn.number)) (λ done. Announcing o.signals (Gives (same (Some (record p { stage = Named conn })) i)))
 
       closed_then : (k : ℕ) → k ≢ key → (r : Option Peer) →
           and_then (for_peer taken k r (λ q. closing k cause.Left q)) (λ t. welcome key m p o conn t) ≡ and_then (for_peer s k r (λ q. closing k cause.Left q)) (λ t. welcome key m p o conn t)
@@ -103,7 +103,7 @@ module _ (s : Standing) (key : ℕ) (left : Option Peer) where
 -- A Hello is served by greeting its connection.
 pub hello_next : {N G : Type 0} (told : N → History) (registry_of : N → ℕ) (passes : G → GatedCall → G → Type 0) (alone : Bool) (s : Standing) (key : ℕ) (p q : Peer) (privileged : Bool) (message : List ℕ) (w : World N G) (t : Standing) (v : World N G) →
     peer_at s key ≡ Some p → p.stage ≡ Unnamed privileged → IsFront p.unread (Whole message q.unread) → IsRest p q → is_hello (said message) ≡ true →
-    Comes told registry_of passes alone (greet s key (said message) q privileged) w t v → Comes told registry_of passes alone (next s key (peer_at s key)) w t v
+    Comes told registry_of passes alone (greet s key (said message) q privileged) w t v → Comes told registry_of passes alone (coming_next s key (peer_at s key)) w t v
 hello_next told registry_of passes alone s key p q privileged message w t v there unnamed front rest hello done =
     let m = said message in
     let x : Peer = record p { unread = q.unread } in
@@ -112,4 +112,4 @@ hello_next told registry_of passes alone s key p q privileged message w t v ther
     subst (λ (b : Bool). Comes told registry_of passes alone (if b then greet s key m x privileged else for_peer s key (Some x) (closing key cause.NotHello)) w t v) (sym hello) greets_it in
     let served = subst (λ (stage : Stage). Comes told registry_of passes alone (serve_at s key m x stage) w t v) (sym unnamed) chosen in
     let reads : Comes told registry_of passes alone (next_at s key p (Unnamed privileged)) w t v = (Whole message q.unread, front, served) in
-    subst (λ (o : Option Peer). Comes told registry_of passes alone (next s key o) w t v) (sym there) (subst (λ (stage : Stage). Comes told registry_of passes alone (next_at s key p stage) w t v) (sym unnamed) reads)
+    subst (λ (o : Option Peer). Comes told registry_of passes alone (coming_next s key o) w t v) (sym there) (subst (λ (stage : Stage). Comes told registry_of passes alone (next_at s key p stage) w t v) (sym unnamed) reads)

@@ -26,10 +26,10 @@ use Rattle.router_core.specs.declared.fate.PeerFate.{PeerFate}
 use Rattle.router_core.specs.declared.fate.PeerFate.TheVariants as fate
 use Rattle.router_core.specs.Answers.{Heard, Says, Refuses, error_for}
 use Rattle.router_core.specs.Deeds.{GatedCall}
-use Rattle.router_core.specs.Events.{OfPeer, closing, fated, close_at, close_found, close_former, write, for_slot, for_peer, hear, answering, conversed_to, converse_if, refuse, refuse_with, turn_away, welcome, greeted, greeted_by, greet, serve_named, serve_at, read, next, next_at, looked, look, look_all}
+use Rattle.router_core.specs.Events.{OfPeer, closing, fated, close_at, close_found, close_former, writing, for_slot, for_peer, hearing, answering, conversed_to, converse_if, refuse, refuse_with, turn_away, welcome, greeted, greeted_by, greet, serve_named, serve_at, read, coming_next, next_at, looked, look, looking_at_all}
 use Rattle.router_core.specs.Fronts.{Front, Waits, Whole, Faulty}
 use Rattle.router_core.specs.Scripts.{Gives, Routing, Announcing, World, Comes, and_then}
-use Rattle.router_core.specs.Serving.{monitors_in, reply_with, serve}
+use Rattle.router_core.specs.Serving.{monitors_in, replying, serving}
 use Rattle.router_core.specs.Standing.{Peer, Standing, Stage, Authenticating, Unnamed, Named, Shut, peer_at, with_peer, next_serial, has_slot, shut}
 use Rattle.router_steps.specs.Noting.{once_noted}
 use Rattle.router_steps.specs.Refusing.{hello_of}
@@ -38,7 +38,7 @@ use Rattle.router.proofs.Indexing.{Keeps, KeepsAll, like_keeps}
 
 -- ---- one connection
 
-hear_keeps : (key : ℕ) (piece : List ℕ) (p : Peer) → AllGive (λ q. Keeps (Some p) (Some q)) (hear key piece p p.stage)
+hear_keeps : (key : ℕ) (piece : List ℕ) (p : Peer) → AllGive (λ q. Keeps (Some p) (Some q)) (hearing key piece p p.stage)
 hear_keeps key piece p = in_stage p.stage
   where
     -- a connection that says who it is has no slot, and gets none
@@ -58,32 +58,32 @@ hear_keeps key piece p = in_stage p.stage
     by_grant q setting said true = answering_keeps q said.sent (conversed_to key setting said said.state.phase q) (in_phase q setting said said.state.phase)
     by_grant q setting said false = λ slot has. absurd (false≢true has)
 
-    in_stage : (stage : Stage) → AllGive (λ q. Keeps (Some (record p { stage = stage })) (Some q)) (hear key piece (record p { stage = stage }) stage)
+    in_stage : (stage : Stage) → AllGive (λ q. Keeps (Some (record p { stage = stage })) (Some q)) (hearing key piece (record p { stage = stage }) stage)
     in_stage (Authenticating setting state) = λ granted. by_grant (record p { stage = Authenticating setting state }) setting (conversed setting state [] (p.unread ++ piece)) granted
     in_stage (Unnamed privileged) = λ slot has. has
     in_stage (Named conn) = λ slot has. has
     in_stage (Shut conn) = λ slot has. has
 
-pub feeding : (key : ℕ) (piece : List ℕ) (old : Option Peer) → AllGive (λ new. Keeps old new) (for_slot old (λ p. hear key piece p p.stage))
+pub feeding : (key : ℕ) (piece : List ℕ) (old : Option Peer) → AllGive (λ new. Keeps old new) (for_slot old (λ p. hearing key piece p p.stage))
 feeding key piece None = λ slot has. has
-feeding key piece (Some p) = then_give (λ q. Keeps (Some p) (Some q)) (λ new. Keeps (Some p) new) (λ q. Gives (Some q)) (λ q keeps. keeps) (hear key piece p p.stage) (hear_keeps key piece p)
+feeding key piece (Some p) = then_give (λ q. Keeps (Some p) (Some q)) (λ new. Keeps (Some p) new) (λ q. Gives (Some q)) (λ q keeps. keeps) (hearing key piece p p.stage) (hear_keeps key piece p)
 
 -- one that is closed has no slot
 pub leaving : (key : ℕ) (why : CloseCause) (old : Option Peer) → AllGive (λ new. Keeps None new) (for_slot old (λ p. closing key why p))
 leaving key why None = λ slot has. has
 leaving key why (Some p) = λ slot has. has
 
-writing_there : (key : ℕ) (said : Said) (p : Peer) → AllGive (λ new. Keeps (Some p) new) (for_slot (Some p) (write key said))
+writing_there : (key : ℕ) (said : Said) (p : Peer) → AllGive (λ new. Keeps (Some p) new) (for_slot (Some p) (writing key said))
 writing_there key (Relays bytes) p = λ slot has. has
 writing_there key (Tells own) p = λ slot has. has
 
-writing : (key : ℕ) (said : Said) (old : Option Peer) → AllGive (λ new. Keeps old new) (for_slot old (write key said))
-writing key said None = λ slot has. has
-writing key said (Some p) = writing_there key said p
+writing_keeps : (key : ℕ) (said : Said) (old : Option Peer) → AllGive (λ new. Keeps old new) (for_slot old (writing key said))
+writing_keeps key said None = λ slot has. has
+writing_keeps key said (Some p) = writing_there key said p
 
-pub bringing : (held : Option History) (key : ℕ) (said : Said) (old : Option Peer) → AllGive (λ new. Keeps old new) (once_noted held (for_slot old (write key said)))
-bringing None key said old = writing key said old
-bringing (Some told) key said old = writing key said old
+pub bringing : (held : Option History) (key : ℕ) (said : Said) (old : Option Peer) → AllGive (λ new. Keeps old new) (once_noted held (for_slot old (writing key said)))
+bringing None key said old = writing_keeps key said old
+bringing (Some told) key said old = writing_keeps key said old
 
 -- ---- all connections, as time passes
 
@@ -110,14 +110,14 @@ keeps_more x y xs ys here rest (suc k) = rest k
 abbrev KeepsRest : List (Option Peer) → List (Option Peer) → List (Option Peer) → Type 0
 KeepsRest done old all = (new : List (Option Peer)) × (all ≡ done ++ new) × KeepsAll old new
 
-looking : (done old : List (Option Peer)) → AllGive (λ all. KeepsRest done old all) (look_all done old)
+looking : (done old : List (Option Peer)) → AllGive (λ all. KeepsRest done old all) (looking_at_all done old)
 looking done [] = ([], sym (append-nil done), λ k slot has. has)
 looking done (x ∷ xs) =
-    then_give (λ y. Keeps x y) (λ all. KeepsRest done (x ∷ xs) all) (λ y. look_all (done ++ y ∷ []) xs)
+    then_give (λ y. Keeps x y) (λ all. KeepsRest done (x ∷ xs) all) (λ y. looking_at_all (done ++ y ∷ []) xs)
     (λ y here.
     weaker_give (λ all. KeepsRest (done ++ y ∷ []) xs all) (λ all. KeepsRest done (x ∷ xs) all)
     (λ all rest. (y ∷ rest.0, rest.1 ∙ append_assoc done (y ∷ []) rest.0, keeps_more x y xs rest.0 here rest.2))
-    (look_all (done ++ y ∷ []) xs) (looking (done ++ y ∷ []) xs))
+    (looking_at_all (done ++ y ∷ []) xs) (looking (done ++ y ∷ []) xs))
     (for_slot x (λ p. look (length done) p p.stage)) (look_keeps (length done) x)
 
 -- ---- the next message
@@ -234,8 +234,8 @@ module _ (slot key : ℕ) where
 
     welcoming : (o : Outcome) (conn : Conn) (u : Standing) → ((q : Peer) → NotBoth (with_peer u key (Some (record q { stage = Named conn })))) → AllGive NotBoth (welcome key m p o conn u)
     welcoming o conn u done =
-        then_give (λ x. Unit {0}) NotBoth (λ x. Announcing o.signals (Gives (with_peer u key (Some (record p { stage = Named conn }))))) (λ x y. done p) (reply_with m conn (UniqueName conn.number))
-        (all_give (λ x. Unit {0}) (λ x. tt) (reply_with m conn (UniqueName conn.number)))
+        then_give (λ x. Unit {0}) NotBoth (λ x. Announcing o.signals (Gives (with_peer u key (Some (record p { stage = Named conn }))))) (λ x y. done p) (replying m conn (UniqueName conn.number))
+        (all_give (λ x. Unit {0}) (λ x. tt) (replying m conn (UniqueName conn.number)))
 
     -- whoever had the slot is closed
     closing_second : (u : Standing) (found : Option ℕ) → found ≡ Some (suc key) → AllGive (λ t. HasNot (get_or t.peers (suc key) None)) (close_found u found)
@@ -279,16 +279,16 @@ module _ (slot key : ℕ) where
     as_it_was : (x : Option Peer) → has_slot slot x ≡ false → NotBoth (standing_of x)
     as_it_was x isnt = λ first second. false≢true (sym isnt ∙ ap (has_slot slot) (sym (first_of key x y)) ∙ first)
 
-    serving : (p : Peer) (m : Message) (rest : List ℕ) (stage : Stage) → has_slot slot (Some (record p { stage = stage })) ≡ false → AllGive NotBoth (serve_at (standing_of (Some (record p { stage = stage }))) key m (record p { stage = stage; unread = rest }) stage)
-    serving p m rest (Authenticating setting state) isnt = as_it_was (Some (record p { stage = Authenticating setting state })) isnt
-    serving p m rest (Shut conn) isnt = as_it_was (Some (record p { stage = Shut conn })) isnt
-    serving p m rest (Unnamed privileged) isnt =
+    serving_keeps : (p : Peer) (m : Message) (rest : List ℕ) (stage : Stage) → has_slot slot (Some (record p { stage = stage })) ≡ false → AllGive NotBoth (serve_at (standing_of (Some (record p { stage = stage }))) key m (record p { stage = stage; unread = rest }) stage)
+    serving_keeps p m rest (Authenticating setting state) isnt = as_it_was (Some (record p { stage = Authenticating setting state })) isnt
+    serving_keeps p m rest (Shut conn) isnt = as_it_was (Some (record p { stage = Shut conn })) isnt
+    serving_keeps p m rest (Unnamed privileged) isnt =
         let s : Standing = standing_of (Some (record p { stage = Unnamed privileged })) in
         let q : Peer = record p { stage = Unnamed privileged; unread = rest } in
         if_give NotBoth (is_hello m) (greet s key m q privileged) (for_peer s key (Some q) (closing key cause.NotHello))
         (greeting m q privileged refl (Some (record p { stage = Unnamed privileged })) y privileged isnt has_second)
         (not_first s (Some (shut q)) (λ has. false≢true has))
-    serving p m rest (Named conn) isnt = if_watches p.watches
+    serving_keeps p m rest (Named conn) isnt = if_watches p.watches
       where
         s : Standing
         s = standing_of (Some (record p { stage = Named conn }))
@@ -304,15 +304,15 @@ module _ (slot key : ℕ) where
         if_watches : (watches : Bool) → AllGive NotBoth (serve_named s key m q conn watches)
         if_watches true = not_first s (Some (shut q)) (λ has. false≢true has)
         if_watches false =
-            for_give s key q (λ r. and_then (serve m conn) (λ fate. fated key fate r)) (λ r. HasNot (Some r)) NotBoth (λ r hasnt. not_first s (Some r) hasnt)
-            (then_give (λ fate. Unit {0}) (λ r. HasNot (Some r)) (λ fate. fated key fate q) (λ fate done. by_fate fate) (serve m conn) (all_give (λ fate. Unit {0}) (λ fate. tt) (serve m conn)))
+            for_give s key q (λ r. and_then (serving m conn) (λ fate. fated key fate r)) (λ r. HasNot (Some r)) NotBoth (λ r hasnt. not_first s (Some r) hasnt)
+            (then_give (λ fate. Unit {0}) (λ r. HasNot (Some r)) (λ fate. fated key fate q) (λ fate done. by_fate fate) (serving m conn) (all_give (λ fate. Unit {0}) (λ fate. tt) (serving m conn)))
 
     reading : (p : Peer) (stage : Stage) → has_slot slot (Some (record p { stage = stage })) ≡ false → (front : Front) → AllGive NotBoth (read (standing_of (Some (record p { stage = stage }))) key (record p { stage = stage }) front)
     reading p stage isnt Waits = as_it_was (Some (record p { stage = stage })) isnt
     reading p stage isnt (Faulty fault) = not_first (standing_of (Some (record p { stage = stage }))) (Some (shut (record p { stage = stage }))) (λ has. false≢true has)
-    reading p stage isnt (Whole bytes rest) = serving p (message_said bytes) rest stage isnt
+    reading p stage isnt (Whole bytes rest) = serving_keeps p (message_said bytes) rest stage isnt
 
-    coming : (x : Option Peer) → has_slot slot x ≡ false → AllGive NotBoth (next (standing_of x) key x)
+    coming : (x : Option Peer) → has_slot slot x ≡ false → AllGive NotBoth (coming_next (standing_of x) key x)
     coming None isnt = as_it_was None isnt
     coming (Some p) isnt = in_stage p.stage isnt
       where
@@ -325,18 +325,18 @@ module _ (slot key : ℕ) where
 -- ---- what came
 
 module _ {N G : Type 0} (told : N → History) (registry_of : N → ℕ) (passes : G → GatedCall → G → Type 0) (alone : Bool) (w v : World N G) where
-  pub feed_keeps : (key : ℕ) (piece : List ℕ) (old new : Option Peer) → Comes told registry_of passes alone (for_slot old (λ p. hear key piece p p.stage)) w new v → Keeps old new
-  feed_keeps key piece old new came = given told registry_of passes alone (λ o. Keeps old o) new v (for_slot old (λ p. hear key piece p p.stage)) w (feeding key piece old) came
+  pub feed_keeps : (key : ℕ) (piece : List ℕ) (old new : Option Peer) → Comes told registry_of passes alone (for_slot old (λ p. hearing key piece p p.stage)) w new v → Keeps old new
+  feed_keeps key piece old new came = given told registry_of passes alone (λ o. Keeps old o) new v (for_slot old (λ p. hearing key piece p p.stage)) w (feeding key piece old) came
 
   pub closed_has_none : (key : ℕ) (why : CloseCause) (old new : Option Peer) → Comes told registry_of passes alone (for_slot old (λ p. closing key why p)) w new v → Keeps None new
   closed_has_none key why old new came = given told registry_of passes alone (λ o. Keeps None o) new v (for_slot old (λ p. closing key why p)) w (leaving key why old) came
 
-  pub brought_keeps : (held : Option History) (key : ℕ) (said : Said) (old new : Option Peer) → Comes told registry_of passes alone (once_noted held (for_slot old (write key said))) w new v → Keeps old new
-  brought_keeps held key said old new came = given told registry_of passes alone (λ o. Keeps old o) new v (once_noted held (for_slot old (write key said))) w (bringing held key said old) came
+  pub brought_keeps : (held : Option History) (key : ℕ) (said : Said) (old new : Option Peer) → Comes told registry_of passes alone (once_noted held (for_slot old (writing key said))) w new v → Keeps old new
+  brought_keeps held key said old new came = given told registry_of passes alone (λ o. Keeps old o) new v (once_noted held (for_slot old (writing key said))) w (bringing held key said old) came
 
-  pub looked_keeps : (old new : List (Option Peer)) → Comes told registry_of passes alone (look_all [] old) w new v → KeepsAll old new
+  pub looked_keeps : (old new : List (Option Peer)) → Comes told registry_of passes alone (looking_at_all [] old) w new v → KeepsAll old new
   looked_keeps old new came =
-      let rest = given told registry_of passes alone (λ all. KeepsRest [] old all) new v (look_all [] old) w (looking [] old) came in
+      let rest = given told registry_of passes alone (λ all. KeepsRest [] old all) new v (looking_at_all [] old) w (looking [] old) came in
       subst (λ xs. KeepsAll old xs) (sym rest.1) rest.2
 
   pub refused_keeps : (key : ℕ) (m : Message) (kind : ErrorKind) (old new : Option Peer) → Comes told registry_of passes alone (for_slot old (refuse_with key m kind)) w new v → Keeps old new
@@ -347,7 +347,7 @@ module _ {N G : Type 0} (told : N → History) (registry_of : N → ℕ) (passes
 
 -- A connection whose next message is served where it stands gets no slot, whoever else is there.
 pub next_keeps : {N G : Type 0} (told : N → History) (registry_of : N → ℕ) (passes : G → GatedCall → G → Type 0) (alone : Bool) (key : ℕ) (old new : Option Peer) (w v : World N G) →
-    ((s : Standing) → peer_at s key ≡ old → Comes told registry_of passes alone (next s key old) w (with_peer s key new) v) → Keeps old new
+    ((s : Standing) → peer_at s key ≡ old → Comes told registry_of passes alone (coming_next s key old) w (with_peer s key new) v) → Keeps old new
 next_keeps told registry_of passes alone key old new w v comes slot has =
     let other : Option Peer = Some (record { stage = Named (record { number = 0; slot = slot; router = 0 }); unread = []; serial = 0; watches = false }) in
     let is : has_slot slot other ≡ true = eq-eqb slot slot refl in
@@ -356,7 +356,7 @@ next_keeps told registry_of passes alone key old new w v comes slot has =
       | inl had ↦ had
       | inr hadnt ↦
           let done = comes s (first_of key old other) in
-          let never = given told registry_of passes alone (NotBoth slot key) (with_peer s key new) v (next s key old) w (coming slot key other is old hadnt) done in
+          let never = given told registry_of passes alone (NotBoth slot key) (with_peer s key new) v (coming_next s key old) w (coming slot key other is old hadnt) done in
           let first : get_or (set s.peers key new) key None ≡ new = ap (λ xs. get_or xs key None) (set_first key old other new) ∙ first_of key new other in
           let second : get_or (set s.peers key new) (suc key) None ≡ other = ap (λ xs. get_or xs (suc key) None) (set_first key old other new) ∙ second_of key new other in
           absurd (never (subst (λ o. has_slot slot o ≡ true) (sym first) has) (subst (λ o. has_slot slot o ≡ true) (sym second) is))

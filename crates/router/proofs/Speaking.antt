@@ -18,11 +18,11 @@ use Rattle.router_core.specs.declared.cause.CloseCause.TheVariants as cause
 use Rattle.router_core.specs.declared.fate.PeerFate.{PeerFate}
 use Rattle.router_core.specs.declared.fate.PeerFate.TheVariants as fate
 use Rattle.router_core.specs.Answers.{Heard, Says, Refuses, error_for}
-use Rattle.router_core.specs.Events.{Mail, Next, OfPeer, fed, closing, fated, close_found, close_former, write, for_slot, for_peer, refuse_with, turn_away, welcome, greeted, greeted_by, greet, serve_named, serve_at, read, next_at, next, mail_found}
+use Rattle.router_core.specs.Events.{Mail, Next, OfPeer, fed, closing, fated, close_found, close_former, writing, for_slot, for_peer, refuse_with, turn_away, welcome, greeted, greeted_by, greet, serve_named, serve_at, read, next_at, coming_next, mail_found}
 use Rattle.router_core.specs.Fronts.{Front, Waits, Whole, Faulty}
 use Rattle.router_core.specs.OneThread.{Readers, Rest, Course, alone, given}
 use Rattle.router_core.specs.Scripts.{Script, Gives, Changing, ChangingAll, Asking, Routing, Looking, Noting, Fronting, Calling, Gating, Wanting, Requiring, Doing, Announcing, and_then}
-use Rattle.router_core.specs.Serving.{reply_with, serve}
+use Rattle.router_core.specs.Serving.{replying, serving}
 use Rattle.router_core.specs.Standing.{Stage, Authenticating, Unnamed, Named, Shut, Peer, Standing, SpeaksDBus, first_stage, newcomer, opened, peer_at, with_peer, is_conn}
 use Rattle.router.proofs.Endings.{AllGive, then_give, all_give, weaker_give, if_give}
 use Rattle.router.proofs.Feeding.{more_if, peer_with_more, rest_more}
@@ -90,7 +90,7 @@ module _ (key : ℕ) where
     welcome_speaks : (o : Outcome) (conn : Conn) (t : Standing) → SpeaksAt key t → AllGive (SpeaksAt key) (welcome key m p o conn t)
     welcome_speaks o conn t speaks =
         then_give (λ x. Unit {0}) (SpeaksAt key) (λ x. Announcing o.signals (Gives (with_peer t key (Some (record p { stage = Named conn })))))
-        (λ x done. with_speaks t key (Some (record p { stage = Named conn })) speaks tt) (reply_with m conn (UniqueName conn.number)) (all_give (λ x. Unit {0}) (λ x. tt) (reply_with m conn (UniqueName conn.number)))
+        (λ x done. with_speaks t key (Some (record p { stage = Named conn })) speaks tt) (replying m conn (UniqueName conn.number)) (all_give (λ x. Unit {0}) (λ x. tt) (replying m conn (UniqueName conn.number)))
 
     greeted_by_speaks : (s : Standing) (o : Outcome) (reply : Reply) → SpeaksAt key s → AllGive (SpeaksAt key) (greeted_by s key m p o reply)
     greeted_by_speaks s o (Welcome conn) speaks =
@@ -114,9 +114,9 @@ module _ (key : ℕ) where
     named_speaks : (s : Standing) (conn : Conn) (watches : Bool) → SpeaksAt key s → AllGive (SpeaksAt key) (serve_named s key m p conn watches)
     named_speaks s conn true speaks = closing_speaks s key (Some p) cause.MonitorSent speaks
     named_speaks s conn false speaks =
-        for_speaks s key (Some p) (λ q. and_then (serve m conn) (λ fate. fated key fate q)) speaks
-        (λ q is. then_give (λ fate. Unit {0}) Speaks (λ fate. fated key fate q) (λ fate done. fated_speaks fate q (subst (λ (o : Option Peer). IfSome o Speaks) is begun)) (serve m conn)
-        (all_give (λ fate. Unit {0}) (λ fate. tt) (serve m conn)))
+        for_speaks s key (Some p) (λ q. and_then (serving m conn) (λ fate. fated key fate q)) speaks
+        (λ q is. then_give (λ fate. Unit {0}) Speaks (λ fate. fated key fate q) (λ fate done. fated_speaks fate q (subst (λ (o : Option Peer). IfSome o Speaks) is begun)) (serving m conn)
+        (all_give (λ fate. Unit {0}) (λ fate. tt) (serving m conn)))
 
     serve_speaks : (s : Standing) (stage : Stage) → SpeaksAt key s → AllGive (SpeaksAt key) (serve_at s key m p stage)
     serve_speaks s (Authenticating setting state) speaks = speaks
@@ -136,12 +136,12 @@ module _ (key : ℕ) where
   next_at_speaks s p (Named conn) speaks begun = λ front. read_speaks s p front speaks begun
   next_at_speaks s p (Shut conn) speaks begun = speaks
 
-  next_speaks_at : (s : Standing) (o : Option Peer) → SpeaksAt key s → IfSome o Speaks → AllGive (SpeaksAt key) (next s key o)
+  next_speaks_at : (s : Standing) (o : Option Peer) → SpeaksAt key s → IfSome o Speaks → AllGive (SpeaksAt key) (coming_next s key o)
   next_speaks_at s None speaks begun = speaks
   next_speaks_at s (Some p) speaks begun = next_at_speaks s p p.stage speaks begun
 
   -- mail changes no stage
-  write_like : (k : ℕ) (said : Said) (p : Peer) → AllGive (λ q. q.stage ≡ p.stage) (write k said p)
+  write_like : (k : ℕ) (said : Said) (p : Peer) → AllGive (λ q. q.stage ≡ p.stage) (writing k said p)
   write_like k (Relays bytes) p = refl
   write_like k (Tells own) p = refl
 
@@ -149,22 +149,22 @@ module _ (key : ℕ) where
   mail_speaks_at s said None speaks = speaks
   mail_speaks_at s said (Some k) speaks = by_key (cases_eq key k)
     where
-      of_peer : (p : Peer) → AllGive (λ q. q.stage ≡ p.stage) (write k said p)
+      of_peer : (p : Peer) → AllGive (λ q. q.stage ≡ p.stage) (writing k said p)
       of_peer p = write_like k said p
 
       by_key : (key ≡ k) ⊎ (key ≡ k → ⊥) → AllGive (SpeaksAt key) (mail_found s said (Some k))
       by_key (inl same) =
-          for_speaks s k (peer_at s k) (write k said) speaks
+          for_speaks s k (peer_at s k) (writing k said) speaks
           (λ p is. weaker_give (λ q. q.stage ≡ p.stage) Speaks
           (λ q like. subst (λ (stage : Stage). SpeaksDBus stage) (sym like) (subst (λ (o : Option Peer). IfSome o Speaks) is (subst (λ (n : ℕ). IfSome (peer_at s n) Speaks) same speaks)))
-          (write k said p) (of_peer p))
+          (writing k said p) (of_peer p))
       by_key (inr apart) =
           then_give (λ q. Unit {0}) (SpeaksAt key) (λ q. Gives (with_peer s k q)) (λ q done. subst (λ (o : Option Peer). IfSome o Speaks) (sym (get_or-set_other s.peers k key q None apart)) speaks)
-          (for_slot (peer_at s k) (write k said)) (all_give (λ q. Unit {0}) (λ q. tt) (for_slot (peer_at s k) (write k said)))
+          (for_slot (peer_at s k) (writing k said)) (all_give (λ q. Unit {0}) (λ q. tt) (for_slot (peer_at s k) (writing k said)))
 
 module _ (readers : Readers) (key : ℕ) where
   pub next_speaks : (r : Rest) → SpeaksAt key r.standing → SpeaksAt key (given readers r (Next key)).1.standing
-  next_speaks r speaks = alone_gives readers (SpeaksAt key) (next r.standing key (peer_at r.standing key)) (record { view = r.view; deeds = [] }) (next_speaks_at key r.standing (peer_at r.standing key) speaks speaks)
+  next_speaks r speaks = alone_gives readers (SpeaksAt key) (coming_next r.standing key (peer_at r.standing key)) (record { view = r.view; deeds = [] }) (next_speaks_at key r.standing (peer_at r.standing key) speaks speaks)
 
   pub mail_speaks : (r : Rest) (slot number : ℕ) (said : Said) → SpeaksAt key r.standing → SpeaksAt key (given readers r (Mail slot number None said)).1.standing
   mail_speaks r slot number said speaks =

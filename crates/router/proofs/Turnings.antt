@@ -20,7 +20,7 @@ use Rattle.bus_view.specs.declared.view.BusView.{Ghosts as BusView}
 use Rattle.router_core.specs.declared.gate.Gate.{Ghosts as Gate}
 use Rattle.router_core.specs.Answers.{Says}
 use Rattle.router_core.specs.Deeds.{GatedCall}
-use Rattle.router_core.specs.Events.{Gathered, Stands, answer_each, apart, done_at, done_for, done_in, fated, gather, gather_at, apart_front, gather_front, gather_message, gathered, join_call, join_if, join_read, make_all, make_each, make_if, next, parted, turn}
+use Rattle.router_core.specs.Events.{Gathered, Stands, answering_each, apart, done_at, done_for, done_in, fated, gathering, gather_at, apart_front, gather_front, gather_message, gathered, join_call, join_if, join_read, making_all, making_each, making_if, coming_next, parted, turning}
 use Rattle.router_core.specs.Fronts.{Front, Waits, Whole, Faulty, IsFront}
 use Rattle.router_core.specs.Scripts.{Changing, Wanting, World, Comes, and_then}
 use Rattle.router_core.specs.Serving.{Fated, made}
@@ -56,69 +56,69 @@ module _ {N G : Type 0} (told : N → History) (registry_of : N → ℕ) (passes
 
   -- ---- the calls that joined
 
-  -- the change of the next, then those of the rest
+  -- the change of the coming_next, then those of the rest
   pub makes_more : (joints : List Joint) (i : ℕ) (j : Joint) → i < length joints → j ≡ get_or joints i j → (before after end : Standing) (w m v : World N G) →
       Comes told registry_of passes alone (done_for before j.key (Changing (change_of_joint j) (λ heard. made (said j.message) j.caller heard))) w after m →
-      Comes told registry_of passes alone (make_each (drop (i + 1) joints) after) m end v → Comes told registry_of passes alone (make_each (drop i joints) before) w end v
+      Comes told registry_of passes alone (making_each (drop (i + 1) joints) after) m end v → Comes told registry_of passes alone (making_each (drop i joints) before) w end v
   makes_more joints i j inside is before after end w m v this later =
-      subst (λ (js : List Joint). Comes told registry_of passes alone (make_each js before) w end v) (sym (drop_more joints i j inside ∙ ap (λ (x : Joint). x ∷ drop (i + 1) joints) (sym is)))
-      (comes_then told registry_of passes alone (λ (t : Standing). make_each (drop (i + 1) joints) t) after m end v later (done_for before j.key (Changing (change_of_joint j) (λ heard. made (said j.message) j.caller heard))) w this)
+      subst (λ (js : List Joint). Comes told registry_of passes alone (making_each js before) w end v) (sym (drop_more joints i j inside ∙ ap (λ (x : Joint). x ∷ drop (i + 1) joints) (sym is)))
+      (comes_then told registry_of passes alone (λ (t : Standing). making_each (drop (i + 1) joints) t) after m end v later (done_for before j.key (Changing (change_of_joint j) (λ heard. made (said j.message) j.caller heard))) w this)
 
-  -- the next is answered, then the rest
+  -- the coming_next is answered, then the rest
   pub answers_more : (joints : List Joint) (i : ℕ) (j : Joint) (outcomes rest : List Outcome) (o : Outcome) → i < length joints → j ≡ get_or joints i j → outcomes ≡ o ∷ rest → (before after end : Standing) (w m v : World N G) →
       Comes told registry_of passes alone (done_for before j.key (made (said j.message) j.caller (Says o))) w after m →
-      Comes told registry_of passes alone (answer_each (drop (i + 1) joints) rest after) m end v → Comes told registry_of passes alone (answer_each (drop i joints) outcomes before) w end v
+      Comes told registry_of passes alone (answering_each (drop (i + 1) joints) rest after) m end v → Comes told registry_of passes alone (answering_each (drop i joints) outcomes before) w end v
   answers_more joints i j outcomes rest o inside is steps before after end w m v this later =
-      subst (λ (os : List Outcome). Comes told registry_of passes alone (answer_each (drop i joints) os before) w end v) (sym steps)
-      (subst (λ (js : List Joint). Comes told registry_of passes alone (answer_each js (o ∷ rest) before) w end v) (sym (drop_more joints i j inside ∙ ap (λ (x : Joint). x ∷ drop (i + 1) joints) (sym is)))
-      (comes_then told registry_of passes alone (λ (t : Standing). answer_each (drop (i + 1) joints) rest t) after m end v later (done_for before j.key (made (said j.message) j.caller (Says o))) w this))
+      subst (λ (os : List Outcome). Comes told registry_of passes alone (answering_each (drop i joints) os before) w end v) (sym steps)
+      (subst (λ (js : List Joint). Comes told registry_of passes alone (answering_each js (o ∷ rest) before) w end v) (sym (drop_more joints i j inside ∙ ap (λ (x : Joint). x ∷ drop (i + 1) joints) (sym is)))
+      (comes_then told registry_of passes alone (λ (t : Standing). answering_each (drop (i + 1) joints) rest t) after m end v later (done_for before j.key (made (said j.message) j.caller (Says o))) w this))
 
   -- nobody is left to be answered, or nothing to be told
   pub answers_past : (joints : List Joint) (i : ℕ) (outcomes rest : List Outcome) → length joints ≤ i → (s end : Standing) (w v : World N G) →
-      Comes told registry_of passes alone (answer_each (drop i joints) rest s) w end v → Comes told registry_of passes alone (answer_each (drop i joints) outcomes s) w end v
+      Comes told registry_of passes alone (answering_each (drop i joints) rest s) w end v → Comes told registry_of passes alone (answering_each (drop i joints) outcomes s) w end v
   answers_past joints i outcomes rest past s end w v later = by_rest (drop i joints) (omega (arith, past, length-drop i joints)) later
     where
-      by_rest : (js : List Joint) → length js ≡ 0 → Comes told registry_of passes alone (answer_each js rest s) w end v → Comes told registry_of passes alone (answer_each js outcomes s) w end v
+      by_rest : (js : List Joint) → length js ≡ 0 → Comes told registry_of passes alone (answering_each js rest s) w end v → Comes told registry_of passes alone (answering_each js outcomes s) w end v
       by_rest [] none later = later
       by_rest (j ∷ js) none later = absurd (omega (arith, none))
 
-  pub answers_none : (joints : List Joint) (s : Standing) (w : World N G) → Comes told registry_of passes alone (answer_each joints [] s) w s w
+  pub answers_none : (joints : List Joint) (s : Standing) (w : World N G) → Comes told registry_of passes alone (answering_each joints [] s) w s w
   answers_none [] s w = (refl, refl)
   answers_none (j ∷ joints) s w = (refl, refl)
 
   module _ (s t : Standing) (w v : World N G) where
     -- one alone, or none
-    pub makes_few : (joints : List Joint) → length joints < 2 → Comes told registry_of passes alone (make_each joints s) w t v → Comes told registry_of passes alone (make_all joints s) w t v
+    pub makes_few : (joints : List Joint) → length joints < 2 → Comes told registry_of passes alone (making_each joints s) w t v → Comes told registry_of passes alone (making_all joints s) w t v
     makes_few [] few done = done
     makes_few (j ∷ []) few done = done
     makes_few (j ∷ k ∷ joints) few done = absurd (omega (arith, few))
 
     -- several
-    pub makes_many : (joints : List Joint) (granted : Bool) → 2 ≤ length joints → Comes told registry_of passes alone (make_if joints s granted) w t v → Comes told registry_of passes alone (make_all joints s) w t v
+    pub makes_many : (joints : List Joint) (granted : Bool) → 2 ≤ length joints → Comes told registry_of passes alone (making_if joints s granted) w t v → Comes told registry_of passes alone (making_all joints s) w t v
     makes_many [] granted many done = absurd (omega (arith, many))
     makes_many (j ∷ []) granted many done = absurd (omega (arith, many))
     makes_many (j ∷ k ∷ joints) granted many done = (granted, done)
 
-  -- ---- the next message
+  -- ---- the coming_next message
 
   -- the changes before it are made first
-  pub parts_from : (joints : List Joint) (s t u : Standing) (work : Standing → Stands) (w m v : World N G) → Comes told registry_of passes alone (make_all joints s) w t m → Comes told registry_of passes alone (work t) m u v →
+  pub parts_from : (joints : List Joint) (s t u : Standing) (work : Standing → Stands) (w m v : World N G) → Comes told registry_of passes alone (making_all joints s) w t m → Comes told registry_of passes alone (work t) m u v →
       Comes told registry_of passes alone (parted joints s work) w (record { joints = []; standing = u; served = true }) v
   parts_from joints s t u work w m v made later =
       let end : Gathered = record { joints = []; standing = u; served = true } in
       comes_then told registry_of passes alone (λ (x : Standing). and_then (work x) (λ (y : Standing). gathered [] y)) t m end v
       (comes_then told registry_of passes alone (λ (y : Standing). gathered [] y) u v end v (refl, refl) (work t) m later)
-      (make_all joints s) w made
+      (making_all joints s) w made
 
-  pub serves_apart : {T E : Type 0} (r : Result T E) (joints left : List Joint) (key : ℕ) (s t u : Standing) (w m v : World N G) → left ≡ [] → Comes told registry_of passes alone (make_all joints s) w t m →
-      OnOk r (Comes told registry_of passes alone (next t key (peer_at t key)) m u v) → OnOk r (Comes told registry_of passes alone (apart joints s key) w (record { joints = left; standing = u; served = true }) v)
+  pub serves_apart : {T E : Type 0} (r : Result T E) (joints left : List Joint) (key : ℕ) (s t u : Standing) (w m v : World N G) → left ≡ [] → Comes told registry_of passes alone (making_all joints s) w t m →
+      OnOk r (Comes told registry_of passes alone (coming_next t key (peer_at t key)) m u v) → OnOk r (Comes told registry_of passes alone (apart joints s key) w (record { joints = left; standing = u; served = true }) v)
   serves_apart (Err e) joints left key s t u w m v none made served = tt
   serves_apart (Ok x) joints left key s t u w m v none made served =
       subst (λ (js : List Joint). let end : Gathered = record { joints = js; standing = u; served = true } in Comes told registry_of passes alone (apart joints s key) w end v) (sym none)
-      (parts_from joints s t u (λ (y : Standing). next y key (peer_at y key)) w m v made served)
+      (parts_from joints s t u (λ (y : Standing). coming_next y key (peer_at y key)) w m v made served)
 
-  -- nothing is next
-  pub gathers_none : (joints : List Joint) (s : Standing) (key : ℕ) (p : Peer) (w : World N G) → IsQuiet p → Comes told registry_of passes alone (gather joints s key (Some p)) w (record { joints = joints; standing = s; served = false }) w
+  -- nothing is coming_next
+  pub gathers_none : (joints : List Joint) (s : Standing) (key : ℕ) (p : Peer) (w : World N G) → IsQuiet p → Comes told registry_of passes alone (gathering joints s key (Some p)) w (record { joints = joints; standing = s; served = false }) w
   gathers_none joints s key p w quiet = in_stage p.stage quiet
     where
       in_stage : (stage : Stage) → IsQuietAt p stage → Comes told registry_of passes alone (gather_at joints s key p stage) w (record { joints = joints; standing = s; served = false }) w
@@ -129,7 +129,7 @@ module _ {N G : Type 0} (told : N → History) (registry_of : N → ℕ) (passes
 
   -- it does not join
   pub gathers_apart : (joints : List Joint) (s : Standing) (key : ℕ) (p : Peer) (w v : World N G) (end : Gathered) → IsApart p p.stage → Comes told registry_of passes alone (apart joints s key) w end v →
-      Comes told registry_of passes alone (gather joints s key (Some p)) w end v
+      Comes told registry_of passes alone (gathering joints s key (Some p)) w end v
   gathers_apart joints s key p w v end due served = in_stage p.stage due
     where
       if_joins : (message : List ℕ) (q : Peer) (conn : Conn) (b : Bool) → Comes told registry_of passes alone (if b then Wanting (λ granted. join_if joints s key message q conn granted) else apart joints s key) w end v
@@ -159,7 +159,7 @@ module _ {N G : Type 0} (told : N → History) (registry_of : N → ℕ) (passes
   -- it is a call that adds or removes a rule, and reads well
   pub gathers_rule : (joints : List Joint) (s : Standing) (key : ℕ) (old new : Peer) (conn : Conn) (message : List ℕ) (call : Call) (c : RuleCall) (w v : World N G) (end : Gathered) →
       old.stage ≡ Named conn → IsFront old.unread (Whole message new.unread) → IsRest old new → old.watches ≡ false → may_join (said message) ≡ true → IsCall (said message) (Ok call) → rule_call (Ok call) ≡ Some c →
-      Comes told registry_of passes alone (join_call joints s key message new conn c) w end v → Comes told registry_of passes alone (gather joints s key (Some old)) w end v
+      Comes told registry_of passes alone (join_call joints s key message new conn c) w end v → Comes told registry_of passes alone (gathering joints s key (Some old)) w end v
   gathers_rule joints s key old new conn message call c w v end named front rest speaks joins reads is served =
       let left : Peer = record old { unread = new.unread } in
       let of_left = subst (λ (q : Peer). Comes told registry_of passes alone (join_call joints s key message q conn c) w end v) rest served in
@@ -169,25 +169,25 @@ module _ {N G : Type 0} (told : N → History) (registry_of : N → ℕ) (passes
       let of_client = subst (λ (b : Bool). Comes told registry_of passes alone (gather_message joints s key message left conn b) w end v) (sym speaks) of_header in
       subst (λ (stage : Stage). Comes told registry_of passes alone (gather_at joints s key old stage) w end v) (sym named) (Whole message new.unread, front, of_client)
 
-  -- the next message, then the rest; memory is there
+  -- the coming_next message, then the rest; memory is there
   pub turns_more : (keys : List ℕ) (i : ℕ) → i < length keys → (begun : Bool) (js : List Joint) (before end : Standing) (after : Gathered) (w m v : World N G) →
-      Comes told registry_of passes alone (gather js before (get_or keys i 0) (peer_at before (get_or keys i 0))) w after m →
-      Comes told registry_of passes alone (turn after.joints (drop (i + 1) keys) (begun || after.served) after.standing) m end v → Comes told registry_of passes alone (turn js (drop i keys) begun before) w end v
+      Comes told registry_of passes alone (gathering js before (get_or keys i 0) (peer_at before (get_or keys i 0))) w after m →
+      Comes told registry_of passes alone (turning after.joints (drop (i + 1) keys) (begun || after.served) after.standing) m end v → Comes told registry_of passes alone (turning js (drop i keys) begun before) w end v
   turns_more keys i inside begun js before end after w m v this later =
-      subst (λ ks. Comes told registry_of passes alone (turn js ks begun before) w end v) (sym (drop_more keys i 0 inside)) (by_begun begun later)
+      subst (λ ks. Comes told registry_of passes alone (turning js ks begun before) w end v) (sym (drop_more keys i 0 inside)) (by_begun begun later)
     where
-      by_begun : (b : Bool) → Comes told registry_of passes alone (turn after.joints (drop (i + 1) keys) (b || after.served) after.standing) m end v →
-          Comes told registry_of passes alone (turn js (get_or keys i 0 ∷ drop (i + 1) keys) b before) w end v
+      by_begun : (b : Bool) → Comes told registry_of passes alone (turning after.joints (drop (i + 1) keys) (b || after.served) after.standing) m end v →
+          Comes told registry_of passes alone (turning js (get_or keys i 0 ∷ drop (i + 1) keys) b before) w end v
       by_begun false rest =
-          comes_then told registry_of passes alone (λ (g : Gathered). turn g.joints (drop (i + 1) keys) g.served g.standing) after m end v rest (gather js before (get_or keys i 0) (peer_at before (get_or keys i 0))) w this
+          comes_then told registry_of passes alone (λ (g : Gathered). turning g.joints (drop (i + 1) keys) g.served g.standing) after m end v rest (gathering js before (get_or keys i 0) (peer_at before (get_or keys i 0))) w this
       by_begun true rest =
-          (true, comes_then told registry_of passes alone (λ (g : Gathered). turn g.joints (drop (i + 1) keys) true g.standing) after m end v rest (gather js before (get_or keys i 0) (peer_at before (get_or keys i 0))) w this)
+          (true, comes_then told registry_of passes alone (λ (g : Gathered). turning g.joints (drop (i + 1) keys) true g.standing) after m end v rest (gathering js before (get_or keys i 0) (peer_at before (get_or keys i 0))) w this)
 
-  -- memory is refused before a later message: the turn ends
-  pub turns_end : (keys : List ℕ) (i : ℕ) → i < length keys → (js : List Joint) (before end : Standing) (w v : World N G) → Comes told registry_of passes alone (make_all js before) w end v →
-      Comes told registry_of passes alone (turn js (drop i keys) true before) w end v
+  -- memory is refused before a later message: the turning ends
+  pub turns_end : (keys : List ℕ) (i : ℕ) → i < length keys → (js : List Joint) (before end : Standing) (w v : World N G) → Comes told registry_of passes alone (making_all js before) w end v →
+      Comes told registry_of passes alone (turning js (drop i keys) true before) w end v
   turns_end keys i inside js before end w v made =
-      subst (λ ks. Comes told registry_of passes alone (turn js ks true before) w end v) (sym (drop_more keys i 0 inside)) (false, made)
+      subst (λ ks. Comes told registry_of passes alone (turning js ks true before) w end v) (sym (drop_more keys i 0 inside)) (false, made)
 
 -- neither of two is
 pub neither : (a b : Bool) → (a || b) ≡ false → (a ≡ false) × (b ≡ false)

@@ -1,7 +1,7 @@
 //! Connections that are gone.
 
 ghost use Rattle.std.specs.Prelude.{◌≡◌, ◌≢◌, ◌↔◌, [], IsTrue, None, slice_index_or, slice_set, OnOk, OnErr};
-ghost use Rattle.router_core.specs.Events.{closed, leave};
+ghost use Rattle.router_core.specs.Events.{closed, leaving};
 ghost use Rattle.router_core.specs.Scripts.{RunsTo};
 ghost use Rattle.router_core.specs.Standing.{peer_at};
 
@@ -48,7 +48,7 @@ impl<V: BusView, G: Gate> Peers<V, G> {
     /// The Leave of a number is made, whoever has it. One that is refused is kept, and made at a
     /// [`tick`](Peers::tick). Without memory nothing changes.
     pub fn leave(&mut self, right: &V::Right, number: u64) -> Result<(), AllocError>
-        ensures comes { OnOk result (RunsTo V.BusView G.Gate (leave self.old.standing number)
+        ensures comes { OnOk result (RunsTo V.BusView G.Gate (leaving self.old.standing number)
             self.old.work.world self.new.standing self.new.work.world) }
         ensures err { OnErr result (self.new.standing ≡ self.old.standing) }
         ensures world { OnErr result (self.new.work.world ≡ self.old.work.world) }

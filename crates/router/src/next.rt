@@ -1,7 +1,7 @@
 //! Connections whose next message is served.
 
 ghost use Rattle.std.specs.Prelude.{◌≡◌, true, false, IfSome, OnOk, OnErr};
-ghost use Rattle.router_core.specs.Events.{next as coming_next};
+ghost use Rattle.router_core.specs.Events.{coming_next};
 ghost use Rattle.router_core.specs.Scripts.{RunsTo};
 ghost use Rattle.router_core.specs.Standing.{peer_at};
 ghost use Rattle.router_steps.specs.Quiet.{IsQuiet};

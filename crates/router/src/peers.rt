@@ -2,7 +2,7 @@
 
 ghost use Rattle.std.specs.Prelude.{◌≡◌, ◌↔◌, IsTrue, [], is_some, is_none, position, IfOk, OnOk, OnErr};
 ghost use Rattle.std.specs.List.{position_or_len};
-ghost use Rattle.router_core.specs.Events.{hear, for_peer, free_key, IsFree};
+ghost use Rattle.router_core.specs.Events.{hearing, for_peer, free_key, IsFree};
 ghost use Rattle.router_core.specs.Scripts.{RunsTo};
 ghost use Rattle.router_core.specs.Standing.{first_stage, fresh, opened, peer_at};
 ghost use Rattle.router_steps.specs.Stages.{stage_of, IsFirst};
@@ -189,7 +189,7 @@ impl<V: BusView, G: Gate> Peers<V, G> {
     pub fn feed(&mut self, key: usize, piece: &mut Vec<u8>) -> Result<(), AllocError>
         ensures comes { OnOk result (RunsTo V.BusView G.Gate
             (for_peer self.old.standing key (peer_at self.old.standing key)
-            (λ p. hear key piece.old.items p p.stage))
+            (λ p. hearing key piece.old.items p p.stage))
             self.old.work.world self.new.standing self.new.work.world) }
         ensures err { OnErr result (self.new.standing ≡ self.old.standing) }
         ensures world { OnErr result (self.new.work.world ≡ self.old.work.world) }

@@ -2,7 +2,7 @@
 
 ghost use Rattle.std.specs.Prelude.{◌≡◌, ◌+◌, ◌*◌, IfSome, OnOk, OnErr};
 ghost use Rattle.seq_bus_core.specs.declared.limits.TheConstants.{MAX_SIGNALS};
-ghost use Rattle.router_core.specs.Events.{tick as ticking};
+ghost use Rattle.router_core.specs.Events.{ticking};
 ghost use Rattle.router_core.specs.Scripts.{RunsTo};
 
 use crate::peers::Peers;

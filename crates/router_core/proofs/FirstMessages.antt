@@ -7,34 +7,34 @@ use Rattle.sasl.specs.declared.identity.Identity.{Identity}
 use Rattle.sasl.specs.declared.phase.Phase.{Phase}
 use Rattle.sasl.specs.declared.phase.Phase.TheVariants.{WaitingForNul, WaitingForAuth, WaitingForData, WaitingForBegin, Done, Closed}
 use Rattle.sasl.specs.Hearing.{Conversed, conversed}
-use Rattle.router_core.specs.Events.{Gathered, gather, gather_at, none_gathered, turn, next, next_at, for_peer, hear, answering, conversed_to, converse_if, is_user, closing, greet, serve_named}
+use Rattle.router_core.specs.Events.{Gathered, gathering, gather_at, none_gathered, turning, coming_next, next_at, for_peer, hearing, answering, conversed_to, converse_if, is_user, closing, greet, serve_named}
 use Rattle.router_core.specs.declared.cause.CloseCause.TheVariants.{NotHello, MonitorSent}
 use Rattle.router_core.specs.Laws.{IsShut, ClosedAreNotServed, ClosedHaveNoTurn, ClosedTakeNothing, ClosedGetNoMail, NobodySpeaksBeforeBegin, OnlyBeginBegins, UnknownTypesBringNothing, OnlyHelloGreets, MonitorsSendNothing}
 use Rattle.router_core.specs.Scripts.{Script, Gives, and_then, World, Comes}
 use Rattle.router_core.specs.Standing.{Authenticating, Unnamed, Shut, Peer, Standing, peer_at, with_peer}
 
 pub closed_are_not_served : ClosedAreNotServed
-closed_are_not_served s key p is = ap (next s key) is.0 ∙ ap (next_at s key p) is.1.1
+closed_are_not_served s key p is = ap (coming_next s key) is.0 ∙ ap (next_at s key p) is.1.1
 
 -- it is passed over
-not_gathered : (s : Standing) (key : ℕ) (p : Peer) → IsShut s key p → gather [] s key (peer_at s key) ≡ none_gathered [] s
-not_gathered s key p is = ap (gather [] s key) is.0 ∙ ap (gather_at [] s key p) is.1.1
+not_gathered : (s : Standing) (key : ℕ) (p : Peer) → IsShut s key p → gathering [] s key (peer_at s key) ≡ none_gathered [] s
+not_gathered s key p is = ap (gathering [] s key) is.0 ∙ ap (gather_at [] s key p) is.1.1
 
 pub closed_have_no_turn : ClosedHaveNoTurn
 closed_have_no_turn s [] all = refl
 closed_have_no_turn s (key ∷ keys) all =
-    ap (λ (g : Script Gathered). and_then g (λ (r : Gathered). turn r.joints keys r.served r.standing)) (not_gathered s key all.0.0 all.0.1) ∙ closed_have_no_turn s keys all.1
+    ap (λ (g : Script Gathered). and_then g (λ (r : Gathered). turning r.joints keys r.served r.standing)) (not_gathered s key all.0.0 all.0.1) ∙ closed_have_no_turn s keys all.1
 
 pub closed_take_nothing : ClosedTakeNothing
 closed_take_nothing s key piece p is =
-    ap (λ o. for_peer s key o (λ q. hear key piece q q.stage)) is.0
-    ∙ ap (λ stage. and_then (and_then (hear key piece p stage) (λ q. Gives (Some q))) (λ q. Gives (with_peer s key q))) is.1.1
+    ap (λ o. for_peer s key o (λ q. hearing key piece q q.stage)) is.0
+    ∙ ap (λ stage. and_then (and_then (hearing key piece p stage) (λ q. Gives (Some q))) (λ q. Gives (with_peer s key q))) is.1.1
 
 pub closed_get_no_mail : ClosedGetNoMail
 closed_get_no_mail slot number p conn is = rw is refl
 
 pub nobody_speaks_before_begin : NobodySpeaksBeforeBegin
-nobody_speaks_before_begin s key p setting state is = (ap (next s key) is.0 ∙ ap (next_at s key p) is.1, λ slot number. rw is.1 refl)
+nobody_speaks_before_begin s key p setting state is = (ap (coming_next s key) is.0 ∙ ap (next_at s key p) is.1, λ slot number. rw is.1 refl)
 
 pub only_begin_begins : {N G : Type 0} (told : N → History) (registry_of : N → ℕ) (passes : G → GatedCall → G → Type 0) (alone : Bool) → OnlyBeginBegins told registry_of passes alone
 only_begin_begins {N = N} {G = G} told registry_of passes alone p q key piece setting state privileged w v comes begun = by_grant comes.0 comes.1

@@ -43,8 +43,8 @@ use Rattle.router_core.specs.Answers.{Heard, Says, Refuses, error_for, is_final}
 use Rattle.router_core.specs.Deeds.{Writes, Sends, Closes, IsOwnNote}
 use Rattle.router_core.specs.Fronts.{Front, Waits, Whole, Faulty}
 use Rattle.router_core.specs.Scripts.{Script, Gives, Changing, ChangingAll, Routing, Looking, Noting, Fronting, Calling, Gating, Wanting, Requiring, Doing, Announcing, and_then, putting}
-use Rattle.router_core.specs.Serving.{Work, Fated, nothing, monitors_in, reply_with, made, fail_all, serve}
-use Rattle.router_core.specs.Together.{Joining, Joins, Parts, change_of_joint, join, may_join, rule_call}
+use Rattle.router_core.specs.Serving.{Work, Fated, nothing, monitors_in, replying, made, failing_all, serving}
+use Rattle.router_core.specs.Together.{Joining, Joins, Parts, change_of_joint, joining, may_join, rule_call}
 use Rattle.router_core.specs.Standing.{Stage, Authenticating, Unnamed, Named, Shut, Peer, Standing, peer_at, with_peer, opened, conn_of, next_serial, shut, has_slot, is_conn}
 
 -- what happens, in the terms of the definitions; a note is there by the history that it tells
@@ -53,7 +53,7 @@ pub data Occasion : Type 0 where
   Opened : (key : ℕ) → (challenge : Option (List ℕ)) → Occasion
   Bytes : (key : ℕ) → (piece : List ℕ) → Occasion
   Next : (key : ℕ) → Occasion
-  -- the next messages of several keys, of each as many as it stands there
+  -- the coming_next messages of several keys, of each as many as it stands there
   Turn : (keys : List ℕ) → Occasion
   Mail : (slot number : ℕ) → (note : Option History) → Said → Occasion
   Closed : (key : ℕ) → Occasion
@@ -85,9 +85,9 @@ fated key (fate.Closes cause) p = closing key cause p
 abbrev pub send : ℕ → Own → Peer → OfPeer
 send key own p = Doing (Sends key (bus_message (next_serial p.serial) own)) (Gives (record p { serial = next_serial p.serial }))
 
-abbrev pub write : ℕ → Said → Peer → OfPeer
-write key (Relays bytes) p = Doing (Writes key bytes) (Gives p)
-write key (Tells own) p = send key own p
+abbrev pub writing : ℕ → Said → Peer → OfPeer
+writing key (Relays bytes) p = Doing (Writes key bytes) (Gives p)
+writing key (Tells own) p = send key own p
 
 -- what is done for a connection, if it is there
 abbrev pub for_slot : Option Peer → (Peer → OfPeer) → Script (Option Peer)
@@ -126,9 +126,9 @@ converse_if key setting said p true = answering key said.sent (conversed_to key 
 converse_if key setting said p false = closing key (cause.Unauthenticated NoMemoryForLines) p
 
 -- Bytes of a connection come. While it says who it is, each line that is whole by them is answered.
-abbrev pub hear : ℕ → List ℕ → Peer → Stage → OfPeer
-hear key piece p (Authenticating setting state) = Wanting (λ granted. converse_if key setting (conversed setting state [] (p.unread ++ piece)) p granted)
-hear key piece p stage = Gives (fed piece p stage)
+abbrev pub hearing : ℕ → List ℕ → Peer → Stage → OfPeer
+hearing key piece p (Authenticating setting state) = Wanting (λ granted. converse_if key setting (conversed setting state [] (p.unread ++ piece)) p granted)
+hearing key piece p stage = Gives (fed piece p stage)
 
 -- ## Hello
 
@@ -155,7 +155,7 @@ close_former s conn = close_found s (position (has_slot conn.slot) s.peers)
 -- The connection has its name: the reply comes first, then the signals.
 abbrev pub welcome : ℕ → Message → Peer → Outcome → Conn → Standing → Stands
 welcome key m p o conn s =
-    and_then (reply_with m conn (UniqueName conn.number))
+    and_then (replying m conn (UniqueName conn.number))
     (λ done. Announcing o.signals (Gives (with_peer s key (Some (record p { stage = Named conn })))))
 
 abbrev pub turn_away : ℕ → Message → Peer → OfPeer
@@ -190,7 +190,7 @@ greet s key m p privileged = Gating call.Hello (Changing (Hello privileged) (λ 
 -- A monitor that sends is closed.
 abbrev pub serve_named : Standing → ℕ → Message → Peer → Conn → (watches : Bool) → Stands
 serve_named s key m p conn true = for_peer s key (Some p) (closing key cause.MonitorSent)
-serve_named s key m p conn false = for_peer s key (Some p) (λ q. and_then (serve m conn) (λ fate. fated key fate q))
+serve_named s key m p conn false = for_peer s key (Some p) (λ q. and_then (serving m conn) (λ fate. fated key fate q))
 
 abbrev pub serve_at : Standing → ℕ → Message → Peer → Stage → Stands
 serve_at s key m p (Authenticating setting state) = Gives s
@@ -208,9 +208,9 @@ next_at s key p (Authenticating setting state) = Gives s
 next_at s key p (Shut conn) = Gives s
 next_at s key p stage = Fronting p.unread (λ front. read s key p front)
 
-abbrev pub next : Standing → ℕ → Option Peer → Stands
-next s key None = Gives s
-next s key (Some p) = next_at s key p p.stage
+abbrev pub coming_next : Standing → ℕ → Option Peer → Stands
+coming_next s key None = Gives s
+coming_next s key (Some p) = next_at s key p p.stage
 
 -- ## Several messages, one after the other
 
@@ -229,30 +229,30 @@ abbrev pub done_for : Standing → ℕ → Fated → Stands
 done_for s key work = done_at s key (peer_at s key) work
 
 -- the changes of calls that joined, each by itself
-abbrev pub make_each : List Joint → Standing → Stands
-make_each [] s = Gives s
-make_each (j ∷ joints) s = and_then (done_for s j.key (Changing (change_of_joint j) (λ heard. made (message_said j.message) j.caller heard))) (λ t. make_each joints t)
+abbrev pub making_each : List Joint → Standing → Stands
+making_each [] s = Gives s
+making_each (j ∷ joints) s = and_then (done_for s j.key (Changing (change_of_joint j) (λ heard. made (message_said j.message) j.caller heard))) (λ t. making_each joints t)
 
 -- They were made together. Each call is answered, in order.
-abbrev pub answer_each : List Joint → List Outcome → Standing → Stands
-answer_each [] outcomes s = Gives s
-answer_each (j ∷ joints) [] s = Gives s
-answer_each (j ∷ joints) (o ∷ outcomes) s = and_then (done_for s j.key (made (message_said j.message) j.caller (Says o))) (λ t. answer_each joints outcomes t)
+abbrev pub answering_each : List Joint → List Outcome → Standing → Stands
+answering_each [] outcomes s = Gives s
+answering_each (j ∷ joints) [] s = Gives s
+answering_each (j ∷ joints) (o ∷ outcomes) s = and_then (done_for s j.key (made (message_said j.message) j.caller (Says o))) (λ t. answering_each joints outcomes t)
 
 -- What is refused together is asked for by itself.
 abbrev pub made_together : List Joint → Standing → Heard (List Outcome) → Stands
-made_together joints s (Says outcomes) = answer_each joints outcomes s
-made_together joints s (Refuses refusal) = make_each joints s
+made_together joints s (Says outcomes) = answering_each joints outcomes s
+made_together joints s (Refuses refusal) = making_each joints s
 
-abbrev pub make_if : List Joint → Standing → Bool → Stands
-make_if joints s true = ChangingAll (map change_of_joint joints) (λ heard. made_together joints s heard)
-make_if joints s false = make_each joints s
+abbrev pub making_if : List Joint → Standing → Bool → Stands
+making_if joints s true = ChangingAll (map change_of_joint joints) (λ heard. made_together joints s heard)
+making_if joints s false = making_each joints s
 
 -- the changes of calls that joined, in one publication where they are several
-abbrev pub make_all : List Joint → Standing → Stands
-make_all [] s = Gives s
-make_all (j ∷ []) s = make_each (j ∷ []) s
-make_all (j ∷ k ∷ joints) s = Wanting (λ granted. make_if (j ∷ k ∷ joints) s granted)
+abbrev pub making_all : List Joint → Standing → Stands
+making_all [] s = Gives s
+making_all (j ∷ []) s = making_each (j ∷ []) s
+making_all (j ∷ k ∷ joints) s = Wanting (λ granted. making_if (j ∷ k ∷ joints) s granted)
 
 -- the calls that joined, whose changes are not made yet
 pub record Gathered : Type 0 where
@@ -270,11 +270,11 @@ none_gathered joints s = Gives (record { joints = joints; standing = s; served =
 
 -- what is done for a message that does not join: the changes before it are made first
 abbrev pub parted : List Joint → Standing → (Standing → Stands) → Script Gathered
-parted joints s work = and_then (make_all joints s) (λ t. and_then (work t) (λ u. gathered [] u))
+parted joints s work = and_then (making_all joints s) (λ t. and_then (work t) (λ u. gathered [] u))
 
 -- it is served as any message is
 abbrev pub apart : List Joint → Standing → ℕ → Script Gathered
-apart joints s key = parted joints s (λ t. next t key (peer_at t key))
+apart joints s key = parted joints s (λ t. coming_next t key (peer_at t key))
 
 -- The call has come to this before its change.
 abbrev pub joined : List Joint → Standing → Joint → Joining → Script Gathered
@@ -283,8 +283,8 @@ joined joints s j (Parts work) = parted joints s (λ t. done_for t j.key work)
 
 abbrev pub join_call : List Joint → Standing → ℕ → (message : List ℕ) → Peer → Conn → RuleCall → Script Gathered
 join_call joints s key message p conn c =
-    and_then (join (message_said message) conn c)
-    (λ joining. joined joints (with_peer s key (Some p)) (record { key = key; message = message; caller = conn; call = c }) joining)
+    and_then (joining (message_said message) conn c)
+    (λ it. joined joints (with_peer s key (Some p)) (record { key = key; message = message; caller = conn; call = c }) it)
 
 -- One that does not read well is served as any message is.
 abbrev pub join_read : List Joint → Standing → ℕ → (message : List ℕ) → Peer → Conn → Option RuleCall → Script Gathered
@@ -318,29 +318,29 @@ gather_at joints s key p (Unnamed privileged) = Fronting p.unread (λ front. apa
 gather_at joints s key p (Authenticating setting state) = none_gathered joints s
 gather_at joints s key p (Shut conn) = none_gathered joints s
 
-abbrev pub gather : List Joint → Standing → ℕ → Option Peer → Script Gathered
-gather joints s key None = none_gathered joints s
-gather joints s key (Some p) = gather_at joints s key p p.stage
+abbrev pub gathering : List Joint → Standing → ℕ → Option Peer → Script Gathered
+gathering joints s key None = none_gathered joints s
+gathering joints s key (Some p) = gather_at joints s key p p.stage
 
 -- Without memory the turn ends: neither this message is served nor any behind it.
 abbrev pub go_on_if : List Joint → Standing → (goes_on : Stands) → Bool → Stands
 go_on_if joints s goes_on true = goes_on
-go_on_if joints s goes_on false = make_all joints s
+go_on_if joints s goes_on false = making_all joints s
 
 -- The next messages of these keys, each in its turn. Neighbouring calls that add and remove rules are routed first, then their changes are
 -- made together, then they are answered. Memory is wanted between one message and the next: once a turn is not refused whole, its first
 -- message is served.
-abbrev pub turn : List Joint → List ℕ → (begun : Bool) → Standing → Stands
-turn joints [] begun s = make_all joints s
-turn joints (key ∷ keys) false s = and_then (gather joints s key (peer_at s key)) (λ g. turn g.joints keys g.served g.standing)
-turn joints (key ∷ keys) true s =
-    Wanting (λ granted. go_on_if joints s (and_then (gather joints s key (peer_at s key)) (λ g. turn g.joints keys true g.standing)) granted)
+abbrev pub turning : List Joint → List ℕ → (begun : Bool) → Standing → Stands
+turning joints [] begun s = making_all joints s
+turning joints (key ∷ keys) false s = and_then (gathering joints s key (peer_at s key)) (λ g. turning g.joints keys g.served g.standing)
+turning joints (key ∷ keys) true s =
+    Wanting (λ granted. go_on_if joints s (and_then (gathering joints s key (peer_at s key)) (λ g. turning g.joints keys true g.standing)) granted)
 
 -- ## Mail
 
 abbrev pub mail_found : Standing → Said → Option ℕ → Stands
 mail_found s said None = Gives s
-mail_found s said (Some key) = for_peer s key (peer_at s key) (write key said)
+mail_found s said (Some key) = for_peer s key (peer_at s key) (writing key said)
 
 -- what came with a note is served once the note was taken
 abbrev pub noted : Option History → Stands → Stands
@@ -354,53 +354,53 @@ abbrev pub left : Standing → ℕ → Heard Outcome → Stands
 left s number (Says o) = Announcing o.signals (Gives s)
 left s number (Refuses refusal) = Gives (record s { due_leaves = s.due_leaves ++ number ∷ [] })
 
-abbrev pub leave : Standing → ℕ → Stands
-leave s number = Changing (Leave number) (λ heard. left s number heard)
+abbrev pub leaving : Standing → ℕ → Stands
+leaving s number = Changing (Leave number) (λ heard. left s number heard)
 
-abbrev pub leave_of : Standing → Option Conn → Stands
-leave_of s None = Gives s
-leave_of s (Some conn) = leave s conn.number
+abbrev pub leaving_of : Standing → Option Conn → Stands
+leaving_of s None = Gives s
+leaving_of s (Some conn) = leaving s conn.number
 
 abbrev pub closed : Standing → ℕ → Option Peer → Stands
 closed s key None = Gives s
-closed s key (Some p) = leave_of (with_peer s key None) (conn_of p.stage)
+closed s key (Some p) = leaving_of (with_peer s key None) (conn_of p.stage)
 
 -- ## Time
 
 -- Leaves that were refused, in order, each by itself
-abbrev pub leave_each : List ℕ → Standing → Stands
-leave_each [] s = Gives s
-leave_each (number ∷ numbers) s = and_then (leave s number) (λ t. leave_each numbers t)
+abbrev pub leaving_each : List ℕ → Standing → Stands
+leaving_each [] s = Gives s
+leaving_each (number ∷ numbers) s = and_then (leaving s number) (λ t. leaving_each numbers t)
 
 -- the signals of several changes, in order
-abbrev pub announce_all : List Outcome → Work
-announce_all [] = nothing
-announce_all (o ∷ outcomes) = Announcing o.signals (announce_all outcomes)
+abbrev pub announcing_all : List Outcome → Work
+announcing_all [] = nothing
+announcing_all (o ∷ outcomes) = Announcing o.signals (announcing_all outcomes)
 
 -- What is refused together is asked for by itself.
 abbrev pub left_together : Standing → List ℕ → Heard (List Outcome) → Stands
-left_together s numbers (Says outcomes) = and_then (announce_all outcomes) (λ done. Gives s)
-left_together s numbers (Refuses refusal) = leave_each numbers s
+left_together s numbers (Says outcomes) = and_then (announcing_all outcomes) (λ done. Gives s)
+left_together s numbers (Refuses refusal) = leaving_each numbers s
 
-abbrev pub leave_if : Standing → List ℕ → Bool → Stands
-leave_if s numbers true = ChangingAll (map Leave numbers) (λ heard. left_together s numbers heard)
-leave_if s numbers false = leave_each numbers s
+abbrev pub leaving_if : Standing → List ℕ → Bool → Stands
+leaving_if s numbers true = ChangingAll (map Leave numbers) (λ heard. left_together s numbers heard)
+leaving_if s numbers false = leaving_each numbers s
 
 -- in one publication, if there are any
-abbrev pub leave_together : Standing → List ℕ → Stands
-leave_together s [] = Gives s
-leave_together s (number ∷ numbers) = Wanting (λ granted. leave_if s (number ∷ numbers) granted)
+abbrev pub leaving_together : Standing → List ℕ → Stands
+leaving_together s [] = Gives s
+leaving_together s (number ∷ numbers) = Wanting (λ granted. leaving_if s (number ∷ numbers) granted)
 
 -- Those that were gathered are made together once they are as many as may be, or there are no more.
-abbrev pub leave_by : (gathered numbers : List ℕ) → Standing → Stands
-leave_by gathered [] s = leave_together s gathered
-leave_by gathered (number ∷ numbers) s =
-    if length gathered == max_batch then and_then (leave_together s gathered) (λ t. leave_by (number ∷ []) numbers t)
-    else leave_by (gathered ++ number ∷ []) numbers s
+abbrev pub leaving_by : (gathered numbers : List ℕ) → Standing → Stands
+leaving_by gathered [] s = leaving_together s gathered
+leaving_by gathered (number ∷ numbers) s =
+    if length gathered == max_batch then and_then (leaving_together s gathered) (λ t. leaving_by (number ∷ []) numbers t)
+    else leaving_by (gathered ++ number ∷ []) numbers s
 
 -- in order, as many together as may be
-abbrev pub leave_all : List ℕ → Standing → Stands
-leave_all numbers s = leave_by [] numbers s
+abbrev pub leaving_all : List ℕ → Standing → Stands
+leaving_all numbers s = leaving_by [] numbers s
 
 abbrev pub looked : ℕ → Peer → Heard Bool → OfPeer
 looked key p (Says false) = closing key cause.Left p
@@ -415,15 +415,15 @@ look key p (Unnamed privileged) = Gives p
 look key p (Shut conn) = Gives p
 
 -- by rising key; those so far are as they are then
-abbrev pub look_all : List (Option Peer) → List (Option Peer) → Script (List (Option Peer))
-look_all done [] = Gives done
-look_all done (peer ∷ peers) = and_then (for_slot peer (λ p. look (length done) p p.stage)) (λ q. look_all (done ++ q ∷ []) peers)
+abbrev pub looking_at_all : List (Option Peer) → List (Option Peer) → Script (List (Option Peer))
+looking_at_all done [] = Gives done
+looking_at_all done (peer ∷ peers) = and_then (for_slot peer (λ p. look (length done) p p.stage)) (λ q. looking_at_all (done ++ q ∷ []) peers)
 
 abbrev pub look_at_all : Standing → Stands
-look_at_all s = and_then (look_all [] s.peers) (λ peers. Gives (record s { peers = peers }))
+look_at_all s = and_then (looking_at_all [] s.peers) (λ peers. Gives (record s { peers = peers }))
 
-abbrev pub tick : Standing → Stands
-tick s = and_then (leave_all s.due_leaves (record s { due_leaves = [] })) look_at_all
+abbrev pub ticking : Standing → Stands
+ticking s = and_then (leaving_all s.due_leaves (record s { due_leaves = [] })) look_at_all
 
 -- ## Starts that end
 
@@ -448,23 +448,23 @@ error_of_end how.TimedOut = error.TimedOut
 -- Without memory for the change the end is refused, and comes back. Where the bus is lost nothing is done.
 abbrev pub ended : Standing → HowEnded → Heard Outcome → Stands
 ended s how (Refuses refusal) = Requiring (is_final refusal) (Gives s)
-ended s how (Says o) = Announcing o.signals (and_then (fail_all (error_of_end how) o.tickets) (λ done. Gives s))
+ended s how (Says o) = Announcing o.signals (and_then (failing_all (error_of_end how) o.tickets) (λ done. Gives s))
 
-abbrev pub child : Standing → StartEnd → Stands
-child s e = Changing (change_of e) (λ heard. ended s e.how heard)
+abbrev pub ending_child : Standing → StartEnd → Stands
+ending_child s e = Changing (change_of e) (λ heard. ended s e.how heard)
 
 -- ## Events
 
 abbrev pub script : Standing → Occasion → Stands
 script s (Opened key challenge) = Gives (opened s key challenge)
-script s (Bytes key piece) = for_peer s key (peer_at s key) (λ p. hear key piece p p.stage)
-script s (Next key) = next s key (peer_at s key)
-script s (Turn keys) = turn [] keys false s
+script s (Bytes key piece) = for_peer s key (peer_at s key) (λ p. hearing key piece p p.stage)
+script s (Next key) = coming_next s key (peer_at s key)
+script s (Turn keys) = turning [] keys false s
 script s (Mail slot number told said) = noted told (mail_found s said (position (is_conn slot number) s.peers))
 script s (Closed key) = closed s key (peer_at s key)
-script s (Full number) = leave s number
-script s (Child e) = child s e
-script s Tick = tick s
+script s (Full number) = leaving s number
+script s (Child e) = ending_child s e
+script s Tick = ticking s
 
 -- the event; `told` says which history a note tells
 abbrev pub occasion_of : {N : Type 0} → (N → History) → Event N → Occasion

@@ -16,10 +16,10 @@ use Rattle.router_core.specs.declared.action.Action.{Action}
 use Rattle.router_core.specs.declared.event.Event.{Event}
 use Rattle.router_core.specs.Acts.{State, Brings, IsServed, IsServedBy, Exchange, IsGranted}
 use Rattle.router_core.specs.Deeds.{Deed, Closes, GatedCall, IsDoneBy, CarriesOwn}
-use Rattle.router_core.specs.Events.{Occasion, Bytes, Next, Turn, IsFree, hear, is_user, script, serve_at}
+use Rattle.router_core.specs.Events.{Occasion, Bytes, Next, Turn, IsFree, hearing, is_user, script, serve_at}
 use Rattle.router_core.specs.OneThread.{Readers, Rest, given, rest_after, bus_bytes, AreReadBy, IsRun}
 use Rattle.router_core.specs.Scripts.{Gives, World, having_done, Comes}
-use Rattle.router_core.specs.Serving.{serve, is_unknown, stays_open}
+use Rattle.router_core.specs.Serving.{serving, is_unknown, stays_open}
 use Rattle.router_core.specs.Standing.{Authenticating, Unnamed, Named, Shut, Peer, Standing, peer_at, with_peer, opened, shut, is_conn}
 
 -- the bus closed the connection of this key, and it is not gone yet
@@ -54,12 +54,12 @@ NobodySpeaksBeforeBegin = (s : Standing) (key : ℕ) (p : Peer) (setting : Setti
 -- It goes on to its messages only where its conversation is done, and it is the bus's own user only where it knows the cookie.
 abbrev pub OnlyBeginBegins : {N G : Type 0} → (N → History) → (N → ℕ) → (G → GatedCall → G → Type 0) → Bool → Type 0
 OnlyBeginBegins {N = N} {G = G} told registry_of passes alone = (p q : Peer) (key : ℕ) (piece : List ℕ) (setting : Setting) (state : AuthState) (privileged : Bool) (w v : World N G) →
-    Comes told registry_of passes alone (hear key piece p (Authenticating setting state)) w q v → q.stage ≡ Unnamed privileged →
+    Comes told registry_of passes alone (hearing key piece p (Authenticating setting state)) w q v → q.stage ≡ Unnamed privileged →
     (identity : Identity) × ((conversed setting state [] (p.unread ++ piece)).state.phase ≡ Done identity) × (privileged ≡ is_user identity)
 
 -- A message of a type that the standard does not define brings nothing.
 abbrev pub UnknownTypesBringNothing : Type 0
-UnknownTypesBringNothing = (m : Message) (sender : Conn) → is_unknown (kind_of m.kind) ≡ true → serve m sender ≡ stays_open
+UnknownTypesBringNothing = (m : Message) (sender : Conn) → is_unknown (kind_of m.kind) ≡ true → serving m sender ≡ stays_open
 
 -- Before its Hello a connection is closed for anything else.
 abbrev pub OnlyHelloGreets : {N G : Type 0} → (N → History) → (N → ℕ) → (G → GatedCall → G → Type 0) → Bool → Type 0

@@ -76,25 +76,25 @@ monitors_in (Says v) = v.monitors
 monitors_in (Refuses refusal) = []
 
 -- to a connection, and to the monitors that are shown it
-abbrev pub tell : Conn → Own → Work
-tell conn own = Routing 0 (facts_of (bus_message 1 own)) (λ heard. putting (deliveries_of (conn ∷ []) (monitors_in heard)) (Tells own) nothing)
+abbrev pub telling : Conn → Own → Work
+telling conn own = Routing 0 (facts_of (bus_message 1 own)) (λ heard. putting (deliveries_of (conn ∷ []) (monitors_in heard)) (Tells own) nothing)
 
 abbrev pub call_of : Message → Conn → ReplyTo
 call_of m caller = record { caller = Some caller.number; call = m.serial }
 
 -- A call that wants no reply gets none, and no error.
-abbrev pub reply_with : Message → Conn → Carried → Work
-reply_with m caller carried = if expects_reply m then tell caller (Replies (call_of m caller) carried) else nothing
+abbrev pub replying : Message → Conn → Carried → Work
+replying m caller carried = if expects_reply m then telling caller (Replies (call_of m caller) carried) else nothing
 
-abbrev pub err_with : Message → Conn → ErrorKind → Work
-err_with m caller error = if expects_reply m then tell caller (Errs (call_of m caller) error) else nothing
+abbrev pub erring : Message → Conn → ErrorKind → Work
+erring m caller error = if expects_reply m then telling caller (Errs (call_of m caller) error) else nothing
 
 abbrev pub is_method_call : Message → Bool
 is_method_call m = is_call (kind_of m.kind)
 
 -- A call is answered an error; another message is dropped.
-abbrev pub err_if_call : Message → Conn → ErrorKind → Work
-err_if_call m caller error = if is_method_call m then err_with m caller error else nothing
+abbrev pub erring_if_call : Message → Conn → ErrorKind → Work
+erring_if_call m caller error = if is_method_call m then erring m caller error else nothing
 
 -- ## Tickets
 
@@ -110,30 +110,30 @@ started = Number 1
 
 -- Without memory the reply is dropped whole.
 abbrev pub started_if : Conn → ReplyTo → Bool → Work
-started_if caller call true = tell caller (Replies call started)
+started_if caller call true = telling caller (Replies call started)
 started_if caller call false = nothing
 
 -- A call that waited is delivered to the owner of the name; StartServiceByName is answered.
-abbrev pub release : Conn → Ticket → Option (List ℕ) → Work
-release owner t (Some bytes) = putting (owner ∷ []) (Relays bytes) nothing
-release owner t None = if ticket_wants_reply t then Wanting (λ granted. started_if t.caller (call_of_ticket t) granted) else nothing
+abbrev pub releasing : Conn → Ticket → Option (List ℕ) → Work
+releasing owner t (Some bytes) = putting (owner ∷ []) (Relays bytes) nothing
+releasing owner t None = if ticket_wants_reply t then Wanting (λ granted. started_if t.caller (call_of_ticket t) granted) else nothing
 
-abbrev pub release_all : Conn → List SettledTicket → Work
-release_all owner [] = nothing
-release_all owner (t ∷ tickets) = and_then (release owner t.ticket t.ticket.message) (λ done. release_all owner tickets)
+abbrev pub releasing_all : Conn → List SettledTicket → Work
+releasing_all owner [] = nothing
+releasing_all owner (t ∷ tickets) = and_then (releasing owner t.ticket t.ticket.message) (λ done. releasing_all owner tickets)
 
 -- Without memory the error is dropped whole.
 abbrev pub failed_if : ErrorKind → Conn → ReplyTo → Bool → Work
-failed_if error caller call true = tell caller (Errs call error)
+failed_if error caller call true = telling caller (Errs call error)
 failed_if error caller call false = nothing
 
 -- A call that waited is answered why the service did not come.
-abbrev pub fail : ErrorKind → Ticket → Work
-fail error t = if ticket_wants_reply t then Wanting (λ granted. failed_if error t.caller (call_of_ticket t) granted) else nothing
+abbrev pub failing : ErrorKind → Ticket → Work
+failing error t = if ticket_wants_reply t then Wanting (λ granted. failed_if error t.caller (call_of_ticket t) granted) else nothing
 
-abbrev pub fail_all : ErrorKind → List SettledTicket → Work
-fail_all error [] = nothing
-fail_all error (t ∷ tickets) = and_then (fail error t.ticket) (λ done. fail_all error tickets)
+abbrev pub failing_all : ErrorKind → List SettledTicket → Work
+failing_all error [] = nothing
+failing_all error (t ∷ tickets) = and_then (failing error t.ticket) (λ done. failing_all error tickets)
 
 -- ## Calls to the bus
 
@@ -178,39 +178,39 @@ answer_told (reply.Held ticket) = Err error.Failed
 answer_told (reply.Pass owner) = Err error.Failed
 answer_told reply.Ignored = Err error.Failed
 
-abbrev pub answer_with : Message → Conn → Result Carried ErrorKind → Work
-answer_with m caller (Ok carried) = reply_with m caller carried
-answer_with m caller (Err error) = err_with m caller error
+abbrev pub answering_with : Message → Conn → Result Carried ErrorKind → Work
+answering_with m caller (Ok carried) = replying m caller carried
+answering_with m caller (Err error) = erring m caller error
 
 -- The signals come first, then the reply, then the calls that waited for the name.
-abbrev pub tell_change : Message → Conn → Outcome → Work
-tell_change m caller o = Announcing o.signals (and_then (answer_with m caller (answer_told o.reply)) (λ done. release_all caller o.tickets))
+abbrev pub telling_change : Message → Conn → Outcome → Work
+telling_change m caller o = Announcing o.signals (and_then (answering_with m caller (answer_told o.reply)) (λ done. releasing_all caller o.tickets))
 
 -- A change of a connection that left in the meantime is made by nobody: the connection is closed.
 abbrev pub made_by : Message → Conn → Outcome → Reply → Fated
 made_by m caller o reply.Gone = closes_for Left
-made_by m caller o reply.Done = and_stays (tell_change m caller o)
-made_by m caller o (reply.OfQueue r) = and_stays (tell_change m caller o)
-made_by m caller o reply.InvalidName = and_stays (tell_change m caller o)
-made_by m caller o reply.RuleNotFound = and_stays (tell_change m caller o)
-made_by m caller o reply.LimitsExceeded = and_stays (tell_change m caller o)
+made_by m caller o reply.Done = and_stays (telling_change m caller o)
+made_by m caller o (reply.OfQueue r) = and_stays (telling_change m caller o)
+made_by m caller o reply.InvalidName = and_stays (telling_change m caller o)
+made_by m caller o reply.RuleNotFound = and_stays (telling_change m caller o)
+made_by m caller o reply.LimitsExceeded = and_stays (telling_change m caller o)
 -- these are no replies to such a change
-made_by m caller o reply.ServiceUnknown = and_stays (tell_change m caller o)
-made_by m caller o reply.AccessDenied = and_stays (tell_change m caller o)
-made_by m caller o reply.AlreadyRunning = and_stays (tell_change m caller o)
-made_by m caller o (reply.Welcome conn) = and_stays (tell_change m caller o)
-made_by m caller o (reply.Held ticket) = and_stays (tell_change m caller o)
-made_by m caller o (reply.Pass owner) = and_stays (tell_change m caller o)
-made_by m caller o reply.Ignored = and_stays (tell_change m caller o)
+made_by m caller o reply.ServiceUnknown = and_stays (telling_change m caller o)
+made_by m caller o reply.AccessDenied = and_stays (telling_change m caller o)
+made_by m caller o reply.AlreadyRunning = and_stays (telling_change m caller o)
+made_by m caller o (reply.Welcome conn) = and_stays (telling_change m caller o)
+made_by m caller o (reply.Held ticket) = and_stays (telling_change m caller o)
+made_by m caller o (reply.Pass owner) = and_stays (telling_change m caller o)
+made_by m caller o reply.Ignored = and_stays (telling_change m caller o)
 
 abbrev pub made : Message → Conn → Heard Outcome → Fated
-made m caller (Refuses refusal) = and_stays (err_with m caller (error_for refusal))
+made m caller (Refuses refusal) = and_stays (erring m caller (error_for refusal))
 made m caller (Says o) = made_by m caller o o.reply
 
 -- a start that is asked for
-abbrev pub run : Text → Option ℕ → Work
-run name None = nothing
-run name (Some start) = Doing (Runs name start) nothing
+abbrev pub running : Text → Option ℕ → Work
+running name None = nothing
+running name (Some start) = Doing (Runs name start) nothing
 
 -- what is needed to reply to a call that waits
 abbrev pub waiting_call : Message → CallHead
@@ -219,84 +219,84 @@ waiting_call m = record { serial = m.serial; flags = m.flags }
 -- A call that waits is answered once its service runs, or does not.
 abbrev pub start_by : Message → Conn → Text → Outcome → Reply → Fated
 start_by m caller name o reply.Gone = closes_for Left
-start_by m caller name o (reply.Held ticket) = and_stays (run name o.start)
-start_by m caller name o reply.AlreadyRunning = and_stays (reply_with m caller (Number 2))
-start_by m caller name o reply.ServiceUnknown = and_stays (err_with m caller error.ServiceUnknown)
-start_by m caller name o reply.LimitsExceeded = and_stays (err_with m caller error.LimitsExceeded)
+start_by m caller name o (reply.Held ticket) = and_stays (running name o.start)
+start_by m caller name o reply.AlreadyRunning = and_stays (replying m caller (Number 2))
+start_by m caller name o reply.ServiceUnknown = and_stays (erring m caller error.ServiceUnknown)
+start_by m caller name o reply.LimitsExceeded = and_stays (erring m caller error.LimitsExceeded)
 -- these are no replies to a start
-start_by m caller name o reply.Done = and_stays (reply_with m caller Nothing)
-start_by m caller name o (reply.OfQueue r) = and_stays (reply_with m caller (Number (code_of r)))
-start_by m caller name o reply.InvalidName = and_stays (err_with m caller error.InvalidArgs)
-start_by m caller name o reply.RuleNotFound = and_stays (err_with m caller error.MatchRuleNotFound)
-start_by m caller name o reply.AccessDenied = and_stays (err_with m caller error.AccessDenied)
-start_by m caller name o (reply.Welcome conn) = and_stays (err_with m caller error.Failed)
-start_by m caller name o (reply.Pass owner) = and_stays (err_with m caller error.Failed)
-start_by m caller name o reply.Ignored = and_stays (err_with m caller error.Failed)
+start_by m caller name o reply.Done = and_stays (replying m caller Nothing)
+start_by m caller name o (reply.OfQueue r) = and_stays (replying m caller (Number (code_of r)))
+start_by m caller name o reply.InvalidName = and_stays (erring m caller error.InvalidArgs)
+start_by m caller name o reply.RuleNotFound = and_stays (erring m caller error.MatchRuleNotFound)
+start_by m caller name o reply.AccessDenied = and_stays (erring m caller error.AccessDenied)
+start_by m caller name o (reply.Welcome conn) = and_stays (erring m caller error.Failed)
+start_by m caller name o (reply.Pass owner) = and_stays (erring m caller error.Failed)
+start_by m caller name o reply.Ignored = and_stays (erring m caller error.Failed)
 
 abbrev pub start_told : Message → Conn → Text → Heard Outcome → Fated
-start_told m caller name (Refuses refusal) = and_stays (err_with m caller (error_for refusal))
+start_told m caller name (Refuses refusal) = and_stays (erring m caller (error_for refusal))
 start_told m caller name (Says o) = start_by m caller name o o.reply
 
 abbrev pub start_if : Message → Conn → Text → Bool → Fated
 start_if m caller name true = Changing (change.Start caller.number name (waiting_call m)) (λ heard. start_told m caller name heard)
-start_if m caller name false = and_stays (err_with m caller error.NoMemory)
+start_if m caller name false = and_stays (erring m caller error.NoMemory)
 
 -- Whoever became a monitor is told so as one.
 abbrev pub watch_by : Message → Conn → Outcome → Reply → Fated
 watch_by m caller o reply.Gone = closes_for Left
-watch_by m caller o reply.Done = and_then (tell_change m caller o) (λ done. Gives fate.Watches)
-watch_by m caller o reply.AccessDenied = and_stays (tell_change m caller o)
+watch_by m caller o reply.Done = and_then (telling_change m caller o) (λ done. Gives fate.Watches)
+watch_by m caller o reply.AccessDenied = and_stays (telling_change m caller o)
 -- these are no replies to it
-watch_by m caller o (reply.OfQueue r) = and_stays (tell_change m caller o)
-watch_by m caller o reply.InvalidName = and_stays (tell_change m caller o)
-watch_by m caller o reply.RuleNotFound = and_stays (tell_change m caller o)
-watch_by m caller o reply.LimitsExceeded = and_stays (tell_change m caller o)
-watch_by m caller o reply.ServiceUnknown = and_stays (tell_change m caller o)
-watch_by m caller o reply.AlreadyRunning = and_stays (tell_change m caller o)
-watch_by m caller o (reply.Welcome conn) = and_stays (tell_change m caller o)
-watch_by m caller o (reply.Held ticket) = and_stays (tell_change m caller o)
-watch_by m caller o (reply.Pass owner) = and_stays (tell_change m caller o)
-watch_by m caller o reply.Ignored = and_stays (tell_change m caller o)
+watch_by m caller o (reply.OfQueue r) = and_stays (telling_change m caller o)
+watch_by m caller o reply.InvalidName = and_stays (telling_change m caller o)
+watch_by m caller o reply.RuleNotFound = and_stays (telling_change m caller o)
+watch_by m caller o reply.LimitsExceeded = and_stays (telling_change m caller o)
+watch_by m caller o reply.ServiceUnknown = and_stays (telling_change m caller o)
+watch_by m caller o reply.AlreadyRunning = and_stays (telling_change m caller o)
+watch_by m caller o (reply.Welcome conn) = and_stays (telling_change m caller o)
+watch_by m caller o (reply.Held ticket) = and_stays (telling_change m caller o)
+watch_by m caller o (reply.Pass owner) = and_stays (telling_change m caller o)
+watch_by m caller o reply.Ignored = and_stays (telling_change m caller o)
 
 abbrev pub watch_told : Message → Conn → Heard Outcome → Fated
-watch_told m caller (Refuses refusal) = and_stays (err_with m caller (error_for refusal))
+watch_told m caller (Refuses refusal) = and_stays (erring m caller (error_for refusal))
 watch_told m caller (Says o) = watch_by m caller o o.reply
 
 abbrev pub watch_if : Message → Conn → List Rule → Bool → Fated
 watch_if m caller rules true = Changing (change.BecomeMonitor caller.number rules) (λ heard. watch_told m caller heard)
-watch_if m caller rules false = and_stays (err_with m caller error.NoMemory)
+watch_if m caller rules false = and_stays (erring m caller error.NoMemory)
 
 abbrev pub answered_if : Message → Conn → Answer → Bool → Work
-answered_if m caller told true = reply_with m caller (Answered told)
-answered_if m caller told false = err_with m caller error.NoMemory
+answered_if m caller told true = replying m caller (Answered told)
+answered_if m caller told false = erring m caller error.NoMemory
 
 abbrev pub answered : Message → Conn → Heard (Option Answer) → Work
-answered m caller (Refuses refusal) = err_with m caller (error_for refusal)
-answered m caller (Says None) = err_with m caller error.NameHasNoOwner
+answered m caller (Refuses refusal) = erring m caller (error_for refusal)
+answered m caller (Says None) = erring m caller error.NameHasNoOwner
 answered m caller (Says (Some told)) = Wanting (λ granted. answered_if m caller told granted)
 
-abbrev pub serve_request : Message → Conn → Result Request ErrorKind → Fated
-serve_request m caller (Err error) = and_stays (err_with m caller error)
-serve_request m caller (Ok (Asks q)) = Asking q (λ heard. and_stays (answered m caller heard))
-serve_request m caller (Ok (Makes c)) = Changing c (λ heard. made m caller heard)
-serve_request m caller (Ok (Starts name)) = Wanting (λ granted. start_if m caller name granted)
-serve_request m caller (Ok (Watches rules)) = Wanting (λ granted. watch_if m caller rules granted)
+abbrev pub serving_request : Message → Conn → Result Request ErrorKind → Fated
+serving_request m caller (Err error) = and_stays (erring m caller error)
+serving_request m caller (Ok (Asks q)) = Asking q (λ heard. and_stays (answered m caller heard))
+serving_request m caller (Ok (Makes c)) = Changing c (λ heard. made m caller heard)
+serving_request m caller (Ok (Starts name)) = Wanting (λ granted. start_if m caller name granted)
+serving_request m caller (Ok (Watches rules)) = Wanting (λ granted. watch_if m caller rules granted)
 
 -- Each call that reads well is shown to the gate before it is served.
-abbrev pub serve_reading : Message → Conn → Reading Call → Fated
-serve_reading m caller (Err fault) = and_stays (err_with m caller (error_of fault))
-serve_reading m caller (Ok c) = Gating c (serve_request m caller (request_of caller.number c))
+abbrev pub serving_reading : Message → Conn → Reading Call → Fated
+serving_reading m caller (Err fault) = and_stays (erring m caller (error_of fault))
+serving_reading m caller (Ok c) = Gating c (serving_request m caller (request_of caller.number c))
 
 abbrev pub read_if : Message → Conn → Bool → Fated
-read_if m caller true = Calling m (λ reading. serve_reading m caller reading)
-read_if m caller false = and_stays (err_with m caller error.NoMemory)
+read_if m caller true = Calling m (λ reading. serving_reading m caller reading)
+read_if m caller false = and_stays (erring m caller error.NoMemory)
 
-abbrev pub serve_call : Message → Conn → Fated
-serve_call m caller = Wanting (λ granted. read_if m caller granted)
+abbrev pub serving_call : Message → Conn → Fated
+serving_call m caller = Wanting (λ granted. read_if m caller granted)
 
 -- Other messages to the bus are ignored.
-abbrev pub serve_bus : Message → Conn → Fated
-serve_bus m caller = if is_method_call m then serve_call m caller else stays_open
+abbrev pub serving_bus : Message → Conn → Fated
+serving_bus m caller = if is_method_call m then serving_call m caller else stays_open
 
 -- ## Messages to others
 
@@ -307,7 +307,7 @@ signed m sender = sent_by (unique_text sender.number) m
 -- Without memory the message is dropped whole, and a call is answered so.
 abbrev pub copied_if : Message → Conn → List Conn → Fated → Bool → Fated
 copied_if m sender to goes_on true = Doing (Puts to (Relays (message_bytes (signed m sender)))) goes_on
-copied_if m sender to goes_on false = and_stays (err_if_call m sender error.NoMemory)
+copied_if m sender to goes_on false = and_stays (erring_if_call m sender error.NoMemory)
 
 -- The message is put to these connections.
 abbrev pub copied : Message → Conn → List Conn → Fated → Fated
@@ -329,9 +329,9 @@ shown m sender (conn ∷ conns) goes_on = relayed m sender (conn ∷ conns) goes
 abbrev pub held_by : Message → Conn → Text → Outcome → Reply → Fated
 held_by m caller name o reply.Gone = closes_for Left
 held_by m caller name o (reply.Pass owner) = Doing (Puts (owner ∷ []) (Relays (message_bytes (signed m caller)))) stays_open
-held_by m caller name o (reply.Held ticket) = and_stays (run name o.start)
-held_by m caller name o reply.ServiceUnknown = and_stays (err_with m caller error.ServiceUnknown)
-held_by m caller name o reply.LimitsExceeded = and_stays (err_with m caller error.LimitsExceeded)
+held_by m caller name o (reply.Held ticket) = and_stays (running name o.start)
+held_by m caller name o reply.ServiceUnknown = and_stays (erring m caller error.ServiceUnknown)
+held_by m caller name o reply.LimitsExceeded = and_stays (erring m caller error.LimitsExceeded)
 -- these are no replies to a call that is to wait
 held_by m caller name o reply.Done = stays_open
 held_by m caller name o (reply.OfQueue r) = stays_open
@@ -343,30 +343,30 @@ held_by m caller name o (reply.Welcome conn) = stays_open
 held_by m caller name o reply.Ignored = stays_open
 
 abbrev pub held : Message → Conn → Text → Heard Outcome → Fated
-held m caller name (Refuses refusal) = and_stays (err_with m caller (error_for refusal))
+held m caller name (Refuses refusal) = and_stays (erring m caller (error_for refusal))
 held m caller name (Says o) = held_by m caller name o o.reply
 
 abbrev pub hold_if : Message → Conn → Text → Bool → Fated
 hold_if m caller name true =
     Changing (change.Hold caller.number name (waiting_call m) (message_bytes (signed m caller))) (λ heard. held m caller name heard)
-hold_if m caller name false = and_stays (err_with m caller error.NoMemory)
+hold_if m caller name false = and_stays (erring m caller error.NoMemory)
 
-abbrev pub hold : Message → Conn → Option Text → Fated
-hold m caller None = stays_open
-hold m caller (Some name) = Wanting (λ granted. hold_if m caller name granted)
+abbrev pub holding : Message → Conn → Option Text → Fated
+holding m caller None = stays_open
+holding m caller (Some name) = Wanting (λ granted. hold_if m caller name granted)
 
 -- ## Where the message goes
 
-abbrev pub relay : Message → Conn → Verdict → VerdictKind → Fated
-relay m sender v verdict.Absent = closes_for Left
-relay m sender v verdict.Bus = shown m sender v.monitors (serve_bus m sender)
-relay m sender v verdict.Plain = relayed m sender (deliveries_of v.to v.monitors) stays_open
-relay m sender v verdict.Nobody = relayed m sender v.monitors (and_stays (err_if_call m sender error.ServiceUnknown))
-relay m sender v verdict.Start = relayed m sender v.monitors (hold m sender (text_field field.Destination m.fields))
+abbrev pub relaying : Message → Conn → Verdict → VerdictKind → Fated
+relaying m sender v verdict.Absent = closes_for Left
+relaying m sender v verdict.Bus = shown m sender v.monitors (serving_bus m sender)
+relaying m sender v verdict.Plain = relayed m sender (deliveries_of v.to v.monitors) stays_open
+relaying m sender v verdict.Nobody = relayed m sender v.monitors (and_stays (erring_if_call m sender error.ServiceUnknown))
+relaying m sender v verdict.Start = relayed m sender v.monitors (holding m sender (text_field field.Destination m.fields))
 
-abbrev pub routed : Message → Conn → Heard Verdict → Fated
-routed m sender (Refuses refusal) = and_stays (err_if_call m sender (error_for refusal))
-routed m sender (Says v) = relay m sender v v.kind
+abbrev pub routing : Message → Conn → Heard Verdict → Fated
+routing m sender (Refuses refusal) = and_stays (erring_if_call m sender (error_for refusal))
+routing m sender (Says v) = relaying m sender v v.kind
 
 -- a type that the standard does not define
 abbrev pub is_unknown : MessageKind → Bool
@@ -374,7 +374,7 @@ is_unknown (Unknown number) = true
 is_unknown other = false
 
 -- A message of a type that the standard does not define is dropped.
-abbrev pub serve : Message → Conn → Fated
-serve m sender =
+abbrev pub serving : Message → Conn → Fated
+serving m sender =
     if is_unknown (kind_of m.kind) then stays_open
-    else Routing sender.number (facts_of m) (λ heard. routed m sender heard)
+    else Routing sender.number (facts_of m) (λ heard. routing m sender heard)

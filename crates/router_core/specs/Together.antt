@@ -26,7 +26,7 @@ use Rattle.router_core.specs.declared.joint.RuleCall.TheVariants.{Adds, Removes}
 use Rattle.router_core.specs.Answers.{Heard, Says, Refuses}
 use Rattle.router_core.specs.Deeds.{Puts}
 use Rattle.router_core.specs.Scripts.{Script, Gives, Routing, Gating, Wanting, Doing}
-use Rattle.router_core.specs.Serving.{Fated, and_stays, closes_for, err_if_call, routed, signed}
+use Rattle.router_core.specs.Serving.{Fated, and_stays, closes_for, erring_if_call, routing, signed}
 
 -- ## Which they are
 
@@ -74,25 +74,25 @@ parts work = Gives (Parts work)
 -- Without memory the message is dropped whole, and the call is answered so.
 abbrev pub join_copied_if : Message → Conn → List Conn → RuleCall → Bool → Script Joining
 join_copied_if m caller monitors c true = Doing (Puts monitors (Relays (message_bytes (signed m caller)))) (joins c)
-join_copied_if m caller monitors c false = parts (and_stays (err_if_call m caller error.NoMemory))
+join_copied_if m caller monitors c false = parts (and_stays (erring_if_call m caller error.NoMemory))
 
 -- Whoever sends a message that is too long once it has its sender's name is closed.
 abbrev pub join_relayed : Message → Conn → List Conn → RuleCall → Script Joining
 join_relayed m caller monitors c = if is_too_long (signed m caller) then parts (closes_for TooLong) else Wanting (λ granted. join_copied_if m caller monitors c granted)
 
 -- The monitors are shown it.
-abbrev pub join_shown : Message → Conn → List Conn → RuleCall → Script Joining
-join_shown m caller [] c = joins c
-join_shown m caller (conn ∷ conns) c = join_relayed m caller (conn ∷ conns) c
+abbrev pub joining_shown : Message → Conn → List Conn → RuleCall → Script Joining
+joining_shown m caller [] c = joins c
+joining_shown m caller (conn ∷ conns) c = join_relayed m caller (conn ∷ conns) c
 
-abbrev pub join_to : Message → Conn → Verdict → RuleCall → VerdictKind → Script Joining
-join_to m caller v c verdict.Bus = join_shown m caller v.monitors c
-join_to m caller v c other = parts (routed m caller (Says v))
+abbrev pub joining_to : Message → Conn → Verdict → RuleCall → VerdictKind → Script Joining
+joining_to m caller v c verdict.Bus = joining_shown m caller v.monitors c
+joining_to m caller v c other = parts (routing m caller (Says v))
 
 abbrev pub join_routed : Message → Conn → RuleCall → Heard Verdict → Script Joining
-join_routed m caller c (Refuses refusal) = parts (routed m caller (Refuses refusal))
-join_routed m caller c (Says v) = join_to m caller v c v.kind
+join_routed m caller c (Refuses refusal) = parts (routing m caller (Refuses refusal))
+join_routed m caller c (Says v) = joining_to m caller v c v.kind
 
 -- It is routed first, as any message is.
-abbrev pub join : Message → Conn → RuleCall → Script Joining
-join m caller c = Routing caller.number (facts_of m) (λ heard. join_routed m caller c heard)
+abbrev pub joining : Message → Conn → RuleCall → Script Joining
+joining m caller c = Routing caller.number (facts_of m) (λ heard. join_routed m caller c heard)

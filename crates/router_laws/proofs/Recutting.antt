@@ -9,7 +9,7 @@ use Rattle.message_core.specs.Said.{said as message_said}
 use Rattle.bus_view.specs.Views.{Knowledge}
 use Rattle.router_core.specs.Acts.{Exchange, Fronted, Wanted, Goes, IsGranted, IsLawful, IsServedBy}
 use Rattle.router_core.specs.Deeds.{Deed}
-use Rattle.router_core.specs.Events.{Occasion, Bytes, Next, Stands, answering, conversed_to, fed, for_peer, hear, next, next_at, read, serve_at}
+use Rattle.router_core.specs.Events.{Occasion, Bytes, Next, Stands, answering, conversed_to, fed, for_peer, hearing, coming_next, next_at, read, serve_at}
 use Rattle.router_core.specs.Fronts.{Front, Waits, Whole, Faulty, IsFront}
 use Rattle.router_core.specs.OneThread.{Course, Readers, Rest, alone, doing, given, written_to}
 use Rattle.router_core.specs.Scripts.{Script, Gives, Changing, ChangingAll, Asking, Routing, Looking, Noting, Fronting, Calling, Gating, Wanting, Requiring, Doing, Announcing, and_then}
@@ -123,11 +123,11 @@ module _ (key : ℕ) (piece : List ℕ) where
   conversing_asks_nothing s setting said p [] phase = phase_asks_nothing s setting said p phase
   conversing_asks_nothing s setting said p (b ∷ bytes) phase = phase_asks_nothing s setting said p phase
 
-  bytes_ask_nothing : (s : Standing) (o : Option Peer) → AsksNothing (for_peer s key o (λ p. hear key piece p p.stage))
+  bytes_ask_nothing : (s : Standing) (o : Option Peer) → AsksNothing (for_peer s key o (λ p. hearing key piece p p.stage))
   bytes_ask_nothing s None = tt
   bytes_ask_nothing s (Some p) = by_stage p.stage
     where
-      by_stage : (stage : Stage) → AsksNothing (and_then (and_then (hear key piece p stage) (λ q. Gives (Some q))) (λ q. Gives (with_peer s key q)))
+      by_stage : (stage : Stage) → AsksNothing (and_then (and_then (hearing key piece p stage) (λ q. Gives (Some q))) (λ q. Gives (with_peer s key q)))
       by_stage (Authenticating setting state) =
           let said = conversed setting state [] (p.unread ++ piece) in
           conversing_asks_nothing s setting said p said.sent said.state.phase
@@ -141,7 +141,7 @@ module _ (key : ℕ) (piece : List ℕ) where
 
   bytes_may : (readers : Readers) (r : Rest) → MayBring r (given readers r (Bytes key piece))
   bytes_may readers r =
-      let s : Stands = for_peer r.standing key (peer_at r.standing key) (λ p. hear key piece p p.stage) in
+      let s : Stands = for_peer r.standing key (peer_at r.standing key) (λ p. hearing key piece p p.stage) in
       let c : Course = record { view = r.view; deeds = [] } in
       let h = may_go readers s c (bytes_ask_nothing r.standing (peer_at r.standing key)) in
       let end : Standing × Course = alone readers s c in (
@@ -235,7 +235,7 @@ joined key first second r (one ∷ two ∷ []) after run =
 -- ## Nothing to be served
 
 module _ (key : ℕ) (s : Standing) (p : Peer) where
-  -- the next message is not served
+  -- the coming_next message is not served
   abbrev IsLeft : Stage → Type 0
   IsLeft stage = (k m : Knowledge) (asked : List Exchange) (deeds : List Deed) (x : Standing) → Goes (next_at s key p stage) asked deeds x → IsLawful true k asked m →
       (deeds ≡ []) × (x ≡ s) × (m ≡ k)
@@ -264,7 +264,7 @@ waits key r p here is_left [] after run = absurd run.served
 waits key r p here is_left (one ∷ two ∷ turns) after run = absurd run.served.2
 waits key r p here is_left (one ∷ []) after run =
     let h = run.served.1 in
-    let goes = subst (λ (o : Option Peer). Goes (next r.standing key o) one.asked one.deeds run.served.0.standing) here h.goes in
+    let goes = subst (λ (o : Option Peer). Goes (coming_next r.standing key o) one.asked one.deeds run.served.0.standing) here h.goes in
     let so = is_left r.view run.served.0.view one.asked one.deeds run.served.0.standing goes h.lawful in (
       [],
       record { served = run.served.2 ∙ same_rest run.served.0 r.standing r.view so.1 so.2; granted = tt },
@@ -330,7 +330,7 @@ module _ (key : ℕ) (piece : List ℕ) (r : Rest) (p : Peer) where
       let closed : with_peer later_standing key (Some (shut later_peer)) ≡ with_more piece key (with_peer r.standing key (Some (shut p))) = ap (λ (rest : Rest). rest.standing) (closed_more key piece r p) in
       (goes.0, goes.1, (goes.2.0, goes.2.1, ap (λ (standing : Standing). with_more piece key standing) goes.2.2 ∙ sym closed))
 
-  -- the next message is served in the same way
+  -- the coming_next message is served in the same way
   record GoesAgain (stage : Stage) (k m : Knowledge) (asked : List Exchange) (deeds : List Deed) (x : Standing) : Type 0 where
     again : List Exchange
     goes : Goes (next_at later_standing key later_peer stage) again deeds (with_more piece key x)
@@ -378,10 +378,10 @@ module _ (key : ℕ) (piece : List ℕ) (r : Rest) (p : Peer) where
   in_turn front not_so is here begun (one ∷ two ∷ three ∷ turns) after run = absurd run.served.2.2
   in_turn front not_so is here begun (one ∷ two ∷ []) after run =
       let now : Rest = run.served.0 in
-      let goes = subst (λ (o : Option Peer). Goes (next r.standing key o) one.asked one.deeds now.standing) here run.served.1.goes in
+      let goes = subst (λ (o : Option Peer). Goes (coming_next r.standing key o) one.asked one.deeds now.standing) here run.served.1.goes in
       let h = next_again front not_so is r.view now.view one.asked one.deeds now.standing p.stage refl goes run.served.1.lawful in
       let there : peer_at later_standing key ≡ Some later_peer = peer_with_more piece key r.standing ∙ ap (λ (o : Option Peer). more_if piece key o) here in
-      let again = subst (λ (o : Option Peer). Goes (next later_standing key o) h.again one.deeds (with_more piece key now.standing)) (sym there)
+      let again = subst (λ (o : Option Peer). Goes (coming_next later_standing key o) h.again one.deeds (with_more piece key now.standing)) (sym there)
       (subst (λ (stage : Stage). Goes (next_at later_standing key later_peer stage) h.again one.deeds (with_more piece key now.standing)) (sym (kept_stage p.stage)) h.goes) in
       let speaks : SpeaksAt key r.standing = subst (λ (o : Option Peer). IfSome o Speaks) (sym here) begun in
       let came = bytes_after key piece r after one two run speaks in

@@ -14,7 +14,7 @@ use Rattle.router_core.specs.declared.joint.RuleCall.{RuleCall}
 use Rattle.router_core.specs.Deeds.{GatedCall}
 use Rattle.router_core.specs.Scripts.{Script, Wanting, World, Passes, Comes, putting}
 use Rattle.router_core.specs.Serving.{closes_for, nothing, signed}
-use Rattle.router_core.specs.Together.{Joining, Joins, Parts, call_of_rule, join_copied_if, join_shown, joins, parts, rule_call}
+use Rattle.router_core.specs.Together.{Joining, Joins, Parts, call_of_rule, join_copied_if, joining_shown, joins, parts, rule_call}
 use Rattle.router_core.specs.declared.cause.CloseCause.TheVariants.{TooLong as For_length}
 use Rattle.router_steps.specs.OncePut.{is_for_length, not_put}
 
@@ -34,8 +34,8 @@ module _ {N G : Type 0} (told : N → History) (registry_of : N → ℕ) (passes
 
     -- the monitors were shown it, if there are any
     pub joins_shown : (monitors : List Conn) → (monitors ≢ [] → is_too_long (signed m caller) ≡ false) →
-        Comes told registry_of passes alone (putting monitors (Relays (message_bytes (signed m caller))) nothing) w tt n → Comes told registry_of passes alone (join_shown m caller monitors c) w Joins v
-    joins_shown [] short put = subst (λ (k : World N G). Comes told registry_of passes alone (join_shown m caller [] c) k Joins v) put.1 (v, passes_rule, (refl, refl))
+        Comes told registry_of passes alone (putting monitors (Relays (message_bytes (signed m caller))) nothing) w tt n → Comes told registry_of passes alone (joining_shown m caller monitors c) w Joins v
+    joins_shown [] short put = subst (λ (k : World N G). Comes told registry_of passes alone (joining_shown m caller [] c) k Joins v) put.1 (v, passes_rule, (refl, refl))
     joins_shown (conn ∷ conns) short put =
         let ends : n ≡ put.0 = put.2.1 in
         let joined : Comes told registry_of passes alone (joins c) put.0 Joins v = (v, subst (λ (k : World N G). Passes passes (call_of_rule c) k v) ends passes_rule, (refl, refl)) in
@@ -44,7 +44,7 @@ module _ {N G : Type 0} (told : N → History) (registry_of : N → ℕ) (passes
 
   -- it was not put to them
   pub parts_unput : (fault : RelayFault) (monitors : List Conn) (w : World N G) → monitors ≢ [] → (monitors ≢ [] → is_too_long (signed m caller) ≡ is_for_length fault) →
-      Comes told registry_of passes alone (join_shown m caller monitors c) w (Parts (not_put fault m caller)) w
+      Comes told registry_of passes alone (joining_shown m caller monitors c) w (Parts (not_put fault m caller)) w
   parts_unput fault [] w some long = absurd (some refl)
   parts_unput NoMemory (conn ∷ conns) w some long =
       subst (λ (b : Bool). Comes told registry_of passes alone (joins_if (conn ∷ conns) b) w (Parts (not_put NoMemory m caller)) w) (sym (long some)) (false, (refl, refl))

@@ -9,7 +9,7 @@ ghost use Rattle.driver.specs.declared.call.Call.TheVariants.{RequestName, Relea
 ghost use Rattle.outbox_core.specs.Answers.{IsAnswerTo};
 ghost use Rattle.router_core.specs.Answers.{Says, error_for as error_for_refusal, refusal_of, unanswered_for};
 ghost use Rattle.router_core.specs.Scripts.{RunsTo};
-ghost use Rattle.router_core.specs.Serving.{Asks, Makes, and_stays, answered, answer_told as answer_told_in, err_with as erring, made as made_in, request_of as request_in, serve_bus as serving_bus, serve_call as serving_call, serve_reading as serving_reading, serve_request as serving_request, tell_change as telling_change};
+ghost use Rattle.router_core.specs.Serving.{Asks, Makes, and_stays, answered, answer_told as answer_told_in, erring, made as made_in, request_of as request_in, serving_bus, serving_call, serving_reading, serving_request, telling_change};
 ghost use Rattle.router_steps.specs.Carrying.{answer_of};
 ghost use Rattle.router_steps.specs.Hearing.{heard_change};
 

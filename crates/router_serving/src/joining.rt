@@ -7,7 +7,7 @@ ghost use Rattle.router_core.specs.declared.limits.TheConstants.{MAX_EFFECTS};
 ghost use Rattle.router_core.specs.Answers.{Says};
 ghost use Rattle.router_core.specs.Scripts.{Changing, RunsTo};
 ghost use Rattle.router_core.specs.Serving.{made as made_in};
-ghost use Rattle.router_core.specs.Together.{change_of_joint, join as joining, join_shown as joining_shown, join_to as joining_to, rule_call};
+ghost use Rattle.router_core.specs.Together.{change_of_joint, joining, joining_shown, joining_to, rule_call};
 ghost use Rattle.router_core.specs.declared.joint.RuleCall.{RuleCall as Rule_call};
 ghost use Rattle.router_serving.specs.Joinings.{RepliesAlone, joining_of, parting_of};
 

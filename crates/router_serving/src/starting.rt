@@ -4,7 +4,7 @@ ghost use Rattle.std.specs.Prelude.{◌≡◌, ◌<◌, ◌≤◌, ◌+◌, Ok};
 ghost use Rattle.message_core.specs.Said.{said};
 ghost use Rattle.router_core.specs.Answers.{Says};
 ghost use Rattle.router_core.specs.Scripts.{RunsTo};
-ghost use Rattle.router_core.specs.Serving.{Starts, serve_request as serving_request, start_told};
+ghost use Rattle.router_core.specs.Serving.{Starts, serving_request, start_told};
 
 use crate::activation::waiting_call;
 use crate::calls::{answer_told, error_for, refuse};

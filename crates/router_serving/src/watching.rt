@@ -5,7 +5,7 @@ ghost use Rattle.message_core.specs.Said.{said};
 ghost use Rattle.router_core.specs.declared.limits.TheConstants.{MAX_EFFECTS};
 ghost use Rattle.router_core.specs.Answers.{Says};
 ghost use Rattle.router_core.specs.Scripts.{RunsTo};
-ghost use Rattle.router_core.specs.Serving.{Watches, serve_request as serving_request, watch_told};
+ghost use Rattle.router_core.specs.Serving.{Watches, serving_request, watch_told};
 
 use crate::calls::{error_for, refuse, tell_change};
 use bus_view::BusView;

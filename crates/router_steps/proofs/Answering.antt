@@ -10,7 +10,7 @@ use Rattle.router_core.specs.declared.cause.CloseCause.TheVariants.{Unauthentica
 use Rattle.bus_view.specs.declared.view.BusView.{Ghosts as BusView}
 use Rattle.router_core.specs.declared.gate.Gate.{Ghosts as Gate}
 use Rattle.router_core.specs.Deeds.{Writes}
-use Rattle.router_core.specs.Events.{OfPeer, closing, answering, conversed_to, hear}
+use Rattle.router_core.specs.Events.{OfPeer, closing, answering, conversed_to, hearing}
 use Rattle.router_core.specs.Scripts.{World, Performs, RunsTo}
 use Rattle.router_core.specs.Standing.{Stage, Authenticating, Shut, Peer, conn_of, shut}
 use Rattle.router_steps.specs.Turns.{IsAlike, stage_after, IsOutcome, IsConversed, IsSent}
@@ -33,8 +33,8 @@ module _ {V N R G : Type 0} (view : BusView V N R) (gate : Gate G) (key : ℕ) w
     abbrev said : Conversed
     said = conversed setting state [] (p.unread ++ piece)
 
-    at_stage : (w v : World N G) (q : Peer) → RunsTo view gate (hear key piece p (Authenticating setting state)) w q v → RunsTo view gate (hear key piece p p.stage) w q v
-    at_stage w v q comes = subst (λ (stage : Stage). RunsTo view gate (hear key piece p stage) w q v) (sym is) comes
+    at_stage : (w v : World N G) (q : Peer) → RunsTo view gate (hearing key piece p (Authenticating setting state)) w q v → RunsTo view gate (hearing key piece p p.stage) w q v
+    at_stage w v q comes = subst (λ (stage : Stage). RunsTo view gate (hearing key piece p stage) w q v) (sym is) comes
 
     -- the conversation has not failed
     by_phase : (phase : Phase) → ((fault : AuthenticationFault) → phase ≢ Closed fault) → (v : World N G) (q : Peer) → q ≡ record p { stage = stage_after setting said.state phase; unread = said.left } →
@@ -46,7 +46,7 @@ module _ {V N R G : Type 0} (view : BusView V N R) (gate : Gate G) (key : ℕ) w
     by_phase (Done identity) fine v q same = (same, refl)
     by_phase (Closed fault) fine v q same = absurd (fine fault refl)
 
-    pub goes_on : (sent : List ℕ) (w v : World N G) (q : Peer) → IsOutcome said setting p sent None q → IsSent view key sent w v → RunsTo view gate (hear key piece p p.stage) w q v
+    pub goes_on : (sent : List ℕ) (w v : World N G) (q : Peer) → IsOutcome said setting p sent None q → IsSent view key sent w v → RunsTo view gate (hearing key piece p p.stage) w q v
     goes_on sent w v q outcome written =
         at_stage w v q (true, answered said.sent (conversed_to key setting said said.state.phase p) w v v q (subst (λ bytes. IsSent view key bytes w v) outcome.1 written) (by_phase said.state.phase outcome.0 v q outcome.2))
 
@@ -55,13 +55,13 @@ module _ {V N R G : Type 0} (view : BusView V N R) (gate : Gate G) (key : ℕ) w
     shut_alike q r alike conn same = same ∙ (λ i. record { stage = Shut (conn i); unread = []; serial = alike.0 i; watches = alike.1 i })
 
     pub fails : (sent : List ℕ) (fault : AuthenticationFault) (w m v : World N G) (r q : Peer) → IsOutcome said setting p sent (Some fault) r → IsAlike p r → conn_of r.stage ≡ conn_of p.stage →
-        IsSent view key sent w m → RunsTo view gate (closing key (Unauthenticated fault) r) m q v → RunsTo view gate (hear key piece p p.stage) w q v
+        IsSent view key sent w m → RunsTo view gate (closing key (Unauthenticated fault) r) m q v → RunsTo view gate (hearing key piece p p.stage) w q v
     fails sent fault w m v r q outcome alike conn written closes = at_stage w v q (by_outcome outcome)
       where
         closes_it : RunsTo view gate (closing key (Unauthenticated fault) p) m q v
         closes_it = (closes.0, closes.1, (shut_alike q r alike conn closes.2.0, closes.2.1))
 
-        by_outcome : IsOutcome said setting p sent (Some fault) r → RunsTo view gate (hear key piece p (Authenticating setting state)) w q v
+        by_outcome : IsOutcome said setting p sent (Some fault) r → RunsTo view gate (hearing key piece p (Authenticating setting state)) w q v
         by_outcome (inl failed) = (
           true,
           answered said.sent (conversed_to key setting said said.state.phase p) w m v q (subst (λ bytes. IsSent view key bytes w m) failed.1 written)

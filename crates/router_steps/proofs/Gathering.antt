@@ -7,7 +7,7 @@ use Rattle.seq_bus_core.specs.Histories.{History}
 use Rattle.seq_bus_core.specs.Tickets.{WholeBus, bus_step}
 use Rattle.seq_bus_core.specs.declared.change.Change.{Change}
 use Rattle.router_core.specs.Deeds.{GatedCall}
-use Rattle.router_core.specs.Events.{leave_by, leave_if, leave_together}
+use Rattle.router_core.specs.Events.{leaving_by, leaving_if, leaving_together}
 use Rattle.router_core.specs.Scripts.{World, Comes, and_then}
 use Rattle.router_core.specs.Standing.{Standing}
 use Rattle.router_steps.specs.Parts.{part}
@@ -56,29 +56,29 @@ part_first numbers place there =
 module _ {N G : Type 0} (told : N → History) (registry_of : N → ℕ) (passes : G → GatedCall → G → Type 0) (alone : Bool) (end : Standing) (v : World N G) (numbers : List ℕ) (start place : ℕ) (there : place < length numbers) (within : start ≤ place) where
   -- they are not as many yet as may be
   pub gathers_more : (s : Standing) (w : World N G) → (length (part numbers start place) == max_batch) ≡ false →
-      Comes told registry_of passes alone (leave_by (part numbers start (place + 1)) (drop (place + 1) numbers) s) w end v → Comes told registry_of passes alone (leave_by (part numbers start place) (drop place numbers) s) w end v
+      Comes told registry_of passes alone (leaving_by (part numbers start (place + 1)) (drop (place + 1) numbers) s) w end v → Comes told registry_of passes alone (leaving_by (part numbers start place) (drop place numbers) s) w end v
   gathers_more s w few later =
       let next : ℕ = get_or numbers place 0 in
       let rest : List ℕ = drop (place + 1) numbers in
-      let here = subst (λ ns. Comes told registry_of passes alone (leave_by ns rest s) w end v) (part_more numbers start place within there) later in
-      subst (λ ns. Comes told registry_of passes alone (leave_by (part numbers start place) ns s) w end v) (sym (drop_more numbers place 0 there))
+      let here = subst (λ ns. Comes told registry_of passes alone (leaving_by ns rest s) w end v) (part_more numbers start place within there) later in
+      subst (λ ns. Comes told registry_of passes alone (leaving_by (part numbers start place) ns s) w end v) (sym (drop_more numbers place 0 there))
       (subst (λ b. Comes told registry_of passes alone
-      (if b then and_then (leave_together s (part numbers start place)) (λ t. leave_by (next ∷ []) rest t) else leave_by (part numbers start place ++ next ∷ []) rest s) w end v) (sym few) here)
+      (if b then and_then (leaving_together s (part numbers start place)) (λ t. leaving_by (next ∷ []) rest t) else leaving_by (part numbers start place ++ next ∷ []) rest s) w end v) (sym few) here)
 
   -- they are, and are made together
-  pub gathers_anew : (before after : Standing) (w m : World N G) → (length (part numbers start place) == max_batch) ≡ true → Comes told registry_of passes alone (leave_together before (part numbers start place)) w after m →
-      Comes told registry_of passes alone (leave_by (part numbers place (place + 1)) (drop (place + 1) numbers) after) m end v → Comes told registry_of passes alone (leave_by (part numbers start place) (drop place numbers) before) w end v
+  pub gathers_anew : (before after : Standing) (w m : World N G) → (length (part numbers start place) == max_batch) ≡ true → Comes told registry_of passes alone (leaving_together before (part numbers start place)) w after m →
+      Comes told registry_of passes alone (leaving_by (part numbers place (place + 1)) (drop (place + 1) numbers) after) m end v → Comes told registry_of passes alone (leaving_by (part numbers start place) (drop place numbers) before) w end v
   gathers_anew before after w m full made later =
       let next : ℕ = get_or numbers place 0 in
       let rest : List ℕ = drop (place + 1) numbers in
-      let here = subst (λ ns. Comes told registry_of passes alone (leave_by ns rest after) m end v) (part_first numbers place there) later in
-      let both = comes_then told registry_of passes alone (λ t. leave_by (next ∷ []) rest t) after m end v here (leave_together before (part numbers start place)) w made in
-      subst (λ ns. Comes told registry_of passes alone (leave_by (part numbers start place) ns before) w end v) (sym (drop_more numbers place 0 there))
+      let here = subst (λ ns. Comes told registry_of passes alone (leaving_by ns rest after) m end v) (part_first numbers place there) later in
+      let both = comes_then told registry_of passes alone (λ t. leaving_by (next ∷ []) rest t) after m end v here (leaving_together before (part numbers start place)) w made in
+      subst (λ ns. Comes told registry_of passes alone (leaving_by (part numbers start place) ns before) w end v) (sym (drop_more numbers place 0 there))
       (subst (λ b. Comes told registry_of passes alone
-      (if b then and_then (leave_together before (part numbers start place)) (λ t. leave_by (next ∷ []) rest t) else leave_by (part numbers start place ++ next ∷ []) rest before) w end v) (sym full) both)
+      (if b then and_then (leaving_together before (part numbers start place)) (λ t. leaving_by (next ∷ []) rest t) else leaving_by (part numbers start place ++ next ∷ []) rest before) w end v) (sym full) both)
 
 -- what is wanted for several, if there are any
 pub together_wants : {N G : Type 0} (told : N → History) (registry_of : N → ℕ) (passes : G → GatedCall → G → Type 0) (alone : Bool) (s end : Standing) (w v : World N G) (numbers : List ℕ) (granted : Bool) → (length numbers ≡ 0 → ⊥) →
-    Comes told registry_of passes alone (leave_if s numbers granted) w end v → Comes told registry_of passes alone (leave_together s numbers) w end v
+    Comes told registry_of passes alone (leaving_if s numbers granted) w end v → Comes told registry_of passes alone (leaving_together s numbers) w end v
 together_wants told registry_of passes alone s end w v [] granted some h = absurd (some refl)
 together_wants told registry_of passes alone s end w v (number ∷ numbers) granted some h = (granted, h)

@@ -9,10 +9,10 @@ use Rattle.driver.specs.Calls.{is_hello}
 use Rattle.router_core.specs.declared.fate.PeerFate.{PeerFate}
 use Rattle.router_core.specs.declared.cause.CloseCause.TheVariants as cause
 use Rattle.router_core.specs.Deeds.{GatedCall}
-use Rattle.router_core.specs.Events.{OfPeer, closing, fated, for_slot, for_peer, greet, serve_named, serve_at, read, next_at, next}
+use Rattle.router_core.specs.Events.{OfPeer, closing, fated, for_slot, for_peer, greet, serve_named, serve_at, read, next_at, coming_next}
 use Rattle.router_core.specs.Fronts.{Waits, Whole, Faulty, IsFront}
 use Rattle.router_core.specs.Scripts.{Gives, Fronting, World, Comes, and_then}
-use Rattle.router_core.specs.Serving.{serve}
+use Rattle.router_core.specs.Serving.{serving}
 use Rattle.router_core.specs.Standing.{Peer, Standing, Stage, Unnamed, Named, peer_at, with_peer}
 use Rattle.router_steps.specs.Reading.{IsRest}
 use Rattle.router_steps.proofs.Hellos.{for_there}
@@ -52,11 +52,11 @@ module _ {N G : Type 0} (told : N → History) (registry_of : N → ℕ) (passes
         (Whole message r.unread, front, subst (λ (stage : Stage). Comes told registry_of passes alone (serve_at s key (said message) x stage) w t v) (sym unnamed) chosen)
 
     pub reads_named : (s : Standing) (message : List ℕ) (r q : Peer) (conn : Conn) (fate : PeerFate) (m : World N G) → IsFront p.unread (Whole message r.unread) → IsRest p r → p.stage ≡ Named conn → r.watches ≡ false →
-        Comes told registry_of passes alone (serve (said message) conn) w fate m → Comes told registry_of passes alone (fated key fate r) m q v → Reads s q
+        Comes told registry_of passes alone (serving (said message) conn) w fate m → Comes told registry_of passes alone (fated key fate r) m q v → Reads s q
     reads_named s message r q conn fate m front rest named speaks served closes =
         let t : Standing = with_peer s key (Some q) in
-        let work = λ (x : Peer). and_then (serve (said message) conn) (λ (f : PeerFate). fated key f x) in
-        let done = comes_then told registry_of passes alone (λ (f : PeerFate). fated key f r) fate m q v closes (serve (said message) conn) w served in
+        let work = λ (x : Peer). and_then (serving (said message) conn) (λ (f : PeerFate). fated key f x) in
+        let done = comes_then told registry_of passes alone (λ (f : PeerFate). fated key f r) fate m q v closes (serving (said message) conn) w served in
         let here = subst (λ (x : Peer). Comes told registry_of passes alone (for_peer s key (Some x) work) w t v) rest (for_some s key r q work w v done) in
         let x : Peer = record p { unread = r.unread } in
         let same : p.watches ≡ false = sym (ap (λ (y : Peer). y.watches) rest) ∙ speaks in
@@ -75,9 +75,9 @@ module _ {N G : Type 0} (told : N → History) (registry_of : N → ℕ) (passes
         subst (λ (b : Bool). Comes told registry_of passes alone (serve_named s key (said message) x conn b) w t v) (sym same) here in
         (Whole message r.unread, front, subst (λ (stage : Stage). Comes told registry_of passes alone (serve_at s key (said message) x stage) w t v) (sym named) chosen)
 
-    -- so it is served next
-    pub next_unnamed : (s : Standing) (q : Peer) (old : Option Peer) (privileged : Bool) → old ≡ Some p → p.stage ≡ Unnamed privileged → Reads s q → Comes told registry_of passes alone (next s key old) w (with_peer s key (Some q)) v
+    -- so it is served coming_next
+    pub next_unnamed : (s : Standing) (q : Peer) (old : Option Peer) (privileged : Bool) → old ≡ Some p → p.stage ≡ Unnamed privileged → Reads s q → Comes told registry_of passes alone (coming_next s key old) w (with_peer s key (Some q)) v
     next_unnamed s q old privileged is unnamed reads =
         let t : Standing = with_peer s key (Some q) in
-        subst (λ (o : Option Peer). Comes told registry_of passes alone (next s key o) w t v) (sym is)
+        subst (λ (o : Option Peer). Comes told registry_of passes alone (coming_next s key o) w t v) (sym is)
         (subst (λ (stage : Stage). Comes told registry_of passes alone (next_at s key p stage) w t v) (sym unnamed) reads)

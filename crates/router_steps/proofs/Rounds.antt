@@ -6,47 +6,47 @@ use Rattle.seq_bus_core.specs.declared.connection.Conn.{Conn}
 use Rattle.seq_bus_core.specs.declared.error_kind.ErrorKind.{ErrorKind}
 use Rattle.seq_bus_core.specs.declared.ticket.SettledTicket.{SettledTicket}
 use Rattle.router_core.specs.Deeds.{GatedCall}
-use Rattle.router_core.specs.Events.{leave, leave_each, for_slot, look, look_all}
+use Rattle.router_core.specs.Events.{leaving, leaving_each, for_slot, look, looking_at_all}
 use Rattle.router_core.specs.Scripts.{World, Comes}
-use Rattle.router_core.specs.Serving.{fail, fail_all, release, release_all}
+use Rattle.router_core.specs.Serving.{failing, failing_all, releasing, releasing_all}
 use Rattle.router_core.specs.Standing.{Peer, Standing}
 use Rattle.router_steps.proofs.Sequels.{comes_then}
 
 module _ {N G : Type 0} (told : N → History) (registry_of : N → ℕ) (passes : G → GatedCall → G → Type 0) (alone : Bool) (w m v : World N G) where
   -- the Leave of the next number, then those of the rest
   pub leaves_more : (numbers : List ℕ) (i : ℕ) → i < length numbers → (before after end : Standing) →
-      Comes told registry_of passes alone (leave before (get_or numbers i 0)) w after m → Comes told registry_of passes alone (leave_each (drop (i + 1) numbers) after) m end v →
-      Comes told registry_of passes alone (leave_each (drop i numbers) before) w end v
+      Comes told registry_of passes alone (leaving before (get_or numbers i 0)) w after m → Comes told registry_of passes alone (leaving_each (drop (i + 1) numbers) after) m end v →
+      Comes told registry_of passes alone (leaving_each (drop i numbers) before) w end v
   leaves_more numbers i inside before after end this later =
-      subst (λ ns. Comes told registry_of passes alone (leave_each ns before) w end v) (sym (drop_more numbers i 0 inside))
-      (comes_then told registry_of passes alone (λ t. leave_each (drop (i + 1) numbers) t) after m end v later (leave before (get_or numbers i 0)) w this)
+      subst (λ ns. Comes told registry_of passes alone (leaving_each ns before) w end v) (sym (drop_more numbers i 0 inside))
+      (comes_then told registry_of passes alone (λ t. leaving_each (drop (i + 1) numbers) t) after m end v later (leaving before (get_or numbers i 0)) w this)
 
   -- the next call that waited is released, then the rest
   pub releases_more : (owner : Conn) (t : SettledTicket) (rest tickets : List SettledTicket) → tickets ≡ t ∷ rest →
-      Comes told registry_of passes alone (release owner t.ticket t.ticket.message) w tt m → Comes told registry_of passes alone (release_all owner rest) m tt v →
-      Comes told registry_of passes alone (release_all owner tickets) w tt v
+      Comes told registry_of passes alone (releasing owner t.ticket t.ticket.message) w tt m → Comes told registry_of passes alone (releasing_all owner rest) m tt v →
+      Comes told registry_of passes alone (releasing_all owner tickets) w tt v
   releases_more owner t rest tickets is this later =
-      subst (λ ts. Comes told registry_of passes alone (release_all owner ts) w tt v) (sym is)
-      (comes_then told registry_of passes alone (λ done. release_all owner rest) tt m tt v later (release owner t.ticket t.ticket.message) w this)
+      subst (λ ts. Comes told registry_of passes alone (releasing_all owner ts) w tt v) (sym is)
+      (comes_then told registry_of passes alone (λ done. releasing_all owner rest) tt m tt v later (releasing owner t.ticket t.ticket.message) w this)
 
   -- the next call that waited is answered an error, then the rest
   pub fails_more : (error : ErrorKind) (t : SettledTicket) (rest tickets : List SettledTicket) → tickets ≡ t ∷ rest →
-      Comes told registry_of passes alone (fail error t.ticket) w tt m → Comes told registry_of passes alone (fail_all error rest) m tt v →
-      Comes told registry_of passes alone (fail_all error tickets) w tt v
+      Comes told registry_of passes alone (failing error t.ticket) w tt m → Comes told registry_of passes alone (failing_all error rest) m tt v →
+      Comes told registry_of passes alone (failing_all error tickets) w tt v
   fails_more error t rest tickets is this later =
-      subst (λ ts. Comes told registry_of passes alone (fail_all error ts) w tt v) (sym is)
-      (comes_then told registry_of passes alone (λ done. fail_all error rest) tt m tt v later (fail error t.ticket) w this)
+      subst (λ ts. Comes told registry_of passes alone (failing_all error ts) w tt v) (sym is)
+      (comes_then told registry_of passes alone (λ done. failing_all error rest) tt m tt v later (failing error t.ticket) w this)
 
   -- the next connection is looked for, then the rest
   pub looks_more : (xs : List (Option Peer)) (k : ℕ) → k < length xs → (q : Option Peer) (ys : List (Option Peer)) →
       Comes told registry_of passes alone (for_slot (get_or xs k None) (λ p. look k p p.stage)) w q m →
-      Comes told registry_of passes alone (look_all (take (k + 1) (set xs k q)) (drop (k + 1) (set xs k q))) m ys v →
-      Comes told registry_of passes alone (look_all (take k xs) (drop k xs)) w ys v
+      Comes told registry_of passes alone (looking_at_all (take (k + 1) (set xs k q)) (drop (k + 1) (set xs k q))) m ys v →
+      Comes told registry_of passes alone (looking_at_all (take k xs) (drop k xs)) w ys v
   looks_more xs k inside q ys this later =
       let within : k ≤ length xs = omega arith in
       let next : k < k + 1 = omega arith in
       let here = subst (λ n. Comes told registry_of passes alone (for_slot (get_or xs k None) (λ p. look n p p.stage)) w q m) (sym (length-take-le k xs within)) this in
-      let done = subst (λ ds. Comes told registry_of passes alone (look_all ds (drop (k + 1) (set xs k q))) m ys v) (take_more_set xs k q inside) later in
-      let rest = subst (λ ds. Comes told registry_of passes alone (look_all (take k xs ++ q ∷ []) ds) m ys v) (drop-set-lt (k + 1) xs k q next) done in
-      subst (λ ds. Comes told registry_of passes alone (look_all (take k xs) ds) w ys v) (sym (drop_more xs k None inside))
-      (comes_then told registry_of passes alone (λ o. look_all (take k xs ++ o ∷ []) (drop (k + 1) xs)) q m ys v rest (for_slot (get_or xs k None) (λ p. look (length (take k xs)) p p.stage)) w here)
+      let done = subst (λ ds. Comes told registry_of passes alone (looking_at_all ds (drop (k + 1) (set xs k q))) m ys v) (take_more_set xs k q inside) later in
+      let rest = subst (λ ds. Comes told registry_of passes alone (looking_at_all (take k xs ++ q ∷ []) ds) m ys v) (drop-set-lt (k + 1) xs k q next) done in
+      subst (λ ds. Comes told registry_of passes alone (looking_at_all (take k xs) ds) w ys v) (sym (drop_more xs k None inside))
+      (comes_then told registry_of passes alone (λ o. looking_at_all (take k xs ++ o ∷ []) (drop (k + 1) xs)) q m ys v rest (for_slot (get_or xs k None) (λ p. look (length (take k xs)) p p.stage)) w here)

@@ -13,7 +13,7 @@ use Rattle.router_core.specs.declared.cause.CloseCause.TheVariants as cause
 use Rattle.seq_bus_core.specs.declared.error_kind.ErrorKind.TheVariants as error
 use Rattle.router_core.specs.Deeds.{GatedCall}
 use Rattle.router_core.specs.Scripts.{World, Comes, putting}
-use Rattle.router_core.specs.Serving.{Fated, nothing, closes_for, signed, copied, relayed, and_stays, err_if_call}
+use Rattle.router_core.specs.Serving.{Fated, nothing, closes_for, signed, copied, relayed, and_stays, erring_if_call}
 use Rattle.router_steps.specs.OncePut.{is_for_length, is_long, not_put}
 
 pub long_is : {A : Type 0} (r : Result A RelayFault) (b : Bool) → (IsErrOf r relay.TooLong ↔ IsTrue b) → b ≡ is_long r
@@ -45,7 +45,7 @@ module _ {N G : Type 0} (told : N → History) (registry_of : N → ℕ) (passes
       Comes told registry_of passes alone goes_on n fate end → Comes told registry_of passes alone (relayed m sender to goes_on) w fate end
   relays to said w n short is p q = fits to w short (put to w n (subst (λ (s : Said). Comes told registry_of passes alone (putting to s nothing) w tt n) is p) q)
 
-  dropped : (to monitors : List Conn) (w : World N G) → ((to ≡ []) × (monitors ≡ []) → ⊥) → Comes told registry_of passes alone (and_stays (err_if_call m sender error.NoMemory)) w fate end →
+  dropped : (to monitors : List Conn) (w : World N G) → ((to ≡ []) × (monitors ≡ []) → ⊥) → Comes told registry_of passes alone (and_stays (erring_if_call m sender error.NoMemory)) w fate end →
       Comes told registry_of passes alone (copied m sender (deliveries_of to monitors) goes_on) w fate end
   dropped (conn ∷ conns) monitors w some p = (false, p)
   dropped [] (conn ∷ conns) w some p = (false, p)

@@ -13,7 +13,7 @@ ghost use Rattle.outbox_core.specs.Deliveries.{deliveries_of};
 ghost use Rattle.router_core.specs.Answers.{Heard};
 ghost use Rattle.router_core.specs.Deeds.{IsFurthest, Writes, Sends, Puts, Closes, put_of};
 ghost use Rattle.router_core.specs.Scripts.{putting, having_done, Changes, ChangesAll, Asks, Routes, Looks, Takes, Passes, Performs, Emits, RunsTo};
-ghost use Rattle.router_core.specs.Serving.{nothing, run as running};
+ghost use Rattle.router_core.specs.Serving.{nothing, running};
 ghost use Rattle.router_steps.specs.Hearing.{heard_change, heard_changes, heard_verdict, heard_present, IsTold};
 
 use crate::room::{blank_verdict, clear_actions, keep_verdict, push_reserved};

@@ -1,7 +1,7 @@
 //! Connections that say who they are. (D-Bus Specification: "Authentication Protocol")
 
 ghost use Rattle.std.specs.Prelude.{◌≡◌, ◌<◌, ◌≤◌, ◌+◌, OnOk, OnErr};
-ghost use Rattle.router_core.specs.Events.{hear as hearing, is_user};
+ghost use Rattle.router_core.specs.Events.{hearing, is_user};
 ghost use Rattle.router_core.specs.Scripts.{RunsTo};
 ghost use Rattle.router_core.specs.Standing.{conn_of};
 ghost use Rattle.router_steps.specs.Turns.{IsConversed, IsSent};

@@ -5,7 +5,7 @@ ghost use Rattle.message_core.specs.Said.{said};
 ghost use Rattle.outbox_core.specs.Contents.{said_of};
 ghost use Rattle.router_core.specs.Answers.{error_for, refusal_of};
 ghost use Rattle.router_core.specs.Deeds.{IsOwnNote};
-ghost use Rattle.router_core.specs.Events.{closing, hear, for_slot, look, look_all as looking_at_all, refuse_with, turn_away, write as writing};
+ghost use Rattle.router_core.specs.Events.{closing, hearing, for_slot, look, looking_at_all, refuse_with, turn_away, writing};
 ghost use Rattle.router_core.specs.Scripts.{RunsTo};
 ghost use Rattle.router_core.specs.Standing.{next_serial};
 ghost use Rattle.router_steps.specs.Noting.{once_noted};
@@ -32,7 +32,7 @@ impl<V: BusView, G: Gate> Context<V, G> {
     ) -> Result<(), AllocError>
         requires { 1 < self.old.room }
         ensures comes { OnOk result (RunsTo V.BusView G.Gate
-            (for_slot entry.old (λ p. hear key piece.old.items p p.stage))
+            (for_slot entry.old (λ p. hearing key piece.old.items p p.stage))
             self.old.world entry.new self.new.world) }
         ensures err { OnErr result (entry.new ≡ entry.old) }
         ensures world { OnErr result (self.new.world ≡ self.old.world) }

@@ -4,9 +4,9 @@
 ghost use Rattle.std.specs.Prelude.{◌≡◌, ◌<◌, ◌≤◌, ◌+◌, Some, length, OnOk, OnErr};
 ghost use Rattle.router_core.specs.declared.limits.TheConstants.{MAX_EFFECTS};
 ghost use Rattle.router_core.specs.Answers.{is_final as is_final_in, refusal_of};
-ghost use Rattle.router_core.specs.Events.{change_of as change_in, child as ending_child, error_of_end as error_in};
+ghost use Rattle.router_core.specs.Events.{change_of as change_in, ending_child, error_of_end as error_in};
 ghost use Rattle.router_core.specs.Scripts.{Wanting, RunsTo};
-ghost use Rattle.router_core.specs.Serving.{fail as failing, fail_all as failing_all, failed_if};
+ghost use Rattle.router_core.specs.Serving.{failing, failing_all, failed_if};
 ghost use Rattle.router_core.specs.Standing.{Standing};
 
 use crate::context::Context;

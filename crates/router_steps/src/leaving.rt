@@ -6,7 +6,7 @@ ghost use Rattle.seq_bus_core.specs.Batches.{IsBatch, max_batch};
 ghost use Rattle.seq_bus_core.specs.Bounds.{IsBounded};
 ghost use Rattle.seq_bus_core.specs.declared.limits.TheConstants.{MAX_SIGNALS};
 ghost use Rattle.seq_bus_core.specs.declared.change.Change.TheVariants.{Leave};
-ghost use Rattle.router_core.specs.Events.{leave as leaving, leave_of as leaving_of, leave_each as leaving_each, leave_if as leaving_if, leave_together as leaving_together, leave_by as leaving_by, leave_all as leaving_all, announce_all as announcing_all};
+ghost use Rattle.router_core.specs.Events.{leaving, leaving_of, leaving_each, leaving_if, leaving_together, leaving_by, leaving_all, announcing_all};
 ghost use Rattle.router_core.specs.Scripts.{World, RunsTo};
 ghost use Rattle.router_core.specs.Standing.{Standing};
 ghost use Rattle.router_steps.specs.Parts.{part};

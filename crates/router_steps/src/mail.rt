@@ -3,7 +3,7 @@
 ghost use Rattle.std.specs.Prelude.{◌≡◌, ◌<◌, ◌≤◌, ◌+◌, option_map, IfOk, OnOk, OnErr};
 ghost use Rattle.outbox_core.specs.Contents.{said_of};
 ghost use Rattle.router_core.specs.Deeds.{IsOwnNote};
-ghost use Rattle.router_core.specs.Events.{write as writing};
+ghost use Rattle.router_core.specs.Events.{writing};
 ghost use Rattle.router_core.specs.Scripts.{RunsTo};
 ghost use Rattle.router_core.specs.Standing.{next_serial};
 ghost use Rattle.router_steps.specs.Noting.{once_noted, IsNoteTaken};

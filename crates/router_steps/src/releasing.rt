@@ -3,7 +3,7 @@
 
 ghost use Rattle.std.specs.Prelude.{◌≡◌, ◌<◌, ◌≤◌, ◌+◌, Some, length};
 ghost use Rattle.router_core.specs.Scripts.{Wanting, RunsTo};
-ghost use Rattle.router_core.specs.Serving.{release as releasing, release_all as releasing_all, started_if, ticket_wants_reply as wants_reply_in};
+ghost use Rattle.router_core.specs.Serving.{releasing, releasing_all, started_if, ticket_wants_reply as wants_reply_in};
 
 use crate::context::Context;
 use bus_view::BusView;

@@ -7,7 +7,7 @@ ghost use Rattle.message.specs.FactsOf.{facts_of};
 ghost use Rattle.outbox_core.specs.Contents.{carried_of, own_of, bus_message};
 ghost use Rattle.router_core.specs.Answers.{Heard};
 ghost use Rattle.router_core.specs.Scripts.{Routes, RunsTo};
-ghost use Rattle.router_core.specs.Serving.{answer_with as answering, call_of as call_in, err_if_call as erring_if_call, err_with as erring, is_method_call as is_method_call_in, monitors_in, reply_with as replying, tell as telling};
+ghost use Rattle.router_core.specs.Serving.{answering_with, call_of as call_in, erring_if_call, erring, is_method_call as is_method_call_in, monitors_in, replying, telling};
 ghost use Rattle.router_steps.specs.Carrying.{answer_of};
 
 use crate::context::Context;
@@ -130,7 +130,8 @@ impl<V: BusView, G: Gate> Context<V, G> {
         requires room { 0 < self.old.room }
         requires spare_verdicts { 0 < self.old.spare_verdicts }
         ensures comes { RunsTo V.BusView G.Gate
-            (answering (said call.now) caller (answer_of answer)) self.old.world tt self.new.world }
+            (answering_with (said call.now) caller (answer_of answer))
+            self.old.world tt self.new.world }
         ensures room { self.old.room ≤ self.new.room + 1 }
         ensures spare_verdicts { self.old.spare_verdicts ≤ self.new.spare_verdicts + 1 }
     {

@@ -7,7 +7,7 @@ use Rattle.router_core.specs.Addressed.{Addressed}
 use Rattle.router_core.specs.declared.fate.PeerFate.TheVariants.{Stays}
 use Rattle.router_core.specs.Deeds.{Puts}
 use Rattle.router_core.specs.Scripts.{Does, Comes}
-use Rattle.router_core.specs.Serving.{held_by, run}
+use Rattle.router_core.specs.Serving.{held_by, running}
 use Rattle.router_serving.proofs.Answering.{stays}
 use Rattle.router_serving.proofs.activation.held.Goals as goal
 
@@ -34,4 +34,4 @@ returns-in-Held-clause-comes g c =
     let w = c.args.context.now.world in
     let v = c.run.new.self.world in
     subst (λ (r : Reply). Comes told registry_of passes alone (held_by m c.args.sender c.args.name.value c.args.outcome r) w Stays v) (sym c.in-Held.is)
-    (stays told registry_of passes alone (run c.args.name.value c.args.outcome.start) w v c.run.ensures.comes)
+    (stays told registry_of passes alone (running c.args.name.value c.args.outcome.start) w v c.run.ensures.comes)

@@ -2,7 +2,7 @@ use Rattle.std.proofs.Common.{List, length, refl, sym, ap, subst, arith}
 use Rattle.message_core.specs.Said.{said}
 use Rattle.seq_bus_core.specs.declared.ticket.SettledTicket.{SettledTicket}
 use Rattle.router_core.specs.Scripts.{Comes}
-use Rattle.router_core.specs.Serving.{release_all}
+use Rattle.router_core.specs.Serving.{releasing_all}
 use Rattle.router_steps.specs.Carrying.{answer_of}
 use Rattle.router_serving.proofs.Answering.{made_still, tells_change}
 use Rattle.router_serving.proofs.joining.answer.Goals as goal
@@ -21,7 +21,7 @@ returns-in_default g c =
     let o = c.args.outcome in
     let w = c.args.context.now.world in
     let v = c.answer_with.new.self.world in
-    let released = subst (λ (tickets : List SettledTicket). Comes told registry_of passes alone (release_all caller tickets) v tt v) (sym c.requires.alone.tickets) (refl, refl) in
+    let released = subst (λ (tickets : List SettledTicket). Comes told registry_of passes alone (releasing_all caller tickets) v tt v) (sym c.requires.alone.tickets) (refl, refl) in
     let tells = tells_change told registry_of passes alone m caller o (answer_of c.answer_told.result) w c.announce.new.self.world v v c.announce.ensures.announces c.answer_told.ensures c.answer_with.ensures.comes released in
     record {
       comes = made_still told registry_of passes alone m caller o o.reply w v c.in_default.not-Gone tells;

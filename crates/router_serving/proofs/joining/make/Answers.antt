@@ -4,7 +4,7 @@ use Rattle.seq_bus_core.specs.declared.change.Change.{Change}
 use Rattle.seq_bus_core.specs.declared.error_kind.ErrorKind.{ErrorKind}
 use Rattle.router_core.specs.Answers.{Says, Refuses, error_for, refusal_of}
 use Rattle.router_core.specs.Scripts.{Changes, Comes}
-use Rattle.router_core.specs.Serving.{err_with}
+use Rattle.router_core.specs.Serving.{erring}
 use Rattle.router_serving.proofs.Answering.{stays}
 use Rattle.router_serving.proofs.Rules.{hears_of_none}
 use Rattle.router_serving.proofs.joining.make.Goals as goal
@@ -39,5 +39,5 @@ returns-in-Err-clause-comes g c =
     let n = c.change.new.self.world in
     let v = c.err_with.new.self.world in
     let changes = subst (λ (change : Change). Changes alone change w (Refuses why) n) c.change_of.ensures c.in-Err.ensures.changes in
-    let errs = subst (λ (e : ErrorKind). Comes told registry_of passes alone (err_with m caller e) n tt v) c.error_for.ensures c.err_with.ensures.comes in
-    (Refuses why, n, changes, stays told registry_of passes alone (err_with m caller (error_for why)) n v errs)
+    let errs = subst (λ (e : ErrorKind). Comes told registry_of passes alone (erring m caller e) n tt v) c.error_for.ensures c.err_with.ensures.comes in
+    (Refuses why, n, changes, stays told registry_of passes alone (erring m caller (error_for why)) n v errs)

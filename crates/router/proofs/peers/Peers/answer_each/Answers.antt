@@ -3,7 +3,7 @@ use Rattle.std.proofs.lemmas.List.{nil_from_length}
 use Rattle.std.specs.List.{AllByRecursion}
 use Rattle.std.specs.Vec.Iter.{into_iter_items}
 use Rattle.seq_bus_core.specs.declared.outcome.Outcome.{Outcome}
-use Rattle.router_core.specs.Events.{answer_each}
+use Rattle.router_core.specs.Events.{answering_each}
 use Rattle.router_core.specs.Scripts.{Comes}
 use Rattle.router_serving.specs.Joinings.{RepliesAlone}
 use Rattle.router.proofs.Turnings.{answers_more, answers_none}
@@ -39,5 +39,5 @@ returns-clause-comes g c =
     let empty : into_iter_items at.outcome-iterator ≡ [] = nil_from_length _ none in
     let end = at.self.standing in
     let v = at.self.work.world in
-    let done = at.invariant.comes end v (subst (λ (os : List Outcome). Comes told registry_of passes alone (answer_each (drop at.place joints) os end) v end v) (sym empty) (answers_none told registry_of passes alone (drop at.place joints) end v)) in
-    subst (λ (os : List Outcome). Comes told registry_of passes alone (answer_each joints os c.args.self.now.standing) c.args.self.now.work.world end v) c.into_iter-outcome-iterator.ensures.into_iter_gives.0 done
+    let done = at.invariant.comes end v (subst (λ (os : List Outcome). Comes told registry_of passes alone (answering_each (drop at.place joints) os end) v end v) (sym empty) (answers_none told registry_of passes alone (drop at.place joints) end v)) in
+    subst (λ (os : List Outcome). Comes told registry_of passes alone (answering_each joints os c.args.self.now.standing) c.args.self.now.work.world end v) c.into_iter-outcome-iterator.ensures.into_iter_gives.0 done

@@ -1,6 +1,6 @@
 use Rattle.std.proofs.Common.{◌≡◌, List, ℕ, Option, Some, None, sym, ap, ◌∙◌, subst}
 use Rattle.seq_bus_core.specs.declared.connection.Conn.{Conn}
-use Rattle.router_core.specs.Events.{leave_of, closed}
+use Rattle.router_core.specs.Events.{leaving_of, closed}
 use Rattle.router_core.specs.Scripts.{World, Comes}
 use Rattle.router_core.specs.Standing.{Peer, Standing, peer_at, with_peer, conn_of}
 use Rattle.router.specs.Tables.{Table}
@@ -29,9 +29,9 @@ returns-clause-comes g c =
     let conn : c.conn.result ≡ conn_of p.stage = c.conn.ensures ∙ ap conn_of c.stage.ensures in
     let gone : n ≡ with_peer s key None = λ i. record s { peers = c.take_peer.ensures.rest i } in
     let there : peer_at s key ≡ Some p = sym c.take_peer.ensures.taken ∙ c.in-Some.is in
-    let of_leaves = subst (λ (leaves : List ℕ). Comes told registry_of passes alone (leave_of (record n { due_leaves = leaves }) c.conn.result) c.reserve.new.self.world t v) c.reserve-2.ensures.items (c.leave_of.ensures.comes n) in
-    let of_world = subst (λ (k : World g.row.V-Note.Denot g.row.G.Denot). Comes told registry_of passes alone (leave_of n c.conn.result) k t v) c.reserve.ensures.world of_leaves in
-    let of_conn = subst (λ (o : Option Conn). Comes told registry_of passes alone (leave_of n o) w t v) conn of_world in
-    let of_peers = subst (λ (x : Standing). Comes told registry_of passes alone (leave_of x (conn_of p.stage)) w t v) gone of_conn in
+    let of_leaves = subst (λ (leaves : List ℕ). Comes told registry_of passes alone (leaving_of (record n { due_leaves = leaves }) c.conn.result) c.reserve.new.self.world t v) c.reserve-2.ensures.items (c.leave_of.ensures.comes n) in
+    let of_world = subst (λ (k : World g.row.V-Note.Denot g.row.G.Denot). Comes told registry_of passes alone (leaving_of n c.conn.result) k t v) c.reserve.ensures.world of_leaves in
+    let of_conn = subst (λ (o : Option Conn). Comes told registry_of passes alone (leaving_of n o) w t v) conn of_world in
+    let of_peers = subst (λ (x : Standing). Comes told registry_of passes alone (leaving_of x (conn_of p.stage)) w t v) gone of_conn in
     let closes = subst (λ (o : Option Peer). Comes told registry_of passes alone (closed s key o) w t v) (sym there) of_peers in
     subst (λ (k : Table g.row.V-Note.Denot g.row.G.Denot). Comes told registry_of passes alone (closed k.standing key (peer_at k.standing key)) k.work.world t v) c.self.view_is closes

@@ -1,5 +1,5 @@
 use Rattle.std.proofs.Common.{subst}
-use Rattle.router_core.specs.Events.{child}
+use Rattle.router_core.specs.Events.{ending_child}
 use Rattle.router_core.specs.Scripts.{Comes}
 use Rattle.router_core.specs.Standing.{Standing}
 use Rattle.router.specs.Tables.{Table}
@@ -13,5 +13,5 @@ returns-clause-comes g c =
     let alone = g.V.BusView.alone in
     let s : Standing = record { peers = c.self.inside.peers.items; due_leaves = c.self.inside.due_leaves.items; login = c.self.inside.login } in
     let v = c.end_start.new.self.world in
-    let ended = subst (λ k. Comes told registry_of passes alone (child s c.args.ended.now) k s v) c.reserve.ensures.world (c.in_ok-end_start.ensures.comes s) in
-    subst (λ (k : Table g.row.V-Note.Denot g.row.G.Denot). Comes told registry_of passes alone (child k.standing c.args.ended.now) k.work.world s v) c.self.view_is ended
+    let ended = subst (λ k. Comes told registry_of passes alone (ending_child s c.args.ended.now) k s v) c.reserve.ensures.world (c.in_ok-end_start.ensures.comes s) in
+    subst (λ (k : Table g.row.V-Note.Denot g.row.G.Denot). Comes told registry_of passes alone (ending_child k.standing c.args.ended.now) k.work.world s v) c.self.view_is ended

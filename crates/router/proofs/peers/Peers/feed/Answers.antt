@@ -1,7 +1,7 @@
 use Rattle.std.proofs.Common.{◌≡◌, ◌<◌, Option, None, length, slice_set, refl, subst, arith}
 use Rattle.std.proofs.lemmas.List.{get_or_read}
 use Rattle.std.proofs.lemmas.Result.{on_ok_weaker}
-use Rattle.router_core.specs.Events.{for_peer, for_slot, hear}
+use Rattle.router_core.specs.Events.{for_peer, for_slot, hearing}
 use Rattle.router_core.specs.Scripts.{Gives, World, Comes}
 use Rattle.router_core.specs.Standing.{Peer, Standing, peer_at, with_peer}
 use Rattle.router_steps.proofs.Sequels.{comes_then}
@@ -31,7 +31,7 @@ returns-clause-comes g c =
     let passes = g.G.Gate.passes in
     let alone = g.V.BusView.alone in
     let key = c.args.key in
-    let work = λ (p : Peer). hear key c.args.piece.now.items p p.stage in
+    let work = λ (p : Peer). hearing key c.args.piece.now.items p p.stage in
     let s : Standing = record { peers = c.self.inside.peers.items; due_leaves = c.self.inside.due_leaves.items; login = c.self.inside.login } in
     let w = c.self.inside.context.world in
     let v = c.hear_slot.new.self.world in

@@ -1,6 +1,6 @@
 use Rattle.std.proofs.Common.{◌≡◌, ◌<◌, true, None, length, sym, ap, subst, arith, ◌∙◌}
 use Rattle.std.proofs.lemmas.List.{get_or_read}
-use Rattle.router_core.specs.Events.{Gathered, gather}
+use Rattle.router_core.specs.Events.{Gathered, gathering}
 use Rattle.router_core.specs.Scripts.{World, Comes}
 use Rattle.router_core.specs.Standing.{Standing, peer_at}
 use Rattle.router.specs.Dues.{IsDue}
@@ -42,6 +42,6 @@ returns-in-Ok-Rule-clause-comes g c =
     let there : old ≡ peer_at s key = get_or_read s.peers key old inside c.index_mut.ensures.value None in
     let due = subst (λ (d : Due). IsDue d old new) c.in-Ok-Rule.field-0-is c.in-Ok-Rule.ensures.due in
     let done = gathers_call told registry_of passes alone joints s key old new (sym there) w v end c.in-Ok-Rule.conn c.in-Ok-Rule.message c.in-Ok-Rule.call due c.join_one.ensures.comes in
-    let of_room = subst (λ (k : Table g.row.V-Note.Denot g.row.G.Denot). Comes told registry_of passes alone (gather joints k.standing key (peer_at k.standing key)) k.work.world end v) c.self-2.view_is done in
-    let of_world = subst (λ (k : World g.row.V-Note.Denot g.row.G.Denot). let t = c.make_room.new.self.standing in Comes told registry_of passes alone (gather joints t key (peer_at t key)) k end v) c.make_room.ensures.world of_room in
-    subst (λ (t : Standing). Comes told registry_of passes alone (gather joints t key (peer_at t key)) c.args.self.now.work.world end v) c.make_room.ensures.standing of_world
+    let of_room = subst (λ (k : Table g.row.V-Note.Denot g.row.G.Denot). Comes told registry_of passes alone (gathering joints k.standing key (peer_at k.standing key)) k.work.world end v) c.self-2.view_is done in
+    let of_world = subst (λ (k : World g.row.V-Note.Denot g.row.G.Denot). let t = c.make_room.new.self.standing in Comes told registry_of passes alone (gathering joints t key (peer_at t key)) k end v) c.make_room.ensures.world of_room in
+    subst (λ (t : Standing). Comes told registry_of passes alone (gathering joints t key (peer_at t key)) c.args.self.now.work.world end v) c.make_room.ensures.standing of_world

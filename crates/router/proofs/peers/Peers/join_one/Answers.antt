@@ -5,7 +5,7 @@ use Rattle.router_core.specs.declared.joint.RuleCall.{RuleCall}
 use Rattle.router_core.specs.Events.{Gathered, done_for, joined}
 use Rattle.router_core.specs.Scripts.{Comes, and_then}
 use Rattle.router_core.specs.Standing.{Standing}
-use Rattle.router_core.specs.Together.{Joins, Parts, join}
+use Rattle.router_core.specs.Together.{Joins, Parts, joining}
 use Rattle.router_steps.proofs.Sequels.{comes_then}
 use Rattle.router_serving.specs.Joinings.{joining_of, parting_of}
 use Rattle.router_serving.specs.declared.joining.Joining.{Joining}
@@ -33,11 +33,11 @@ returns-in-Joins-clause-comes g c call is =
     let same : call ≡ c.rule_call_of.result = same_some call c.rule_call_of.result (sym is ∙ c.rule_call_of.ensures) in
     let all : c.push_reserved.new.joints.items ≡ joints ++ joint call ∷ [] = c.push_reserved.ensures.items ∙ ap (λ (r : RuleCall). joints ++ joint r ∷ []) (sym same) in
     let end : Gathered = record { joints = joints ++ joint call ∷ []; standing = s; served = true } in
-    let came = subst (λ (r : Joining). Comes told registry_of passes alone (join m conn call) w (joining_of m conn r) v) c.in-Joins.is (c.join.ensures.comes call is) in
-    let done = comes_then told registry_of passes alone (λ it. joined joints s (joint call) it) Joins v end v (refl, refl) (join m conn call) w came in
-    let kept = subst (λ (js : List Joint). let x : Gathered = record { joints = js; standing = s; served = true } in Comes told registry_of passes alone (and_then (join m conn call) (λ it. joined joints s (joint call) it)) w x v) (sym all) done in
+    let came = subst (λ (r : Joining). Comes told registry_of passes alone (joining m conn call) w (joining_of m conn r) v) c.in-Joins.is (c.join.ensures.comes call is) in
+    let done = comes_then told registry_of passes alone (λ it. joined joints s (joint call) it) Joins v end v (refl, refl) (joining m conn call) w came in
+    let kept = subst (λ (js : List Joint). let x : Gathered = record { joints = js; standing = s; served = true } in Comes told registry_of passes alone (and_then (joining m conn call) (λ it. joined joints s (joint call) it)) w x v) (sym all) done in
     subst
-    (λ (k : Table g.row.V-Note.Denot g.row.G.Denot). let x : Gathered = record { joints = c.push_reserved.new.joints.items; standing = s; served = true } in Comes told registry_of passes alone (and_then (join m conn call) (λ it. joined joints k.standing (joint call) it)) k.work.world x v)
+    (λ (k : Table g.row.V-Note.Denot g.row.G.Denot). let x : Gathered = record { joints = c.push_reserved.new.joints.items; standing = s; served = true } in Comes told registry_of passes alone (and_then (joining m conn call) (λ it. joined joints k.standing (joint call) it)) k.work.world x v)
     c.self.view_is kept
 
 pub returns-in-Parts-clause-comes : goal.returns-in-Parts-clause-comes
@@ -60,10 +60,10 @@ returns-in-Parts-clause-comes g c call is =
     let work = parting_of m conn c.in-Parts.parting in
     let joint : Joint = record { key = key; message = c.args.message; caller = conn; call = call } in
     let end : Gathered = record { joints = []; standing = u; served = true } in
-    let came = subst (λ (r : Joining). Comes told registry_of passes alone (join m conn call) w (joining_of m conn r) n) c.in-Parts.is (c.join.ensures.comes call is) in
+    let came = subst (λ (r : Joining). Comes told registry_of passes alone (joining m conn call) w (joining_of m conn r) n) c.in-Parts.is (c.join.ensures.comes call is) in
     let later = parts_from told registry_of passes alone joints s t u (λ (x : Standing). done_for x key work) n q v c.make_all.ensures.comes c.part_one.ensures.comes in
-    let done = comes_then told registry_of passes alone (λ it. joined joints s joint it) (Parts work) n end v later (join m conn call) w came in
-    let kept = subst (λ (js : List Joint). let x : Gathered = record { joints = js; standing = u; served = true } in Comes told registry_of passes alone (and_then (join m conn call) (λ it. joined joints s joint it)) w x v) (sym c.make_all.ensures.none) done in
+    let done = comes_then told registry_of passes alone (λ it. joined joints s joint it) (Parts work) n end v later (joining m conn call) w came in
+    let kept = subst (λ (js : List Joint). let x : Gathered = record { joints = js; standing = u; served = true } in Comes told registry_of passes alone (and_then (joining m conn call) (λ it. joined joints s joint it)) w x v) (sym c.make_all.ensures.none) done in
     subst
-    (λ (k : Table g.row.V-Note.Denot g.row.G.Denot). let x : Gathered = record { joints = c.make_all.new.joints.items; standing = u; served = true } in Comes told registry_of passes alone (and_then (join m conn call) (λ it. joined joints k.standing joint it)) k.work.world x v)
+    (λ (k : Table g.row.V-Note.Denot g.row.G.Denot). let x : Gathered = record { joints = c.make_all.new.joints.items; standing = u; served = true } in Comes told registry_of passes alone (and_then (joining m conn call) (λ it. joined joints k.standing joint it)) k.work.world x v)
     c.self.view_is kept

@@ -1,5 +1,5 @@
 use Rattle.std.proofs.Common.{subst}
-use Rattle.router_core.specs.Events.{leave}
+use Rattle.router_core.specs.Events.{leaving}
 use Rattle.router_core.specs.Scripts.{Comes}
 use Rattle.router_core.specs.Standing.{Standing}
 use Rattle.router.specs.Tables.{Table}
@@ -14,6 +14,6 @@ returns-clause-comes g c =
     let s : Standing = record { peers = c.self.inside.peers.items; due_leaves = c.self.inside.due_leaves.items; login = c.self.inside.login } in
     let t : Standing = record s { due_leaves = c.leave.new.leaves.items } in
     let v = c.leave.new.self.world in
-    let of_leaves = subst (λ leaves. Comes told registry_of passes alone (leave (record s { due_leaves = leaves }) c.args.number) c.reserve.new.self.world t v) c.reserve-2.ensures.items (c.leave.ensures.comes s) in
-    let made = subst (λ k. Comes told registry_of passes alone (leave s c.args.number) k t v) c.reserve.ensures.world of_leaves in
-    subst (λ (k : Table g.row.V-Note.Denot g.row.G.Denot). Comes told registry_of passes alone (leave k.standing c.args.number) k.work.world t v) c.self.view_is made
+    let of_leaves = subst (λ leaves. Comes told registry_of passes alone (leaving (record s { due_leaves = leaves }) c.args.number) c.reserve.new.self.world t v) c.reserve-2.ensures.items (c.leave.ensures.comes s) in
+    let made = subst (λ k. Comes told registry_of passes alone (leaving s c.args.number) k t v) c.reserve.ensures.world of_leaves in
+    subst (λ (k : Table g.row.V-Note.Denot g.row.G.Denot). Comes told registry_of passes alone (leaving k.standing c.args.number) k.work.world t v) c.self.view_is made

@@ -1,7 +1,7 @@
 use Rattle.std.proofs.Common.{true, List, subst}
 use Rattle.seq_bus_core.specs.declared.change.Change.{Change}
 use Rattle.router_core.specs.Answers.{Says, Refuses, refusal_of_batch}
-use Rattle.router_core.specs.Events.{make_if}
+use Rattle.router_core.specs.Events.{making_if}
 use Rattle.router_core.specs.Scripts.{ChangesAll, Comes}
 use Rattle.router.specs.Tables.{Table}
 use Rattle.router.proofs.Turnings.{replies_alone}
@@ -21,7 +21,7 @@ returns-in-Ok-clause-comes g c =
     let v = c.answer_each.new.self.work.world in
     let says = Says c.in-Ok.outcomes.items in
     let changed = subst (λ (cs : List Change). ChangesAll alone cs w says m) c.requires.changes c.in-Ok.ensures.changes in
-    subst (λ (k : Table g.row.V-Note.Denot g.row.G.Denot). Comes g.V.BusView.told g.V.BusView.registry_of g.G.Gate.passes alone (make_if joints k.standing true) k.work.world t v) c.self.view_is
+    subst (λ (k : Table g.row.V-Note.Denot g.row.G.Denot). Comes g.V.BusView.told g.V.BusView.registry_of g.G.Gate.passes alone (making_if joints k.standing true) k.work.world t v) c.self.view_is
     (says, m, changed, c.answer_each.ensures.comes)
 
 pub returns-clause-comes : goal.returns-clause-comes
@@ -34,5 +34,5 @@ returns-clause-comes g c =
     let v = c.make_each.new.self.work.world in
     let refused = Refuses (refusal_of_batch c.in-Err.field-0.cause) in
     let changed = subst (λ (cs : List Change). ChangesAll alone cs w refused m) c.requires.changes c.in-Err.ensures.changes in
-    subst (λ (k : Table g.row.V-Note.Denot g.row.G.Denot). Comes g.V.BusView.told g.V.BusView.registry_of g.G.Gate.passes alone (make_if joints k.standing true) k.work.world t v) c.self.view_is
+    subst (λ (k : Table g.row.V-Note.Denot g.row.G.Denot). Comes g.V.BusView.told g.V.BusView.registry_of g.G.Gate.passes alone (making_if joints k.standing true) k.work.world t v) c.self.view_is
     (refused, m, changed, c.make_each.ensures.comes)

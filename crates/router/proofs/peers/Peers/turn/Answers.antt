@@ -1,7 +1,7 @@
 use Rattle.std.proofs.Common.{◌≡◌, ◌<◌, ◌+◌, [], ℕ, Bool, false, ◌||◌, OnOk, OnErr, List, length, drop, sym, ap, ◌∙◌, subst, arith}
 use Rattle.std.proofs.lemmas.List.{drop_all}
 use Rattle.router_core.specs.declared.joint.Joint.{Joint}
-use Rattle.router_core.specs.Events.{Gathered, make_all, turn}
+use Rattle.router_core.specs.Events.{Gathered, making_all, turning}
 use Rattle.router_core.specs.Scripts.{Comes}
 use Rattle.router_core.specs.Standing.{Standing}
 use Rattle.router_steps.specs.Work.{Work}
@@ -36,7 +36,7 @@ loop-key-preserved g c =
       comes = λ end v later.
           at.invariant.comes end v
           (turns_more told registry_of passes alone keys at.key-index inside at.begun at.joints.items at.self.standing end after at.self.work.world m v c.in-Ok.ensures.comes
-          (subst (λ (b : Bool). Comes told registry_of passes alone (turn after.joints (drop (at.key-index + 1) keys) b after.standing) m end v) both later));
+          (subst (λ (b : Bool). Comes told registry_of passes alone (turning after.joints (drop (at.key-index + 1) keys) b after.standing) m end v) both later));
     }
 
 pub returns-in-Err-clause-comes : goal.returns-in-Err-clause-comes
@@ -53,10 +53,10 @@ returns-in-Err-clause-comes g c =
     elim c.if-begun-2.branch [
       | then-begun-2 w ↦
           let ended = turns_end told registry_of passes alone keys at.key-index inside at.joints.items at.self.standing end at.self.work.world v c.in-Err.ensures.refused in
-          let here = subst (λ (b : Bool). Comes told registry_of passes alone (turn at.joints.items (drop at.key-index keys) b at.self.standing) at.self.work.world end v) (sym w.if-begun-2.true) ended in
-          let of_work = subst (λ (k : Work g.row.V-Note.Denot g.row.G.Denot). Comes told registry_of passes alone (turn [] keys false c.read_ahead.new.self.standing) k.world end v) c.read_ahead.ensures.work (at.invariant.comes end v here) in
-          on_ok c.if-begun-2.result (subst (λ (s : Standing). Comes told registry_of passes alone (turn [] keys false s) c.args.self.now.work.world end v) c.read_ahead.ensures.standing of_work)
-      | else-begun-2 w ↦ subst (λ r. OnOk r (Comes told registry_of passes alone (turn [] keys false c.args.self.now.standing) c.args.self.now.work.world end v)) (sym w.result-is) tt
+          let here = subst (λ (b : Bool). Comes told registry_of passes alone (turning at.joints.items (drop at.key-index keys) b at.self.standing) at.self.work.world end v) (sym w.if-begun-2.true) ended in
+          let of_work = subst (λ (k : Work g.row.V-Note.Denot g.row.G.Denot). Comes told registry_of passes alone (turning [] keys false c.read_ahead.new.self.standing) k.world end v) c.read_ahead.ensures.work (at.invariant.comes end v here) in
+          on_ok c.if-begun-2.result (subst (λ (s : Standing). Comes told registry_of passes alone (turning [] keys false s) c.args.self.now.work.world end v) c.read_ahead.ensures.standing of_work)
+      | else-begun-2 w ↦ subst (λ r. OnOk r (Comes told registry_of passes alone (turning [] keys false c.args.self.now.standing) c.args.self.now.work.world end v)) (sym w.result-is) tt
     ]
 
 pub returns-in-Err-clause-err : goal.returns-in-Err-clause-err
@@ -68,7 +68,7 @@ returns-in-Err-clause-err g c =
       | then-begun-2 w ↦ subst (λ r. OnErr r (end ≡ c.args.self.now.standing)) (sym w.result-is) tt
       | else-begun-2 w ↦
           let made : (end ≡ at.self.standing) × (v ≡ at.self.work.world) =
-          subst (λ (js : List Joint). Comes g.V.BusView.told g.V.BusView.registry_of g.G.Gate.passes g.V.BusView.alone (make_all js at.self.standing) at.self.work.world end v) (at.invariant.joints w.if-begun-2.false) c.in-Err.ensures.refused in
+          subst (λ (js : List Joint). Comes g.V.BusView.told g.V.BusView.registry_of g.G.Gate.passes g.V.BusView.alone (making_all js at.self.standing) at.self.work.world end v) (at.invariant.joints w.if-begun-2.false) c.in-Err.ensures.refused in
           on_err c.if-begun-2.result (made.0 ∙ at.invariant.standing w.if-begun-2.false ∙ c.read_ahead.ensures.standing)
     ]
 
@@ -81,7 +81,7 @@ returns-in-Err-clause-world g c =
       | then-begun-2 w ↦ subst (λ r. OnErr r (v ≡ c.args.self.now.work.world)) (sym w.result-is) tt
       | else-begun-2 w ↦
           let made : (end ≡ at.self.standing) × (v ≡ at.self.work.world) =
-          subst (λ (js : List Joint). Comes g.V.BusView.told g.V.BusView.registry_of g.G.Gate.passes g.V.BusView.alone (make_all js at.self.standing) at.self.work.world end v) (at.invariant.joints w.if-begun-2.false) c.in-Err.ensures.refused in
+          subst (λ (js : List Joint). Comes g.V.BusView.told g.V.BusView.registry_of g.G.Gate.passes g.V.BusView.alone (making_all js at.self.standing) at.self.work.world end v) (at.invariant.joints w.if-begun-2.false) c.in-Err.ensures.refused in
           on_err c.if-begun-2.result (made.1 ∙ at.invariant.world w.if-begun-2.false ∙ ap (λ (k : Work g.row.V-Note.Denot g.row.G.Denot). k.world) c.read_ahead.ensures.work)
     ]
 
@@ -96,6 +96,6 @@ returns-clause-comes g c =
     let end = c.make_all.new.self.standing in
     let v = c.make_all.new.self.work.world in
     let none : drop at.key-index keys ≡ [] = drop_all at.key-index keys (omega arith) in
-    let last = subst (λ (ks : List ℕ). Comes told registry_of passes alone (turn at.joints.items ks at.begun at.self.standing) at.self.work.world end v) (sym none) c.make_all.ensures.comes in
-    let of_work = subst (λ (k : Work g.row.V-Note.Denot g.row.G.Denot). Comes told registry_of passes alone (turn [] keys false c.read_ahead.new.self.standing) k.world end v) c.read_ahead.ensures.work (at.invariant.comes end v last) in
-    subst (λ (s : Standing). Comes told registry_of passes alone (turn [] keys false s) c.args.self.now.work.world end v) c.read_ahead.ensures.standing of_work
+    let last = subst (λ (ks : List ℕ). Comes told registry_of passes alone (turning at.joints.items ks at.begun at.self.standing) at.self.work.world end v) (sym none) c.make_all.ensures.comes in
+    let of_work = subst (λ (k : Work g.row.V-Note.Denot g.row.G.Denot). Comes told registry_of passes alone (turning [] keys false c.read_ahead.new.self.standing) k.world end v) c.read_ahead.ensures.work (at.invariant.comes end v last) in
+    subst (λ (s : Standing). Comes told registry_of passes alone (turning [] keys false s) c.args.self.now.work.world end v) c.read_ahead.ensures.standing of_work

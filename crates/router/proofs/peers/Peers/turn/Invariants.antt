@@ -1,5 +1,5 @@
 use Rattle.std.proofs.Common.{◌≡◌, ◌*◌, ◌≤◌, Bool, false, [], length, drop, vec_capacity}
-use Rattle.router_core.specs.Events.{turn}
+use Rattle.router_core.specs.Events.{turning}
 use Rattle.router_core.specs.Scripts.{World, Comes}
 use Rattle.router_core.specs.Standing.{Standing}
 use Rattle.router.proofs.peers.Peers.turn.Given as goal
@@ -14,6 +14,6 @@ invariant-loop-key g l = record {
   standing : l.begun ≡ false → l.self.standing ≡ l.initial.self.standing;
   world : l.begun ≡ false → l.self.work.world ≡ l.initial.self.work.world;
   comes : (end : Standing) (v : World g.row.V-Note.Denot g.row.G.Denot) →
-      Comes g.V.BusView.told g.V.BusView.registry_of g.G.Gate.passes g.V.BusView.alone (turn l.joints.items (drop l.key-index l.keys) l.begun l.self.standing) l.self.work.world end v →
-      Comes g.V.BusView.told g.V.BusView.registry_of g.G.Gate.passes g.V.BusView.alone (turn [] l.keys false l.initial.self.standing) l.initial.self.work.world end v;
+      Comes g.V.BusView.told g.V.BusView.registry_of g.G.Gate.passes g.V.BusView.alone (turning l.joints.items (drop l.key-index l.keys) l.begun l.self.standing) l.self.work.world end v →
+      Comes g.V.BusView.told g.V.BusView.registry_of g.G.Gate.passes g.V.BusView.alone (turning [] l.keys false l.initial.self.standing) l.initial.self.work.world end v;
 }

@@ -4,7 +4,7 @@ use Rattle.message_core.specs.Said.{said}
 use Rattle.outbox_core.specs.Contents.{UniqueName}
 use Rattle.router_core.specs.Events.{welcome}
 use Rattle.router_core.specs.Scripts.{Gives, Announcing, RunsTo}
-use Rattle.router_core.specs.Serving.{reply_with}
+use Rattle.router_core.specs.Serving.{replying}
 use Rattle.router_core.specs.Standing.{Peer, Standing, Named, peer_at, with_peer}
 use Rattle.router_steps.proofs.Sequels.{comes_then}
 use Rattle.router.specs.Tables.{Table}
@@ -40,7 +40,7 @@ returns g c p is =
     let v = c.announce.new.self.world in
     let done =
     comes_then g.V.BusView.told g.V.BusView.registry_of g.G.Gate.passes g.V.BusView.alone (λ (done : Unit {0}). Announcing o.signals (Gives (with_peer s key (Some named)))) tt c.reply_with.new.self.world (with_peer s key (Some named)) v (v, c.announce.ensures.announces, (refl, refl))
-    (reply_with m conn (UniqueName conn.number)) w c.reply_with.ensures.comes
+    (replying m conn (UniqueName conn.number)) w c.reply_with.ensures.comes
     in
     subst (λ (k : Table g.row.V-Note.Denot g.row.G.Denot). RunsTo g.V.BusView g.G.Gate (welcome key m p o conn k.standing) k.work.world (with_peer s key c.name_in.new.entry) v) c.self.view_is
     (subst (λ (q : Option Peer). RunsTo g.V.BusView g.G.Gate (welcome key m p o conn s) w (with_peer s key q) v) (sym (c.name_in.ensures p (there ∙ here))) done)

@@ -1,6 +1,6 @@
 use Rattle.std.proofs.Common.{◌+◌, ◌*◌, ◌≤◌, [], drop, vec_len, vec_capacity}
 use Rattle.seq_bus_core.specs.Batches.{max_batch}
-use Rattle.router_core.specs.Events.{leave_by}
+use Rattle.router_core.specs.Events.{leaving_by}
 use Rattle.router_core.specs.Scripts.{World, Comes}
 use Rattle.router_core.specs.Standing.{Standing}
 use Rattle.router_steps.specs.Parts.{part}
@@ -14,6 +14,6 @@ invariant-loop-place g l = record {
   len : vec_len l.leaves ≤ vec_len l.initial.leaves + l.start;
   capacity : vec_capacity l.initial.leaves ≤ vec_capacity l.leaves;
   comes : (s : Standing) (end : Standing) (v : World g.row.V-Note.Denot g.row.G.Denot) →
-      Comes g.V.BusView.told g.V.BusView.registry_of g.G.Gate.passes g.V.BusView.alone (leave_by (part l.numbers l.start l.place) (drop l.place l.numbers) (record s { due_leaves = l.leaves.items })) l.self.world end v →
-      Comes g.V.BusView.told g.V.BusView.registry_of g.G.Gate.passes g.V.BusView.alone (leave_by [] l.numbers (record s { due_leaves = l.initial.leaves.items })) l.initial.self.world end v;
+      Comes g.V.BusView.told g.V.BusView.registry_of g.G.Gate.passes g.V.BusView.alone (leaving_by (part l.numbers l.start l.place) (drop l.place l.numbers) (record s { due_leaves = l.leaves.items })) l.self.world end v →
+      Comes g.V.BusView.told g.V.BusView.registry_of g.G.Gate.passes g.V.BusView.alone (leaving_by [] l.numbers (record s { due_leaves = l.initial.leaves.items })) l.initial.self.world end v;
 }

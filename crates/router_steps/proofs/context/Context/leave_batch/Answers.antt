@@ -3,7 +3,7 @@ use Rattle.std.proofs.lemmas.List.{length-map}
 use Rattle.seq_bus_core.specs.declared.change.Change.{Change}
 use Rattle.seq_bus_core.specs.declared.change.Change.TheVariants.{Leave}
 use Rattle.router_core.specs.Answers.{Says, Refuses, refusal_of_batch}
-use Rattle.router_core.specs.Events.{announce_all}
+use Rattle.router_core.specs.Events.{announcing_all}
 use Rattle.router_core.specs.Scripts.{Gives, ChangesAll}
 use Rattle.router_core.specs.Standing.{Standing}
 use Rattle.router_steps.proofs.Gathering.{as_many}
@@ -27,7 +27,7 @@ returns-in-Ok-clause-comes g c s =
       c.change_all.new.self.world,
       subst (λ (cs : List Change). ChangesAll alone cs c.args.self.now.world (Says c.in-Ok.outcomes.items) c.change_all.new.self.world) c.requires.leaves c.in-Ok.ensures.changes,
       comes_then told registry_of passes alone (λ done. Gives kept) tt c.announce_all.new.self.world kept c.announce_all.new.self.world (refl, refl)
-          (announce_all c.in-Ok.outcomes.items) c.change_all.new.self.world c.announce_all.ensures.comes,
+          (announcing_all c.in-Ok.outcomes.items) c.change_all.new.self.world c.announce_all.ensures.comes,
     )
 
 pub returns-in-Ok-clause-room : goal.returns-in-Ok-clause-room

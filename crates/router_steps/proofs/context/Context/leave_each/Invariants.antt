@@ -1,5 +1,5 @@
 use Rattle.std.proofs.Common.{◌+◌, ◌*◌, ◌≤◌, length, drop, vec_len, vec_capacity}
-use Rattle.router_core.specs.Events.{leave_each}
+use Rattle.router_core.specs.Events.{leaving_each}
 use Rattle.router_core.specs.Scripts.{World, Comes}
 use Rattle.router_core.specs.Standing.{Standing}
 use Rattle.router_steps.proofs.context.Context.leave_each.Given as goal
@@ -11,6 +11,6 @@ invariant-loop-number g l = record {
   len : vec_len l.leaves ≤ vec_len l.initial.leaves + l.number-index;
   capacity : vec_capacity l.initial.leaves ≤ vec_capacity l.leaves;
   comes : (s : Standing) (end : Standing) (v : World g.row.V-Note.Denot g.row.G.Denot) →
-      Comes g.V.BusView.told g.V.BusView.registry_of g.G.Gate.passes g.V.BusView.alone (leave_each (drop l.number-index l.numbers) (record s { due_leaves = l.leaves.items })) l.self.world end v →
-      Comes g.V.BusView.told g.V.BusView.registry_of g.G.Gate.passes g.V.BusView.alone (leave_each l.numbers (record s { due_leaves = l.initial.leaves.items })) l.initial.self.world end v;
+      Comes g.V.BusView.told g.V.BusView.registry_of g.G.Gate.passes g.V.BusView.alone (leaving_each (drop l.number-index l.numbers) (record s { due_leaves = l.leaves.items })) l.self.world end v →
+      Comes g.V.BusView.told g.V.BusView.registry_of g.G.Gate.passes g.V.BusView.alone (leaving_each l.numbers (record s { due_leaves = l.initial.leaves.items })) l.initial.self.world end v;
 }

@@ -3,7 +3,7 @@ use Rattle.std.proofs.lemmas.List.{nil_from_length}
 use Rattle.std.specs.Vec.Iter.{into_iter_items}
 use Rattle.seq_bus_core.specs.declared.ticket.SettledTicket.{SettledTicket}
 use Rattle.router_core.specs.Scripts.{Comes}
-use Rattle.router_core.specs.Serving.{release_all}
+use Rattle.router_core.specs.Serving.{releasing_all}
 use Rattle.router_steps.proofs.Rounds.{releases_more}
 use Rattle.router_steps.proofs.context.Context.release_all.Goals as goal
 
@@ -28,5 +28,5 @@ returns-clause-comes g c =
     let at = c.loop-settled in
     let none : length (into_iter_items at.settled-iterator) ≡ 0 = sym at.settled-iterator.rest.ok.0 ∙ c.in-None.ensures.steps.0 in
     let empty : into_iter_items at.settled-iterator ≡ [] = nil_from_length _ none in
-    let done = at.invariant.comes at.self.world (subst (λ (ts : List SettledTicket). Comes told registry_of passes alone (release_all c.args.owner ts) at.self.world tt at.self.world) (sym empty) (refl, refl)) in
-    subst (λ (ts : List SettledTicket). Comes told registry_of passes alone (release_all c.args.owner ts) c.args.self.now.world tt at.self.world) c.into_iter-settled-iterator.ensures.into_iter_gives.0 done
+    let done = at.invariant.comes at.self.world (subst (λ (ts : List SettledTicket). Comes told registry_of passes alone (releasing_all c.args.owner ts) at.self.world tt at.self.world) (sym empty) (refl, refl)) in
+    subst (λ (ts : List SettledTicket). Comes told registry_of passes alone (releasing_all c.args.owner ts) c.args.self.now.world tt at.self.world) c.into_iter-settled-iterator.ensures.into_iter_gives.0 done
