@@ -12,7 +12,8 @@
 //! use seq_bus_core::Change;
 //! use std::alloc::{AllocError, Global};
 //!
-//! /// Router 1 publishes a Hello. Router 2 takes its note, and is then told that the connection is there.
+//! /// Router 1 publishes a Hello. Router 2 takes its note, and is then told that the connection is
+//! /// there.
 //! fn hello_is_seen(alloc: Global) -> Result<Vec<Step<'static>>, AllocError> {
 //!     let hello = Change::Hello { privileged: false };
 //!     let publish = Step::Publish {

@@ -37,7 +37,8 @@
 //! use router_core::Gate;
 //! use router_laws::runs::runs_agree;
 //!
-//! /// A bus may be run once more behind the same gate: where nothing is refused, the same is written.
+//! /// A bus may be run once more behind the same gate: where nothing is refused, the same is
+//! /// written.
 //! fn may_be_run_again<G: Gate>()
 //!     ensures { RunsAgree G.passes G.passes }
 //! {

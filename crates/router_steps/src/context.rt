@@ -228,8 +228,8 @@ impl<V: BusView, G: Gate> Context<V, G> {
     pub fn put_to(&mut self, verdict: Box<Verdict>, content: Content)
         requires { 0 < self.old.room }
         ensures comes { RunsTo V.BusView G.Gate
-            (putting (deliveries_of verdict.value.to verdict.value.monitors) (said_of content) nothing)
-            self.old.world tt self.new.world }
+            (putting (deliveries_of verdict.value.to verdict.value.monitors) (said_of content)
+            nothing) self.old.world tt self.new.world }
         ensures room { self.old.room ≤ self.new.room + 1 }
         ensures spare_verdicts { self.old.spare_verdicts ≤ self.new.spare_verdicts }
     {

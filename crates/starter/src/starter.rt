@@ -62,8 +62,8 @@ fn end_of(change: &Change) -> Option<StartEnd>
 }
 
 impl<V: BusView + Drop, P: Post<V>, S: Socket, Q: Programs + Drop> Starter<V, OpenGate, P, S, Q> {
-    /// A starter over a view of the bus, which tells it by a host without connections. There is none
-    /// where there is no memory for it.
+    /// A starter over a view of the bus, which tells it by a host without connections. There is
+    /// none where there is no memory for it.
     pub fn over(alloc: Global, view: V, post: P, programs: Q) -> Option<Self>
         requires { P.registry post ≡ (V.knows view).registry }
         ensures { IfSome result (λ starter. starter.host.carried.post ≡ post) }
