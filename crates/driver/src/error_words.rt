@@ -1,13 +1,13 @@
 //! The names of the errors of the bus, and the texts that they carry.
 
 ghost use Rattle.std.specs.Prelude.{◌≡◌};
-ghost use Rattle.driver.specs.Errors.{error_name as name_of, error_text as text_of};
+ghost use Rattle.driver.specs.Errors.{error_name, error_text};
 
 use seq_bus_core::ErrorKind;
 
 /// The name of an error ("Error names" and "Message Bus Messages" of the D-Bus Specification).
 pub fn error_name(kind: ErrorKind) -> &'static str
-    ensures { result.now ≡ name_of kind }
+    ensures { result.now ≡ error_name kind }
 {
     match kind {
         ErrorKind::Failed => "org.freedesktop.DBus.Error.Failed",
@@ -30,7 +30,7 @@ pub fn error_name(kind: ErrorKind) -> &'static str
 
 /// The text that an error carries, which is this bus's own.
 pub fn error_text(kind: ErrorKind) -> &'static str
-    ensures { result.now ≡ text_of kind }
+    ensures { result.now ≡ error_text kind }
 {
     match kind {
         ErrorKind::Failed => "Not possible here",

@@ -2,7 +2,7 @@
 
 ghost use Rattle.std.specs.Prelude.{◌≡◌, ◌+◌, ◌^◌, ◌<◌, ◌≤◌, length, nat_lt, Ok, Err, IfOk, MatchResult, if◌then◌else◌};
 ghost use Rattle.message.specs.declared.fault.RelayFault.TheVariants.{TooLong};
-ghost use Rattle.message.specs.Layout.{AreWithin, count_below as below, behind as place_behind, fields_end as end_of, last_end, known_places, before_sender, after_sender, before_end, sender_end, sent_end};
+ghost use Rattle.message.specs.Layout.{AreWithin, count_below, behind, fields_end, last_end, known_places, before_sender, after_sender, before_end, sender_end, sent_end};
 
 use crate::fault::RelayFault;
 use message_core::in_room::gap;
@@ -14,14 +14,14 @@ const FIRST_UNKNOWN: u8 = 10;
 /// The place behind a text of so many bytes that is put at the next multiple of eight.
 pub fn behind(at: usize, length: usize) -> usize
     requires { at + 8 + length < 2 ^ 64 }
-    ensures { result ≡ place_behind at length }
+    ensures { result ≡ behind at length }
 {
     at + gap(at) + length
 }
 
 /// How many of the places come before the first of a code that is not below this one.
 pub fn count_below(places: &[FieldPlace], code: u8) -> usize
-    ensures value { result ≡ below code places.now }
+    ensures value { result ≡ count_below code places.now }
     ensures within { result ≤ length places.now }
 {
     let mut index = 0;
@@ -40,8 +40,8 @@ pub fn fields_end(at: usize, fields: &[FieldPlace]) -> Result<usize, RelayFault>
     requires begins { at < 2 ^ 34 }
     requires within { AreWithin (2 ^ 33) fields.now }
     ensures { result
-        ≡ (if nat_lt last_end (end_of at fields.now) then Err TooLong else Ok
-        (end_of at fields.now)) }
+        ≡ (if nat_lt last_end (fields_end at fields.now) then Err TooLong else Ok
+        (fields_end at fields.now)) }
 {
     let mut end = at;
     for field in fields {

@@ -2,7 +2,7 @@
 
 ghost use Rattle.std.specs.Prelude.{◌≡◌, ◌+◌, ◌++◌, ◌^◌, ◌<◌, ◌≤◌, length, vec_capacity};
 ghost use Rattle.marshal_core.specs.Spelling.{pad_len, pads};
-ghost use Rattle.message.specs.Layout.{AreWithin, fields_end as end_of, copied, sender_bytes};
+ghost use Rattle.message.specs.Layout.{AreWithin, fields_end, copied, sender_bytes};
 
 use crate::layout::behind;
 use marshal_core::Order;
@@ -12,8 +12,9 @@ use message_core::{FieldPlace, HeaderField};
 /// Puts the fields at these places of a message one after the other, the first from a place on.
 pub fn put_fields(output: &mut Vec<u8>, bytes: &[u8], fields: &[FieldPlace], at: usize)
     requires within { AreWithin (length bytes.now) fields.now }
-    requires small { end_of at fields.now < 2 ^ 63 }
-    requires room { length output.old.items + end_of at fields.now ≤ vec_capacity output.old + at }
+    requires small { fields_end at fields.now < 2 ^ 63 }
+    requires room { length output.old.items + fields_end at fields.now
+        ≤ vec_capacity output.old + at }
     ensures items { output.new.items ≡ output.old.items ++ copied bytes.now at fields.now }
     ensures capacity { vec_capacity output.old ≤ vec_capacity output.new }
 {

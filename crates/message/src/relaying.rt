@@ -10,7 +10,7 @@ ghost use Rattle.message.specs.declared.fault.RelayFault.TheVariants.{TooLong, N
 ghost use Rattle.message.specs.MessageBytes.{message_bytes, is_too_long};
 ghost use Rattle.message_core.specs.Announcements.{max_message_length};
 ghost use Rattle.message.specs.Senders.{sent_by};
-ghost use Rattle.message.specs.Layout.{AreWithin, behind as place_behind, fields_end as end_of, copied, sender_bytes, last_end};
+ghost use Rattle.message.specs.Layout.{AreWithin, behind, fields_end, copied, sender_bytes, last_end};
 
 use crate::fault::RelayFault;
 use crate::layout::{Layout, behind, fields_end, layout_of};
@@ -26,8 +26,8 @@ fn whole_length(end: usize, body: usize) -> Result<usize, RelayFault>
     requires begins { end ≤ last_end }
     requires small { body < 2 ^ 33 }
     ensures { result
-        ≡ (if nat_lt max_message_length (place_behind end body) then Err TooLong else Ok
-        (place_behind end body)) }
+        ≡ (if nat_lt max_message_length (behind end body) then Err TooLong else Ok
+        (behind end body)) }
 {
     let length = behind(end, body);
     if length > MAXIMUM_LENGTH {
@@ -41,11 +41,11 @@ fn make_room(output: &mut Vec<u8>, end: usize, body: usize) -> Result<(), RelayF
     requires begins { end ≤ last_end }
     requires small { body < 2 ^ 33 }
     ensures kept { output.new.items ≡ output.old.items }
-    ensures room { OnOk result (length output.old.items + place_behind end body
+    ensures room { OnOk result (length output.old.items + behind end body
         ≤ vec_capacity output.new) }
-    ensures too_long { IsErrOf result TooLong ↔ (max_message_length < place_behind end body) }
+    ensures too_long { IsErrOf result TooLong ↔ (max_message_length < behind end body) }
     ensures memory { IsErrOf result NoMemory
-        → vec_capacity output.old < length output.old.items + place_behind end body }
+        → vec_capacity output.old < length output.old.items + behind end body }
 {
     let length = whole_length(end, body)?;
     output.reserve(length)?;
@@ -87,9 +87,9 @@ fn put_sent_fields(
 )
     requires before { AreWithin (length bytes.now) layout.now.before.now }
     requires after { AreWithin (length bytes.now) layout.now.after.now }
-    requires sender_place { layout.now.sender ≡ end_of 16 layout.now.before.now }
-    requires next_place { layout.now.next ≡ place_behind layout.now.sender (9 + length name.now) }
-    requires end_place { layout.now.end ≡ end_of layout.now.next layout.now.after.now }
+    requires sender_place { layout.now.sender ≡ fields_end 16 layout.now.before.now }
+    requires next_place { layout.now.next ≡ behind layout.now.sender (9 + length name.now) }
+    requires end_place { layout.now.end ≡ fields_end layout.now.next layout.now.after.now }
     requires small { layout.now.end ≤ last_end }
     requires short { length name.now ≤ 255 }
     requires room { length output.old.items + layout.now.end ≤ vec_capacity output.old + 16 }

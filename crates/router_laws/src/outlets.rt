@@ -1,7 +1,7 @@
 //! The bytes that go to each connection.
 
 ghost use Rattle.std.specs.Prelude.{◌≡◌, ◌++◌, map, OnOk, IfOk};
-ghost use Rattle.router_core.specs.OneThread.{bytes_if, opening_of as opening_in};
+ghost use Rattle.router_core.specs.OneThread.{bytes_if, opening_of};
 ghost use Rattle.router_laws.specs.Outputs.{Adds, bytes_by, bytes_by_all, met, no_output};
 ghost use Rattle.router_laws.specs.Runs.{happening};
 
@@ -73,7 +73,7 @@ impl Outlets {
 
     /// Which of all connections has the key, from 1; 0 where none has it.
     fn opening_of(&self, key: usize) -> usize
-        ensures { result ≡ opening_in key self.now.keys }
+        ensures { result ≡ opening_of key self.now.keys }
     {
         let mut opening = 0;
         for (place, outlet) in self.outlets.iter().enumerate() {
@@ -87,7 +87,7 @@ impl Outlets {
     /// Bytes go to the connection that has the key.
     fn write(&mut self, key: usize, bytes: &[u8]) -> Result<(), AllocError>
         ensures { OnOk result
-            (Adds self.old (λ opening. bytes_if opening (opening_in key self.old.keys) bytes.now)
+            (Adds self.old (λ opening. bytes_if opening (opening_of key self.old.keys) bytes.now)
             self.new) }
     {
         let opening = self.opening_of(key);

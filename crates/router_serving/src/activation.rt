@@ -8,7 +8,7 @@ ghost use Rattle.message_core.specs.declared.header_field.HeaderField.TheVariant
 ghost use Rattle.message.specs.MessageBytes.{message_bytes};
 ghost use Rattle.router_core.specs.Answers.{Says};
 ghost use Rattle.router_core.specs.Scripts.{RunsTo};
-ghost use Rattle.router_core.specs.Serving.{held as held_in, holding, hold_if, signed, waiting_call as waiting_call_in};
+ghost use Rattle.router_core.specs.Serving.{held as held_in, holding, hold_if, signed, waiting_call};
 
 use crate::calls::{error_for, refuse};
 use bus_view::BusView;
@@ -22,7 +22,7 @@ use std::alloc::{AllocError, Global};
 
 /// What is needed to reply to a call that waits.
 pub(crate) fn waiting_call(message: &Message) -> CallHead
-    ensures { result ≡ waiting_call_in (said message.now) }
+    ensures { result ≡ waiting_call (said message.now) }
 {
     let _bytes = message.as_bytes();
     CallHead {

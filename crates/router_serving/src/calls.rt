@@ -7,9 +7,9 @@ ghost use Rattle.seq_bus_core.specs.Answers.{Answer};
 ghost use Rattle.router_core.specs.declared.limits.TheConstants.{MAX_EFFECTS};
 ghost use Rattle.driver.specs.declared.call.Call.TheVariants.{RequestName, ReleaseName, AddMatch, RemoveMatch};
 ghost use Rattle.outbox_core.specs.Answers.{IsAnswerTo};
-ghost use Rattle.router_core.specs.Answers.{Says, error_for as error_for_refusal, refusal_of, unanswered_for};
+ghost use Rattle.router_core.specs.Answers.{Says, error_for, refusal_of, unanswered_for};
 ghost use Rattle.router_core.specs.Scripts.{RunsTo};
-ghost use Rattle.router_core.specs.Serving.{Asks, Makes, and_stays, answered, answer_told as answer_told_in, erring, made as made_in, request_of as request_in, serving_bus, serving_call, serving_reading, serving_request, telling_change};
+ghost use Rattle.router_core.specs.Serving.{Asks, Makes, and_stays, answered, answer_told, erring, made, request_of, serving_bus, serving_call, serving_reading, serving_request, telling_change};
 ghost use Rattle.router_steps.specs.Carrying.{answer_of};
 ghost use Rattle.router_steps.specs.Hearing.{heard_change};
 
@@ -30,7 +30,7 @@ use std::sync::Arc;
 
 /// What the call is answered that asked for a change, where the bus replied so.
 pub(crate) fn answer_told(reply: Reply) -> Result<ReplyContent, ErrorKind>
-    ensures { answer_of result ≡ answer_told_in reply }
+    ensures { answer_of result ≡ answer_told reply }
 {
     match reply {
         Reply::Done => Ok(ReplyContent::Empty),
@@ -51,7 +51,7 @@ pub(crate) fn answer_told(reply: Reply) -> Result<ReplyContent, ErrorKind>
 
 /// The error for a change that was refused.
 pub(crate) fn error_for(cause: Cause) -> ErrorKind
-    ensures { result ≡ error_for_refusal (refusal_of cause) }
+    ensures { result ≡ error_for (refusal_of cause) }
 {
     match cause {
         Cause::NoMemory => ErrorKind::NoMemory,
@@ -63,7 +63,7 @@ pub(crate) fn error_for(cause: Cause) -> ErrorKind
 
 /// The error for a query that was not answered.
 fn error_unanswered(fault: AskFault) -> ErrorKind
-    ensures { result ≡ error_for_refusal (unanswered_for fault) }
+    ensures { result ≡ error_for (unanswered_for fault) }
 {
     match fault {
         AskFault::NoMemory => ErrorKind::NoMemory,
@@ -117,7 +117,7 @@ fn made_by<V: BusView, G: Gate>(
 ) -> PeerFate
     requires room { length outcome.signals + length outcome.tickets < context.old.room }
     requires spare_verdicts { 0 < context.old.spare_verdicts }
-    ensures comes { RunsTo V.BusView G.Gate (made_in (said call.now) caller (Says outcome))
+    ensures comes { RunsTo V.BusView G.Gate (made (said call.now) caller (Says outcome))
         context.old.world result context.new.world }
     ensures room { context.old.room
         ≤ context.new.room + length outcome.signals + length outcome.tickets + 1 }
@@ -141,7 +141,7 @@ fn made<V: BusView, G: Gate>(
     requires room { MAX_EFFECTS < context.old.room }
     requires spare_verdicts { 0 < context.old.spare_verdicts }
     requires few { IfOk told IsBounded }
-    ensures comes { RunsTo V.BusView G.Gate (made_in (said call.now) caller (heard_change told))
+    ensures comes { RunsTo V.BusView G.Gate (made (said call.now) caller (heard_change told))
         context.old.world result context.new.world }
     ensures room { context.old.room ≤ context.new.room + MAX_EFFECTS + 1 }
 {
@@ -239,7 +239,7 @@ fn request_name<V: BusView, G: Gate>(
     requires spare_verdicts { 0 < context.old.spare_verdicts }
     ensures comes { RunsTo V.BusView G.Gate
         (serving_request (said call.now) caller
-        (request_in caller.number (RequestName name.now flags)))
+        (request_of caller.number (RequestName name.now flags)))
         context.old.world result context.new.world }
     ensures room { context.old.room ≤ context.new.room + MAX_EFFECTS + 1 }
 {
@@ -262,7 +262,7 @@ fn release_name<V: BusView, G: Gate>(
     requires room { MAX_EFFECTS < context.old.room }
     requires spare_verdicts { 0 < context.old.spare_verdicts }
     ensures comes { RunsTo V.BusView G.Gate
-        (serving_request (said call.now) caller (request_in caller.number (ReleaseName name.now)))
+        (serving_request (said call.now) caller (request_of caller.number (ReleaseName name.now)))
         context.old.world result context.new.world }
     ensures room { context.old.room ≤ context.new.room + MAX_EFFECTS + 1 }
 {
@@ -284,7 +284,7 @@ fn add_match<V: BusView, G: Gate>(
     requires room { MAX_EFFECTS < context.old.room }
     requires spare_verdicts { 0 < context.old.spare_verdicts }
     ensures comes { RunsTo V.BusView G.Gate
-        (serving_request (said call.now) caller (request_in caller.number (AddMatch rule.now)))
+        (serving_request (said call.now) caller (request_of caller.number (AddMatch rule.now)))
         context.old.world result context.new.world }
     ensures room { context.old.room ≤ context.new.room + MAX_EFFECTS + 1 }
 {
@@ -306,7 +306,7 @@ fn remove_match<V: BusView, G: Gate>(
     requires room { MAX_EFFECTS < context.old.room }
     requires spare_verdicts { 0 < context.old.spare_verdicts }
     ensures comes { RunsTo V.BusView G.Gate
-        (serving_request (said call.now) caller (request_in caller.number (RemoveMatch rule.now)))
+        (serving_request (said call.now) caller (request_of caller.number (RemoveMatch rule.now)))
         context.old.world result context.new.world }
     ensures room { context.old.room ≤ context.new.room + MAX_EFFECTS + 1 }
 {
@@ -329,7 +329,7 @@ fn serve_request<V: BusView, G: Gate>(
     requires room { MAX_EFFECTS < context.old.room }
     requires spare_verdicts { 0 < context.old.spare_verdicts }
     ensures comes { RunsTo V.BusView G.Gate
-        (serving_request (said message.now) caller (request_in caller.number call.now))
+        (serving_request (said message.now) caller (request_of caller.number call.now))
         context.old.world result context.new.world }
     ensures room { context.old.room ≤ context.new.room + MAX_EFFECTS + 1 }
 {

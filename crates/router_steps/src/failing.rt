@@ -3,8 +3,8 @@
 
 ghost use Rattle.std.specs.Prelude.{◌≡◌, ◌<◌, ◌≤◌, ◌+◌, Some, length, OnOk, OnErr};
 ghost use Rattle.router_core.specs.declared.limits.TheConstants.{MAX_EFFECTS};
-ghost use Rattle.router_core.specs.Answers.{is_final as is_final_in, refusal_of};
-ghost use Rattle.router_core.specs.Events.{change_of as change_in, ending_child, error_of_end as error_in};
+ghost use Rattle.router_core.specs.Answers.{is_final, refusal_of};
+ghost use Rattle.router_core.specs.Events.{change_of, ending_child, error_of_end};
 ghost use Rattle.router_core.specs.Scripts.{Wanting, RunsTo};
 ghost use Rattle.router_core.specs.Serving.{failing, failing_all, failed_if};
 ghost use Rattle.router_core.specs.Standing.{Standing};
@@ -20,7 +20,7 @@ use std::alloc::AllocError;
 
 /// The end of a start, as a change of the bus.
 fn change_of(ended: &StartEnd) -> Change
-    ensures { result ≡ change_in ended.now }
+    ensures { result ≡ change_of ended.now }
 {
     let name = ended.name;
     let start = ended.start;
@@ -32,7 +32,7 @@ fn change_of(ended: &StartEnd) -> Change
 
 /// What the calls are answered that waited for the service.
 fn error_of_end(how: HowEnded) -> ErrorKind
-    ensures { result ≡ error_in how }
+    ensures { result ≡ error_of_end how }
 {
     match how {
         HowEnded::Program(Ending::Exit(_)) => ErrorKind::ChildExited,
@@ -44,7 +44,7 @@ fn error_of_end(how: HowEnded) -> ErrorKind
 
 /// Whether the bus is lost for good: want of memory may pass.
 fn is_final(why: Cause) -> bool
-    ensures { result ≡ is_final_in (refusal_of why) }
+    ensures { result ≡ is_final (refusal_of why) }
 {
     match why {
         Cause::NoMemory => false,

@@ -3,7 +3,7 @@
 
 ghost use Rattle.std.specs.Prelude.{◌≡◌, ◌<◌, ◌≤◌, ◌+◌, Some, length};
 ghost use Rattle.router_core.specs.Scripts.{Wanting, RunsTo};
-ghost use Rattle.router_core.specs.Serving.{releasing, releasing_all, started_if, ticket_wants_reply as wants_reply_in};
+ghost use Rattle.router_core.specs.Serving.{releasing, releasing_all, started_if, ticket_wants_reply};
 
 use crate::context::Context;
 use bus_view::BusView;
@@ -15,7 +15,7 @@ use seq_bus_core::{Conn, Ticket, Tickets};
 
 /// Whether the call that waited is answered where the bus itself answers it.
 pub(crate) fn wants_reply(ticket: &Ticket) -> bool
-    ensures { result ≡ wants_reply_in ticket.now }
+    ensures { result ≡ ticket_wants_reply ticket.now }
 {
     ticket.call.flags & NO_REPLY_EXPECTED == 0
 }

@@ -7,7 +7,7 @@ ghost use Rattle.message.specs.FactsOf.{facts_of};
 ghost use Rattle.outbox_core.specs.Contents.{carried_of, own_of, bus_message};
 ghost use Rattle.router_core.specs.Answers.{Heard};
 ghost use Rattle.router_core.specs.Scripts.{Routes, RunsTo};
-ghost use Rattle.router_core.specs.Serving.{answering_with, call_of as call_in, erring_if_call, erring, is_method_call as is_method_call_in, monitors_in, replying, telling};
+ghost use Rattle.router_core.specs.Serving.{answering_with, call_of, erring_if_call, erring, is_method_call, monitors_in, replying, telling};
 ghost use Rattle.router_steps.specs.Carrying.{answer_of};
 
 use crate::context::Context;
@@ -22,7 +22,7 @@ use seq_bus_core::{Conn, ErrorKind, Verdict};
 
 /// The call, as it is answered.
 fn call_of(message: &Message, caller: Conn) -> ReplyTo
-    ensures { result ≡ call_in (said message.now) caller }
+    ensures { result ≡ call_of (said message.now) caller }
 {
     let _bytes = message.as_bytes();
     ReplyTo::new(Some(caller.number), message.serial())
@@ -30,7 +30,7 @@ fn call_of(message: &Message, caller: Conn) -> ReplyTo
 
 /// Whether the message calls a method.
 pub fn is_method_call(message: &Message) -> bool
-    ensures { result ≡ is_method_call_in (said message.now) }
+    ensures { result ≡ is_method_call (said message.now) }
 {
     message.kind() == MessageKind::MethodCall
 }

@@ -6,7 +6,7 @@ ghost use Rattle.message_core.specs.Whole.{Lends};
 ghost use Rattle.message_core.specs.Said.{said};
 ghost use Rattle.driver.specs.Calls.{IsCall};
 ghost use Rattle.router_core.specs.Standing.{SpeaksDBus};
-ghost use Rattle.router_core.specs.Together.{is_rule_member as is_rule_member_in, may_join as may_join_in, rule_call};
+ghost use Rattle.router_core.specs.Together.{is_rule_member, may_join, rule_call};
 ghost use Rattle.router_steps.specs.Upcoming.{IsComing, IsUpcoming};
 
 use crate::incoming::{More, fill};
@@ -28,7 +28,7 @@ pub enum Upcoming {
 
 /// Whether a member adds or removes a rule.
 fn is_rule_member(member: Option<&str>) -> bool
-    ensures { (name : Option Text) → Lends member.entry name → result ≡ is_rule_member_in name }
+    ensures { (name : Option Text) → Lends member.entry name → result ≡ is_rule_member name }
 {
     match member {
         Some("AddMatch") => true,
@@ -39,7 +39,7 @@ fn is_rule_member(member: Option<&str>) -> bool
 
 /// Whether its header says of a message that it may be a call that adds or removes a rule.
 fn may_join(message: &Message) -> bool
-    ensures { result ≡ may_join_in (said message.now) }
+    ensures { result ≡ may_join (said message.now) }
 {
     is_call_to_bus(message) && is_rule_member(message.member())
 }
@@ -54,7 +54,7 @@ fn is_rule_call(call: &Call) -> bool
 /// The call, if it adds or removes a rule, and there is memory to read it. A monitor makes none.
 fn read_rule_call(alloc: Global, watches: bool, message: &Message) -> Option<Call>
     ensures client { IfSome result (λ _. watches ≡ false) }
-    ensures joins { IfSome result (λ _. may_join_in (said message.now) ≡ true) }
+    ensures joins { IfSome result (λ _. may_join (said message.now) ≡ true) }
     ensures call { IfSome result (λ call. IsCall (said message.now) (Ok call)) }
     ensures rule { IfSome result (λ call. is_some (rule_call (Ok call)) ≡ true) }
 {
