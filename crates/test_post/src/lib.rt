@@ -1,21 +1,12 @@
 //! Mail in memory, for the tests of hosts over a bus of one thread.
 //!
 //! ```
-//! use router::Engine;
-//! use router_core::OpenGate;
-//! use router_host::{Host, Socket};
-//! use seq_bus::SeqBus;
-//! use std::alloc::Global;
+//! use router_host_core::Post;
 //! use test_post::LocalPost;
 //!
-//! /// The host of the one router of a bus.
-//! fn host_of<S: Socket>(
-//!     alloc: Global,
-//!     bus: SeqBus,
-//! ) -> Option<Host<SeqBus, OpenGate, LocalPost, S>> {
-//!     let engine = Engine::new(alloc, bus, OpenGate, None).ok()?;
-//!     let post = LocalPost::new(alloc).ok()?;
-//!     Host::new(alloc, engine, post, 0, 256).ok()
+//! /// Whether mail waits for the first slot of a bus. It is taken.
+//! fn takes_mail(post: &mut LocalPost) -> bool {
+//!     post.take(&(), 0).is_some()
 //! }
 //! ```
 #![tactic(auto)]
