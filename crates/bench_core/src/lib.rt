@@ -5,6 +5,27 @@
 //! checksums, of as many rounds as `--rounds` says; with `--time` what one turn takes, and with
 //! `--plain FILE` the ratio to the times in that file, which the same works in plain Rust have
 //! written.
+//!
+//! ```
+//! use bench_core::Work;
+//!
+//! /// Sums up so many bytes.
+//! struct Sums {
+//!     bytes: Vec<u8>,
+//! }
+//!
+//! impl Work for Sums {
+//!     fn name(&self) -> &'static str {
+//!         "the sum of some bytes"
+//!     }
+//!
+//!     fn once(&mut self, round: u64) -> u64 {
+//!         self.bytes
+//!             .iter()
+//!             .fold(round, |sum, byte| sum.wrapping_add(u64::from(*byte)))
+//!     }
+//! }
+//! ```
 #![tactic(auto)]
 
 mod plain_times;
