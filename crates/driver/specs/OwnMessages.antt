@@ -19,6 +19,8 @@ use Rattle.message_core.specs.declared.header.TheConstants.{NO_REPLY_EXPECTED}
 use Rattle.message_core.specs.Messages.{Message, IsWritten}
 use Rattle.message_core.specs.Headers.{message_of}
 use Rattle.driver.specs.Answered.{ReplyTo}
+use Rattle.driver.specs.declared.reply.BodyKind.{BodyKind}
+use Rattle.driver.specs.declared.reply.BodyKind.TheVariants as of_kind
 use Rattle.driver.specs.declared.reply.ReplyBody.{ReplyBody}
 use Rattle.driver.specs.declared.reply.ReplyBody.TheVariants as carries
 
@@ -93,14 +95,17 @@ signal_texts (NameOwnerChanged name old_owner new_owner) = name ∷ owner_text o
 signal_texts (NameLost name owner) = name ∷ []
 signal_texts (NameAcquired name owner) = name ∷ []
 
+abbrev pub types_for : BodyKind → Tys
+types_for of_kind.String = one_type (basic of_type.String)
+types_for of_kind.Boolean = one_type (basic of_type.Boolean)
+types_for of_kind.Strings = one_type (array (basic of_type.String))
+
 -- the body of a reply; some come spelled, as the bus answers a query
 abbrev pub IsReplyBody : ReplyBody → Tys → Vals → Type 0
 IsReplyBody carries.Empty types values = (types ≡ no_types) × (values ≡ no_values)
 IsReplyBody (carries.Number n) types values = (types ≡ number_types) × (values ≡ number_values n)
 IsReplyBody (carries.UniqueName number) types values = (types ≡ string_types (unique_text number ∷ [])) × (values ≡ string_values (unique_text number ∷ []))
-IsReplyBody (carries.String bytes) types values = (types ≡ one_type (basic of_type.String)) × Spells Little 0 types values bytes.now
-IsReplyBody (carries.Boolean bytes) types values = (types ≡ one_type (basic of_type.Boolean)) × Spells Little 0 types values bytes.now
-IsReplyBody (carries.Strings bytes) types values = (types ≡ one_type (array (basic of_type.String))) × Spells Little 0 types values bytes.now
+IsReplyBody (carries.Spelled kind bytes) types values = (types ≡ types_for kind) × Spells Little 0 types values bytes.now
 
 -- ## Messages
 

@@ -8,7 +8,7 @@ ghost use Rattle.marshal_core.specs.Signatures.{codes as signature_text};
 ghost use Rattle.marshal_core.specs.Spelling.{Spells};
 ghost use Rattle.marshal_core.specs.declared.order.Order.TheVariants.{Little};
 ghost use Rattle.message_core.specs.Headers.{message_of};
-ghost use Rattle.driver.specs.OwnMessages.{error_message, number_types, number_values, of_strings, reply_header, IsReplyBody, Writes};
+ghost use Rattle.driver.specs.OwnMessages.{error_message, number_types, number_values, of_strings, reply_header, types_for, IsReplyBody, Writes};
 
 use crate::error_words::{error_name, error_text};
 use crate::fields::{ROOM, put_end, put_reply_serial, put_string};
@@ -68,20 +68,38 @@ impl ReplyTo {
     }
 }
 
-/// What a reply carries. Bodies in bytes are in little-endian order as from offset 0 on, as the bus
-/// answers queries.
+/// What a body says that comes in bytes, as the bus answers queries.
+#[derive(Clone, Copy, Debug, PartialEq, Eq)]
+pub enum BodyKind {
+    /// One string.
+    String,
+    /// One boolean.
+    Boolean,
+    /// One array of strings.
+    Strings,
+}
+
+/// What a reply carries.
 #[derive(Clone, Copy)]
 pub enum ReplyBody<'a> {
     Empty,
     Number(u32),
     /// The unique name of the connection of this number, as a string.
     UniqueName(u64),
-    /// The bytes of one string.
-    String(&'a [u8]),
-    /// The bytes of one boolean.
-    Boolean(&'a [u8]),
-    /// The bytes of one array of strings.
-    Strings(&'a [u8]),
+    /// A body in bytes, in little-endian order as from offset 0 on.
+    Spelled { kind: BodyKind, bytes: &'a [u8] },
+}
+
+/// The signature of a body.
+fn signature_for(kind: BodyKind) -> &'static str
+    ensures types { result.now ≡ signature_text (types_for kind) }
+    ensures short { length result.now ≤ 16 }
+{
+    match kind {
+        BodyKind::String => "s",
+        BodyKind::Boolean => "b",
+        BodyKind::Strings => "as",
+    }
 }
 
 /// Appends a reply with a body of this signature.
@@ -157,9 +175,9 @@ pub fn write_reply(
         ReplyBody::Empty => put_reply(serial, to, "", &[], out),
         ReplyBody::Number(number) => put_number(serial, to, number, out),
         ReplyBody::UniqueName(number) => put_unique_name(serial, to, number, out),
-        ReplyBody::String(bytes) => put_reply(serial, to, "s", bytes, out),
-        ReplyBody::Boolean(bytes) => put_reply(serial, to, "b", bytes, out),
-        ReplyBody::Strings(bytes) => put_reply(serial, to, "as", bytes, out),
+        ReplyBody::Spelled { kind, bytes } => {
+            put_reply(serial, to, signature_for(kind), bytes, out)
+        }
     }
 }
 

@@ -13,10 +13,11 @@ use Rattle.seq_bus_core.specs.BusState.{BusState}
 use Rattle.seq_bus_core.specs.declared.query.Query.{Query}
 use Rattle.bus_view.specs.Bodies.{Answers, IsBody, answer_type, answer_value}
 use Rattle.bus_view.specs.declared.answer.Asked.TheVariants.{Body}
-use Rattle.outbox_core.specs.declared.answer.BodyKind.{BodyKind}
-use Rattle.outbox_core.specs.Answers.{IsAnswerTo, SpelledAnswer, Carries, kind_of, types_of, names_in, answer_in, answer_read, answer_of}
+use Rattle.driver.specs.declared.reply.BodyKind.{BodyKind}
+use Rattle.driver.specs.OwnMessages.{types_for}
+use Rattle.outbox_core.specs.Answers.{IsAnswerTo, SpelledAnswer, Carries, kind_of, names_in, answer_in, answer_read, answer_of}
 
-same_types : (told : Answer) → types_of (kind_of told) ≡ one_type (answer_type told)
+pub same_types : (told : Answer) → types_for (kind_of told) ≡ one_type (answer_type told)
 same_types (OneName name) = refl
 same_types (HasOwner owned) = refl
 same_types (NameList names) = refl
@@ -32,7 +33,7 @@ in_again (NameList names) = ap NameList (same_names names)
 
 pub carried_again : (body : SpelledAnswer) (told : Answer) → Carries body told → answer_of body ≡ told
 carried_again body told carries =
-    let types = ap types_of carries.kind ∙ same_types told in
+    let types = ap types_for carries.kind ∙ same_types told in
     let read : decode_at Little (one_type (answer_type told)) 0 body.bytes ≡ Ok (values (answer_value told ∷ []), length body.bytes) =
     is_read Little (one_type (answer_type told)) 0 body.bytes body.bytes [] (values (answer_value told ∷ [])) (sym (append-nil body.bytes)) carries.spelled in
     ap (λ ts. answer_read (decode_at Little ts 0 body.bytes)) types ∙ ap answer_read read ∙ in_again told

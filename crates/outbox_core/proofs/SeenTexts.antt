@@ -14,7 +14,7 @@ use Rattle.message.specs.FactsOf.{as_argument}
 use Rattle.marshal_check.specs.SignatureTexts.{types_in, types_or_none, is_signature_text}
 use Rattle.seq_bus_core.specs.Answers.{Answer, OneName, HasOwner, NameList}
 use Rattle.bus_view.specs.Bodies.{IsBody, answer_value}
-use Rattle.outbox_core.specs.declared.answer.BodyKind.TheVariants.{Text}
+use Rattle.driver.specs.declared.reply.BodyKind.TheVariants as of_kind
 use Rattle.outbox_core.specs.Answers.{kind_of}
 
 abbrev one_string : Tys
@@ -27,7 +27,7 @@ pub is_text : is_signature_text (115 ∷ []) ≡ true
 is_text = ap (λ (r : Result Tys MarshalFault). is_ok r) same_text
 
 -- what is left of the arguments of a body with this answer
-pub left_of : (told : Answer) (bytes : List ℕ) (left : List Read) → kind_of told ≡ Text → IsBody told bytes →
+pub left_of : (told : Answer) (bytes : List ℕ) (left : List Read) → kind_of told ≡ of_kind.String → IsBody told bytes →
     ((vs : Vals) (front rest : List ℕ) → bytes ≡ front ++ rest → Spells Little 0 (types_in (115 ∷ [])) vs front → left ≡ arguments vs) →
     left ≡ argument_of (answer_value told) ∷ []
 left_of (OneName name) bytes left kind body all =

@@ -2,17 +2,16 @@
 use Rattle.std.specs.Prelude.{◌≡◌, ℕ, Some, Result, Ok, Err, List, [], ◌∷◌}
 use Rattle.names.specs.Texts.{Text as Name}
 use Rattle.marshal_core.specs.declared.fault.MarshalFault.{MarshalFault}
-use Rattle.marshal_core.specs.declared.data_type.BasicType.TheVariants as of_type
 use Rattle.marshal_core.specs.declared.order.Order.TheVariants.{Little}
 use Rattle.marshal_core.specs.Reading.{decode_at}
-use Rattle.marshal_core.specs.Types.{Tys, basic, array, one_type}
 use Rattle.marshal_core.specs.Values.{a_basic, a_boolean, a_string, an_array, Vals, no_values, more_values}
 use Rattle.seq_bus_core.specs.Answers.{Answer, OneName, HasOwner, NameList, answer}
 use Rattle.seq_bus_core.specs.BusState.{BusState}
 use Rattle.seq_bus_core.specs.declared.query.Query.{Query}
 use Rattle.bus_view.specs.Bodies.{IsBody}
-use Rattle.outbox_core.specs.declared.answer.BodyKind.{BodyKind}
-use Rattle.outbox_core.specs.declared.answer.BodyKind.TheVariants.{Text, Boolean, Texts}
+use Rattle.driver.specs.OwnMessages.{types_for}
+use Rattle.driver.specs.declared.reply.BodyKind.{BodyKind}
+use Rattle.driver.specs.declared.reply.BodyKind.TheVariants as of_kind
 
 -- The query is answered so in some state of the bus, and the bytes are the body of that answer.
 pub record IsAnswerTo (query : Query) (bytes : List ℕ) (told : Answer) : Type 0 where
@@ -27,9 +26,9 @@ pub record SpelledAnswer : Type 0 where
   pub bytes : List ℕ
 
 abbrev pub kind_of : Answer → BodyKind
-kind_of (OneName name) = Text
-kind_of (HasOwner owned) = Boolean
-kind_of (NameList names) = Texts
+kind_of (OneName name) = of_kind.String
+kind_of (HasOwner owned) = of_kind.Boolean
+kind_of (NameList names) = of_kind.Strings
 
 -- the bytes spell the answer, in little-endian order as from offset 0 on
 pub record Carries (body : SpelledAnswer) (answer : Answer) : Type 0 where
@@ -37,11 +36,6 @@ pub record Carries (body : SpelledAnswer) (answer : Answer) : Type 0 where
   pub spelled : IsBody answer body.bytes
 
 -- ## The answer that a body carries, as a function of it
-
-abbrev pub types_of : BodyKind → Tys
-types_of Text = one_type (basic of_type.String)
-types_of Boolean = one_type (basic of_type.Boolean)
-types_of Texts = one_type (array (basic of_type.String))
 
 abbrev pub names_in : Vals → List Name
 names_in no_values = []
@@ -59,4 +53,4 @@ answer_read (Ok read) = answer_in read.0
 answer_read (Err fault) = NameList []
 
 abbrev pub answer_of : SpelledAnswer → Answer
-answer_of body = answer_read (decode_at Little (types_of body.kind) 0 body.bytes)
+answer_of held = answer_read (decode_at Little (types_for held.kind) 0 held.bytes)

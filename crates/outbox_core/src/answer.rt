@@ -6,20 +6,10 @@ ghost use Rattle.seq_bus_core.specs.BusState.{BusState};
 ghost use Rattle.bus_view.specs.Bodies.{IsBody};
 ghost use Rattle.outbox_core.specs.Answers.{IsAnswerTo, kind_of};
 
+use driver::BodyKind;
 use seq_bus_core::{Query, SharedBytes};
 use std::alloc::AllocError;
 use std::marker::Model;
-
-/// What the body of a reply to a query is.
-#[derive(Clone, Copy, Debug)]
-pub(crate) enum BodyKind {
-    /// One string.
-    Text,
-    /// One boolean.
-    Boolean,
-    /// One array of strings.
-    Texts,
-}
 
 /// What the body of the reply to this query is, where there is an answer.
 fn kind_for(query: &Query) -> BodyKind
@@ -27,10 +17,10 @@ fn kind_for(query: &Query) -> BodyKind
         → result ≡ kind_of told }
 {
     match query {
-        Query::GetNameOwner(_) => BodyKind::Text,
+        Query::GetNameOwner(_) => BodyKind::String,
         Query::NameHasOwner(_) => BodyKind::Boolean,
         Query::ListNames | Query::ListActivatableNames | Query::ListQueuedOwners(_) => {
-            BodyKind::Texts
+            BodyKind::Strings
         }
     }
 }

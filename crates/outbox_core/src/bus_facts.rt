@@ -9,14 +9,14 @@ ghost use Rattle.message.specs.FactsOf.{as_argument, facts_of};
 ghost use Rattle.bus_view.specs.Bodies.{answer_value};
 ghost use Rattle.driver.specs.OwnMessages.{signal_member, signal_texts};
 ghost use Rattle.outbox_core.specs.Answers.{kind_of};
-ghost use Rattle.outbox_core.specs.declared.answer.BodyKind.TheVariants.{Text};
+ghost use Rattle.driver.specs.declared.reply.BodyKind.TheVariants as of_kind;
 ghost use Rattle.outbox_core.specs.Contents.{Signals, carried_of, carried_values, own_of, bus_message};
 ghost use Rattle.outbox_core.specs.Named.{names_of, number_in};
 
-use crate::answer::{AnswerBody, BodyKind};
+use crate::answer::AnswerBody;
 use crate::bus_message::{BusMessage, ReplyContent};
 use arrayvec::ArrayVec;
-use driver::error_text;
+use driver::{BodyKind, error_text};
 use marshal_check::{Argument as Read, Arguments, Types};
 use marshal_core::Order;
 use match_rules::{Argument, Facts, MessageKind};
@@ -92,7 +92,7 @@ impl BusMessageNames {
 
 /// The one string of an answer, which lies in its bytes.
 fn text_in(answer: &AnswerBody) -> Argument<'_>
-    requires { kind_of answer.now ≡ Text }
+    requires { kind_of answer.now ≡ of_kind.String }
     ensures { argument_of result ≡ as_argument (value_argument (answer_value answer.now)) }
 {
     let types = Types { text: b"s" };
@@ -110,8 +110,8 @@ fn answered(answer: &AnswerBody) -> Argument<'_>
     ensures { argument_of result ≡ as_argument (value_argument (answer_value answer.now)) }
 {
     match answer.kind() {
-        BodyKind::Text => text_in(answer),
-        BodyKind::Boolean | BodyKind::Texts => Argument::Other,
+        BodyKind::String => text_in(answer),
+        BodyKind::Boolean | BodyKind::Strings => Argument::Other,
     }
 }
 

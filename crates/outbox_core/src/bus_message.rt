@@ -4,7 +4,7 @@ ghost use Rattle.std.specs.Prelude.{◌≡◌, ◌<◌, IfOk, OnOk, OnErr};
 ghost use Rattle.driver.specs.OwnMessages.{IsReplyBody, Writes};
 ghost use Rattle.outbox_core.specs.Contents.{Answered, carried_of, own_of, carried_types, carried_values, bus_message};
 
-use crate::answer::{AnswerBody, BodyKind};
+use crate::answer::AnswerBody;
 use driver::{ReplyBody, ReplyTo, write_error, write_reply, write_signal};
 use seq_bus_core::{ErrorKind, SharedSignal};
 use std::alloc::AllocError;
@@ -105,10 +105,8 @@ fn body_of(answer: &AnswerBody) -> ReplyBody<'_>
     ensures { IsReplyBody result (carried_types (Answered answer.now))
         (carried_values (Answered answer.now)) }
 {
-    let bytes = answer.bytes();
-    match answer.kind() {
-        BodyKind::Text => ReplyBody::String(bytes),
-        BodyKind::Boolean => ReplyBody::Boolean(bytes),
-        BodyKind::Texts => ReplyBody::Strings(bytes),
+    ReplyBody::Spelled {
+        kind: answer.kind(),
+        bytes: answer.bytes(),
     }
 }

@@ -3,8 +3,8 @@
 ghost use Rattle.std.specs.Prelude.{◌<◌};
 
 use driver::{
-    Call, DriverFault, ReplyBody, ReplyTo, error_name, expects_reply, is_call_to_bus, is_hello,
-    read_call, write_error, write_reply, write_signal,
+    BodyKind, Call, DriverFault, ReplyBody, ReplyTo, error_name, expects_reply, is_call_to_bus,
+    is_hello, read_call, write_error, write_reply, write_signal,
 };
 use marshal::Order;
 use match_rules::MessageKind;
@@ -96,6 +96,11 @@ fn put_reply(alloc: Global, row: &Row<'_>, output: &mut Vec<u8>) -> Result<(), A
     written
 }
 
+/// A body that comes in bytes.
+fn spelled(kind: BodyKind, bytes: &[u8]) -> ReplyBody<'_> {
+    ReplyBody::Spelled { kind, bytes }
+}
+
 fn put_body(
     row: &Row<'_>,
     bytes: &[u8],
@@ -108,9 +113,9 @@ fn put_body(
     let body = match row.text(4) {
         "number" => ReplyBody::Number(row.text(5).parse().unwrap_or(0)),
         "unique-name" => ReplyBody::UniqueName(row.number(5)),
-        "string" => ReplyBody::String(bytes),
-        "boolean" => ReplyBody::Boolean(bytes),
-        "strings" => ReplyBody::Strings(bytes),
+        "string" => spelled(BodyKind::String, bytes),
+        "boolean" => spelled(BodyKind::Boolean, bytes),
+        "strings" => spelled(BodyKind::Strings, bytes),
         _ => ReplyBody::Empty,
     };
     write_reply(serial, to, body, output)

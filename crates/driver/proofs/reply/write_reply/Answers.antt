@@ -1,4 +1,5 @@
-use Rattle.std.proofs.Common.{refl, subst}
+use Rattle.std.proofs.Common.{refl, sym, ap, ◌∙◌, subst}
+use Rattle.marshal_core.specs.Signatures.{codes}
 use Rattle.marshal_core.specs.Types.{no_types}
 use Rattle.marshal_core.specs.Values.{no_values}
 use Rattle.driver.specs.OwnMessages.{IsReplyBody}
@@ -20,3 +21,8 @@ pub returns-in-UniqueName-clause-ok : goal.returns-in-UniqueName-clause-ok
 returns-in-UniqueName-clause-ok c = λ types values is.
     let h = subst (λ (b : ReplyBody). IsReplyBody b types values) c.in-UniqueName.is is in
     rw (h.0, h.1) c.put_unique_name.ensures.ok
+
+pub returns-in-Spelled-clause-ok : goal.returns-in-Spelled-clause-ok
+returns-in-Spelled-clause-ok c = λ types values is.
+    let h = subst (λ (b : ReplyBody). IsReplyBody b types values) c.in-Spelled.is is in
+    c.put_reply-in-Spelled.ensures.ok types values (c.signature_for.ensures.types ∙ ap codes (sym h.0)) h.1
