@@ -1,10 +1,10 @@
 -- Who gets a message, and how often.
-use Rattle.std.proofs.Common.{◌≡◌, ℕ, Bool, true, false, not, ◌||◌, ◌==◌, List, [], ◌∷◌, ◌++◌, filter, if◌then◌else◌, refl, sym, ap, ◌∙◌}
+use Rattle.std.proofs.Common.{◌≡◌, Bool, true, false, not, ◌||◌, ◌==◌, List, [], ◌∷◌, ◌++◌, filter, if◌then◌else◌, refl, sym, ap, ◌∙◌}
 use Rattle.std.proofs.lemmas.Bool.{true≢false, eqb-true}
 use Rattle.std.specs.List.{AllByRecursion as Each, IsDistinct, list_any}
 use Rattle.seq_bus_core.specs.Steps.{is_among}
 use Rattle.seq_bus_core.specs.declared.connection.Conn.{Conn}
-use Rattle.outbox_core.specs.Deliveries.{deliveries_of, is_same, EachGetsItOnce, NobodyElseGetsIt}
+use Rattle.outbox_core.specs.Deliveries.{is_same, EachGetsItOnce, NobodyElseGetsIt}
 
 module _ {X : Type 0} where
   -- of those that are kept each passes the test

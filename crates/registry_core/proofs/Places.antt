@@ -1,5 +1,5 @@
 -- Lists that are mapped and filtered.
-use Rattle.std.proofs.Common.{◌≡◌, ℕ, zero, suc, ◌≤◌, Bool, true, false, cond, Option, Some, option_map, List, [], ◌∷◌, map, filter, length, take, refl, ap, arith}
+use Rattle.std.proofs.Common.{◌≡◌, ℕ, zero, suc, ◌≤◌, Bool, true, false, cond, Some, option_map, List, [], ◌∷◌, map, filter, length, take, refl, ap, arith}
 use Rattle.std.specs.List.{find}
 
 pub find-map : {X Y : Type 0} (test : Y → Bool) (f : X → Y) (xs : List X) → find test (map f xs) ≡ option_map f (find (λ x. test (f x)) xs)

@@ -8,7 +8,7 @@ use Rattle.outbox_core.specs.Contents.{Tells, Signals}
 use Rattle.outbox_core.specs.Deliveries.{deliveries_of}
 use Rattle.router_core.specs.declared.action.Action.{Action}
 use Rattle.router_core.specs.Acts.{Exchange, Changed, ChangedAll, Asked, Routed, Looked, Noted, Fronted, Called, Gated, Wanted, Goes, IsLawful, gated_in, world_of}
-use Rattle.router_core.specs.Deeds.{Deed, GatedCall, PassesAll, Puts, announced, announcement, put_of, put_to, IsDoneBy, AreDoneBy}
+use Rattle.router_core.specs.Deeds.{Deed, GatedCall, PassesAll, Puts, announced, announcement, put_of, put_to, AreDoneBy}
 use Rattle.router_core.specs.Events.{script, occasion_of}
 use Rattle.router_core.specs.Laws.{AnswersAreLawful}
 use Rattle.router_core.specs.Scripts.{Script, Gives, Changing, ChangingAll, Asking, Routing, Looking, Noting, Fronting, Calling, Gating, Wanting, Requiring, Doing, Announcing, World, Comes, knowing}

@@ -1,5 +1,5 @@
 -- What actions are carried out on, as contracts see it.
-use Rattle.std.specs.Prelude.{◌≡◌, Bool, true, false, ℕ, Option, Some, None, List, [], ◌++◌}
+use Rattle.std.specs.Prelude.{Bool, false, ℕ, Option, Some, None, List, []}
 use Rattle.std.specs.Option.{option_or}
 use Rattle.seq_bus_core.specs.declared.connection.Conn.{Conn}
 use Rattle.router_host_core.specs.declared.ending.EndCause.{EndCause}

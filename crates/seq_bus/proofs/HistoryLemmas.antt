@@ -1,5 +1,5 @@
 -- The history of a bus with one seat.
-use Rattle.std.proofs.Common.{◌≡◌, ℕ, ◌+◌, ◌≤◌, List, [], ◌∷◌, ◌++◌, length, refl, sym, ap, ◌∙◌, subst, suc}
+use Rattle.std.proofs.Common.{◌≡◌, ℕ, ◌+◌, List, [], ◌∷◌, ◌++◌, length, refl, sym, ap, ◌∙◌, subst, suc}
 use Rattle.std.specs.Prelude.{Option, option_map, option_and_then}
 use Rattle.std.specs.List.{AllByRecursion}
 use Rattle.names.specs.Texts.{Text}

@@ -1,5 +1,5 @@
 -- Steps of a starter, one after the other.
-use Rattle.std.proofs.Common.{◌≡◌, ◌⊎◌, ℕ, Bool, Option, Result, Ok, Err, OnOk, OnErr, List, [], ◌∷◌, ◌++◌, map, refl, inl, inr}
+use Rattle.std.proofs.Common.{◌≡◌, ℕ, Bool, Result, Ok, Err, OnOk, OnErr, List, [], ◌∷◌, ◌++◌, map, refl, inl, inr}
 use Rattle.seq_bus_core.specs.Histories.{History}
 use Rattle.seq_bus_core.specs.declared.connection.Conn.{Conn}
 use Rattle.outbox_core.specs.declared.envelope.Envelope.{Envelope}
@@ -11,7 +11,7 @@ use Rattle.router_core.specs.declared.event.Event.TheVariants.{Tick}
 use Rattle.router_host.specs.Happening.{CatchesUp, Happens}
 use Rattle.router_host.specs.States.{Hosted}
 use Rattle.supervisor.specs.declared.deed.Deed.{Deed}
-use Rattle.routers.specs.Serving.{Happening, HasHappened, Ticks}
+use Rattle.routers.specs.Serving.{Ticks}
 use Rattle.starter.specs.Ends.{Step, Acts, GoesOn, Has, AreDone, IsDone, IsStep, MakesSteps}
 
 module _ {P N G : Type 0} (told : N → History) (passes : G → GatedCall → G → Type 0)

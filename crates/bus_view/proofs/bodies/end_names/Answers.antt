@@ -1,4 +1,4 @@
-use Rattle.std.proofs.Common.{◌≡◌, ◌-◌, ◌+◌, ◌∙◌, ◌++◌, List, ℕ, length, take, drop, ap, rules}
+use Rattle.std.proofs.Common.{◌≡◌, ◌-◌, ◌+◌, ◌∙◌, ◌++◌, ℕ, length, take, drop, ap, rules}
 use Rattle.std.specs.Int.{w32, to_le_bytes}
 use Rattle.bus_view.proofs.BodyLemmas.{ended_names, length_written}
 use Rattle.bus_view.proofs.bodies.end_names.Goals as goal

@@ -1,4 +1,4 @@
-use Rattle.std.proofs.Common.{rules, ◌≡◌, ◌∷◌, [], refl}
+use Rattle.std.proofs.Common.{rules}
 use Rattle.outbox.specs.Lanes.{lane_end}
 use Rattle.test_ways.proofs.lanes_tests.what_was_taken_begins_what_was_put.Goals as goal
 

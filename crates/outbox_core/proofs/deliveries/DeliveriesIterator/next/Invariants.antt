@@ -1,4 +1,4 @@
-use Rattle.std.proofs.Common.{◌≡◌, [], ◌++◌, filter, not, length}
+use Rattle.std.proofs.Common.{◌≡◌, [], filter, not, length}
 use Rattle.seq_bus_core.specs.Steps.{is_among}
 use Rattle.outbox_core.proofs.deliveries.DeliveriesIterator.next.Given as goal
 

@@ -12,7 +12,6 @@ use Rattle.registry_core.specs.declared.connection_entry.ConnectionEntry.{Connec
 use Rattle.registry_core.specs.declared.name_table.NameEntry.{NameEntry}
 use Rattle.registry.specs.NamesListed.{only, names_in}
 use Rattle.registry.specs.Tables.{state_of}
-use Rattle.registry.specs.declared.listed.NamesOf.{NamesOf}
 use Rattle.registry.specs.declared.listed.NamesOf.TheVariants.{All, Services}
 use Rattle.registry.proofs.Listing.{all_listed, same_listed, clients_listed, owned_listed}
 use Rattle.registry.proofs.registry.Registry.push_list.Goals as goal

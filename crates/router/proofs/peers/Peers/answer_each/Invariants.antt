@@ -1,4 +1,4 @@
-use Rattle.std.proofs.Common.{◌≡◌, ◌+◌, ◌*◌, ◌≤◌, [], length, drop}
+use Rattle.std.proofs.Common.{◌+◌, ◌*◌, ◌≤◌, length, drop}
 use Rattle.std.specs.List.{AllByRecursion}
 use Rattle.std.specs.Vec.Iter.{into_iter_items}
 use Rattle.router_core.specs.Events.{answering_each}

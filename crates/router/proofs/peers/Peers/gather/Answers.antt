@@ -6,7 +6,7 @@ use Rattle.router_core.specs.Standing.{Standing, peer_at}
 use Rattle.router.specs.Dues.{IsDue}
 use Rattle.router.specs.declared.turn.Due.{Due}
 use Rattle.router.specs.Tables.{Table}
-use Rattle.router.proofs.Gatherings.{due_keeps, gathers_one, gathers_call}
+use Rattle.router.proofs.Gatherings.{due_keeps, gathers_call}
 use Rattle.router.proofs.Indexing.{index_at}
 use Rattle.router.proofs.peers.Peers.gather.Goals as goal
 

@@ -1,4 +1,4 @@
-use Rattle.std.proofs.Common.{refl, sym, inl, inr}
+use Rattle.std.proofs.Common.{refl, inl, inr}
 use Rattle.router_host.specs.Doing.{PutsOut}
 use Rattle.router_host.proofs.Doings.{does_one, does_same, does_then}
 use Rattle.router_host.proofs.host.Host.put_out_one.Goals as goal

@@ -1,4 +1,3 @@
-use Rattle.std.proofs.Common.{rules}
 use Rattle.router_host.proofs.Doings.{does_then}
 use Rattle.router_host.proofs.host.Host.serve_share.Goals as goal
 

@@ -1,4 +1,4 @@
-use Rattle.std.proofs.Common.{◌≡◌, Some, refl, sym, subst}
+use Rattle.std.proofs.Common.{Some, refl, sym, subst}
 use Rattle.message_core.specs.Said.{said}
 use Rattle.router_core.specs.Standing.{Peer, next_serial}
 use Rattle.router_steps.specs.declared.first.FirstMessage.{FirstMessage}

@@ -1,11 +1,11 @@
-use Rattle.std.proofs.Common.{◌≡◌, ◌∙◌, ◌+◌, ◌≤◌, ◌++◌, ◌∷◌, [], true, is_ok, length, ap, sym, subst, rules}
+use Rattle.std.proofs.Common.{◌≡◌, ◌∙◌, ◌+◌, ◌++◌, ◌∷◌, [], true, is_ok, length, ap, sym, subst, rules}
 use Rattle.seq_bus_core.specs.BusState.{BusState}
+use Rattle.seq_bus_core.specs.Bounds.{IsBounded}
 use Rattle.seq_bus_core.specs.Changes.{as_seen}
 use Rattle.seq_bus_core.specs.Steps.{step}
 use Rattle.seq_bus_core.specs.Tickets.{WholeBus, bus_step, bus_after}
 use Rattle.seq_bus_core.specs.declared.entry.Entry.{Entry}
 use Rattle.seq_bus_core.specs.declared.outcome.NumberedOutcome.{NumberedOutcome}
-use Rattle.seq_bus_core.specs.declared.outcome.Outcome.{Outcome}
 use Rattle.activation.specs.Rooms.{IsRoomFor}
 use Rattle.registry.specs.PreparedChanges.{PreparedChange}
 use Rattle.seq_bus.specs.PlainBus.{PlainBus, bus_now, next_entry, opened_as}
