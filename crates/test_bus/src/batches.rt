@@ -1,9 +1,10 @@
 //! Batches of changes on a plain bus.
 
-use crate::buses::{Deed, Plain, change_of};
-use bus_view::{BatchCause, BusView, Cause, can_open};
+use crate::plain::open;
+use bus_view::{BatchCause, Cause};
+use match_rules::Rule;
 use names::{BusName, WellKnown};
-use owner_queues::{Profile, RequestFlags};
+use owner_queues::RequestFlags;
 use seq_bus::SeqBus;
 use seq_bus_core::{CallHead, Change, Conn, Entry, Outcome, Reply, SharedBytes};
 use std::alloc::{AllocError, Global};
@@ -11,8 +12,33 @@ use std::process::Abort;
 use std::sync::Arc;
 use test_support::once_more;
 
+/// A change. A connection stands as its number, and a rule as its text.
+#[derive(Clone, Copy)]
+enum Deed {
+    Hello,
+    Leave(u64),
+    Add(u64, &'static str),
+    Remove(u64, &'static str),
+}
+
+/// The change that is meant; none where a text is no rule.
+fn change_of(deed: Deed) -> Option<Change> {
+    Some(match deed {
+        Deed::Hello => Change::Hello { privileged: false },
+        Deed::Leave(connection) => Change::Leave { connection },
+        Deed::Add(connection, rule) => Change::AddMatch {
+            connection,
+            rule: Rule::parse(rule).ok()?,
+        },
+        Deed::Remove(connection, rule) => Change::RemoveMatch {
+            connection,
+            rule: Rule::parse(rule).ok()?,
+        },
+    })
+}
+
 /// The changes that are meant.
-fn batch_of(alloc: Global, deeds: &[Deed<'_>]) -> Result<Vec<Change>, AllocError> {
+fn batch_of(alloc: Global, deeds: &[Deed]) -> Result<Vec<Change>, AllocError> {
     let mut changes = Vec::with_capacity(alloc, deeds.len())?;
     for deed in deeds {
         if let Some(change) = change_of(*deed) {
@@ -42,7 +68,7 @@ fn told_all(bus: &mut SeqBus, changes: Vec<Change>) -> Option<Vec<Outcome>> {
 }
 
 /// A batch: what is done, what it is told, and how many follow each of its entries in the history.
-type Batch = (&'static [Deed<'static>], &'static [Reply], &'static [u8]);
+type Batch = (&'static [Deed], &'static [Reply], &'static [u8]);
 
 const A: &str = "arg0='a'";
 
@@ -111,7 +137,7 @@ fn stand(entries: &[Entry], first: u64, left: &[u8]) -> bool {
 
 #[test]
 fn batches_stand_together_in_the_history(rt: HostRuntime) {
-    let mut bus = Plain::new(&rt, rt.alloc(), 1).bus;
+    let mut bus = open(&rt, rt.alloc(), &[], 1);
     for (deeds, replies, left) in BATCHES {
         let before = bus.history().len();
         let changes = once_more!(&rt; batch_of(rt.alloc(), deeds));
@@ -123,7 +149,7 @@ fn batches_stand_together_in_the_history(rt: HostRuntime) {
     drop(bus);
 }
 
-fn hellos(alloc: Global, count: usize) -> Result<Vec<Change>, AllocError> {
+pub fn hellos(alloc: Global, count: usize) -> Result<Vec<Change>, AllocError> {
     let mut changes = Vec::with_capacity(alloc, count)?;
     for _place in 0..count {
         changes.push(Change::Hello { privileged: false })?;
@@ -133,7 +159,7 @@ fn hellos(alloc: Global, count: usize) -> Result<Vec<Change>, AllocError> {
 
 #[test]
 fn batches_have_1_to_64_changes(rt: HostRuntime) {
-    let mut bus = Plain::new(&rt, rt.alloc(), 1).bus;
+    let mut bus = open(&rt, rt.alloc(), &[], 1);
     for count in [0usize, 65] {
         let changes = once_more!(&rt; hellos(rt.alloc(), count));
         let refused = bus.change_all(changes).err().expect(&rt, "no batch");
@@ -167,7 +193,7 @@ fn is_told_of_limits(place: u16, reply: Reply) -> bool {
 
 #[test]
 fn batch_of_64_is_made_whole_beyond_a_limit(rt: HostRuntime) {
-    let mut bus = Plain::new(&rt, rt.alloc(), 8).bus;
+    let mut bus = open(&rt, rt.alloc(), &[], 8);
     let mut changes = once_more!(&rt; hellos(rt.alloc(), 63));
     let mut rules = once_more!(&rt; batch_of(rt.alloc(), &[Deed::Add(1, A)]));
     if changes.append(&mut rules).is_err() {
@@ -247,8 +273,7 @@ fn calls_wait_and_go_on_within_a_batch(rt: HostRuntime) {
     let [Some(clock), Some(lamp)] = services else {
         rt.abort()
     };
-    assert!(rt; can_open(&[clock, lamp], 1));
-    let mut bus = once_more!(&rt; SeqBus::new(rt.alloc(), &[clock, lamp], 1, Profile::One));
+    let mut bus = open(&rt, rt.alloc(), &[clock, lamp], 1);
     let changes = once_more!(&rt; waiting(rt.alloc()));
     let outcomes = told_all(&mut bus, changes).expect(&rt, "one allocation fails");
     let are_let_go = outcomes
@@ -256,45 +281,5 @@ fn calls_wait_and_go_on_within_a_batch(rt: HostRuntime) {
         .zip(LET_GO)
         .all(|(outcome, calls)| lets_go(outcome, calls));
     assert!(rt; outcomes.len() == 5 && are_let_go);
-    drop(bus);
-}
-
-/// How many changes a view saw and made, and where the last of its own stands.
-fn counts<V: BusView>(view: &V) -> (u64, u64, u64) {
-    (view.place(), view.made(), view.last())
-}
-
-/// Makes a batch, once more where one allocation failed, and then a change.
-fn counts_after<V: BusView>(
-    view: &mut V,
-    right: &V::Right,
-    changes: Vec<Change>,
-) -> Option<(u64, u64, u64)> {
-    if count_made(view, right, changes)? != view.made() {
-        return None;
-    }
-    let hello = Change::Hello { privileged: false };
-    if let Err(refused) = view.change(right, hello) {
-        view.change(right, refused.change).ok()?;
-    }
-    Some(counts(view))
-}
-
-/// Makes a batch, once more where one allocation failed: how many changes are told.
-fn count_made<V: BusView>(view: &mut V, right: &V::Right, changes: Vec<Change>) -> Option<u64> {
-    let made = match view.change_all(right, changes) {
-        Ok(made) => made,
-        Err(refused) => view.change_all(right, refused.changes).ok()?,
-    };
-    Some(made.0.len() as u64)
-}
-
-#[test]
-fn view_counts_its_changes(rt: HostRuntime) {
-    let mut bus = Plain::new(&rt, rt.alloc(), 1).bus;
-    let before = counts(&bus);
-    let changes = once_more!(&rt; hellos(rt.alloc(), 2));
-    let after = counts_after(&mut bus, &(), changes);
-    assert!(rt; before == (0, 0, 0) && after == Some((3, 3, 3)));
     drop(bus);
 }

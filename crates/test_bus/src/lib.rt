@@ -1,27 +1,18 @@
-//! Runs of the bus, whose outcomes are worked out by hand: queues of owners, tables of names, the
-//! plain bus, its view and the registry. Each holds too where any one allocation fails: what was
-//! refused is tried once more, as if it had not been tried.
+//! What no line of a trace says of a bus, worked out by hand: queues of owners by themselves, what
+//! a bus can be opened with, the bytes of its answers, batches and what a view counts. Each holds
+//! too where any one allocation fails: what was refused is tried once more, as if it had not been
+//! tried. What a bus answers to changes, queries and messages are rows of `test_traces`.
 #![tactic(auto)]
 
 #[cfg(test)]
 mod batches;
 #[cfg(test)]
-mod buses;
-#[cfg(test)]
-mod limits;
-#[cfg(test)]
-mod made;
-#[cfg(test)]
-mod monitors;
+mod bodies;
 #[cfg(test)]
 mod openings;
 #[cfg(test)]
+mod plain;
+#[cfg(test)]
 mod queues;
 #[cfg(test)]
-mod rules;
-#[cfg(test)]
-mod runs;
-#[cfg(test)]
-mod starts;
-#[cfg(test)]
-mod tables;
+mod views;

@@ -1,31 +1,29 @@
 //! A trace that is played.
 
-use crate::answers::answered;
-use bus_view::can_open;
+use crate::buses::Buses;
+use crate::each::{Each, numbered};
 use names::WellKnown;
 use owner_queues::Profile;
-use registry::Registry;
 use std::alloc::{AllocError, Global};
 use trace_lines::{
-    ChangeWords, Deed, Draft, Line, profile_line, read_line, read_profile, read_routers,
-    read_service, routers_line, service_line, write_route_line,
+    profile_line, read_line, read_profile, read_routers, read_service, routers_line, service_line,
 };
 
-/// What stands in the place of each line: what a bus would have written there.
-pub fn answers(alloc: Global, lines: &[String]) -> Result<String, AllocError> {
+/// What stands in the place of each row: what a bus would have written there.
+pub fn answers(alloc: Global, rows: &[String]) -> Result<String, AllocError> {
     let mut played = Played::new(alloc);
-    let answers = played.answer_all(alloc, lines);
+    let answers = played.answer_all(alloc, rows);
     drop(played);
     answers
 }
 
-/// The head of a trace so far, and the registry that its lines are played on.
+/// The head of a trace so far, and the buses that its lines are played on.
 #[derive(Drop)]
 struct Played {
     profile: Profile,
     routers: u8,
     services: Vec<WellKnown>,
-    registry: Option<Registry>,
+    buses: Option<Buses>,
 }
 
 impl Played {
@@ -35,39 +33,62 @@ impl Played {
             profile: Profile::Two,
             routers: 1,
             services: Vec::new(alloc),
-            registry: None,
+            buses: None,
         }
     }
 
-    fn answer_all(&mut self, alloc: Global, lines: &[String]) -> Result<String, AllocError> {
+    fn answer_all(&mut self, alloc: Global, rows: &[String]) -> Result<String, AllocError> {
         let mut answers = String::new(alloc);
-        for line in lines {
-            self.answer(alloc, line.as_str(), &mut answers)?;
+        for row in rows {
+            self.answer(alloc, row.as_str(), &mut answers)?;
             answers.push('\n')?;
         }
         Ok(answers)
     }
 
-    /// Appends what stands in the place of a line.
-    fn answer(
-        &mut self,
-        alloc: Global,
-        text: &str,
-        answers: &mut String,
-    ) -> Result<(), AllocError> {
-        if text.is_empty() || text.starts_with('#') {
-            answers.push_str(text)?;
-            return Ok(());
+    /// Appends what stands in the place of a row.
+    fn answer(&mut self, alloc: Global, row: &str, answers: &mut String) -> Result<(), AllocError> {
+        if row.is_empty() || row.starts_with('#') {
+            return answers.push_str(row);
         }
-        match self.line(alloc, text)? {
-            Some(written) => answers.push_str(written.as_str())?,
-            None => answers.push_str("none")?,
+        let answer = match Each::read(row) {
+            Some(each) => self.other_line(alloc, each)?,
+            None => Some(self.line(alloc, row)?),
+        };
+        match answer {
+            Some(answer) => answers.push_str(answer.as_str()),
+            None => answers.push_str(row),
         }
-        Ok(())
     }
 
-    /// What a bus would have written in the place of a line; none for what is no line of a trace.
-    fn line(&mut self, alloc: Global, text: &str) -> Result<Option<String>, AllocError> {
+    /// The first of many lines in whose place something else stands.
+    fn other_line(&mut self, alloc: Global, each: Each<'_>) -> Result<Option<String>, AllocError> {
+        for (number, other) in (each.first..=each.last).zip(each.other..) {
+            for line in each.lines.split(" ; ") {
+                let line = numbered(alloc, line, '#', number)?;
+                let line = numbered(alloc, line.as_str(), '%', other)?;
+                let answer = self.line(alloc, line.as_str())?;
+                if answer != line {
+                    return Ok(Some(answer));
+                }
+            }
+        }
+        Ok(None)
+    }
+
+    /// What stands in the place of a line.
+    fn line(&mut self, alloc: Global, text: &str) -> Result<String, AllocError> {
+        match self.head_line(alloc, text)? {
+            Some(line) => Ok(line),
+            None => match self.line_behind(alloc, text)? {
+                Some(line) => Ok(line),
+                None => String::from_str(alloc, "none"),
+            },
+        }
+    }
+
+    /// A line of the head as a bus would have written it; none for any other line.
+    fn head_line(&mut self, alloc: Global, text: &str) -> Result<Option<String>, AllocError> {
         if let Some(profile) = read_profile(text) {
             *self = Played::new(alloc);
             self.profile = profile;
@@ -81,46 +102,33 @@ impl Played {
             self.services.push(service)?;
             return Ok(Some(service_line(alloc, &service)?));
         }
-        match read_line(alloc, self.routers, text)? {
-            Some(line) => self.played(alloc, &line),
-            None => Ok(None),
-        }
+        Ok(None)
     }
 
-    fn played(&mut self, alloc: Global, line: &Line<'_>) -> Result<Option<String>, AllocError> {
-        if self.registry.is_none() && can_open(&self.services, self.routers) {
-            let registry = Registry::new(alloc, &self.services, self.routers, self.profile)?;
-            self.registry = Some(registry);
+    /// A line behind the head as a bus would have written it, or what is kept of what it asks for;
+    /// none for any other line.
+    fn line_behind(&mut self, alloc: Global, text: &str) -> Result<Option<String>, AllocError> {
+        if self.buses.is_none() {
+            self.buses = Buses::open(alloc, &self.services, self.routers, self.profile)?;
         }
-        match &mut self.registry {
-            Some(registry) => Ok(Some(written(alloc, registry, line)?)),
+        let Some(buses) = &mut self.buses else {
+            return Ok(None);
+        };
+        if let Some(number) = connection_in(text) {
+            return Ok(Some(buses.connection_row(alloc, number)?));
+        }
+        if text.starts_with("monitors") {
+            return Ok(Some(buses.monitors_row(alloc)?));
+        }
+        match read_line(alloc, self.routers, text)? {
+            Some(line) => Ok(Some(buses.line(alloc, line)?)),
             None => Ok(None),
         }
     }
 }
 
-/// The line that a registry gives.
-fn written(alloc: Global, registry: &mut Registry, line: &Line<'_>) -> Result<String, AllocError> {
-    match &line.deed {
-        Deed::Change { number, change } => {
-            let words = ChangeWords::of(alloc, change)?;
-            let seat = u8::try_from(line.seat).unwrap_or(0);
-            let mut prepared = registry.prepare(alloc, seat, change)?;
-            let outcome = prepared.take_outcome(alloc);
-            registry.absorb(&prepared);
-            let mut written = Draft::new(alloc);
-            words.write_line(&mut written, line.place, line.seat, *number, &outcome)?;
-            Ok(written.into_string())
-        }
-        Deed::Query(query) => answered(alloc, line.place, line.seat, query, registry),
-        Deed::Route(route) => {
-            let arguments = route.arguments();
-            let facts = route.facts(arguments.as_slice());
-            let verdict = registry.route(route.sender, &facts);
-            let from = route.sender;
-            let mut written = Draft::new(alloc);
-            write_route_line(&mut written, line.place, line.seat, from, &facts, &verdict)?;
-            Ok(written.into_string())
-        }
-    }
+/// The number of a connection that is asked for.
+fn connection_in(text: &str) -> Option<u64> {
+    let (number, _) = text.strip_prefix("connection ")?.split_once(' ')?;
+    number.parse().ok()
 }
