@@ -1,5 +1,6 @@
 -- How routers reach one another, and whoever runs the programs of services.
-use Rattle.std.specs.Prelude.{◌≡◌, ◌+◌, ℕ, List, Some, slice_get, slice_set}
+use Rattle.std.specs.Prelude.{◌≡◌, ◌+◌, ◌/◌, max, ℕ, List, Some, slice_get, slice_set}
+use Rattle.seq_bus_core.specs.BusState.{max_connections}
 use Rattle.outbox.specs.declared.hand.Hand.{Hand}
 use Rattle.outbox.specs.Lanes.{End, Took, sent, with}
 
@@ -15,6 +16,10 @@ module _ {E : Type 0} where
   Takes before place item after =
       (e : End E) × (hand : Hand E) × (slice_get before place ≡ Some e) × Took e.hand item hand
       × (after ≡ slice_set before place (with e hand))
+
+-- how many places for connections each of so many routers has
+abbrev pub places_of : ℕ → ℕ
+places_of routers = max_connections / max routers 1
 
 -- What a router has: the ends of its lane into all outboxes, by slots; the taps of its own places,
 -- of which the first has this slot; and its lane to whoever runs programs.

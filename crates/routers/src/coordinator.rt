@@ -1,8 +1,12 @@
 //! What the threads of a bus share, besides its registry and the queues between them.
 
+ghost use Rattle.std.specs.Prelude.{◌≡◌, IfOk, length};
+ghost use Rattle.routers.specs.Posts.{places_of};
+
 use crate::fault::Fault;
 use seq_bus_core::limits::MAX_CONNECTIONS;
 use std::alloc::{AllocError, Global};
+use std::marker::Model;
 use std::sync::atomic::{AtomicBool, Ordering};
 use std::sync::{OnceLock, Wait};
 
@@ -33,6 +37,17 @@ struct RouterState<W: Wake + Drop> {
 }
 
 impl<W: Wake + Drop> RouterState<W> {
+    fn new(waker: W) -> RouterState<W> {
+        RouterState {
+            waker,
+            sleeps: AtomicBool::new(false),
+            mail: AtomicBool::new(false),
+            looks: AtomicBool::new(false),
+            comes: AtomicBool::new(false),
+            owed: AtomicBool::new(false),
+        }
+    }
+
     fn wake(&self) {
         if self.sleeps.swap(false, Ordering::SeqCst) {
             self.waker.wake();
@@ -53,7 +68,8 @@ fn lower(flag: &AtomicBool) -> bool {
 }
 
 /// What the threads of a bus share, besides its registry and the queues between them: how to wake
-/// each, which places have mail, and whether they are to end.
+/// each, which places have mail, and whether they are to end. Contracts see how many routers there
+/// are.
 #[derive(Drop)]
 pub struct Coordinator<W: Wake + Drop> {
     states: Vec<RouterState<W>>,
@@ -65,21 +81,35 @@ pub struct Coordinator<W: Wake + Drop> {
     fault: OnceLock<Fault>,
 }
 
+/// A state for each waker.
+fn states_of<W: Wake + Drop>(
+    alloc: Global,
+    wakers: Vec<W>,
+) -> Result<Vec<RouterState<W>>, AllocError>
+    ensures { IfOk result (λ states. length states.items ≡ length wakers.items) }
+{
+    let mut states = Vec::with_capacity(alloc, wakers.len())?;
+    for waker in wakers {
+        states.push(RouterState::new(waker))?;
+    }
+    Ok(states)
+}
+
+impl<W: Wake + Drop> Model for Coordinator<W> {
+    ghost use Rattle.std.specs.Prelude.{ℕ, length};
+
+    ghost Value = { ℕ };
+
+    ghost view = { λ c. length c.states.items };
+}
+
 impl<W: Wake + Drop> Coordinator<W> {
     /// The coordinator of as many routers as there are wakers, and of the main thread, whose waker
     /// is `main`.
-    pub fn new(alloc: Global, wakers: Vec<W>, main: W) -> Result<Coordinator<W>, AllocError> {
-        let mut states = Vec::with_capacity(alloc, wakers.len())?;
-        for waker in wakers {
-            states.push(RouterState {
-                waker,
-                sleeps: AtomicBool::new(false),
-                mail: AtomicBool::new(false),
-                looks: AtomicBool::new(false),
-                comes: AtomicBool::new(false),
-                owed: AtomicBool::new(false),
-            })?;
-        }
+    pub fn new(alloc: Global, wakers: Vec<W>, main: W) -> Result<Coordinator<W>, AllocError>
+        ensures routers { IfOk result (λ c. c ≡ length wakers.items) }
+    {
+        let states = states_of(alloc, wakers)?;
         let mut mail = Vec::with_capacity(alloc, PLACES)?;
         for _slot in 0..PLACES {
             mail.push(AtomicBool::new(false))?;
@@ -94,12 +124,16 @@ impl<W: Wake + Drop> Coordinator<W> {
     }
 
     /// How many routers there are.
-    pub fn routers(&self) -> usize {
+    pub fn routers(&self) -> usize
+        ensures { result ≡ self.now }
+    {
         self.states.len()
     }
 
     /// How many connections each router has places for.
-    pub fn places(&self) -> usize {
+    pub fn places(&self) -> usize
+        ensures { result ≡ places_of self.now }
+    {
         PLACES / self.states.len().max(1)
     }
 

@@ -1,7 +1,7 @@
 //! The ways between the routers of one process.
 
-ghost use Rattle.std.specs.Prelude.{◌≡◌, IfErr, OnOk, OnErr};
-ghost use Rattle.routers.specs.Posts.{AsksFor, Sends};
+ghost use Rattle.std.specs.Prelude.{◌≡◌, ◌-◌, ◌*◌, ◌^◌, min, IfErr, OnOk, OnErr};
+ghost use Rattle.routers.specs.Posts.{AsksFor, Sends, places_of};
 
 use crate::coordinator::{Coordinator, Wake};
 use outbox::{EnvelopeOf, Lane, Tap};
@@ -57,6 +57,7 @@ impl<'a, J: Naming, W: Wake + Drop> LanePost<'a, J, W> {
     ) -> LanePost<'a, J, W>
         ensures lane { result.lane ≡ lane }
         ensures taps { result.taps ≡ taps.items }
+        ensures first { result.first ≡ min (me * places_of coordinator.now) (2 ^ 64 - 1) }
         ensures starts { result.starts ≡ starts }
     {
         LanePost {
