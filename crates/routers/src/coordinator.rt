@@ -138,7 +138,7 @@ impl<W: Wake + Drop> Coordinator<W> {
     }
 
     /// The router of a place, counted from 0.
-    pub(crate) fn router_of(&self, slot: usize) -> usize {
+    fn router_of(&self, slot: usize) -> usize {
         slot / self.places().max(1)
     }
 
@@ -186,9 +186,9 @@ impl<W: Wake + Drop> Coordinator<W> {
         }
     }
 
-    /// A connection of this router was full.
-    pub(crate) fn ask_to_look(&self, router: usize) {
-        if let Some(state) = self.states.get(router) {
+    /// The connection of this place was full for another router than its own, which is to look.
+    pub(crate) fn ask_to_look(&self, slot: usize) {
+        if let Some(state) = self.states.get(self.router_of(slot)) {
             raise(&state.looks);
             raise(&state.owed);
         }

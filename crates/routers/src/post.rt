@@ -23,8 +23,6 @@ pub struct LanePost<'a, J: Naming, W: Wake + Drop> {
     taps: Vec<Tap<EnvelopeOf<J>>>,
     starts: Lane<StartRequest>,
     coordinator: &'a Coordinator<W>,
-    /// Which router this is.
-    me: usize,
     /// The slot of its first place.
     first: usize,
 }
@@ -65,8 +63,15 @@ impl<'a, J: Naming, W: Wake + Drop> LanePost<'a, J, W> {
             taps,
             starts,
             coordinator,
-            me,
             first: me.saturating_mul(coordinator.places()),
+        }
+    }
+
+    /// Whether a slot is that of a place of its own.
+    fn is_own(&self, slot: usize) -> bool {
+        match slot.checked_sub(self.first) {
+            Some(place) => place < self.taps.len(),
+            None => false,
         }
     }
 }
@@ -95,7 +100,7 @@ impl<'a, 'b, J: Naming, W: Wake + Drop, R: Wait> Post<Traced<Desk<'b, J, R>>>
         if let Err(outbox::Full(back)) = self.lane.put(right, slot, envelope) {
             return Err(Full(back));
         }
-        if self.coordinator.router_of(slot) != self.me {
+        if !self.is_own(slot) {
             self.coordinator.tell_of_mail(slot);
         }
         Ok(())
@@ -128,9 +133,9 @@ impl<'a, 'b, J: Naming, W: Wake + Drop, R: Wait> Post<Traced<Desk<'b, J, R>>>
     }
 
     fn look(&mut self, _right: &R, at: Conn) {
-        let router = self.coordinator.router_of(usize::from(at.slot));
-        if router != self.me {
-            self.coordinator.ask_to_look(router);
+        let slot = usize::from(at.slot);
+        if !self.is_own(slot) {
+            self.coordinator.ask_to_look(slot);
         }
     }
 }
