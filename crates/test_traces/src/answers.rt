@@ -53,11 +53,15 @@ fn queued(alloc: Global, registry: &Registry, name: &BusName) -> Result<Vec<BusN
     Ok(names)
 }
 
+/// The names that have owners, of which a monitor is none.
 fn all_names(alloc: Global, registry: &Registry) -> Result<Vec<BusName>, AllocError> {
     let mut names = Vec::new(alloc);
     names.push(BusName::bus())?;
     for member in registry.connections() {
-        names.push(BusName::from(UniqueName::of(member.conn.number)))?;
+        let number = member.conn.number;
+        if registry.is_client(number) {
+            names.push(BusName::from(UniqueName::of(number)))?;
+        }
     }
     for entry in registry.names() {
         names.push(entry.name)?;

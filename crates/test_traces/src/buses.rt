@@ -1,13 +1,15 @@
 //! A registry and a plain bus, on which the same is done.
 
 use crate::answers::answered;
+use crate::batch::Batch;
+use crate::recorded::{recorded, tell_the_same};
 use bus_trace::Traced;
 use bus_view::{BusView, can_open};
 use names::WellKnown;
 use owner_queues::{Profile, Queue};
 use registry::Registry;
 use seq_bus::{SEAT, SeqBus};
-use seq_bus_core::{Change, Query};
+use seq_bus_core::{Change, Query, Reply};
 use std::alloc::{AllocError, Global};
 use trace_lines::{ChangeWords, Deed, Draft, Line, Route, write_route_line};
 
@@ -57,11 +59,35 @@ impl Buses {
             Deed::Query(query) => self.query_line(alloc, place, seat, &query)?,
             Deed::Route(route) => self.route_line(alloc, place, seat, &route)?,
         };
-        let recorded = self.plain.take_lines();
-        if self.plain.lost() {
+        let recorded = recorded(alloc, &mut self.plain)?;
+        if self.are_alike && !tell_the_same(recorded.as_str(), written.as_str()) {
+            return String::from_str(alloc, "differs");
+        }
+        Ok(written)
+    }
+
+    /// The lines of changes that the registry makes one after the other, and the plain bus at once,
+    /// or `differs`.
+    pub fn batch(&mut self, alloc: Global, batch: Batch) -> Result<String, AllocError> {
+        let Batch {
+            place,
+            seat,
+            number,
+            changes,
+        } = batch;
+        let mut written = String::new(alloc);
+        for (change, (place, number)) in changes.iter().zip((place..).zip(number..)) {
+            let (line, _) = self.made(alloc, place, seat, number, change)?;
+            if !written.is_empty() {
+                written.push_str(" ; ")?;
+            }
+            written.push_str(line.as_str())?;
+        }
+        if self.plain.change_all(&(), changes).is_err() {
             return Err(AllocError);
         }
-        if self.are_alike && !tell_the_same(recorded.as_slice(), written.as_str()) {
+        let recorded = recorded(alloc, &mut self.plain)?;
+        if self.are_alike && !tell_the_same(recorded.as_str(), written.as_str()) {
             return String::from_str(alloc, "differs");
         }
         Ok(written)
@@ -75,21 +101,34 @@ impl Buses {
         number: u64,
         change: Change,
     ) -> Result<String, AllocError> {
-        if matches!(change, Change::Hello { .. }) && seat != u64::from(SEAT) {
-            self.are_alike = false;
-        }
-        let words = ChangeWords::of(alloc, &change)?;
-        let maker = u8::try_from(seat).unwrap_or(0);
-        let prepared = self.registry.make(&mut self.queue, alloc, maker, &change)?;
-        let mut written = Draft::new(alloc);
-        words.write_line(&mut written, place, seat, number, prepared.outcome())?;
+        let (written, reply) = self.made(alloc, place, seat, number, &change)?;
         let Ok((outcome, ())) = self.plain.change(&(), change) else {
             return Err(AllocError);
         };
-        if self.are_alike && outcome.reply != prepared.outcome().reply {
+        if self.are_alike && outcome.reply != reply {
             return String::from_str(alloc, "differs");
         }
-        Ok(written.into_string())
+        Ok(written)
+    }
+
+    /// The line of a change that the registry makes, and the reply to it.
+    fn made(
+        &mut self,
+        alloc: Global,
+        place: u64,
+        seat: u64,
+        number: u64,
+        change: &Change,
+    ) -> Result<(String, Reply), AllocError> {
+        if matches!(change, Change::Hello { .. }) && seat != u64::from(SEAT) {
+            self.are_alike = false;
+        }
+        let words = ChangeWords::of(alloc, change)?;
+        let maker = u8::try_from(seat).unwrap_or(0);
+        let prepared = self.registry.make(&mut self.queue, alloc, maker, change)?;
+        let mut written = Draft::new(alloc);
+        words.write_line(&mut written, place, seat, number, prepared.outcome())?;
+        Ok((written.into_string(), prepared.outcome().reply))
     }
 
     fn query_line(
@@ -158,16 +197,5 @@ impl Buses {
             row.push_str(format!(in alloc; " {number}")?.as_str())?;
         }
         Ok(row)
-    }
-}
-
-/// Whether the same stands behind the arrows of a recorded line and of another.
-fn tell_the_same(recorded: &[u8], other: &str) -> bool {
-    let Ok(recorded) = str::from_utf8(recorded) else {
-        return false;
-    };
-    match (recorded.split_once(" => "), other.split_once(" => ")) {
-        (Some((_, told)), Some((_, other))) => told.strip_suffix('\n') == Some(other),
-        _ => false,
     }
 }

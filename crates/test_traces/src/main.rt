@@ -1,24 +1,33 @@
-//! Lines of traces, read, played on a registry and on a plain bus, and written as a bus would.
+//! Lines of traces, read, played on buses, and written as a bus would.
 //!
 //! Each row of standard input is answered by one line. Changes are made in the order of the rows.
 //!
-//! - A line of a trace: the line that the bus would have written there, or `differs` where the plain
-//!   bus would have written another. Its place and its number stand there as they were. A line
-//!   `dbus-trace` begins another bus. The plain bus has one seat: once a connection has come by
-//!   another one, the registry answers alone.
+//! - A line of a trace: the line that the bus would have written there, or `differs` where two of
+//!   the buses would have written different ones. A line `dbus-trace` begins another trace. It is
+//!   played on a registry and on a plain bus, and by the second profile also at the desks of a
+//!   registry that its routers share, each line at the desk of its seat. The line is the desk's
+//!   where there is one; else its place and its number stand there as they were. The plain bus has
+//!   one seat: once a connection has come by another one, it is not asked any more.
 //! - `connection N => ..`: what the registry keeps of a connection, with its rules.
 //! - `monitors => ..`: the connections that are monitors.
 //! - `each FIRST LAST OTHER LINE ; LINE ..`: all these lines once for each number from the first to
 //!   the last, which stands in the place of `#`; a number that rises with it from the other one on
 //!   stands in the place of `%`. The row is repeated where each line is answered by itself, else it
 //!   is answered as the first that is not.
+//! - `batch LINE ; LINE ..`: lines of changes by one seat, which its desk and the plain bus make at
+//!   once, and the registry one after the other.
 //! - Empty lines and headings (`#`) are repeated. Any other row is answered by `none`.
 #![tactic(auto)]
 
 mod answers;
+mod batch;
 mod buses;
+mod desks;
 mod each;
 mod played;
+mod player;
+mod recorded;
+mod traces;
 
 use std::io;
 use std::io::{BufRead, BufReader};
@@ -29,6 +38,6 @@ fn main(rt: HostRuntime) -> io::Result<()> {
     for row in BufReader::new(alloc, rt.reader())?.lines(alloc) {
         rows.push(row?)?;
     }
-    let answers = played::answers(alloc, &rows)?;
+    let answers = traces::answers(&rt, alloc, &rows)?;
     print!(rt; "{answers}")
 }

@@ -1,7 +1,8 @@
-//! A trace that is played.
+//! A trace that is played on a registry and on a plain bus.
 
+use crate::batch::Batch;
 use crate::buses::Buses;
-use crate::each::{Each, numbered};
+use crate::player::{Player, answer};
 use names::WellKnown;
 use owner_queues::Profile;
 use std::alloc::{AllocError, Global};
@@ -9,88 +10,27 @@ use trace_lines::{
     profile_line, read_line, read_profile, read_routers, read_service, routers_line, service_line,
 };
 
-/// What stands in the place of each row: what a bus would have written there.
-pub fn answers(alloc: Global, rows: &[String]) -> Result<String, AllocError> {
-    let mut played = Played::new(alloc);
-    let answers = played.answer_all(alloc, rows);
-    drop(played);
-    answers
-}
-
-/// The head of a trace so far, and the buses that its lines are played on.
+/// The head of a trace.
 #[derive(Drop)]
-struct Played {
-    profile: Profile,
-    routers: u8,
-    services: Vec<WellKnown>,
-    buses: Option<Buses>,
+pub struct Head {
+    pub profile: Profile,
+    pub routers: u8,
+    pub services: Vec<WellKnown>,
 }
 
-impl Played {
-    /// A trace without a line.
-    fn new(alloc: Global) -> Played {
-        Played {
+impl Head {
+    /// The head of a trace without a line.
+    fn new(alloc: Global) -> Head {
+        Head {
             profile: Profile::Two,
             routers: 1,
             services: Vec::new(alloc),
-            buses: None,
-        }
-    }
-
-    fn answer_all(&mut self, alloc: Global, rows: &[String]) -> Result<String, AllocError> {
-        let mut answers = String::new(alloc);
-        for row in rows {
-            self.answer(alloc, row.as_str(), &mut answers)?;
-            answers.push('\n')?;
-        }
-        Ok(answers)
-    }
-
-    /// Appends what stands in the place of a row.
-    fn answer(&mut self, alloc: Global, row: &str, answers: &mut String) -> Result<(), AllocError> {
-        if row.is_empty() || row.starts_with('#') {
-            return answers.push_str(row);
-        }
-        let answer = match Each::read(row) {
-            Some(each) => self.other_line(alloc, each)?,
-            None => Some(self.line(alloc, row)?),
-        };
-        match answer {
-            Some(answer) => answers.push_str(answer.as_str()),
-            None => answers.push_str(row),
-        }
-    }
-
-    /// The first of many lines in whose place something else stands.
-    fn other_line(&mut self, alloc: Global, each: Each<'_>) -> Result<Option<String>, AllocError> {
-        for (number, other) in (each.first..=each.last).zip(each.other..) {
-            for line in each.lines.split(" ; ") {
-                let line = numbered(alloc, line, '#', number)?;
-                let line = numbered(alloc, line.as_str(), '%', other)?;
-                let answer = self.line(alloc, line.as_str())?;
-                if answer != line {
-                    return Ok(Some(answer));
-                }
-            }
-        }
-        Ok(None)
-    }
-
-    /// What stands in the place of a line.
-    fn line(&mut self, alloc: Global, text: &str) -> Result<String, AllocError> {
-        match self.head_line(alloc, text)? {
-            Some(line) => Ok(line),
-            None => match self.line_behind(alloc, text)? {
-                Some(line) => Ok(line),
-                None => String::from_str(alloc, "none"),
-            },
         }
     }
 
     /// A line of the head as a bus would have written it; none for any other line.
-    fn head_line(&mut self, alloc: Global, text: &str) -> Result<Option<String>, AllocError> {
+    fn line(&mut self, alloc: Global, text: &str) -> Result<Option<String>, AllocError> {
         if let Some(profile) = read_profile(text) {
-            *self = Played::new(alloc);
             self.profile = profile;
             return Ok(Some(String::from_str(alloc, profile_line(profile))?));
         }
@@ -104,13 +44,60 @@ impl Played {
         }
         Ok(None)
     }
+}
+
+/// The head of a trace with these rows, and what is told of each row.
+pub fn told_on_buses(
+    alloc: Global,
+    rows: &[&str],
+) -> Result<(Head, Vec<Option<String>>), AllocError> {
+    let mut played = Played {
+        head: Head::new(alloc),
+        buses: None,
+    };
+    let told = told_all(&mut played, alloc, rows);
+    let Played { head, buses } = played;
+    drop(buses);
+    Ok((head, told?))
+}
+
+fn told_all(
+    played: &mut Played,
+    alloc: Global,
+    rows: &[&str],
+) -> Result<Vec<Option<String>>, AllocError> {
+    let mut told = Vec::new(alloc);
+    for row in rows {
+        told.push(answer(played, alloc, row)?)?;
+    }
+    Ok(told)
+}
+
+/// The head so far, and the buses that the lines behind it are played on.
+#[derive(Drop)]
+struct Played {
+    head: Head,
+    buses: Option<Buses>,
+}
+
+impl Played {
+    /// Opens the buses where they are not open yet.
+    fn open(&mut self, alloc: Global) -> Result<(), AllocError> {
+        if self.buses.is_none() {
+            let Head {
+                profile,
+                routers,
+                services,
+            } = &self.head;
+            self.buses = Buses::open(alloc, services, *routers, *profile)?;
+        }
+        Ok(())
+    }
 
     /// A line behind the head as a bus would have written it, or what is kept of what it asks for;
     /// none for any other line.
     fn line_behind(&mut self, alloc: Global, text: &str) -> Result<Option<String>, AllocError> {
-        if self.buses.is_none() {
-            self.buses = Buses::open(alloc, &self.services, self.routers, self.profile)?;
-        }
+        self.open(alloc)?;
         let Some(buses) = &mut self.buses else {
             return Ok(None);
         };
@@ -120,8 +107,28 @@ impl Played {
         if text.starts_with("monitors") {
             return Ok(Some(buses.monitors_row(alloc)?));
         }
-        match read_line(alloc, self.routers, text)? {
+        match read_line(alloc, self.head.routers, text)? {
             Some(line) => Ok(Some(buses.line(alloc, line)?)),
+            None => Ok(None),
+        }
+    }
+}
+
+impl Player for Played {
+    fn line(&mut self, alloc: Global, text: &str) -> Result<Option<String>, AllocError> {
+        match self.head.line(alloc, text)? {
+            Some(line) => Ok(Some(line)),
+            None => self.line_behind(alloc, text),
+        }
+    }
+
+    fn batch(&mut self, alloc: Global, lines: &str) -> Result<Option<String>, AllocError> {
+        self.open(alloc)?;
+        let Some(buses) = &mut self.buses else {
+            return Ok(None);
+        };
+        match Batch::read(alloc, self.head.routers, lines)? {
+            Some(batch) => Ok(Some(buses.batch(alloc, batch)?)),
             None => Ok(None),
         }
     }

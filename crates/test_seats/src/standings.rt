@@ -1,9 +1,9 @@
-//! Batches of changes at a seat, and what desks tell of where theirs stand.
+//! What desks tell of where their changes stand, batches among them.
 
-use crate::rows::Router;
+use crate::players::Router;
 use bus_view::{BatchCause, BusView, RefusedAll};
 use match_rules::Rule;
-use registry_snapshots::{Desk, Naming, Seat, Shared};
+use registry_snapshots::{Desk, Naming};
 use seq_bus_core::{Change, Outcome, Reply};
 use std::alloc::Global;
 use std::sync::Wait;
@@ -43,36 +43,6 @@ fn are_done(outcomes: &[Outcome], count: usize) -> bool {
     outcomes.len() == count && outcomes.iter().all(|outcome| outcome.reply == Reply::Done)
 }
 
-/// How much of the history a seat finds when it reads, and whether connection 1 is there.
-fn found<J: Naming>(seat: &mut Seat<J>) -> Option<(u64, bool)> {
-    let is_present = seat.present(1).ok()?;
-    Some((seat.place(), is_present))
-}
-
-/// Whether a batch of the first seat is seen whole by the second, and not at all before it looks.
-pub(crate) fn are_made<J: Naming, R: Wait>(
-    rt: &R,
-    alloc: Global,
-    shared: &Shared<J>,
-    first: &mut Seat<J>,
-    second: &mut Seat<J>,
-) -> Option<bool> {
-    first
-        .change(rt, shared, Change::Hello { privileged: false })
-        .ok()?;
-    let before = found(second)?;
-    let rules = rule_changes(alloc)?;
-    let (outcomes, note) = first.change_all(rt, shared, rules).ok()?;
-    let untold = second.place();
-    second.take_note(&note);
-    drop(note);
-    let is_done = are_done(outcomes.as_slice(), 4);
-    drop(outcomes);
-    let told = second.place();
-    let after = found(second)?;
-    Some(is_done && before == (1, true) && untold == 1 && told == 5 && after == (5, true))
-}
-
 /// What is done at a desk.
 #[derive(Clone, Copy)]
 enum Act {
@@ -81,8 +51,8 @@ enum Act {
     Rules,
     /// A batch of so many, which is none.
     HandedBack(usize),
-    /// It reads.
-    Present,
+    /// It reads whether the first connection is there. There is no monitor.
+    Present(bool),
     /// It takes the note of the other.
     Note,
 }
@@ -93,10 +63,10 @@ type Standing = (u64, u64, u64);
 
 /// What is done at which desk, and where the two stand then.
 const STANDINGS: [(Router, Act, Standing, Standing); 11] = [
-    (Router::First, Act::Present, (0, 0, 0), (0, 0, 0)),
+    (Router::First, Act::Present(false), (0, 0, 0), (0, 0, 0)),
     (Router::First, Act::Hello, (1, 1, 1), (0, 0, 0)),
     (Router::First, Act::Rules, (5, 5, 5), (0, 0, 0)),
-    (Router::Second, Act::Present, (5, 5, 5), (5, 0, 0)),
+    (Router::Second, Act::Present(true), (5, 5, 5), (5, 0, 0)),
     (Router::Second, Act::Hello, (5, 5, 5), (6, 1, 6)),
     (Router::First, Act::HandedBack(0), (5, 5, 5), (6, 1, 6)),
     (Router::First, Act::HandedBack(65), (5, 5, 5), (6, 1, 6)),
@@ -128,7 +98,7 @@ fn does<J: Naming, R: Wait>(
         Act::Hello => Some(is_welcome(rt, desk)),
         Act::Rules => Some(rules_are_done(rt, desk, rule_changes(alloc)?)),
         Act::HandedBack(count) => Some(hands_back(rt, desk, hellos(alloc, count)?, count)),
-        Act::Present => Some(desk.present(3) == Ok(false)),
+        Act::Present(is_there) => Some(desk.present(1) == Ok(is_there) && !desk.is_watched()),
         Act::Note => {
             desk.take_note(&other.note()?);
             Some(true)
@@ -166,13 +136,16 @@ fn hands_back<J: Naming, R: Wait>(
     }
 }
 
-/// Whether two desks tell of where their changes stand as they should.
-pub(crate) fn stand<J: Naming, R: Wait>(
+/// Whether two desks tell of themselves and of where their changes stand as they should.
+pub(crate) fn are_told<J: Naming, R: Wait>(
     rt: &R,
     alloc: Global,
     first: &mut Desk<'_, J, R>,
     second: &mut Desk<'_, J, R>,
 ) -> bool {
+    if first.seat() != 1 || second.seat() != 2 || first.note().is_some() {
+        return false;
+    }
     for (router, act, of_first, of_second) in STANDINGS {
         let is_done = match router {
             Router::First => does(rt, alloc, first, second, act),
