@@ -6,10 +6,12 @@ use Rattle.seq_bus_core.specs.declared.connection.Conn.{Conn}
 use Rattle.sasl.specs.declared.identity.Identity.{Identity}
 use Rattle.sasl.specs.declared.phase.Phase.{Phase}
 use Rattle.sasl.specs.declared.phase.Phase.TheVariants.{WaitingForNul, WaitingForAuth, WaitingForData, WaitingForBegin, Done, Closed}
+use Rattle.sasl.specs.Settings.{Setting}
+use Rattle.sasl.specs.Conversations.{State as AuthState}
 use Rattle.sasl.specs.Hearing.{Conversed, conversed}
 use Rattle.router_core.specs.Events.{Gathered, gathering, gather_at, none_gathered, turning, coming_next, next_at, for_peer, hearing, answering, conversed_to, converse_if, is_user, closing, greet, serve_named}
 use Rattle.router_core.specs.declared.cause.CloseCause.TheVariants.{NotHello, MonitorSent}
-use Rattle.router_core.specs.Laws.{IsShut, ClosedAreNotServed, ClosedHaveNoTurn, ClosedTakeNothing, ClosedGetNoMail, NobodySpeaksBeforeBegin, OnlyBeginBegins, UnknownTypesBringNothing, OnlyHelloGreets, MonitorsSendNothing}
+use Rattle.router_core.specs.Laws.{IsShut, HasNotBegun, ClosedAreNotServed, ClosedHaveNoTurn, ClosedTakeNothing, ClosedGetNoMail, NobodySpeaksBeforeBegin, NobodyHasATurnBeforeBegin, OnlyBeginBegins, UnknownTypesBringNothing, OnlyHelloGreets, MonitorsSendNothing}
 use Rattle.router_core.specs.Scripts.{Script, Gives, and_then, World, Comes}
 use Rattle.router_core.specs.Standing.{Authenticating, Unnamed, Shut, Peer, Standing, peer_at, with_peer}
 
@@ -35,6 +37,15 @@ closed_get_no_mail slot number p conn is = rw is refl
 
 pub nobody_speaks_before_begin : NobodySpeaksBeforeBegin
 nobody_speaks_before_begin s key p setting state is = (ap (coming_next s key) is.0 ∙ ap (next_at s key p) is.1, λ slot number. rw is.1 refl)
+
+-- it is passed over
+not_begun : (s : Standing) (key : ℕ) (p : Peer) (setting : Setting) (state : AuthState) → HasNotBegun s key p setting state → gathering [] s key (peer_at s key) ≡ none_gathered [] s
+not_begun s key p setting state is = ap (gathering [] s key) is.0 ∙ ap (gather_at [] s key p) is.1
+
+pub nobody_has_a_turn_before_begin : NobodyHasATurnBeforeBegin
+nobody_has_a_turn_before_begin s [] all = refl
+nobody_has_a_turn_before_begin s (key ∷ keys) all =
+    ap (λ (g : Script Gathered). and_then g (λ (r : Gathered). turning r.joints keys r.served r.standing)) (not_begun s key all.0.0 all.0.1 all.0.2 all.0.3) ∙ nobody_has_a_turn_before_begin s keys all.1
 
 pub only_begin_begins : {N G : Type 0} (told : N → History) (registry_of : N → ℕ) (passes : G → GatedCall → G → Type 0) (alone : Bool) → OnlyBeginBegins told registry_of passes alone
 only_begin_begins {N = N} {G = G} told registry_of passes alone p q key piece setting state privileged w v comes begun = by_grant comes.0 comes.1

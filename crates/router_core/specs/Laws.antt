@@ -51,6 +51,11 @@ abbrev pub NobodySpeaksBeforeBegin : Type 0
 NobodySpeaksBeforeBegin = (s : Standing) (key : ℕ) (p : Peer) (setting : Setting) (state : AuthState) → HasNotBegun s key p setting state →
     (script s (Next key) ≡ Gives s) × ((slot number : ℕ) → is_conn slot number (Some p) ≡ false)
 
+-- Nor is a message of it served in a turn.
+abbrev pub NobodyHasATurnBeforeBegin : Type 0
+NobodyHasATurnBeforeBegin = (s : Standing) (keys : List ℕ) → AllByRecursion (λ key. (p : Peer) × (setting : Setting) × (state : AuthState) × HasNotBegun s key p setting state) keys →
+    script s (Turn keys) ≡ Gives s
+
 -- It goes on to its messages only where its conversation is done, and it is the bus's own user only where it knows the cookie.
 abbrev pub OnlyBeginBegins : {N G : Type 0} → (N → History) → (N → ℕ) → (G → GatedCall → G → Type 0) → Bool → Type 0
 OnlyBeginBegins {N = N} {G = G} told registry_of passes alone = (p q : Peer) (key : ℕ) (piece : List ℕ) (setting : Setting) (state : AuthState) (privileged : Bool) (w v : World N G) →

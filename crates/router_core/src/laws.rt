@@ -1,7 +1,7 @@
 //! Laws of the definitions.
 
 ghost use Rattle.std.specs.Prelude.{◌≡◌};
-ghost use Rattle.router_core.specs.Laws.{ClosedAreNotServed, ClosedHaveNoTurn, ClosedTakeNothing, ClosedGetNoMail, NobodySpeaksBeforeBegin, OnlyBeginBegins, UnknownTypesBringNothing, OnlyHelloGreets, MonitorsSendNothing, OnlyFullTablesGrow, AnswersAreLawful, NotesAreOwn, OneThreadIsAFunction, BytesAreAFunction};
+ghost use Rattle.router_core.specs.Laws.{ClosedAreNotServed, ClosedHaveNoTurn, ClosedTakeNothing, ClosedGetNoMail, NobodySpeaksBeforeBegin, NobodyHasATurnBeforeBegin, OnlyBeginBegins, UnknownTypesBringNothing, OnlyHelloGreets, MonitorsSendNothing, OnlyFullTablesGrow, AnswersAreLawful, NotesAreOwn, OneThreadIsAFunction, BytesAreAFunction};
 ghost use Rattle.router_core.specs.Standing.{next_serial};
 
 use crate::gate::Gate;
@@ -22,10 +22,12 @@ pub fn closed_connections_are_quiet()
     ensures mail { ClosedGetNoMail }
 {}
 
-/// While a connection says who it is, no message of it is served, and no mail is written to it.
-#[tactic(auto, using(crate::proofs::FirstMessages::nobody_speaks_before_begin))]
+/// While a connection says who it is, no message of it is served, in no turn either, and no mail is
+/// written to it.
+#[tactic(auto, using(crate::proofs::FirstMessages::nobody_speaks_before_begin, crate::proofs::FirstMessages::nobody_has_a_turn_before_begin))]
 pub fn nobody_speaks_before_begin()
-    ensures { NobodySpeaksBeforeBegin }
+    ensures served { NobodySpeaksBeforeBegin }
+    ensures turn { NobodyHasATurnBeforeBegin }
 {}
 
 /// A connection that says who it is goes on to its messages only where its conversation is done,
