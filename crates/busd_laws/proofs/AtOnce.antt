@@ -6,8 +6,8 @@ use Rattle.router_core.specs.Deeds.{Deed}
 use Rattle.router_core.specs.Events.{Bytes, Mail, Next, Occasion, Opened}
 use Rattle.router_core.specs.Fronts.{Front, Waits, Whole, Faulty}
 use Rattle.router_core.specs.OneThread.{Readers, Rest, given}
-use Rattle.router_core.specs.Standing.{Peer, Stage, Authenticating, Unnamed, Named, Shut, peer_at}
-use Rattle.router.proofs.Feeding.{TakesBytes, authenticating_given, bytes_given, end_more, mail_given, none_given, nothing_fed, pieces_joined, rest_more, shut_given, waiting_given}
+use Rattle.router_core.specs.Standing.{Peer, Stage, Authenticating, Unnamed, Named, Closing, peer_at}
+use Rattle.router.proofs.Feeding.{TakesBytes, authenticating_given, bytes_given, end_more, mail_given, none_given, nothing_fed, pieces_joined, rest_more, closing_given, waiting_given}
 use Rattle.router.proofs.Speaking.{SpeaksAt, comes_speaking, mail_speaks, more_speaks, next_speaks}
 use Rattle.busd_core.specs.Happenings.{Delivery}
 use Rattle.busd_core.specs.OneThread.{bytes_done, mail_done, mailed, happened, all_happened}
@@ -102,7 +102,7 @@ module _ (readers : Readers) (seat key : ℕ) where
       by_stage p here (Authenticating setting state) is = inl (at_rest r (authenticating_given readers key r p setting state here is))
       by_stage p here (Unnamed privileged) is = by_front p here (subst (λ (stage : Stage). TakesBytes stage) (sym is) tt) (readers.front p.unread) refl
       by_stage p here (Named conn) is = by_front p here (subst (λ (stage : Stage). TakesBytes stage) (sym is) tt) (readers.front p.unread) refl
-      by_stage p here (Shut conn) is = inl (at_rest r (shut_given readers key r p conn here is))
+      by_stage p here (Closing conn) is = inl (at_rest r (closing_given readers key r p conn here is))
 
       by_peer : (o : Option Peer) → peer_at r.standing key ≡ o → Rests r ⊎ Goes_first later r
       by_peer None here = inl (at_rest r (none_given readers key r here))

@@ -10,10 +10,10 @@ use Rattle.router_core.specs.Deeds.{GatedCall}
 use Rattle.router_core.specs.Events.{Closed, Next, Occasion, occasion_of}
 use Rattle.router_core.specs.Fronts.{Waits}
 use Rattle.router_core.specs.OneThread.{AreReadBy, Readers, Rest, given}
-use Rattle.router_core.specs.Standing.{Peer, Stage, Authenticating, Unnamed, Named, Shut, peer_at}
+use Rattle.router_core.specs.Standing.{Peer, Stage, Authenticating, Unnamed, Named, Closing, peer_at}
 use Rattle.router_steps.specs.Quiet.{IsQuiet, IsQuietAt}
 use Rattle.router.specs.OneEvent.{rest_in}
-use Rattle.router.proofs.Feeding.{authenticating_given, none_given, shut_given, waiting_given}
+use Rattle.router.proofs.Feeding.{authenticating_given, none_given, closing_given, waiting_given}
 use Rattle.router.proofs.Grants.{granted_parts, read_parts}
 use Rattle.busd_core.specs.OneThread.{asked_all, happened}
 use Rattle.busd_core.specs.Sessions.{Goes, piece_of, asked_in}
@@ -31,7 +31,7 @@ left_of (Some p) = at_stage p.stage
   where
     at_stage : Stage → List Exchange
     at_stage (Authenticating setting state) = []
-    at_stage (Shut conn) = []
+    at_stage (Closing conn) = []
     at_stage stage = Fronted p.unread Waits ∷ []
 
 left_right : (o : Option Peer) → IfSome o IsQuiet → AreRight (left_of o)
@@ -42,7 +42,7 @@ left_right (Some p) quiet = by_stage p.stage refl quiet
     by_stage (Authenticating setting state) is waits = rw is tt
     by_stage (Unnamed privileged) is waits = rw is (waits, tt)
     by_stage (Named conn) is waits = rw is (waits, tt)
-    by_stage (Shut conn) is waits = rw is tt
+    by_stage (Closing conn) is waits = rw is tt
 
 quiet_given : (readers : Readers) (key : ℕ) (r : Rest) → AreReadBy readers (left_of (peer_at r.standing key)) → given readers r (Next key) ≡ ([], r)
 quiet_given readers key r read = by_peer (peer_at r.standing key) refl read
@@ -51,7 +51,7 @@ quiet_given readers key r read = by_peer (peer_at r.standing key) refl read
     by_stage p here (Authenticating setting state) is so = authenticating_given readers key r p setting state here is
     by_stage p here (Unnamed privileged) is so = let waits : AreReadBy readers (Fronted p.unread Waits ∷ []) = rw is at so in waiting_given readers key r p here (sym waits.0)
     by_stage p here (Named conn) is so = let waits : AreReadBy readers (Fronted p.unread Waits ∷ []) = rw is at so in waiting_given readers key r p here (sym waits.0)
-    by_stage p here (Shut conn) is so = shut_given readers key r p conn here is
+    by_stage p here (Closing conn) is so = closing_given readers key r p conn here is
 
     by_peer : (o : Option Peer) → peer_at r.standing key ≡ o → AreReadBy readers (left_of o) → given readers r (Next key) ≡ ([], r)
     by_peer None here so = none_given readers key r here

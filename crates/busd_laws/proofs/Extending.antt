@@ -11,7 +11,7 @@ use Rattle.router_core.specs.Deeds.{Deed, GatedCall}
 use Rattle.router_core.specs.Events.{Next, coming_next, next_at, occasion_of, script}
 use Rattle.router_core.specs.Fronts.{Front, Waits, Whole, Faulty, IsFront}
 use Rattle.router_core.specs.OneThread.{AreReadBy, Readers, Rest}
-use Rattle.router_core.specs.Standing.{Peer, Stage, Standing, Authenticating, Unnamed, Named, Shut, peer_at}
+use Rattle.router_core.specs.Standing.{Peer, Stage, Standing, Authenticating, Unnamed, Named, Closing, peer_at}
 use Rattle.router.specs.OneEvent.{rest_in}
 use Rattle.router.proofs.Feeding.{TakesBytes}
 use Rattle.router.proofs.Grants.{granted_parts, read_parts}
@@ -86,7 +86,7 @@ module _ (readers : Readers) (key : ℕ) (later : List ℕ) where
       by_stage (Authenticating setting state) takes so = absurd takes
       by_stage (Unnamed privileged) takes so = read_first so.0 so.1 so.2
       by_stage (Named conn) takes so = read_first so.0 so.1 so.2
-      by_stage (Shut conn) takes so = absurd takes
+      by_stage (Closing conn) takes so = absurd takes
 
 -- ## Whole runs
 

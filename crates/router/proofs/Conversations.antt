@@ -15,7 +15,7 @@ use Rattle.router_core.specs.Deeds.{Deed, Writes, Closes}
 use Rattle.router_core.specs.Events.{Bytes, Stands, for_peer, fed, is_user, answering, conversed_to, hearing}
 use Rattle.router_core.specs.OneThread.{Readers, Rest, given, bytes_if, opening_of, written_to}
 use Rattle.router_core.specs.Scripts.{Gives, and_then}
-use Rattle.router_core.specs.Standing.{Stage, Authenticating, Unnamed, Shut, Peer, SpeaksDBus, peer_at, with_peer, conn_of, shut}
+use Rattle.router_core.specs.Standing.{Stage, Authenticating, Unnamed, Closing, Peer, SpeaksDBus, peer_at, with_peer, conn_of, closing_peer}
 use Rattle.router.proofs.Feeding.{bytes_given, come_to, more_if, rest_more, standing_so}
 
 -- ## The conversation
@@ -64,7 +64,7 @@ peer_after setting p said WaitingForAuth = record p { stage = Authenticating set
 peer_after setting p said (WaitingForData due) = record p { stage = Authenticating setting said.state; unread = said.left }
 peer_after setting p said (WaitingForBegin identity) = record p { stage = Authenticating setting said.state; unread = said.left }
 peer_after setting p said (Done identity) = record p { stage = Unnamed (is_user identity); unread = said.left }
-peer_after setting p said (Closed fault) = shut p
+peer_after setting p said (Closed fault) = closing_peer p
 
 set_twice : (xs : List (Option Peer)) (k : ℕ) (x y : Option Peer) → set (set xs k x) k y ≡ set xs k y
 set_twice [] k x y = refl
@@ -201,7 +201,7 @@ module _ (readers : Readers) (key : ℕ) where
           alike (WaitingForData due) = refl
           alike (WaitingForBegin identity) = refl
           alike (Done identity) = refl
-          alike (Closed fault) = ap (λ (stage : Stage). let x : Peer = record p { stage = Shut (conn_of stage); unread = [] } in x) (sym is)
+          alike (Closed fault) = ap (λ (stage : Stage). let x : Peer = record p { stage = Closing (conn_of stage); unread = [] } in x) (sym is)
 
       -- one that speaks D-Bus from then on, or was closed
       quiet_after : (phase : Phase) (q : Peer) → SpeaksDBus q.stage → more.sent ≡ [] → fed second q q.stage ≡ peer_after setting p (joined said more) more.state.phase → Joins (writes key said.sent ++ closes key phase, peer_so r q)

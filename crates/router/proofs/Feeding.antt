@@ -33,7 +33,7 @@ use Rattle.router_core.specs.Fronts.{Front, Waits, Whole, Faulty}
 use Rattle.router_core.specs.OneThread.{Readers, Rest, Course, alone, given, rest_of}
 use Rattle.router_core.specs.Scripts.{Script, Gives, Changing, ChangingAll, Asking, Routing, Looking, Noting, Fronting, Calling, Gating, Wanting, Requiring, Doing, Announcing, and_then, putting}
 use Rattle.router_core.specs.Serving.{monitors_in, replying, serving}
-use Rattle.router_core.specs.Standing.{Stage, Authenticating, Unnamed, Named, Shut, Peer, Standing, SpeaksDBus, peer_at, with_peer, shut, next_serial, has_slot, is_conn}
+use Rattle.router_core.specs.Standing.{Stage, Authenticating, Unnamed, Named, Closing, Peer, Standing, SpeaksDBus, peer_at, with_peer, closing_peer, next_serial, has_slot, is_conn}
 
 -- ## Scripts one after the other
 
@@ -161,7 +161,7 @@ module _ (piece : List ℕ) (key : ℕ) where
       by_stage (Authenticating setting state) = refl
       by_stage (Unnamed privileged) = refl
       by_stage (Named conn) = refl
-      by_stage (Shut conn) = refl
+      by_stage (Closing conn) = refl
 
   conn_same : (slot number : ℕ) (o : Option Peer) → is_conn slot number (more_if o) ≡ is_conn slot number o
   conn_same slot number None = refl
@@ -171,26 +171,26 @@ module _ (piece : List ℕ) (key : ℕ) where
       by_stage (Authenticating setting state) = refl
       by_stage (Unnamed privileged) = refl
       by_stage (Named conn) = refl
-      by_stage (Shut conn) = refl
+      by_stage (Closing conn) = refl
 
   stage_same : (p : Peer) (stage : Stage) → (fed piece p stage).stage ≡ p.stage
   stage_same p (Authenticating setting state) = refl
   stage_same p (Unnamed privileged) = refl
   stage_same p (Named conn) = refl
-  stage_same p (Shut conn) = refl
+  stage_same p (Closing conn) = refl
 
   serial_same : (p : Peer) (stage : Stage) → (fed piece p stage).serial ≡ p.serial
   serial_same p (Authenticating setting state) = refl
   serial_same p (Unnamed privileged) = refl
   serial_same p (Named conn) = refl
-  serial_same p (Shut conn) = refl
+  serial_same p (Closing conn) = refl
 
   -- a connection that is closed lets go of all
-  shut_same : (p : Peer) (stage : Stage) → shut (fed piece p stage) ≡ shut p
-  shut_same p (Authenticating setting state) = refl
-  shut_same p (Unnamed privileged) = refl
-  shut_same p (Named conn) = refl
-  shut_same p (Shut conn) = refl
+  closing_same : (p : Peer) (stage : Stage) → closing_peer (fed piece p stage) ≡ closing_peer p
+  closing_same p (Authenticating setting state) = refl
+  closing_same p (Unnamed privileged) = refl
+  closing_same p (Named conn) = refl
+  closing_same p (Closing conn) = refl
 
   -- ## What is done for one connection
 
@@ -198,7 +198,7 @@ module _ (piece : List ℕ) (key : ℕ) where
   Natural w = (p : Peer) → w (more p) ≡ seen_as more (w p)
 
   closing_natural : (k : ℕ) (why : CloseCause) → Natural (closing k why)
-  closing_natural k why p = ap (λ (q : Peer). Doing (Closes k why) (Gives q)) (shut_same p p.stage)
+  closing_natural k why p = ap (λ (q : Peer). Doing (Closes k why) (Gives q)) (closing_same p p.stage)
 
   abbrev watching : Peer → Peer
   watching p = record p { watches = true }
@@ -207,7 +207,7 @@ module _ (piece : List ℕ) (key : ℕ) where
   watching_more p (Authenticating setting state) = refl
   watching_more p (Unnamed privileged) = refl
   watching_more p (Named conn) = refl
-  watching_more p (Shut conn) = refl
+  watching_more p (Closing conn) = refl
 
   fated_natural : (k : ℕ) (fate : PeerFate) → Natural (fated k fate)
   fated_natural k fate.Stays p = refl
@@ -221,7 +221,7 @@ module _ (piece : List ℕ) (key : ℕ) where
   numbered_more p n (Authenticating setting state) = refl
   numbered_more p n (Unnamed privileged) = refl
   numbered_more p n (Named conn) = refl
-  numbered_more p n (Shut conn) = refl
+  numbered_more p n (Closing conn) = refl
 
   abbrev sent : ℕ → Own → Peer → ℕ → OfPeer
   sent k own p serial = Doing (Sends k (bus_message serial own)) (Gives (numbered p serial))
@@ -375,7 +375,7 @@ module _ (piece : List ℕ) (key : ℕ) where
   watches_same p (Authenticating setting state) = refl
   watches_same p (Unnamed privileged) = refl
   watches_same p (Named conn) = refl
-  watches_same p (Shut conn) = refl
+  watches_same p (Closing conn) = refl
 
   named_serve : (s : Standing) (m : Message) (p : Peer) (conn : Conn) (watches : Bool) → serve_named (with_more s) key m (more p) conn watches ≡ seen_as with_more (serve_named s key m p conn watches)
   named_serve s m p conn true = here s (closing key cause.MonitorSent) (closing_natural key cause.MonitorSent) (Some p)
@@ -385,7 +385,7 @@ module _ (piece : List ℕ) (key : ℕ) where
   serve_more s m p (Authenticating setting state) is = refl
   serve_more s m p (Unnamed privileged) is = hello_more m p privileged is s (is_hello m)
   serve_more s m p (Named conn) is = ap (serve_named (with_more s) key m (more p) conn) (watches_same p p.stage) ∙ named_serve s m p conn p.watches
-  serve_more s m p (Shut conn) is = refl
+  serve_more s m p (Closing conn) is = refl
 
 -- ## Over a bus of one thread
 
@@ -419,7 +419,7 @@ module _ (readers : Readers) (piece : List ℕ) (key : ℕ) where
       by_stage p (Authenticating setting state) begun = absurd begun
       by_stage p (Unnamed privileged) begun = refl
       by_stage p (Named conn) begun = refl
-      by_stage p (Shut conn) begun = refl
+      by_stage p (Closing conn) begun = refl
 
       by_peer : (o : Option Peer) → IfSome o (λ p. SpeaksDBus p.stage) →
           come_to readers r (for_peer r.standing key o (λ p. hearing key piece p p.stage)) ≡ ([], standing_so r (with_peer r.standing key (more_if piece key o)))
@@ -453,7 +453,7 @@ module _ (readers : Readers) (piece : List ℕ) (key : ℕ) where
     turn_at (Authenticating setting state) is front later c = refl
     turn_at (Unnamed privileged) is front later c = turn (Unnamed privileged) is refl refl front later c
     turn_at (Named conn) is front later c = turn (Named conn) is refl refl front later c
-    turn_at (Shut conn) is front later c = refl
+    turn_at (Closing conn) is front later c = refl
 
   -- a whole message is served, whatever comes behind it
   pub next_given : (r : Rest) (p : Peer) (message rest : List ℕ) → peer_at r.standing key ≡ Some p → readers.front p.unread ≡ Whole message rest → readers.front (p.unread ++ piece) ≡ Whole message (rest ++ piece) →
@@ -476,16 +476,16 @@ abbrev pub TakesBytes : Stage → Type 0
 TakesBytes (Authenticating setting state) = ⊥
 TakesBytes (Unnamed privileged) = Unit {0}
 TakesBytes (Named conn) = Unit {0}
-TakesBytes (Shut conn) = ⊥
+TakesBytes (Closing conn) = ⊥
 
 module _ (key : ℕ) where
   abbrev pub closed_so : Rest → Peer → Rest
-  closed_so r p = standing_so r (with_peer r.standing key (Some (shut p)))
+  closed_so r p = standing_so r (with_peer r.standing key (Some (closing_peer p)))
 
   pub closed_more : (piece : List ℕ) (r : Rest) (p : Peer) → closed_so (rest_more piece key r) (more piece key p) ≡ rest_more piece key (closed_so r p)
   closed_more piece r p =
       ap (λ (s : Standing). standing_so r s)
-      (set_of_more piece key r.standing (Some (shut (more piece key p))) ∙ ap (λ (q : Peer). with_peer r.standing key (Some q)) (shut_same piece key p p.stage) ∙ sym (more_of_set piece key r.standing (Some (shut p))))
+      (set_of_more piece key r.standing (Some (closing_peer (more piece key p))) ∙ ap (λ (q : Peer). with_peer r.standing key (Some q)) (closing_same piece key p p.stage) ∙ sym (more_of_set piece key r.standing (Some (closing_peer p))))
 
 module _ (readers : Readers) (key : ℕ) where
   abbrev next_so : Rest → Option Peer → List Deed × Rest
@@ -494,8 +494,8 @@ module _ (readers : Readers) (key : ℕ) where
   pub none_given : (r : Rest) → peer_at r.standing key ≡ None → given readers r (Next key) ≡ ([], r)
   none_given r here = ap (next_so r) here
 
-  pub shut_given : (r : Rest) (p : Peer) (conn : Option Conn) → peer_at r.standing key ≡ Some p → p.stage ≡ Shut conn → given readers r (Next key) ≡ ([], r)
-  shut_given r p conn here is = ap (next_so r) here ∙ ap (λ (stage : Stage). come_to readers r (next_at r.standing key p stage)) is
+  pub closing_given : (r : Rest) (p : Peer) (conn : Option Conn) → peer_at r.standing key ≡ Some p → p.stage ≡ Closing conn → given readers r (Next key) ≡ ([], r)
+  closing_given r p conn here is = ap (next_so r) here ∙ ap (λ (stage : Stage). come_to readers r (next_at r.standing key p stage)) is
 
   pub authenticating_given : (r : Rest) (p : Peer) (setting : Setting) (state : AuthState) → peer_at r.standing key ≡ Some p → p.stage ≡ Authenticating setting state → given readers r (Next key) ≡ ([], r)
   authenticating_given r p setting state here is = ap (next_so r) here ∙ ap (λ (stage : Stage). come_to readers r (next_at r.standing key p stage)) is
@@ -507,7 +507,7 @@ module _ (readers : Readers) (key : ℕ) where
       by_stage (Authenticating setting state) = refl
       by_stage (Unnamed privileged) = ap (λ (f : Front). come_to readers r (read r.standing key p f)) front
       by_stage (Named conn) = ap (λ (f : Front). come_to readers r (read r.standing key p f)) front
-      by_stage (Shut conn) = refl
+      by_stage (Closing conn) = refl
 
   pub faulty_given : (r : Rest) (p : Peer) (fault : FrameFault) → peer_at r.standing key ≡ Some p → TakesBytes p.stage → readers.front p.unread ≡ Faulty fault →
       given readers r (Next key) ≡ (Closes key (cause.Faulty fault) ∷ [], closed_so key r p)
@@ -517,7 +517,7 @@ module _ (readers : Readers) (key : ℕ) where
       by_stage (Authenticating setting state) takes = absurd takes
       by_stage (Unnamed privileged) takes = ap (λ (f : Front). come_to readers r (read r.standing key p f)) front
       by_stage (Named conn) takes = ap (λ (f : Front). come_to readers r (read r.standing key p f)) front
-      by_stage (Shut conn) takes = absurd takes
+      by_stage (Closing conn) takes = absurd takes
 
 -- ## Pieces
 
@@ -526,7 +526,7 @@ module _ (key : ℕ) where
   fed_joined first second p (Authenticating setting state) = ap (λ (bytes : List ℕ). let q : Peer = record p { unread = bytes } in q) (append_assoc p.unread first second)
   fed_joined first second p (Unnamed privileged) = ap (λ (bytes : List ℕ). let q : Peer = record p { unread = bytes } in q) (append_assoc p.unread first second)
   fed_joined first second p (Named conn) = ap (λ (bytes : List ℕ). let q : Peer = record p { unread = bytes } in q) (append_assoc p.unread first second)
-  fed_joined first second p (Shut conn) = refl
+  fed_joined first second p (Closing conn) = refl
 
   more_joined : (first second : List ℕ) (o : Option Peer) → more_if second key (more_if first key o) ≡ more_if (first ++ second) key o
   more_joined first second None = refl
@@ -547,7 +547,7 @@ module _ (key : ℕ) where
       by_stage (Authenticating setting state) = ap (λ (bytes : List ℕ). let q : Peer = record p { unread = bytes } in q) (append-nil p.unread)
       by_stage (Unnamed privileged) = ap (λ (bytes : List ℕ). let q : Peer = record p { unread = bytes } in q) (append-nil p.unread)
       by_stage (Named conn) = ap (λ (bytes : List ℕ). let q : Peer = record p { unread = bytes } in q) (append-nil p.unread)
-      by_stage (Shut conn) = refl
+      by_stage (Closing conn) = refl
 
   pub nothing_fed : (r : Rest) → rest_more [] key r ≡ r
   nothing_fed r =

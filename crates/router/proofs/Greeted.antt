@@ -20,7 +20,7 @@ use Rattle.router_core.specs.Events.{OfPeer, Stands, closing, for_slot, for_peer
 use Rattle.router_core.specs.Fronts.{Whole, IsFront}
 use Rattle.router_core.specs.Scripts.{Gives, Doing, Announcing, World, Comes, and_then}
 use Rattle.router_core.specs.Serving.{replying}
-use Rattle.router_core.specs.Standing.{Peer, Standing, Stage, Named, Unnamed, peer_at, with_peer, has_slot, shut}
+use Rattle.router_core.specs.Standing.{Peer, Standing, Stage, Named, Unnamed, peer_at, with_peer, has_slot, closing_peer}
 use Rattle.router_steps.specs.Reading.{IsRest}
 
 -- where the one that is replaced and what replaces it are told apart by no test, the same place is found
@@ -65,7 +65,7 @@ module _ (s : Standing) (key : ℕ) (left : Option Peer) where
           and_then (for_peer taken k r (λ q. closing k cause.Left q)) (λ t. welcome key m p o conn t) ≡ and_then (for_peer s k r (λ q. closing k cause.Left q)) (λ t. welcome key m p o conn t)
       closed_then k other None = welcome_same (with_peer taken k None) (with_peer s k None) (λ q. filled_after k other None q)
       closed_then k other (Some r) =
-          ap (λ (rest : Stands). Doing (Closes k cause.Left) rest) (welcome_same (with_peer taken k (Some (shut r))) (with_peer s k (Some (shut r))) (λ q. filled_after k other (Some (shut r)) q))
+          ap (λ (rest : Stands). Doing (Closes k cause.Left) rest) (welcome_same (with_peer taken k (Some (closing_peer r))) (with_peer s k (Some (closing_peer r))) (λ q. filled_after k other (Some (closing_peer r)) q))
 
       found_then : (found : Option ℕ) → ((k : ℕ) → found ≡ Some k → k ≢ key) →
           and_then (close_found taken found) (λ t. welcome key m p o conn t) ≡ and_then (close_found s found) (λ t. welcome key m p o conn t)

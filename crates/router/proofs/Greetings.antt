@@ -10,7 +10,7 @@ use Rattle.router_core.specs.declared.cause.CloseCause.TheVariants as cause
 use Rattle.router_core.specs.Deeds.{GatedCall}
 use Rattle.router_core.specs.Events.{OfPeer, closing, for_slot, for_peer, close_found, close_former, welcome, turn_away, greeted_by}
 use Rattle.router_core.specs.Scripts.{Gives, World, Comes, and_then}
-use Rattle.router_core.specs.Standing.{Stage, Authenticating, Unnamed, Named, Shut, Peer, Standing, SpeaksDBus, peer_at, with_peer, has_slot}
+use Rattle.router_core.specs.Standing.{Stage, Authenticating, Unnamed, Named, Closing, Peer, Standing, SpeaksDBus, peer_at, with_peer, has_slot}
 use Rattle.router_steps.proofs.Sequels.{comes_then}
 use Rattle.router.specs.Indexed.{IsNameless, IsUnnamed}
 use Rattle.router.specs.Welcomes.{welcomed}
@@ -20,7 +20,7 @@ pub speaks : (stage : Stage) → IsUnnamed stage → SpeaksDBus stage
 speaks (Authenticating setting state) unnamed = absurd unnamed
 speaks (Unnamed privileged) unnamed = tt
 speaks (Named conn) unnamed = absurd unnamed
-speaks (Shut conn) unnamed = absurd unnamed
+speaks (Closing conn) unnamed = absurd unnamed
 
 -- the connection that is there
 pub nameless_peer : (o : Option Peer) → IsNameless o → (p : Peer) × (o ≡ Some p)
@@ -36,7 +36,7 @@ nameless_slot slot (Some p) nameless = by_stage p.stage nameless
     by_stage (Authenticating setting state) unnamed = absurd unnamed
     by_stage (Unnamed privileged) unnamed = refl
     by_stage (Named conn) unnamed = absurd unnamed
-    by_stage (Shut conn) unnamed = absurd unnamed
+    by_stage (Closing conn) unnamed = absurd unnamed
 
 module _ {N G : Type 0} (told : N → History) (registry_of : N → ℕ) (passes : G → GatedCall → G → Type 0) (alone : Bool) where
   -- what is done for a connection at its place

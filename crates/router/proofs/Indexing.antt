@@ -5,7 +5,7 @@ use Rattle.std.proofs.lemmas.Bool.{false≢true, false_from_ne_true, eqb-true, l
 use Rattle.std.proofs.lemmas.List.{get_or-set_same, get_or-set_other, get_or_past, set_past}
 use Rattle.std.proofs.lemmas.List.Sums.{position_or_len_is, fails_before_first}
 use Rattle.seq_bus_core.specs.declared.connection.Conn.{Conn}
-use Rattle.router_core.specs.Standing.{Peer, Stage, Authenticating, Unnamed, Named, Shut, has_slot, is_conn}
+use Rattle.router_core.specs.Standing.{Peer, Stage, Authenticating, Unnamed, Named, Closing, has_slot, is_conn}
 use Rattle.router.specs.Indexed.{slot_count, IsIndexed, IsVacant, IsUnnamed}
 
 -- ---- what is found
@@ -19,7 +19,7 @@ slot_of_conn slot number (Some p) is = in_stage p.stage is
     in_stage (Named conn) is = (and_parts (conn.slot == slot) (conn.number == number) is).0
     in_stage (Authenticating setting state) is = is
     in_stage (Unnamed privileged) is = is
-    in_stage (Shut conn) is = is
+    in_stage (Closing conn) is = is
 
 module _ (test : Option Peer → Bool) (slot : ℕ) (of_slot : (o : Option Peer) → test o ≡ true → has_slot slot o ≡ true) (peers : List (Option Peer)) (key_of_slot : List ℕ) (indexed : IsIndexed peers key_of_slot) (below : slot < slot_count) where
   only : (k : ℕ) → (get_or key_of_slot slot 0 ≡ k → ⊥) → test (get_or peers k None) ≡ false
@@ -177,7 +177,7 @@ unnamed_keeps p q unnamed same = λ slot has. absurd (false≢true (sym (none sl
     none slot (Authenticating setting state) is = absurd is
     none slot (Unnamed privileged) is = refl
     none slot (Named conn) is = absurd is
-    none slot (Shut conn) is = absurd is
+    none slot (Closing conn) is = absurd is
 
 -- one that is at the same stage has the same slot
 pub like_keeps : (p q : Peer) → q.stage ≡ p.stage → Keeps (Some p) (Some q)

@@ -30,7 +30,7 @@ use Rattle.router_core.specs.Events.{OfPeer, closing, fated, close_at, close_fou
 use Rattle.router_core.specs.Fronts.{Front, Waits, Whole, Faulty}
 use Rattle.router_core.specs.Scripts.{Gives, Routing, Announcing, World, Comes, and_then}
 use Rattle.router_core.specs.Serving.{monitors_in, replying, serving}
-use Rattle.router_core.specs.Standing.{Peer, Standing, Stage, Authenticating, Unnamed, Named, Shut, peer_at, with_peer, next_serial, has_slot, shut}
+use Rattle.router_core.specs.Standing.{Peer, Standing, Stage, Authenticating, Unnamed, Named, Closing, peer_at, with_peer, next_serial, has_slot, closing_peer}
 use Rattle.router_steps.specs.Noting.{once_noted}
 use Rattle.router_steps.specs.Refusing.{hello_of}
 use Rattle.router.proofs.Endings.{AllGive, given, then_give, all_give, weaker_give, if_give, putting_give}
@@ -62,7 +62,7 @@ hear_keeps key piece p = in_stage p.stage
     in_stage (Authenticating setting state) = λ granted. by_grant (record p { stage = Authenticating setting state }) setting (conversed setting state [] (p.unread ++ piece)) granted
     in_stage (Unnamed privileged) = λ slot has. has
     in_stage (Named conn) = λ slot has. has
-    in_stage (Shut conn) = λ slot has. has
+    in_stage (Closing conn) = λ slot has. has
 
 pub feeding : (key : ℕ) (piece : List ℕ) (old : Option Peer) → AllGive (λ new. Keeps old new) (for_slot old (λ p. hearing key piece p p.stage))
 feeding key piece None = λ slot has. has
@@ -100,7 +100,7 @@ look_keeps key (Some p) = in_stage p.stage
     in_stage (Authenticating setting state) = λ slot has. has
     in_stage (Unnamed privileged) = λ slot has. has
     in_stage (Named conn) = heard_keeps conn
-    in_stage (Shut conn) = λ slot has. has
+    in_stage (Closing conn) = λ slot has. has
 
 keeps_more : (x y : Option Peer) (xs ys : List (Option Peer)) → Keeps x y → KeepsAll xs ys → KeepsAll (x ∷ xs) (y ∷ ys)
 keeps_more x y xs ys here rest zero = here
@@ -243,7 +243,7 @@ module _ (slot key : ℕ) where
       where
         of_it : (o : Option Peer) → AllGive (λ t. HasNot (get_or t.peers (suc key) None)) (close_at u (suc key) o)
         of_it None = λ has. false≢true (written_keeps u.peers (suc key) None slot has)
-        of_it (Some q) = λ has. false≢true (written_keeps u.peers (suc key) (Some (shut q)) slot has)
+        of_it (Some q) = λ has. false≢true (written_keeps u.peers (suc key) (Some (closing_peer q)) slot has)
 
     welcomed_by : (x y : Option Peer) (o : Outcome) (conn : Conn) → has_slot slot x ≡ false → has_slot slot y ≡ true →
         AllGive NotBoth (and_then (close_former (record { peers = two key x y; due_leaves = []; login = None }) conn) (λ t. welcome key m p o conn t))
@@ -281,13 +281,13 @@ module _ (slot key : ℕ) where
 
     serving_keeps : (p : Peer) (m : Message) (rest : List ℕ) (stage : Stage) → has_slot slot (Some (record p { stage = stage })) ≡ false → AllGive NotBoth (serve_at (standing_of (Some (record p { stage = stage }))) key m (record p { stage = stage; unread = rest }) stage)
     serving_keeps p m rest (Authenticating setting state) isnt = as_it_was (Some (record p { stage = Authenticating setting state })) isnt
-    serving_keeps p m rest (Shut conn) isnt = as_it_was (Some (record p { stage = Shut conn })) isnt
+    serving_keeps p m rest (Closing conn) isnt = as_it_was (Some (record p { stage = Closing conn })) isnt
     serving_keeps p m rest (Unnamed privileged) isnt =
         let s : Standing = standing_of (Some (record p { stage = Unnamed privileged })) in
         let q : Peer = record p { stage = Unnamed privileged; unread = rest } in
         if_give NotBoth (is_hello m) (greet s key m q privileged) (for_peer s key (Some q) (closing key cause.NotHello))
         (greeting m q privileged refl (Some (record p { stage = Unnamed privileged })) y privileged isnt has_second)
-        (not_first s (Some (shut q)) (λ has. false≢true has))
+        (not_first s (Some (closing_peer q)) (λ has. false≢true has))
     serving_keeps p m rest (Named conn) isnt = if_watches p.watches
       where
         s : Standing
@@ -302,14 +302,14 @@ module _ (slot key : ℕ) where
         by_fate (fate.Closes why) = λ has. false≢true has
 
         if_watches : (watches : Bool) → AllGive NotBoth (serve_named s key m q conn watches)
-        if_watches true = not_first s (Some (shut q)) (λ has. false≢true has)
+        if_watches true = not_first s (Some (closing_peer q)) (λ has. false≢true has)
         if_watches false =
             for_give s key q (λ r. and_then (serving m conn) (λ fate. fated key fate r)) (λ r. HasNot (Some r)) NotBoth (λ r hasnt. not_first s (Some r) hasnt)
             (then_give (λ fate. Unit {0}) (λ r. HasNot (Some r)) (λ fate. fated key fate q) (λ fate done. by_fate fate) (serving m conn) (all_give (λ fate. Unit {0}) (λ fate. tt) (serving m conn)))
 
     reading : (p : Peer) (stage : Stage) → has_slot slot (Some (record p { stage = stage })) ≡ false → (front : Front) → AllGive NotBoth (read (standing_of (Some (record p { stage = stage }))) key (record p { stage = stage }) front)
     reading p stage isnt Waits = as_it_was (Some (record p { stage = stage })) isnt
-    reading p stage isnt (Faulty fault) = not_first (standing_of (Some (record p { stage = stage }))) (Some (shut (record p { stage = stage }))) (λ has. false≢true has)
+    reading p stage isnt (Faulty fault) = not_first (standing_of (Some (record p { stage = stage }))) (Some (closing_peer (record p { stage = stage }))) (λ has. false≢true has)
     reading p stage isnt (Whole bytes rest) = serving_keeps p (message_said bytes) rest stage isnt
 
     coming : (x : Option Peer) → has_slot slot x ≡ false → AllGive NotBoth (coming_next (standing_of x) key x)
@@ -320,7 +320,7 @@ module _ (slot key : ℕ) where
         in_stage (Authenticating setting state) isnt = as_it_was (Some (record p { stage = Authenticating setting state })) isnt
         in_stage (Unnamed privileged) isnt = reading p (Unnamed privileged) isnt
         in_stage (Named conn) isnt = reading p (Named conn) isnt
-        in_stage (Shut conn) isnt = as_it_was (Some (record p { stage = Shut conn })) isnt
+        in_stage (Closing conn) isnt = as_it_was (Some (record p { stage = Closing conn })) isnt
 
 -- ---- what came
 

@@ -23,7 +23,7 @@ use Rattle.router_core.specs.Fronts.{Front, Waits, Whole, Faulty}
 use Rattle.router_core.specs.OneThread.{Readers, Rest, Course, alone, given}
 use Rattle.router_core.specs.Scripts.{Script, Gives, Changing, ChangingAll, Asking, Routing, Looking, Noting, Fronting, Calling, Gating, Wanting, Requiring, Doing, Announcing, and_then}
 use Rattle.router_core.specs.Serving.{replying, serving}
-use Rattle.router_core.specs.Standing.{Stage, Authenticating, Unnamed, Named, Shut, Peer, Standing, SpeaksDBus, first_stage, newcomer, opened, peer_at, with_peer, is_conn}
+use Rattle.router_core.specs.Standing.{Stage, Authenticating, Unnamed, Named, Closing, Peer, Standing, SpeaksDBus, first_stage, newcomer, opened, peer_at, with_peer, is_conn}
 use Rattle.router.proofs.Endings.{AllGive, then_give, all_give, weaker_give, if_give}
 use Rattle.router.proofs.Feeding.{more_if, peer_with_more, rest_more}
 use Rattle.router.proofs.Keeping.{IsLike, refusing}
@@ -123,7 +123,7 @@ module _ (key : ℕ) where
     serve_speaks s (Unnamed privileged) speaks =
         if_give (SpeaksAt key) (is_hello m) (greet s key m p privileged) (for_peer s key (Some p) (closing key cause.NotHello)) (λ heard. greeted_speaks s heard speaks) (closing_speaks s key (Some p) cause.NotHello speaks)
     serve_speaks s (Named conn) speaks = named_speaks s conn p.watches speaks
-    serve_speaks s (Shut conn) speaks = speaks
+    serve_speaks s (Closing conn) speaks = speaks
 
   read_speaks : (s : Standing) (p : Peer) (front : Front) → SpeaksAt key s → Speaks p → AllGive (SpeaksAt key) (read s key p front)
   read_speaks s p Waits speaks begun = speaks
@@ -134,7 +134,7 @@ module _ (key : ℕ) where
   next_at_speaks s p (Authenticating setting state) speaks begun = speaks
   next_at_speaks s p (Unnamed privileged) speaks begun = λ front. read_speaks s p front speaks begun
   next_at_speaks s p (Named conn) speaks begun = λ front. read_speaks s p front speaks begun
-  next_at_speaks s p (Shut conn) speaks begun = speaks
+  next_at_speaks s p (Closing conn) speaks begun = speaks
 
   next_speaks_at : (s : Standing) (o : Option Peer) → SpeaksAt key s → IfSome o Speaks → AllGive (SpeaksAt key) (coming_next s key o)
   next_speaks_at s None speaks begun = speaks
@@ -177,7 +177,7 @@ more_stage : (piece : List ℕ) (p : Peer) (stage : Stage) → Speaks p → Spea
 more_stage piece p (Authenticating setting state) begun = begun
 more_stage piece p (Unnamed privileged) begun = begun
 more_stage piece p (Named conn) begun = begun
-more_stage piece p (Shut conn) begun = begun
+more_stage piece p (Closing conn) begun = begun
 
 pub more_speaks : (piece : List ℕ) (key : ℕ) (r : Rest) → SpeaksAt key r.standing → SpeaksAt key (rest_more piece key r).standing
 more_speaks piece key r speaks = subst (λ (o : Option Peer). IfSome o Speaks) (sym (peer_with_more piece key r.standing)) (of_peer (peer_at r.standing key) speaks)

@@ -24,7 +24,7 @@ use Rattle.router_core.specs.Events.{Gathered, Stands, answering_each, apart, do
 use Rattle.router_core.specs.Fronts.{Front, Waits, Whole, Faulty, IsFront}
 use Rattle.router_core.specs.Scripts.{Changing, Wanting, World, Comes, and_then}
 use Rattle.router_core.specs.Serving.{Fated, made}
-use Rattle.router_core.specs.Standing.{Stage, Authenticating, Unnamed, Named, Shut, Peer, Standing, peer_at, with_peer}
+use Rattle.router_core.specs.Standing.{Stage, Authenticating, Unnamed, Named, Closing, Peer, Standing, peer_at, with_peer}
 use Rattle.router_core.specs.Together.{change_of_joint, may_join, rule_call}
 use Rattle.router_steps.specs.Quiet.{IsQuiet, IsQuietAt}
 use Rattle.router_steps.specs.Reading.{IsRest}
@@ -48,7 +48,7 @@ module _ {N G : Type 0} (told : N → History) (registry_of : N → ℕ) (passes
       in_stage p (Named conn) isnt = absurd (false≢true (sym isnt))
       in_stage p (Authenticating setting state) isnt = (refl, refl)
       in_stage p (Unnamed privileged) isnt = (refl, refl)
-      in_stage p (Shut conn) isnt = (refl, refl)
+      in_stage p (Closing conn) isnt = (refl, refl)
 
       in_slot : (o : Option Peer) → is_named o ≡ false → Comes told registry_of passes alone (done_at s key o work) w s w
       in_slot None isnt = (refl, refl)
@@ -125,7 +125,7 @@ module _ {N G : Type 0} (told : N → History) (registry_of : N → ℕ) (passes
       in_stage (Authenticating setting state) quiet = (refl, refl)
       in_stage (Unnamed privileged) quiet = (Waits, quiet, (refl, refl))
       in_stage (Named conn) quiet = (Waits, quiet, (refl, refl))
-      in_stage (Shut conn) quiet = (refl, refl)
+      in_stage (Closing conn) quiet = (refl, refl)
 
   -- it does not join
   pub gathers_apart : (joints : List Joint) (s : Standing) (key : ℕ) (p : Peer) (w v : World N G) (end : Gathered) → IsApart p p.stage → Comes told registry_of passes alone (apart joints s key) w end v →
@@ -154,7 +154,7 @@ module _ {N G : Type 0} (told : N → History) (registry_of : N → ℕ) (passes
       in_stage (Authenticating setting state) due = absurd due
       in_stage (Unnamed privileged) due = (due.0, due.1, apart_at due.0 due.2)
       in_stage (Named conn) due = (due.0, due.1, at_front conn due.0 due.2)
-      in_stage (Shut conn) due = absurd due
+      in_stage (Closing conn) due = absurd due
 
   -- it is a call that adds or removes a rule, and reads well
   pub gathers_rule : (joints : List Joint) (s : Standing) (key : ℕ) (old new : Peer) (conn : Conn) (message : List ℕ) (call : Call) (c : RuleCall) (w v : World N G) (end : Gathered) →
@@ -234,7 +234,7 @@ module _ {V N R G : Type 0} (view : BusView V N R) (gate : Gate G) where
       in_stage (Named conn) is = for_some view.told view.registry_of gate.passes view.alone s key p settled.0 (λ (x : Peer). and_then work (λ (f : PeerFate). fated key f x)) w v done
       in_stage (Authenticating setting state) is = absurd (false≢true is)
       in_stage (Unnamed privileged) is = absurd (false≢true is)
-      in_stage (Shut conn) is = absurd (false≢true is)
+      in_stage (Closing conn) is = absurd (false≢true is)
 
   -- it gets no slot by that
   pub settled_keeps : (key : ℕ) (becomes : PeerFate) (old new : Option Peer) (w v : World N G) → IsSettled view gate key becomes old w new v → Keeps old new

@@ -3,7 +3,7 @@ use Rattle.std.specs.Prelude.{◌≡◌, false, true, Option, Some, None, Ok, is
 use Rattle.message_core.specs.Said.{said}
 use Rattle.driver.specs.Calls.{IsCall}
 use Rattle.router_core.specs.Fronts.{Whole, IsFront}
-use Rattle.router_core.specs.Standing.{Stage, Authenticating, Unnamed, Named, Shut, Peer}
+use Rattle.router_core.specs.Standing.{Stage, Authenticating, Unnamed, Named, Closing, Peer}
 use Rattle.router_core.specs.Together.{may_join, rule_call}
 use Rattle.router_steps.specs.Quiet.{IsQuiet}
 use Rattle.router_steps.specs.Reading.{IsRest}
@@ -16,7 +16,7 @@ abbrev pub IsApart : Peer → Stage → Type 0
 IsApart p (Authenticating setting state) = ⊥
 IsApart p (Unnamed privileged) = IsComing true p
 IsApart p (Named conn) = IsComing true p
-IsApart p (Shut conn) = ⊥
+IsApart p (Closing conn) = ⊥
 
 abbrev pub IsDue : Due → Option Peer → Option Peer → Type 0
 IsDue due.Nothing None new = new ≡ None

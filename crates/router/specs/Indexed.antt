@@ -1,6 +1,6 @@
 -- Where a connection that has a slot is found.
 use Rattle.std.specs.Prelude.{◌≡◌, ℕ, ◌<◌, true, Option, Some, None, List, slice_index, slice_index_or}
-use Rattle.router_core.specs.Standing.{Peer, Stage, Authenticating, Unnamed, Named, Shut, has_slot}
+use Rattle.router_core.specs.Standing.{Peer, Stage, Authenticating, Unnamed, Named, Closing, has_slot}
 
 -- the bus gives slots below this
 abbrev pub slot_count : ℕ
@@ -19,7 +19,7 @@ abbrev pub IsUnnamed : Stage → Type 0
 IsUnnamed (Authenticating setting state) = ⊥
 IsUnnamed (Unnamed privileged) = Unit {0}
 IsUnnamed (Named conn) = ⊥
-IsUnnamed (Shut conn) = ⊥
+IsUnnamed (Closing conn) = ⊥
 
 -- a connection is there that has no name yet
 abbrev pub IsNameless : Option Peer → Type 0

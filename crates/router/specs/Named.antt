@@ -5,7 +5,7 @@ use Rattle.router_core.specs.declared.gate.Gate.{Ghosts as Gate}
 use Rattle.router_core.specs.declared.fate.PeerFate.{PeerFate}
 use Rattle.router_core.specs.Events.{fated}
 use Rattle.router_core.specs.Scripts.{World, RunsTo}
-use Rattle.router_core.specs.Standing.{Stage, Authenticating, Unnamed, Named, Shut, Peer}
+use Rattle.router_core.specs.Standing.{Stage, Authenticating, Unnamed, Named, Closing, Peer}
 
 -- it is there, and has a name
 abbrev pub is_named : Option Peer → Bool
@@ -16,7 +16,7 @@ is_named (Some p) = is_in p.stage
     is_in (Named conn) = true
     is_in (Authenticating setting state) = false
     is_in (Unnamed privileged) = false
-    is_in (Shut conn) = false
+    is_in (Closing conn) = false
 
 -- What is to become of a connection that is there was done to it.
 abbrev pub IsSettled : {V N R G : Type 0} → BusView V N R → Gate G → ℕ → PeerFate → Option Peer → World N G → Option Peer → World N G → Type 0

@@ -43,7 +43,7 @@ fn has_slot(peer: &Option<Peer>, slot: u16) -> bool
         Stage::Named(conn) => conn.slot == slot,
         Stage::Authenticating(_) => false,
         Stage::Unnamed { privileged: _ } => false,
-        Stage::Shut(_) => false,
+        Stage::Closing(_) => false,
     }
 }
 

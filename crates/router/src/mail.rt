@@ -26,7 +26,7 @@ fn is_addressed(peer: &Option<Peer>, slot: u16, number: u64) -> bool
         Stage::Named(conn) => conn.slot == slot && conn.number == number,
         Stage::Authenticating(_) => false,
         Stage::Unnamed { privileged: _ } => false,
-        Stage::Shut(_) => false,
+        Stage::Closing(_) => false,
     }
 }
 

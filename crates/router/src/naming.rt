@@ -19,7 +19,7 @@ fn is_unnamed(peer: &Option<Peer>) -> bool
     match peer.stage() {
         Stage::Authenticating(_) => true,
         Stage::Unnamed { privileged: _ } => true,
-        Stage::Named(_) | Stage::Shut(_) => false,
+        Stage::Named(_) | Stage::Closing(_) => false,
     }
 }
 

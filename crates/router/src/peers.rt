@@ -151,7 +151,7 @@ impl<V: BusView, G: Gate> Peers<V, G> {
             return Ok(Stage::Unnamed { privileged: true });
         };
         let Some(login) = &self.login else {
-            return Ok(Stage::Shut(None));
+            return Ok(Stage::Closing(None));
         };
         let server = Server::new(
             self.alloc,

@@ -60,7 +60,7 @@ fn is_named(entry: &Option<Peer>) -> bool
         Stage::Named(_) => true,
         Stage::Authenticating(_) => false,
         Stage::Unnamed { privileged: _ } => false,
-        Stage::Shut(_) => false,
+        Stage::Closing(_) => false,
     }
 }
 
@@ -117,7 +117,7 @@ fn due_in(entry: &mut Option<Peer>) -> Result<Due, AllocError>
         return Ok(Due::Nothing);
     };
     match peer.stage() {
-        Stage::Authenticating(_) | Stage::Shut(_) => Ok(Due::Nothing),
+        Stage::Authenticating(_) | Stage::Closing(_) => Ok(Due::Nothing),
         Stage::Unnamed { privileged: _ } => {
             if peer.is_coming()? {
                 Ok(Due::Apart)

@@ -11,15 +11,15 @@ use Rattle.sasl.specs.Conversations.{State as AuthState}
 use Rattle.sasl.specs.Hearing.{Conversed, conversed}
 use Rattle.router_core.specs.Events.{Gathered, gathering, gather_at, none_gathered, turning, coming_next, next_at, for_peer, hearing, answering, conversed_to, converse_if, is_user, closing, greet, serve_named}
 use Rattle.router_core.specs.declared.cause.CloseCause.TheVariants.{NotHello, MonitorSent}
-use Rattle.router_core.specs.Laws.{IsShut, HasNotBegun, ClosedAreNotServed, ClosedHaveNoTurn, ClosedTakeNothing, ClosedGetNoMail, NobodySpeaksBeforeBegin, NobodyHasATurnBeforeBegin, OnlyBeginBegins, UnknownTypesBringNothing, OnlyHelloGreets, MonitorsSendNothing}
+use Rattle.router_core.specs.Laws.{IsClosing, HasNotBegun, ClosedAreNotServed, ClosedHaveNoTurn, ClosedTakeNothing, ClosedGetNoMail, NobodySpeaksBeforeBegin, NobodyHasATurnBeforeBegin, OnlyBeginBegins, UnknownTypesBringNothing, OnlyHelloGreets, MonitorsSendNothing}
 use Rattle.router_core.specs.Scripts.{Script, Gives, and_then, World, Comes}
-use Rattle.router_core.specs.Standing.{Authenticating, Unnamed, Shut, Peer, Standing, peer_at, with_peer}
+use Rattle.router_core.specs.Standing.{Authenticating, Unnamed, Closing, Peer, Standing, peer_at, with_peer}
 
 pub closed_are_not_served : ClosedAreNotServed
 closed_are_not_served s key p is = ap (coming_next s key) is.0 ∙ ap (next_at s key p) is.1.1
 
 -- it is passed over
-not_gathered : (s : Standing) (key : ℕ) (p : Peer) → IsShut s key p → gathering [] s key (peer_at s key) ≡ none_gathered [] s
+not_gathered : (s : Standing) (key : ℕ) (p : Peer) → IsClosing s key p → gathering [] s key (peer_at s key) ≡ none_gathered [] s
 not_gathered s key p is = ap (gathering [] s key) is.0 ∙ ap (gather_at [] s key p) is.1.1
 
 pub closed_have_no_turn : ClosedHaveNoTurn
@@ -56,8 +56,8 @@ only_begin_begins {N = N} {G = G} told registry_of passes alone p q key piece se
     HasBegun : Type 0
     HasBegun = (identity : Identity) × (said.state.phase ≡ Done identity) × (privileged ≡ is_user identity)
 
-    stays_closed : (conn : Option Conn) → q.stage ≡ Shut conn → HasBegun
-    stays_closed conn is = let never : Shut conn ≡ Unnamed privileged = sym is ∙ begun in absurd (cc)
+    stays_closed : (conn : Option Conn) → q.stage ≡ Closing conn → HasBegun
+    stays_closed conn is = let never : Closing conn ≡ Unnamed privileged = sym is ∙ begun in absurd (cc)
 
     goes_on : q.stage ≡ Authenticating setting said.state → HasBegun
     goes_on is = let never : Authenticating setting said.state ≡ Unnamed privileged = sym is ∙ begun in absurd (cc)

@@ -45,7 +45,7 @@ use Rattle.router_core.specs.Fronts.{Front, Waits, Whole, Faulty}
 use Rattle.router_core.specs.Scripts.{Script, Gives, Changing, ChangingAll, Routing, Looking, Noting, Fronting, Calling, Gating, Wanting, Requiring, Doing, Announcing, and_then, putting}
 use Rattle.router_core.specs.Serving.{Work, Fated, nothing, monitors_in, replying, made, failing_all, serving}
 use Rattle.router_core.specs.Together.{Joining, Joins, Parts, change_of_joint, joining, may_join, rule_call}
-use Rattle.router_core.specs.Standing.{Stage, Authenticating, Unnamed, Named, Shut, Peer, Standing, peer_at, with_peer, opened, conn_of, next_serial, shut, has_slot, is_conn}
+use Rattle.router_core.specs.Standing.{Stage, Authenticating, Unnamed, Named, Closing, Peer, Standing, peer_at, with_peer, opened, conn_of, next_serial, closing_peer, has_slot, is_conn}
 
 -- what happens, in the terms of the definitions; a note is there by the history that it tells
 pub data Occasion : Type 0 where
@@ -73,7 +73,7 @@ Stands = Script Standing
 -- ## One connection
 
 abbrev pub closing : ℕ → CloseCause → Peer → OfPeer
-closing key cause p = Doing (Closes key cause) (Gives (shut p))
+closing key cause p = Doing (Closes key cause) (Gives (closing_peer p))
 
 -- what becomes of it once a message of it was served
 abbrev pub fated : ℕ → PeerFate → Peer → OfPeer
@@ -99,7 +99,7 @@ for_peer s key peer work = and_then (for_slot peer work) (λ q. Gives (with_peer
 
 -- bytes behind those that it sent; none once it was closed
 abbrev pub fed : List ℕ → Peer → Stage → Peer
-fed piece p (Shut conn) = p
+fed piece p (Closing conn) = p
 fed piece p stage = record p { unread = p.unread ++ piece }
 
 -- ## Authentication
@@ -196,7 +196,7 @@ abbrev pub serve_at : Standing → ℕ → Message → Peer → Stage → Stands
 serve_at s key m p (Authenticating setting state) = Gives s
 serve_at s key m p (Unnamed privileged) = if is_hello m then greet s key m p privileged else for_peer s key (Some p) (closing key cause.NotHello)
 serve_at s key m p (Named conn) = serve_named s key m p conn p.watches
-serve_at s key m p (Shut conn) = Gives s
+serve_at s key m p (Closing conn) = Gives s
 
 abbrev pub read : Standing → ℕ → Peer → Front → Stands
 read s key p Waits = Gives s
@@ -205,7 +205,7 @@ read s key p (Whole bytes rest) = serve_at s key (message_said bytes) (record p 
 
 abbrev pub next_at : Standing → ℕ → Peer → Stage → Stands
 next_at s key p (Authenticating setting state) = Gives s
-next_at s key p (Shut conn) = Gives s
+next_at s key p (Closing conn) = Gives s
 next_at s key p stage = Fronting p.unread (λ front. read s key p front)
 
 abbrev pub coming_next : Standing → ℕ → Option Peer → Stands
@@ -219,7 +219,7 @@ abbrev pub done_in : Standing → ℕ → Peer → Stage → Fated → Stands
 done_in s key p (Named conn) work = for_peer s key (Some p) (λ q. and_then work (λ fate. fated key fate q))
 done_in s key p (Authenticating setting state) work = Gives s
 done_in s key p (Unnamed privileged) work = Gives s
-done_in s key p (Shut conn) work = Gives s
+done_in s key p (Closing conn) work = Gives s
 
 abbrev pub done_at : Standing → ℕ → Option Peer → Fated → Stands
 done_at s key None work = Gives s
@@ -316,7 +316,7 @@ abbrev pub gather_at : List Joint → Standing → ℕ → Peer → Stage → Sc
 gather_at joints s key p (Named conn) = Fronting p.unread (λ front. gather_front joints s key p conn front)
 gather_at joints s key p (Unnamed privileged) = Fronting p.unread (λ front. apart_front joints s key front)
 gather_at joints s key p (Authenticating setting state) = none_gathered joints s
-gather_at joints s key p (Shut conn) = none_gathered joints s
+gather_at joints s key p (Closing conn) = none_gathered joints s
 
 abbrev pub gathering : List Joint → Standing → ℕ → Option Peer → Script Gathered
 gathering joints s key None = none_gathered joints s
@@ -412,7 +412,7 @@ abbrev pub look : ℕ → Peer → Stage → OfPeer
 look key p (Named conn) = Looking conn.number (λ heard. looked key p heard)
 look key p (Authenticating setting state) = Gives p
 look key p (Unnamed privileged) = Gives p
-look key p (Shut conn) = Gives p
+look key p (Closing conn) = Gives p
 
 -- by rising key; those so far are as they are then
 abbrev pub looking_at_all : List (Option Peer) → List (Option Peer) → Script (List (Option Peer))

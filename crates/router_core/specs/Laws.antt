@@ -20,27 +20,27 @@ use Rattle.router_core.specs.Events.{Occasion, Bytes, Next, Turn, IsFree, hearin
 use Rattle.router_core.specs.OneThread.{Readers, Rest, given, rest_after, bus_bytes, AreReadBy, IsRun}
 use Rattle.router_core.specs.Scripts.{Gives, World, having_done, Comes}
 use Rattle.router_core.specs.Serving.{serving, is_unknown, stays_open}
-use Rattle.router_core.specs.Standing.{Authenticating, Unnamed, Named, Shut, Peer, Standing, peer_at, with_peer, opened, shut, is_conn}
+use Rattle.router_core.specs.Standing.{Authenticating, Unnamed, Named, Closing, Peer, Standing, peer_at, with_peer, opened, closing_peer, is_conn}
 
 -- the bus closed the connection of this key, and it is not gone yet
-abbrev pub IsShut : Standing → ℕ → Peer → Type 0
-IsShut s key p = (peer_at s key ≡ Some p) × ((conn : Option Conn) × (p.stage ≡ Shut conn))
+abbrev pub IsClosing : Standing → ℕ → Peer → Type 0
+IsClosing s key p = (peer_at s key ≡ Some p) × ((conn : Option Conn) × (p.stage ≡ Closing conn))
 
 -- A connection that was closed is not served again.
 abbrev pub ClosedAreNotServed : Type 0
-ClosedAreNotServed = (s : Standing) (key : ℕ) (p : Peer) → IsShut s key p → script s (Next key) ≡ Gives s
+ClosedAreNotServed = (s : Standing) (key : ℕ) (p : Peer) → IsClosing s key p → script s (Next key) ≡ Gives s
 
 -- Nor is it in a turn.
 abbrev pub ClosedHaveNoTurn : Type 0
-ClosedHaveNoTurn = (s : Standing) (keys : List ℕ) → AllByRecursion (λ key. (p : Peer) × IsShut s key p) keys → script s (Turn keys) ≡ Gives s
+ClosedHaveNoTurn = (s : Standing) (keys : List ℕ) → AllByRecursion (λ key. (p : Peer) × IsClosing s key p) keys → script s (Turn keys) ≡ Gives s
 
 -- Its bytes are let go.
 abbrev pub ClosedTakeNothing : Type 0
-ClosedTakeNothing = (s : Standing) (key : ℕ) (piece : List ℕ) (p : Peer) → IsShut s key p → script s (Bytes key piece) ≡ Gives (with_peer s key (Some p))
+ClosedTakeNothing = (s : Standing) (key : ℕ) (piece : List ℕ) (p : Peer) → IsClosing s key p → script s (Bytes key piece) ≡ Gives (with_peer s key (Some p))
 
 -- No mail is written to it.
 abbrev pub ClosedGetNoMail : Type 0
-ClosedGetNoMail = (slot number : ℕ) (p : Peer) (conn : Option Conn) → p.stage ≡ Shut conn → is_conn slot number (Some p) ≡ false
+ClosedGetNoMail = (slot number : ℕ) (p : Peer) (conn : Option Conn) → p.stage ≡ Closing conn → is_conn slot number (Some p) ≡ false
 
 -- the connection of this key says who it is, and has not begun its messages
 abbrev pub HasNotBegun : Standing → ℕ → Peer → Setting → AuthState → Type 0
@@ -70,13 +70,13 @@ UnknownTypesBringNothing = (m : Message) (sender : Conn) → is_unknown (kind_of
 abbrev pub OnlyHelloGreets : {N G : Type 0} → (N → History) → (N → ℕ) → (G → GatedCall → G → Type 0) → Bool → Type 0
 OnlyHelloGreets {N = N} {G = G} told registry_of passes alone = (s t : Standing) (key : ℕ) (m : Message) (p : Peer) (privileged : Bool) (w v : World N G) →
     is_hello m ≡ false → Comes told registry_of passes alone (serve_at s key m p (Unnamed privileged)) w t v →
-    (t ≡ with_peer s key (Some (shut p))) × ((action : Action N) × IsDoneBy action (Closes key NotHello) × (v ≡ having_done w (action ∷ [])))
+    (t ≡ with_peer s key (Some (closing_peer p))) × ((action : Action N) × IsDoneBy action (Closes key NotHello) × (v ≡ having_done w (action ∷ [])))
 
 -- A monitor that sends anything is closed for it, and nothing else is done.
 abbrev pub MonitorsSendNothing : {N G : Type 0} → (N → History) → (N → ℕ) → (G → GatedCall → G → Type 0) → Bool → Type 0
 MonitorsSendNothing {N = N} {G = G} told registry_of passes alone = (s t : Standing) (key : ℕ) (m : Message) (p : Peer) (conn : Conn) (w v : World N G) →
     p.watches ≡ true → Comes told registry_of passes alone (serve_at s key m p (Named conn)) w t v →
-    (t ≡ with_peer s key (Some (shut p))) × ((action : Action N) × IsDoneBy action (Closes key MonitorSent) × (v ≡ having_done w (action ∷ [])))
+    (t ≡ with_peer s key (Some (closing_peer p))) × ((action : Action N) × IsDoneBy action (Closes key MonitorSent) × (v ≡ having_done w (action ∷ [])))
 
 -- The table of connections grows only where each of its keys has its connection, and then each has.
 abbrev pub OnlyFullTablesGrow : Type 0

@@ -12,7 +12,7 @@ pub data Stage : Type 0 where
   Unnamed : (privileged : Bool) → Stage
   Named : Conn → Stage
   -- the bus closed it, and it is not gone yet
-  Shut : Option Conn → Stage
+  Closing : Option Conn → Stage
 
 -- How far it has come; its bytes behind the messages that were served; the serial of the last message of the bus that was written to
 -- it; and whether it is a monitor, which sends nothing any more.
@@ -41,7 +41,7 @@ with_peer s key peer = record s { peers = slice_set s.peers key peer }
 -- one may log in.
 abbrev pub first_stage : Option Login → (challenge : Option (List ℕ)) → Stage
 first_stage login None = Unnamed true
-first_stage None (Some challenge) = Shut None
+first_stage None (Some challenge) = Closing None
 first_stage (Some login) (Some challenge) = Authenticating (record { login = login; challenge = challenge }) auth_opening
 
 -- a connection that has sent nothing
@@ -58,22 +58,22 @@ abbrev pub conn_of : Stage → Option Conn
 conn_of (Authenticating setting state) = None
 conn_of (Unnamed privileged) = None
 conn_of (Named conn) = Some conn
-conn_of (Shut conn) = conn
+conn_of (Closing conn) = conn
 
 -- The bus numbers the messages that it sends from 1, and begins again after the greatest serial.
 abbrev pub next_serial : ℕ → ℕ
 next_serial serial = if serial == 4294967295 then 1 else serial + 1
 
 -- A connection that was closed has no bytes left, and takes none.
-abbrev pub shut : Peer → Peer
-shut p = record p { stage = Shut (conn_of p.stage); unread = [] }
+abbrev pub closing_peer : Peer → Peer
+closing_peer p = record p { stage = Closing (conn_of p.stage); unread = [] }
 
 -- It has begun its messages.
 abbrev pub SpeaksDBus : Stage → Type 0
 SpeaksDBus (Authenticating setting state) = ⊥
 SpeaksDBus (Unnamed privileged) = Unit {0}
 SpeaksDBus (Named conn) = Unit {0}
-SpeaksDBus (Shut conn) = Unit {0}
+SpeaksDBus (Closing conn) = Unit {0}
 
 -- it has a name, and this slot
 abbrev pub has_slot : ℕ → Option Peer → Bool
@@ -84,7 +84,7 @@ has_slot slot (Some p) = is_in p.stage
     is_in (Named conn) = conn.slot == slot
     is_in (Authenticating setting state) = false
     is_in (Unnamed privileged) = false
-    is_in (Shut conn) = false
+    is_in (Closing conn) = false
 
 -- it is there, and has no name yet
 abbrev pub is_unnamed : Option Peer → Bool
@@ -95,7 +95,7 @@ is_unnamed (Some p) = is_without p.stage
     is_without (Authenticating setting state) = true
     is_without (Unnamed privileged) = true
     is_without (Named conn) = false
-    is_without (Shut conn) = false
+    is_without (Closing conn) = false
 
 -- it has a name, this slot and this number
 abbrev pub is_conn : (slot number : ℕ) → Option Peer → Bool
@@ -106,4 +106,4 @@ is_conn slot number (Some p) = is_it p.stage
     is_it (Named conn) = (conn.slot == slot) && (conn.number == number)
     is_it (Authenticating setting state) = false
     is_it (Unnamed privileged) = false
-    is_it (Shut conn) = false
+    is_it (Closing conn) = false

@@ -6,8 +6,8 @@ use Rattle.router_core.specs.Deeds.{Deed, Closes}
 use Rattle.router_core.specs.Events.{Next, fed}
 use Rattle.router_core.specs.Fronts.{Front, Waits, Whole, Faulty}
 use Rattle.router_core.specs.OneThread.{Readers, Rest, given}
-use Rattle.router_core.specs.Standing.{Peer, Stage, Authenticating, Unnamed, Named, Shut, peer_at}
-use Rattle.router.proofs.Feeding.{TakesBytes, authenticating_given, closed_more, end_more, faulty_given, more, more_if, next_given, peer_with_more, rest_more, shut_given}
+use Rattle.router_core.specs.Standing.{Peer, Stage, Authenticating, Unnamed, Named, Closing, peer_at}
+use Rattle.router.proofs.Feeding.{TakesBytes, authenticating_given, closed_more, end_more, faulty_given, more, more_if, next_given, peer_with_more, rest_more, closing_given}
 use Rattle.router_laws.specs.Readings.{with_behind}
 
 module _ (readers : Readers) where
@@ -26,7 +26,7 @@ module _ (readers : Readers) where
       by_stage (Authenticating setting state) is takes = absurd takes
       by_stage (Unnamed privileged) is takes = grown (Unnamed privileged) is takes (subst (λ (st : Stage). TakesBytes st) (sym is) tt, refl)
       by_stage (Named conn) is takes = grown (Named conn) is takes (subst (λ (st : Stage). TakesBytes st) (sym is) tt, refl)
-      by_stage (Shut conn) is takes = absurd takes
+      by_stage (Closing conn) is takes = absurd takes
 
   faulty_commutes : (key : ℕ) (piece : List ℕ) (r : Rest) (p : Peer) (fault : FrameFault) → peer_at r.standing key ≡ Some p → readers.front p.unread ≡ Faulty fault → readers.front (p.unread ++ piece) ≡ Faulty fault →
       Commutes key piece r
@@ -48,9 +48,9 @@ module _ (readers : Readers) where
           ∙ ap (λ (end : List Deed × Rest). end_more piece key end) (sym (authenticating_given readers key r p setting state here is))
       by_stage (Unnamed privileged) is = taken (subst (λ (st : Stage). TakesBytes st) (sym is) tt)
       by_stage (Named conn) is = taken (subst (λ (st : Stage). TakesBytes st) (sym is) tt)
-      by_stage (Shut conn) is =
-          shut_given readers key (rest_more piece key r) (more piece key p) conn there (ap (λ (st : Stage). (fed piece p st).stage) is ∙ is)
-          ∙ ap (λ (end : List Deed × Rest). end_more piece key end) (sym (shut_given readers key r p conn here is))
+      by_stage (Closing conn) is =
+          closing_given readers key (rest_more piece key r) (more piece key p) conn there (ap (λ (st : Stage). (fed piece p st).stage) is ∙ is)
+          ∙ ap (λ (end : List Deed × Rest). end_more piece key end) (sym (closing_given readers key r p conn here is))
 
   pub commutes : (key : ℕ) (piece : List ℕ) (r : Rest) (p : Peer) (front : Front) → front ≢ Waits → peer_at r.standing key ≡ Some p → readers.front p.unread ≡ front →
       readers.front (p.unread ++ piece) ≡ with_behind piece front → Commutes key piece r

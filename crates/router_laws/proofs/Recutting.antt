@@ -13,7 +13,7 @@ use Rattle.router_core.specs.Events.{Occasion, Bytes, Next, Stands, answering, c
 use Rattle.router_core.specs.Fronts.{Front, Waits, Whole, Faulty, IsFront}
 use Rattle.router_core.specs.OneThread.{Course, Readers, Rest, alone, doing, given, written_to}
 use Rattle.router_core.specs.Scripts.{Script, Gives, Changing, ChangingAll, Asking, Routing, Looking, Noting, Fronting, Calling, Gating, Wanting, Requiring, Doing, Announcing, and_then}
-use Rattle.router_core.specs.Standing.{Peer, Stage, Standing, SpeaksDBus, Authenticating, Unnamed, Named, Shut, peer_at, shut, with_peer}
+use Rattle.router_core.specs.Standing.{Peer, Stage, Standing, SpeaksDBus, Authenticating, Unnamed, Named, Closing, peer_at, closing_peer, with_peer}
 use Rattle.router_core.proofs.Functions.{one_thread_is_a_function}
 use Rattle.router.proofs.Conversations.{hears_joined}
 use Rattle.router.proofs.Feeding.{bytes_given, closed_more, more, more_if, peer_with_more, pieces_joined, rest_more, seen_as, serve_more, with_more}
@@ -133,7 +133,7 @@ module _ (key : ℕ) (piece : List ℕ) where
           conversing_asks_nothing s setting said p said.sent said.state.phase
       by_stage (Unnamed privileged) = tt
       by_stage (Named conn) = tt
-      by_stage (Shut conn) = tt
+      by_stage (Closing conn) = tt
 
   -- an end that bytes may bring, and nothing is refused
   abbrev MayBring : Rest → List Deed × Rest → Type 0
@@ -194,7 +194,7 @@ given_joined readers key r first second opening keys = by_peer (peer_at r.standi
     by_stage p here (Authenticating setting state) is = hears_joined readers key opening keys r p setting state here is first second
     by_stage p here (Unnamed privileged) is = begun p here (Unnamed privileged) is tt
     by_stage p here (Named conn) is = begun p here (Named conn) is tt
-    by_stage p here (Shut conn) is = begun p here (Shut conn) is tt
+    by_stage p here (Closing conn) is = begun p here (Closing conn) is tt
 
     by_peer : (o : Option Peer) → peer_at r.standing key ≡ o → Joined
     by_peer None here = speaking (subst (λ (o : Option Peer). IfSome o Speaks) (sym here) tt)
@@ -251,13 +251,13 @@ module _ (key : ℕ) (s : Standing) (p : Peer) where
   short_is_left is (Authenticating setting state) k m asked deeds x goes lawful = (goes.1, goes.2, subst (λ (a : List Exchange). IsLawful true k a m) goes.0 lawful)
   short_is_left is (Unnamed privileged) k m asked deeds x goes lawful = reads_nothing is k m asked deeds x goes lawful
   short_is_left is (Named conn) k m asked deeds x goes lawful = reads_nothing is k m asked deeds x goes lawful
-  short_is_left is (Shut conn) k m asked deeds x goes lawful = (goes.1, goes.2, subst (λ (a : List Exchange). IsLawful true k a m) goes.0 lawful)
+  short_is_left is (Closing conn) k m asked deeds x goes lawful = (goes.1, goes.2, subst (λ (a : List Exchange). IsLawful true k a m) goes.0 lawful)
 
   lines_are_left : (stage : Stage) → (SpeaksDBus stage → ⊥) → IsLeft stage
   lines_are_left (Authenticating setting state) says k m asked deeds x goes lawful = (goes.1, goes.2, subst (λ (a : List Exchange). IsLawful true k a m) goes.0 lawful)
   lines_are_left (Unnamed privileged) says k m asked deeds x goes lawful = absurd (says tt)
   lines_are_left (Named conn) says k m asked deeds x goes lawful = absurd (says tt)
-  lines_are_left (Shut conn) says k m asked deeds x goes lawful = absurd (says tt)
+  lines_are_left (Closing conn) says k m asked deeds x goes lawful = absurd (says tt)
 
 waits : (key : ℕ) (r : Rest) (p : Peer) → peer_at r.standing key ≡ Some p → IsLeft key r.standing p p.stage → StandFor r (Next key ∷ []) []
 waits key r p here is_left [] after run = absurd run.served
@@ -327,7 +327,7 @@ module _ (key : ℕ) (piece : List ℕ) (r : Rest) (p : Peer) where
       ∙ serve_more piece key r.standing (message_said message) (left_with p rest) p.stage refl in
       subst (λ (script : Stands). Goes script asked deeds (with_more piece key x)) (sym same) (goes_seen (with_more piece key) (read r.standing key p (Whole message rest)) asked deeds x goes)
   read_more stage t (Faulty fault) not_so asked deeds x goes =
-      let closed : with_peer later_standing key (Some (shut later_peer)) ≡ with_more piece key (with_peer r.standing key (Some (shut p))) = ap (λ (rest : Rest). rest.standing) (closed_more key piece r p) in
+      let closed : with_peer later_standing key (Some (closing_peer later_peer)) ≡ with_more piece key (with_peer r.standing key (Some (closing_peer p))) = ap (λ (rest : Rest). rest.standing) (closed_more key piece r p) in
       (goes.0, goes.1, (goes.2.0, goes.2.1, ap (λ (standing : Standing). with_more piece key standing) goes.2.2 ∙ sym closed))
 
   -- the coming_next message is served in the same way
@@ -362,14 +362,14 @@ module _ (key : ℕ) (piece : List ℕ) (r : Rest) (p : Peer) where
         record { again = Fronted later_peer.unread behind ∷ h.0; goes = (behind, h.0, refl, h.1); lawful = (h.2, h.3); granted = h.4 }
     next_again (Authenticating setting state) is goes lawful =
         record { again = asked; goes = (goes.0, goes.1, ap (λ (standing : Standing). with_more piece key standing) goes.2); lawful = lawful; granted = λ granted. granted }
-    next_again (Shut conn) is goes lawful =
+    next_again (Closing conn) is goes lawful =
         record { again = asked; goes = (goes.0, goes.1, ap (λ (standing : Standing). with_more piece key standing) goes.2); lawful = lawful; granted = λ granted. granted }
 
   kept_stage : (stage : Stage) → (fed piece p stage).stage ≡ p.stage
   kept_stage (Authenticating setting state) = refl
   kept_stage (Unnamed privileged) = refl
   kept_stage (Named conn) = refl
-  kept_stage (Shut conn) = refl
+  kept_stage (Closing conn) = refl
 
   in_turn : (front : Front) → front ≢ Waits → IsFront p.unread front → peer_at r.standing key ≡ Some p → SpeaksDBus p.stage →
       StandFor r (Next key ∷ Bytes key piece ∷ []) (Bytes key piece ∷ Next key ∷ [])

@@ -73,7 +73,7 @@ pub fn next_in<V: BusView, G: Gate>(
         return Ok(None);
     };
     match peer.stage() {
-        Stage::Authenticating(_) | Stage::Shut(_) => Ok(None),
+        Stage::Authenticating(_) | Stage::Closing(_) => Ok(None),
         Stage::Unnamed { privileged } => {
             let privileged = *privileged;
             context.hello_or_close(key, peer, privileged)

@@ -12,7 +12,7 @@ use Rattle.router_core.specs.declared.gate.Gate.{Ghosts as Gate}
 use Rattle.router_core.specs.Deeds.{Writes}
 use Rattle.router_core.specs.Events.{OfPeer, closing, answering, conversed_to, hearing}
 use Rattle.router_core.specs.Scripts.{World, Performs, RunsTo}
-use Rattle.router_core.specs.Standing.{Stage, Authenticating, Shut, Peer, conn_of, shut}
+use Rattle.router_core.specs.Standing.{Stage, Authenticating, Closing, Peer, conn_of, closing_peer}
 use Rattle.router_steps.specs.Turns.{IsAlike, stage_after, IsOutcome, IsConversed, IsSent}
 
 -- what is said where it says who it is
@@ -51,15 +51,15 @@ module _ {V N R G : Type 0} (view : BusView V N R) (gate : Gate G) (key : ℕ) w
         at_stage w v q (true, answered said.sent (conversed_to key setting said said.state.phase p) w v v q (subst (λ bytes. IsSent view key bytes w v) outcome.1 written) (by_phase said.state.phase outcome.0 v q outcome.2))
 
     -- one that is closed is the same, whatever was said
-    shut_alike : (q r : Peer) → IsAlike p r → conn_of r.stage ≡ conn_of p.stage → q ≡ shut r → q ≡ shut p
-    shut_alike q r alike conn same = same ∙ (λ i. record { stage = Shut (conn i); unread = []; serial = alike.0 i; watches = alike.1 i })
+    closing_alike : (q r : Peer) → IsAlike p r → conn_of r.stage ≡ conn_of p.stage → q ≡ closing_peer r → q ≡ closing_peer p
+    closing_alike q r alike conn same = same ∙ (λ i. record { stage = Closing (conn i); unread = []; serial = alike.0 i; watches = alike.1 i })
 
     pub fails : (sent : List ℕ) (fault : AuthenticationFault) (w m v : World N G) (r q : Peer) → IsOutcome said setting p sent (Some fault) r → IsAlike p r → conn_of r.stage ≡ conn_of p.stage →
         IsSent view key sent w m → RunsTo view gate (closing key (Unauthenticated fault) r) m q v → RunsTo view gate (hearing key piece p p.stage) w q v
     fails sent fault w m v r q outcome alike conn written closes = at_stage w v q (by_outcome outcome)
       where
         closes_it : RunsTo view gate (closing key (Unauthenticated fault) p) m q v
-        closes_it = (closes.0, closes.1, (shut_alike q r alike conn closes.2.0, closes.2.1))
+        closes_it = (closes.0, closes.1, (closing_alike q r alike conn closes.2.0, closes.2.1))
 
         by_outcome : IsOutcome said setting p sent (Some fault) r → RunsTo view gate (hearing key piece p (Authenticating setting state)) w q v
         by_outcome (inl failed) = (

@@ -4,7 +4,7 @@ ghost use Rattle.std.specs.Prelude.{◌≡◌, ◌<◌, ◌≤◌, ◌+◌, [], 
 ghost use Rattle.router_core.specs.Events.{closing, fed, look};
 ghost use Rattle.router_core.specs.Fronts.{Waits, IsFront};
 ghost use Rattle.router_core.specs.Scripts.{RunsTo};
-ghost use Rattle.router_core.specs.Standing.{Named, SpeaksDBus, newcomer, next_serial, conn_of, shut};
+ghost use Rattle.router_core.specs.Standing.{Named, SpeaksDBus, newcomer, next_serial, conn_of, closing_peer};
 ghost use Rattle.router_steps.specs.Hearing.{heard_present};
 ghost use Rattle.router_steps.specs.Quiet.{IsQuiet};
 ghost use Rattle.router_steps.specs.Stages.{stage_of, IsFirst};
@@ -32,7 +32,7 @@ pub enum Stage {
     /// Its Hello gave it a number and a slot.
     Named(Conn),
     /// The bus closed it, and it is not gone yet.
-    Shut(Option<Conn>),
+    Closing(Option<Conn>),
 }
 
 impl Stage {
@@ -44,7 +44,7 @@ impl Stage {
             Stage::Authenticating(_) => None,
             Stage::Unnamed { privileged: _ } => None,
             Stage::Named(conn) => Some(*conn),
-            Stage::Shut(conn) => *conn,
+            Stage::Closing(conn) => *conn,
         }
     }
 }
@@ -122,7 +122,7 @@ impl Peer {
         ensures kept { OnErr result (piece.new ≡ piece.old) }
     {
         match self.stage {
-            Stage::Shut(_) => Ok(()),
+            Stage::Closing(_) => Ok(()),
             Stage::Unnamed { privileged: _ } | Stage::Named(_) => self.unread.feed_owned(piece),
             Stage::Authenticating(_) => Ok(()),
         }
@@ -134,7 +134,7 @@ impl Peer {
         ensures { self.new ≡ self.old }
     {
         match self.stage {
-            Stage::Authenticating(_) | Stage::Shut(_) => Ok(()),
+            Stage::Authenticating(_) | Stage::Closing(_) => Ok(()),
             Stage::Unnamed { privileged: _ } | Stage::Named(_) => {
                 match read_more(&mut self.pending, &mut self.unread) {
                     Ok(_) => Ok(()),
@@ -151,7 +151,7 @@ impl Peer {
         ensures ready { result ≡ true → IsQuiet self.now → ⊥ }
     {
         match self.stage {
-            Stage::Authenticating(_) | Stage::Shut(_) => false,
+            Stage::Authenticating(_) | Stage::Closing(_) => false,
             Stage::Unnamed { privileged: _ } => self.has_front(),
             Stage::Named(_) => self.has_front(),
         }
@@ -201,9 +201,9 @@ impl Peer {
 
     /// Closes it: its bytes are let go.
     pub fn close(&mut self)
-        ensures { self.new ≡ shut self.old }
+        ensures { self.new ≡ closing_peer self.old }
     {
-        self.stage = Stage::Shut(self.stage.conn());
+        self.stage = Stage::Closing(self.stage.conn());
         self.let_go();
     }
 }
