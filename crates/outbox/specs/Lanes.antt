@@ -6,6 +6,7 @@ use Rattle.std.proofs.Common.{eqb, not}
 use Rattle.outbox.specs.declared.hand.Entry.{Entry}
 use Rattle.outbox.specs.declared.hand.Hand.{Hand}
 use Rattle.atomic_table.specs.Seated.{TableId}
+use Rattle.crossbeam_queue.specs.Fifo.{Held}
 use Rattle.crossbeam_queue.specs.Passes.{Pass, view}
 
 -- which queue it is of, and what its holder knows
@@ -62,6 +63,14 @@ module _ {E : Type 0} where
   -- what a hand learns of the queue at one moment
   abbrev pub Shows : Hand E → List E → Type 0
   Shows v items = (put : List (Entry E)) × (taken : List (Entry E)) × Legal put taken items × Knows v put taken
+
+  -- The queue of this end was full at some moment.
+  abbrev pub WasFull : End E → Type 0
+  WasFull e = Held 256 (Shows e.hand)
+
+  -- It was empty at some moment.
+  abbrev pub WasEmpty : End E → Type 0
+  WasEmpty e = Held 0 (Shows e.hand)
 
   abbrev pub whole : Hand E
   whole = hand 0 9 true [] []

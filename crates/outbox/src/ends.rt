@@ -1,8 +1,7 @@
 //! The ends of one queue.
 
 ghost use Rattle.std.specs.Prelude.{◌≡◌, ◌+◌, ◌<◌, ◌≤◌, IfOk, OnErr, OnOk, MatchResult, MatchOption};
-ghost use Rattle.crossbeam_queue.specs.Fifo.{Held};
-ghost use Rattle.outbox.specs.Lanes.{whole, sent, Took, Shows, gives, keeps_rest, Begins, of};
+ghost use Rattle.outbox.specs.Lanes.{whole, sent, Took, gives, keeps_rest, Begins, of, WasEmpty, WasFull};
 
 use crate::hand::{Adopt, FirstLane, Hand, InOrder, Puts, Takes};
 use crossbeam_queue::{Pass, RuledArrayQueue};
@@ -48,7 +47,7 @@ impl<E: Drop> End<E> {
         ensures rule { MatchResult result
             (λ _. self.new.hand ≡ sent self.old.hand item)
             (λ full. (full.0 ≡ item) × (self.new.hand ≡ self.old.hand)
-            × Held 256 (Shows self.old.hand)) }
+            × WasFull self.old) }
     {
         self.queue
             .push_as::<Puts, R>(rt, &mut self.pass, item)
@@ -97,7 +96,7 @@ impl<E: Drop> Tap<E> {
     pub fn take<R: Wait>(&mut self, rt: &R) -> Option<E>
         ensures queue { self.new.queue ≡ self.old.queue }
         ensures rule { MatchOption result
-            ((self.new.hand ≡ self.old.hand) × Held 0 (Shows self.old.hand))
+            ((self.new.hand ≡ self.old.hand) × WasEmpty self.old)
             (λ e. Took self.old.hand e self.new.hand) }
     {
         self.queue.pop_as::<Takes, R>(rt, &mut self.pass)

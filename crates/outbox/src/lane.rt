@@ -1,8 +1,7 @@
 //! What a thread puts with.
 
 ghost use Rattle.std.specs.Prelude.{◌≡◌, ◌+◌, ◌<◌, ◌≤◌, length, IfOk, OnOk, MatchResult, map, slice_get, slice_set, All};
-ghost use Rattle.crossbeam_queue.specs.Fifo.{Held};
-ghost use Rattle.outbox.specs.Lanes.{sent, Shows, with, gives, keeps_rest, MayPut, Begins, of, IsCompared, End as Known};
+ghost use Rattle.outbox.specs.Lanes.{sent, with, gives, keeps_rest, MayPut, Begins, of, IsCompared, End as Known, WasFull};
 
 use crate::ends::{End, Full, Tap};
 use std::alloc::{AllocError, Global};
@@ -63,7 +62,7 @@ impl<E: Drop> Lane<E> {
         ensures slots { length self.new ≡ length self.old }
         ensures rule { (e : Known E) → slice_get self.old slot ≡ Some e → MatchResult result
             (λ _. self.new ≡ slice_set self.old slot (with e (sent e.hand item)))
-            (λ full. (full.0 ≡ item) × (self.new ≡ self.old) × Held 256 (Shows e.hand)) }
+            (λ full. (full.0 ≡ item) × (self.new ≡ self.old) × WasFull e) }
     {
         self.ends[slot].put(rt, item)
     }

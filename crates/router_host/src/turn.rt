@@ -85,10 +85,21 @@ impl<V: BusView, G: Gate, P: Post<V>, S: Socket> Host<V, G, P, S> {
             (HappensBy V.BusView G.Gate P.Post self.old Tick self.new) }
         ensures err { OnErr result (CatchesUp P.puts P.starts self.old self.new) }
     {
+        let leaves = self.engine.ticks();
         self.bring(right, &mut Event::Tick)?;
         self.looks = false;
-        self.carrier.post.turn_ends(right);
+        self.end_tick(right, leaves);
         Ok(())
+    }
+
+    /// Where Leaves were due, they were made for connections of whatever router.
+    fn end_tick(&mut self, right: &V::Right, leaves: bool)
+        ensures { self.new ≡ self.old }
+    {
+        if leaves {
+            self.carrier.post.look_all(right);
+        }
+        self.carrier.post.turn_ends(right);
     }
 
     fn serve_all(&mut self, right: &V::Right) -> Result<(), AllocError>

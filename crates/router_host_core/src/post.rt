@@ -45,6 +45,12 @@ pub trait Post<V: BusView>: Drop {
     /// What it may be once an envelope for a slot of this router was taken.
     ghost takes: { Self → ℕ → Envelope V.Note → Self → Type 0 };
 
+    /// When it may refuse an envelope for a connection.
+    ghost refuses: { Self → Conn → Type 0 };
+
+    /// When it may have no envelope for a slot of this router.
+    ghost lacks: { Self → ℕ → Type 0 };
+
     /// Puts an envelope for a connection of whatever router. Where there is no room for it, it
     /// comes back.
     fn put(
@@ -57,6 +63,7 @@ pub trait Post<V: BusView>: Drop {
         ensures registry { registry self.new ≡ registry self.old }
         ensures put { OnOk result (puts self.old to envelope self.new) }
         ensures refused { OnErr result (self.new ≡ self.old) }
+        ensures full { OnErr result (refuses self.old to) }
         ensures back { IfErr result (λ full. full.0 ≡ envelope) };
 
     /// The program of a service is to be run. Where there is no room to tell of it, nothing
@@ -72,10 +79,16 @@ pub trait Post<V: BusView>: Drop {
         ensures own { IfSome result (λ envelope.
             IsOwnNote V.registry_of (registry self.old) envelope.note) }
         ensures taken { IfSome result (λ envelope. takes self.old slot envelope self.new) }
-        ensures none { IfNone result (self.new ≡ self.old) };
+        ensures none { IfNone result (self.new ≡ self.old) }
+        ensures empty { IfNone result (lacks self.old slot) };
 
     /// Tells the router of a connection that it took no more mail, and has left the bus.
     fn look(&mut self, right: &V::Right, at: Conn)
+        ensures { self.new ≡ self.old };
+
+    /// Tells the other routers that connections have left the bus which were to leave it before:
+    /// any of them may be theirs.
+    fn look_all(&mut self, right: &V::Right)
         ensures { self.new ≡ self.old };
 
     /// A turn ends: whoever something was put for may be woken.

@@ -2,7 +2,7 @@
 use Rattle.std.specs.Prelude.{◌≡◌, ◌+◌, ◌/◌, max, ℕ, List, Some, slice_get, slice_set}
 use Rattle.seq_bus_core.specs.BusState.{max_connections}
 use Rattle.outbox.specs.declared.hand.Hand.{Hand}
-use Rattle.outbox.specs.Lanes.{End, Took, sent, with}
+use Rattle.outbox.specs.Lanes.{End, Took, WasEmpty, WasFull, sent, with}
 
 module _ {E : Type 0} where
   -- The item stands behind what the lane put for this slot before, and nothing else is put.
@@ -41,6 +41,14 @@ module _ {E S : Type 0} where
   Receives before slot envelope after =
       (place : ℕ) × (taps : List (End E)) × (slot ≡ before.first + place)
       × Takes before.taps place envelope taps × (after ≡ record before { taps = taps })
+
+  -- The outbox of a slot, where there is one, was full at some moment.
+  abbrev pub IsFullFor : Ways E S → ℕ → Type 0
+  IsFullFor ways slot = (e : End E) → slice_get ways.lane slot ≡ Some e → WasFull e
+
+  -- The outbox of a slot, where it is one of its own, was empty at some moment.
+  abbrev pub HasNoneFor : Ways E S → ℕ → Type 0
+  HasNoneFor ways slot = (place : ℕ) (e : End E) → slot ≡ ways.first + place → slice_get ways.taps place ≡ Some e → WasEmpty e
 
   -- A start is asked for.
   abbrev pub AsksFor : Ways E S → S → Ways E S → Type 0

@@ -194,6 +194,18 @@ impl<W: Wake + Drop> Coordinator<W> {
         }
     }
 
+    /// Connections that were to leave the bus before have left it: any router may have one, and all
+    /// but that of this place are to look.
+    pub(crate) fn ask_others_to_look(&self, slot: usize) {
+        let own = self.router_of(slot);
+        for (router, state) in self.states.iter().enumerate() {
+            if router != own {
+                raise(&state.looks);
+                raise(&state.owed);
+            }
+        }
+    }
+
     /// Whether a connection of this router was full for another. It is asked for once.
     pub(crate) fn take_look(&self, router: usize) -> bool {
         match self.states.get(router) {

@@ -1,7 +1,7 @@
 //! The ways between the routers of one process.
 
 ghost use Rattle.std.specs.Prelude.{◌≡◌, ◌-◌, ◌*◌, ◌^◌, min, IfErr, OnOk, OnErr};
-ghost use Rattle.routers.specs.Posts.{AsksFor, Sends, places_of};
+ghost use Rattle.routers.specs.Posts.{AsksFor, Sends, IsFullFor, places_of};
 
 use crate::coordinator::{Coordinator, Wake};
 use outbox::{EnvelopeOf, Lane, Tap};
@@ -78,7 +78,7 @@ impl<'a, J: Naming, W: Wake + Drop> LanePost<'a, J, W> {
 
 impl<'a, 'b, J: Naming, W: Wake + Drop, R: Wait> Post<Traced<Desk<'b, J, R>>>
     for LanePost<'a, J, W> {
-    ghost use Rattle.routers.specs.Posts.{AsksFor, Receives, Sends};
+    ghost use Rattle.routers.specs.Posts.{AsksFor, Receives, Sends, HasNoneFor, IsFullFor};
 
     ghost registry = { λ _. J.book.number };
 
@@ -88,9 +88,14 @@ impl<'a, 'b, J: Naming, W: Wake + Drop, R: Wait> Post<Traced<Desk<'b, J, R>>>
 
     ghost takes = { λ before slot envelope after. Receives before slot envelope after };
 
+    ghost refuses = { λ before to. IsFullFor before to.slot };
+
+    ghost lacks = { λ before slot. HasNoneFor before slot };
+
     fn put(&mut self, right: &R, to: Conn, envelope: EnvelopeOf<J>) -> Result<(), Full<Note<J>>>
         ensures put { OnOk result (Sends self.old to.slot envelope self.new) }
         ensures refused { OnErr result (self.new ≡ self.old) }
+        ensures full { OnErr result (IsFullFor self.old to.slot) }
         ensures back { IfErr result (λ full. full.0 ≡ envelope) }
     {
         let slot = usize::from(to.slot);
@@ -137,5 +142,9 @@ impl<'a, 'b, J: Naming, W: Wake + Drop, R: Wait> Post<Traced<Desk<'b, J, R>>>
         if !self.is_own(slot) {
             self.coordinator.ask_to_look(slot);
         }
+    }
+
+    fn look_all(&mut self, _right: &R) {
+        self.coordinator.ask_others_to_look(self.first);
     }
 }

@@ -8,6 +8,10 @@ module _ {E : Type 0} where
       (mail : List E) × (slice_get before slot ≡ Some mail)
       × (after ≡ slice_set before slot (mail ++ envelope ∷ []))
 
+  -- No envelope waits for the slot.
+  abbrev pub IsEmptyAt : List (List E) → ℕ → Type 0
+  IsEmptyAt before slot = (mail : List E) → slice_get before slot ≡ Some mail → mail ≡ []
+
   -- The envelope that came first of those for the slot is taken, and no other.
   abbrev pub Takes : List (List E) → ℕ → E → List (List E) → Type 0
   Takes before slot envelope after =

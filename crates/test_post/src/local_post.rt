@@ -1,7 +1,7 @@
 //! Mail in memory.
 
 ghost use Rattle.std.specs.Prelude.{◌≡◌, ◌∷◌, ◌++◌, [], IfErr, IfNone, IfSome, OnErr, OnOk};
-ghost use Rattle.test_post.specs.LocalMail.{Puts, Takes};
+ghost use Rattle.test_post.specs.LocalMail.{IsEmptyAt, Puts, Takes};
 
 use outbox_core::Envelope;
 use router_host_core::{Full, Post, SLOTS, StartRequest, TooManyStarts};
@@ -47,6 +47,7 @@ impl Mail {
     fn take(&mut self) -> Option<Envelope<()>>
         ensures taken { IfSome result (λ envelope. self.old ≡ envelope ∷ self.new) }
         ensures none { IfNone result (self.new ≡ self.old) }
+        ensures empty { IfNone result (self.old ≡ []) }
     {
         self.envelopes.pop_front()
     }
@@ -92,7 +93,7 @@ impl LocalPost {
 
 impl Post<SeqBus> for LocalPost {
     ghost use Rattle.std.specs.Prelude.{◌≡◌};
-    ghost use Rattle.test_post.specs.LocalMail.{Puts, Takes};
+    ghost use Rattle.test_post.specs.LocalMail.{IsEmptyAt, Puts, Takes};
 
     ghost registry = { λ _. 0 };
 
@@ -101,6 +102,10 @@ impl Post<SeqBus> for LocalPost {
     ghost starts = { λ before _ after. after ≡ before };
 
     ghost takes = { λ before slot envelope after. Takes before slot envelope after };
+
+    ghost refuses = { λ _ _. Unit {0} };
+
+    ghost lacks = { λ before slot. IsEmptyAt before slot };
 
     fn put(&mut self, _right: &(), to: Conn, envelope: Envelope<()>) -> Result<(), Full<()>>
         ensures put { OnOk result (Puts self.old to.slot envelope self.new) }
@@ -127,6 +132,7 @@ impl Post<SeqBus> for LocalPost {
     fn take(&mut self, _right: &(), slot: u16) -> Option<Envelope<()>>
         ensures taken { IfSome result (λ envelope. Takes self.old slot envelope self.new) }
         ensures none { IfNone result (self.new ≡ self.old) }
+        ensures empty { IfNone result (IsEmptyAt self.old slot) }
     {
         let slot = usize::from(slot);
         if slot >= self.mails.len() {
@@ -136,6 +142,8 @@ impl Post<SeqBus> for LocalPost {
     }
 
     fn look(&mut self, _right: &(), _at: Conn) {}
+
+    fn look_all(&mut self, _right: &()) {}
 
     fn turn_ends(&mut self, _right: &()) {}
 }
