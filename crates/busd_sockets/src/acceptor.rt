@@ -17,6 +17,9 @@ const LISTENER: Token = Token(0);
 /// How long is waited where connections can't be accepted, in milliseconds.
 const LATER: u64 = 100;
 
+/// How many connections are accepted at once for each router.
+const SHARE: usize = 64;
+
 /// Who is told that connections can't be accepted.
 pub trait AcceptLog {
     fn tell(&mut self, error: &io::Error);
@@ -38,6 +41,8 @@ pub trait Chores {
 enum Accepted {
     /// No connection waits.
     All,
+    /// More may wait.
+    Some,
     /// It fails now, as where there are too many open files. Nothing tells when it no longer does.
     Later,
 }
@@ -89,14 +94,17 @@ impl<'a, F: Read + Drop, L: AcceptLog + Drop, C: Chores + Drop> Acceptor<'a, F, 
         })
     }
 
-    /// Accepts what waits, and wakes the routers.
-    fn accept_all<R: Wait>(&mut self, rt: &R) -> Result<Accepted, Fault> {
-        let mut accepted = Accepted::All;
-        for _ in rt.forever() {
+    /// Accepts what waits, as many as routers take in a turn, and wakes the routers.
+    fn accept_some<R: Wait>(&mut self, rt: &R) -> Result<Accepted, Fault> {
+        let mut accepted = Accepted::Some;
+        for _ in 0..self.new_connections.len().saturating_mul(SHARE) {
             match self.listener.accept() {
                 Ok((stream, _address)) => self.hand_over(rt, stream)?,
                 Err(error) => match error.kind() {
-                    ErrorKind::WouldBlock => break,
+                    ErrorKind::WouldBlock => {
+                        accepted = Accepted::All;
+                        break;
+                    }
                     ErrorKind::Interrupted | ErrorKind::ConnectionAborted => {}
                     _ => {
                         self.log.tell(&error);
@@ -133,6 +141,7 @@ impl<'a, F: Read + Drop, L: AcceptLog + Drop, C: Chores + Drop> Acceptor<'a, F, 
 fn wait_of(accepted: Accepted, due: Option<u64>) -> Option<Duration> {
     let due = match (accepted, due) {
         (Accepted::All, due) => due?,
+        (Accepted::Some, _) => 0,
         (Accepted::Later, Some(due)) => due.min(LATER),
         (Accepted::Later, None) => LATER,
     };
@@ -149,7 +158,7 @@ impl<'a, F: Read + Drop, L: AcceptLog + Drop, C: Chores + Drop> MainTask for Acc
             if self.coordinator.is_over() {
                 return Ok(());
             }
-            let accepted = self.accept_all(rt)?;
+            let accepted = self.accept_some(rt)?;
             timeout = wait_of(accepted, self.chores.turn(rt)?);
         }
         unreachable!()

@@ -14,6 +14,9 @@ use std::time::Duration;
 /// How many events are told at once.
 const EVENTS: usize = 256;
 
+/// How many connections are told of at once.
+const NEW: usize = 64;
+
 /// How long a short timeout is, in milliseconds.
 const SHORT: u64 = 100;
 
@@ -52,6 +55,8 @@ pub struct Sockets<'a, L: EndLog + Drop> {
     new_connections: &'a NewConnections,
     /// What is not told yet, the last first.
     changes: Vec<Change>,
+    /// How many connections that came may be told of before the next wait.
+    left: usize,
     log: L,
 }
 
@@ -68,6 +73,7 @@ impl<'a, L: EndLog + Drop> Sockets<'a, L> {
             events: Events::with_capacity(alloc, EVENTS)?,
             new_connections,
             changes: Vec::with_capacity(alloc, EVENTS)?,
+            left: NEW,
             log,
         })
     }
@@ -115,6 +121,13 @@ impl<'a, L: EndLog + Drop> Source<ClientSocket> for Sockets<'a, L> {
             Timeout::Short => Some(Duration::from_millis(SHORT)),
             Timeout::Never => None,
         };
+        // More connections may have come than were told of, and nobody tells that again.
+        let most = if self.left == 0 {
+            Some(Duration::from_millis(0))
+        } else {
+            most
+        };
+        self.left = NEW;
         if self.poll.poll(&mut self.events, most).is_err() {
             return Err(Fault::Poll);
         }
@@ -125,6 +138,7 @@ impl<'a, L: EndLog + Drop> Source<ClientSocket> for Sockets<'a, L> {
         if let Some(event) = self.told() {
             return Some(event);
         }
+        self.left = self.left.checked_sub(1)?;
         let NewConnection { stream, challenge } = self.new_connections.pop(rt)?;
         Some(SourceEvent::Accepted {
             socket: ClientSocket { stream },
