@@ -154,7 +154,7 @@ impl<V: BusView, G: Gate> Engine<V, G> {
     }
 
     /// Whether a connection has sent a whole message that was not served, or what is no message:
-    /// [`next`](Engine::next) does nothing where it has not.
+    /// an event `Next` does nothing where it has not.
     pub fn has_next(&self, key: usize) -> bool
         ensures quiet { result ≡ false → HasNoNext self.now.standing key }
         ensures ready { result ≡ true → HasNoNext self.now.standing key → ⊥ }
@@ -277,8 +277,8 @@ impl<V: BusView, G: Gate> Engine<V, G> {
     /// # Errors
     ///
     /// There is no memory for it. Then nothing changed, and the event is as it was: it may be
-    /// served again, and brings then what it would have brought. An event that was served has given
-    /// its bytes away.
+    /// served again, and brings then what it would have brought. One that was served is of no more
+    /// use: its bytes may be gone.
     pub fn event(
         &mut self,
         right: &V::Right,
