@@ -46,8 +46,8 @@ named:
 memory:
 	@tools/memory/check.sh
 
-# What the calls of the byte layer and of the shared registry take, beside the same in plain Rust. No part of the gate;
-# needs rustc.
+# What the calls of the byte layer and of the shared registry take, beside the same in plain Rust, and what a host
+# takes from bytes to bytes. What is not built is proved first. No part of the gate; needs rustc.
 bench:
 	@$(MAKE) -s -C crates/bench_bytes/rust bench
 	@$(MAKE) -s -C crates/bench_bus/rust bench
