@@ -4,8 +4,8 @@ use std::marker::Brand;
 
 /// Which registry it is: its history, and the bus that it was opened as.
 ///
-/// Each call of [`start`](crate::start) picks its own, as does each call of a function over `J:
-/// Naming` at `Brand`.
+/// Each call of `start` of `registry_snapshots` picks its own, as does each call of a function over
+/// `J: Naming` at `Brand`.
 pub trait Naming {
     ghost use Rattle.logbook.specs.Pages.{Book};
     ghost use Rattle.seq_bus_core.specs.Tickets.{WholeBus};
