@@ -5,14 +5,21 @@
 //! where it will not get one; then [`Holder::next_given`] hands it out, one by one.
 //!
 //! ```
-//! let name = BusName::parse("com.example.S")?;
-//! let mut holder: Holder<u64> = Holder::new(alloc)?;
-//! holder.hold(name, 7);
-//! holder.hold(name, 8);
-//! holder.release_all(&name);
-//! assert_eq!(holder.next_given(), Some(Given { fate: Fate::Released, what: 7 }));
-//! assert_eq!(holder.next_given(), Some(Given { fate: Fate::Released, what: 8 }));
-//! assert_eq!(holder.next_given(), None);
+//! use activation::{Fate, Given, Holder};
+//! use names::BusName;
+//! use std::alloc::{AllocError, Global};
+//!
+//! /// Two numbers wait for a name: whether they come out in order once it has an owner.
+//! fn come_in_order(alloc: Global, name: BusName) -> Result<bool, AllocError> {
+//!     let mut holder: Holder<u64> = Holder::new(alloc)?;
+//!     holder.hold(name, 7);
+//!     holder.hold(name, 8);
+//!     holder.release_all(&name);
+//!     let fate = Fate::Released;
+//!     Ok(holder.next_given() == Some(Given { fate, what: 7 })
+//!         && holder.next_given() == Some(Given { fate, what: 8 })
+//!         && holder.next_given().is_none())
+//! }
 //! ```
 //!
 //! A bus keeps its tickets by number alone. What they carry, who called and with which message,
