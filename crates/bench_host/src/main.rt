@@ -7,9 +7,11 @@
 mod client;
 mod messages;
 mod rounds;
+mod scenes;
 mod stage;
 
-use crate::stage::{SCENES, Stage};
+use crate::scenes::SCENES;
+use crate::stage::Stage;
 use anyhow::{Result, bail};
 use bench_core::{Opening, Report, close, open};
 use registry_snapshots::start;

@@ -4,6 +4,7 @@
 //! written, with 1 KiB 1,088, of a signal 120, of the reply of GetNameOwner 89.
 
 use crate::client::Client;
+use crate::scenes::Scene;
 use bench_core::Work;
 use bus_view::BusView;
 use router_core::Gate;
@@ -22,7 +23,7 @@ pub enum Round {
 /// A host, and what happens to it.
 #[derive(Drop)]
 pub struct Rounds<'a, V: BusView, G: Gate, P: Post<V>> {
-    pub name: &'static str,
+    pub scene: Scene,
     pub right: &'a V::Right,
     pub host: Host<V, G, P, Client>,
     pub round: Round,
@@ -48,7 +49,7 @@ impl<V: BusView, G: Gate, P: Post<V>> Rounds<'_, V, G, P> {
 
 impl<V: BusView, G: Gate, P: Post<V>> Work for Rounds<'_, V, G, P> {
     fn name(&self) -> &'static str {
-        self.name
+        self.scene.name()
     }
 
     fn once(&mut self, _round: u64) -> u64 {

@@ -3,9 +3,9 @@
 ghost use Rattle.std.specs.Prelude.{◌≡◌};
 
 use crate::client::Client;
-use crate::messages::{ADD_MATCH, CALL, REPLY, TICKED};
-use crate::rounds::{Round, Rounds};
-use anyhow::{Context, Result, bail, ensure};
+use crate::rounds::Rounds;
+use crate::scenes::Scene;
+use anyhow::{Context, Result};
 use bench_core::Report;
 use bus_view::BusView;
 use outbox::{Outboxes, open_queue};
@@ -17,103 +17,7 @@ use routers::{Coordinator, LanePost, Wake};
 use std::alloc::{AllocError, Global};
 use std::sync::Wait;
 use std::time::Clock;
-use test_support::messages::{GET_NAME_OWNER, HELLO};
-
-/// What is measured.
-#[derive(Clone, Copy)]
-pub struct Scene {
-    name: &'static str,
-    task: Task,
-}
-
-#[derive(Clone, Copy)]
-enum Task {
-    /// A client calls another, with a body of so many bytes, and is answered with as many.
-    Call(u32),
-    /// A client sends a signal of 16 bytes, which so many others have a rule for.
-    Signal(usize),
-    /// A client calls GetNameOwner.
-    AskOwner,
-    /// Time passes over so many clients that do nothing.
-    Tick(usize),
-}
-
-/// All that is measured.
-pub const SCENES: [Scene; 7] = [
-    Scene {
-        name: "a call of 16 bytes and its reply",
-        task: Task::Call(16),
-    },
-    Scene {
-        name: "a call of 1 KiB and its reply",
-        task: Task::Call(1024),
-    },
-    Scene {
-        name: "a signal to 1",
-        task: Task::Signal(1),
-    },
-    Scene {
-        name: "a signal to 10",
-        task: Task::Signal(10),
-    },
-    Scene {
-        name: "a signal to 100",
-        task: Task::Signal(100),
-    },
-    Scene {
-        name: "GetNameOwner",
-        task: Task::AskOwner,
-    },
-    Scene {
-        name: "a tick over 256 connections",
-        task: Task::Tick(256),
-    },
-];
-
-impl Task {
-    /// How many clients there are.
-    fn clients(self) -> usize {
-        match self {
-            Task::Call(_) => 2,
-            Task::Signal(listeners) => listeners.saturating_add(1),
-            Task::AskOwner => 1,
-            Task::Tick(clients) => clients,
-        }
-    }
-
-    /// What a client sends behind Hello, again and again.
-    fn message(self, alloc: Global, client: usize) -> Result<Vec<u8>, AllocError> {
-        match self {
-            Task::Call(length) => match client {
-                0 => CALL.with_body(alloc, length),
-                _ => REPLY.with_body(alloc, length),
-            },
-            Task::Signal(_) => match client {
-                0 => TICKED.with_body(alloc, 16),
-                _ => Vec::from_slice(alloc, ADD_MATCH),
-            },
-            Task::AskOwner | Task::Tick(_) => Vec::from_slice(alloc, GET_NAME_OWNER),
-        }
-    }
-
-    fn round(self) -> Round {
-        match self {
-            Task::Call(_) => Round::Sends {
-                senders: 2,
-                watched: 0,
-            },
-            Task::Signal(listeners) => Round::Sends {
-                senders: 1,
-                watched: listeners,
-            },
-            Task::AskOwner => Round::Sends {
-                senders: 1,
-                watched: 0,
-            },
-            Task::Tick(_) => Round::Ticks,
-        }
-    }
-}
+use thiserror::Error;
 
 /// Wakes nobody: there is one thread.
 #[derive(Clone, Copy)]
@@ -121,6 +25,17 @@ struct NoWaker;
 
 impl Wake for NoWaker {
     fn wake(&self) {}
+}
+
+/// Why a scene can't be measured.
+#[derive(Clone, Copy, Debug, PartialEq, Eq, Error)]
+enum SceneFault {
+    #[error("out of memory")]
+    NoMemory(#[from] AllocError),
+    #[error("a connection is refused")]
+    Refused,
+    #[error("the measures can't be written")]
+    Report,
 }
 
 /// A scene that is measured once there is a registry.
@@ -165,7 +80,8 @@ fn over_registry<J: Naming, R: Print + Clock + Wait>(
     let desk: Desk<'_, J, R> = Desk::new(seat, shared);
     let view = Traced::silent(alloc, desk);
     let post = LanePost::new(0, lane, taps, starts, &coordinator);
-    over_view(report, alloc, scene, report.rt, view, post)
+    over_view(report, alloc, scene, report.rt, view, post)?;
+    Ok(())
 }
 
 /// The host of the one router, over its view and its post.
@@ -176,17 +92,17 @@ fn over_view<V: BusView + Drop, P: Post<V> + Drop, R: Print + Clock>(
     right: &V::Right,
     view: V,
     post: P,
-) -> Result<()>
+) -> Result<(), SceneFault>
     requires { P.registry post ≡ (V.knows view).registry }
 {
     let engine = Engine::new(alloc, view, OpenGate, None)?;
     let mut rounds = Rounds {
-        name: scene.name,
+        scene,
         right,
         host: Host::new(alloc, engine, post, 0, 256)?,
-        round: scene.task.round(),
+        round: scene.round(),
     };
-    let told = tell(report, alloc, scene.task, &mut rounds);
+    let told = tell(report, alloc, scene, &mut rounds);
     drop(rounds);
     told
 }
@@ -196,32 +112,31 @@ fn over_view<V: BusView + Drop, P: Post<V> + Drop, R: Print + Clock>(
 fn tell<V: BusView, G: Gate, P: Post<V>, R: Print + Clock>(
     report: &Report<'_, R>,
     alloc: Global,
-    task: Task,
+    scene: Scene,
     rounds: &mut Rounds<'_, V, G, P>,
-) -> Result<()> {
-    let count = task.clients();
+) -> Result<(), SceneFault> {
+    let count = scene.clients();
     for place in 0..count {
-        connect(alloc, task, rounds, place)?;
+        connect(alloc, scene, rounds, place)?;
     }
     rounds.send(count);
-    report.tell(rounds)?;
-    Ok(())
+    match report.tell(rounds) {
+        Ok(()) => Ok(()),
+        Err(_unwritten) => Err(SceneFault::Report),
+    }
 }
 
 /// A client connects, and says Hello.
 fn connect<V: BusView, G: Gate, P: Post<V>>(
     alloc: Global,
-    task: Task,
+    scene: Scene,
     rounds: &mut Rounds<'_, V, G, P>,
     place: usize,
-) -> Result<()> {
-    let mut messages = Vec::new(alloc);
-    messages.push(Vec::from_slice(alloc, HELLO)?)?;
-    messages.push(task.message(alloc, place)?)?;
+) -> Result<(), SceneFault> {
+    let messages = scene.messages(alloc, place)?;
     let Ok(key) = rounds.host.open(rounds.right, Client::new(messages), None) else {
-        bail!("a connection is refused");
+        return Err(SceneFault::Refused);
     };
-    ensure!(key == place, "keys count from 0");
     rounds.host.readable(key, false);
     rounds.host.turn(rounds.right)?;
     Ok(())
