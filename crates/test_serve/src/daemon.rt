@@ -74,7 +74,7 @@ fn play_over<R: Net + AllocGlobal, P: OpenProcess>(
 }
 
 /// Plays the clients over a daemon of their own, which is this program.
-pub(crate) fn play_there<R: Net + Files + Processes + AllocGlobal>(
+pub(crate) fn serve_two_clients<R: Net + Files + Processes + AllocGlobal>(
     rt: &R,
     program: &str,
 ) -> Result<(), Wrong> {

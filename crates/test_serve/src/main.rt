@@ -12,7 +12,7 @@ mod served;
 mod two_clients;
 
 use crate::client::Wrong;
-use crate::daemon::{SERVE, play_there, serve};
+use crate::daemon::{SERVE, serve, serve_two_clients};
 use crate::scene::Scene;
 use crate::served::{outcome, play};
 use std::process::ExitCode;
@@ -41,7 +41,7 @@ fn main(rt: HostRuntime) -> ExitCode {
     };
     let told = match words.as_slice() {
         [program] => {
-            let played = play_there(&rt, program.as_str());
+            let played = serve_two_clients(&rt, program.as_str());
             tell(&rt, "two clients of a daemon", played)
         }
         [_program, word] if word.as_str() == SERVE => return status(serve(&rt).is_ok()),
