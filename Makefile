@@ -42,7 +42,8 @@ try: named
 named:
 	@[ -n "$(CRATE)" ] && [ -d "crates/$(CRATE)/src" ] || { echo "name a crate, as in CRATE=names" >&2; exit 1; }
 
-# Each allocation of three programs refused in turn, once the gate has built them. Needs cc and glibc.
+# Each allocation of three programs, and of the start of `busd serve`, refused in turn, once the gate has built them.
+# Needs cc and glibc.
 memory:
 	@tools/memory/check.sh
 

@@ -1,7 +1,7 @@
 #!/usr/bin/env bash
-# Refuses each allocation of busd, of bus-check and of test_scarce in turn, on all processors, and fails where one
-# answers otherwise than it should. A program that has passed on this machine is not tried again: what passed is kept in
-# the user's cache, by the checksum of all that was run and compared.
+# Refuses each allocation of `busd run`, of the start of `busd serve`, of bus-check and of test_scarce in turn, on all
+# processors, and fails where one answers otherwise than it should. What has passed on this machine is not tried again:
+# it is kept in the user's cache, by the checksum of all that was run and compared.
 set -euo pipefail
 cd "$(dirname "$0")/../.."
 crates=$PWD/crates
@@ -39,15 +39,38 @@ said() {
     [ "$status" = "$1" ] && cmp -s "$own/out" "$2" && [ "$(< "$own/err")" = "$3" ]
 }
 
-run_busd() {
+run_stream() {
     with "$1" "$crates/busd/out/busd" run < examples/hello-get-name-owner.stream
 }
 
-judge_busd() {
+judge_stream() {
     said 0 "$crates/busd/stdout" "" || said 0 "$room/no_owner" "" ||
         said 3 "$room/no_hello" "busd: closed: 64" ||
         said 5 /dev/null "busd: memory" || said 5 "$room/named" "busd: memory" ||
         said 5 "$room/welcome" "busd: memory" || said 5 "$crates/busd/stdout" "busd: memory"
+}
+
+# A daemon opens its bus, and ends since its address can't be told.
+full='busd: device: output'
+printf '5 1700000000 c0ffee\n' > "$room/keyring"
+mkdir "$room/services"
+for name in A B; do
+    printf '%s\n' '[D-BUS Service]' "Name=com.example.$name" 'Exec=true one two' > "$room/services/$name.service"
+done
+
+run_serve() {
+    number=$1
+    status=0
+    rm -rf "$own/bus" "$own/trace"
+    mkdir "$own/trace"
+    : > "$own/out"
+    (cd "$own" && exec timeout 20 env REFUSE="$number" LD_PRELOAD="$room/refuse.so" "$crates/busd/out/busd" serve \
+        --address bus --routers 2 --services "$room/services" --keyring "$room/keyring" --user 1000 --trace trace \
+        --print-address) > /dev/full 2> "$own/err" 9> "$own/count" || status=$?
+}
+
+judge_serve() {
+    said 5 /dev/null "busd: memory" || said 4 /dev/null "$full"
 }
 
 run_check() {
@@ -78,26 +101,32 @@ worker() {
     done
 }
 
-# sum PROGRAM: the checksum of a program, of what it reads and should write, and of what refuses and judges
+# sum NAME PROGRAM: the checksum of how a program is run, of itself, what it reads and should write, and of what refuses
+# and judges
 sum() {
-    cat "$crates/$1/out/$1" "$crates/$1"/std* examples/*.stream tools/memory/* | sha256sum | cut -d ' ' -f 1
+    {
+        echo "$1"
+        cat "$crates/$2/out/$2" "$crates/$2"/std* examples/*.stream tools/memory/*
+    } | sha256sum | cut -d ' ' -f 1
 }
 
-# each NAME PROGRAM: counts the allocations of a run in which none is refused, of which there are some, and refuses each
+# each NAME PROGRAM TITLE ANSWER..: counts the allocations of a run in which none is refused, of which there are some and
+# which is answered so, and refuses each
 each() {
-    local first count passed failed=0 running=()
-    passed=$kept/$(sum "$2")
+    local name=$1 title=$3 first count passed worker failed=0 running=()
+    passed=$kept/$(sum "$1" "$2")
+    shift 3
     if [ -s "$passed" ]; then
-        echo "$2: $(< "$passed") allocations were refused in turn before, each answered as it should be"
+        echo "$title: $(< "$passed") allocations were refused in turn before, each answered as it should be"
         return
     fi
     own=$room
-    "run_$1" 0
-    said 0 "$crates/$2/stdout" "" || wrong
+    "run_$name" 0
+    said "$@" || wrong
     count=$(< "$room/count")
     [[ $count =~ ^[1-9][0-9]*$ ]] || wrong
     for ((first = 1; first <= workers; first++)); do
-        worker "$1" "$first" "$count" &
+        worker "$name" "$first" "$count" &
         running+=($!)
     done
     for worker in "${running[@]}"; do
@@ -105,9 +134,10 @@ each() {
     done
     [ "$failed" = 0 ]
     { mkdir -p "$kept" && echo "$count" > "$passed"; } 2> /dev/null || true
-    echo "$2: $count allocations refused in turn, each answered as it should be"
+    echo "$title: $count allocations refused in turn, each answered as it should be"
 }
 
-each busd busd
-each check trace_check
-each scarce test_scarce
+each stream busd 'busd run' 0 "$crates/busd/stdout" ''
+each serve busd 'busd serve' 4 /dev/null "$full"
+each check trace_check bus-check 0 "$crates/trace_check/stdout" ''
+each scarce test_scarce test_scarce 0 "$crates/test_scarce/stdout" ''
