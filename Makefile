@@ -22,7 +22,8 @@ prove:
 install:
 	@tools/install.sh "$(DESTDIR)$(PREFIX)"
 
-# The same as an archive for machines without the toolchain; tells which libraries of the system the program needs.
+# The same as an archive for machines without the toolchain, for which bus-check must be built, too; tells which
+# libraries of the system busd needs.
 dist:
 	@tools/dist.sh
 

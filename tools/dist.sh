@@ -1,6 +1,6 @@
 #!/usr/bin/env bash
-# Packs busd for machines without the toolchain: an archive with the stripped programs and all that `make install` puts
-# beside it, and tells which libraries of the system the program needs.
+# Packs busd and bus-check for machines without the toolchain: an archive with the stripped programs and all that
+# `make install` puts beside them, and tells which libraries of the system busd needs.
 set -euo pipefail
 cd "$(dirname "$0")/.."
 
@@ -10,8 +10,11 @@ trap 'rm -rf "$room"' EXIT
 version=$(sed -n 's/.*"busd \([0-9.]*\)".*/\1/p' docs/man/busd.1)
 name=busd-$version-$(uname -s | tr '[:upper:]' '[:lower:]')-$(uname -m)
 tools/install.sh "$room/$name"
-strip "$room/$name/bin/busd"
-[ ! -e "$room/$name/bin/bus-check" ] || strip "$room/$name/bin/bus-check"
+if [ ! -e "$room/$name/bin/bus-check" ]; then
+    echo "there is no bus-check yet: \`make prove CRATE=trace_check\` proves and builds it" >&2
+    exit 1
+fi
+strip "$room/$name/bin/busd" "$room/$name/bin/bus-check"
 packed=crates/busd/out/$name.tar.gz
 mkdir -p "$(dirname "$packed")"
 time=${SOURCE_DATE_EPOCH:-$(git log -1 --format=%ct 2> /dev/null || date +%s)}
