@@ -59,6 +59,8 @@ impl Mail {
 pub struct LocalPost {
     mails: Vec<Mail>,
     starts: VecDeque<StartRequest>,
+    /// How often the other routers were told to look.
+    looks: u64,
 }
 
 impl Model for LocalPost {
@@ -82,7 +84,13 @@ impl LocalPost {
         Ok(LocalPost {
             mails,
             starts: VecDeque::new(alloc),
+            looks: 0,
         })
+    }
+
+    /// How often the other routers were told to look at their connections.
+    pub fn looks(&self) -> u64 {
+        self.looks
     }
 
     /// The start that was asked for first, of those that were not taken yet.
@@ -143,7 +151,9 @@ impl Post<SeqBus> for LocalPost {
 
     fn look(&mut self, _right: &(), _at: Conn) {}
 
-    fn look_all(&mut self, _right: &()) {}
+    fn look_all(&mut self, _right: &()) {
+        self.looks = self.looks.wrapping_add(1);
+    }
 
     fn turn_ends(&mut self, _right: &()) {}
 }

@@ -108,21 +108,23 @@ enum Found {
 }
 
 /// A client sends so many pieces: takes turns for each, as a router does, of which one may find no
-/// memory.
-fn send(host: &mut ScriptedHost, key: usize, pieces: u32) {
+/// memory. Tells how often time passed.
+fn send(host: &mut ScriptedHost, key: usize, pieces: u32) -> u64 {
+    let mut ticks: u64 = 0;
     for _piece in 0..pieces {
         host.readable(key, false);
         for _turn in 0..TURNS {
-            turn(host);
+            ticks = ticks.wrapping_add(turn(host));
         }
     }
+    ticks
 }
 
-fn turn(host: &mut ScriptedHost) {
-    if host.wants_tick() {
-        let _refused = host.tick(&());
-    }
+/// A turn. Time passes before it where a tick is wanted: tells how often, which is once at most.
+fn turn(host: &mut ScriptedHost) -> u64 {
+    let has_ticked = host.wants_tick() && host.tick(&()).is_ok();
     let _refused = host.turn(&());
+    u64::from(has_ticked)
 }
 
 /// Whether these messages are all that was written.
@@ -173,20 +175,25 @@ fn together(first: Found, second: Found) -> Found {
 /// Serves both clients, until the first is over.
 fn serve_both(host: &mut ScriptedHost, alloc: Global) -> Result<Found, AllocError> {
     let first = open(host, alloc, FIRST)?;
-    send(host, first, 2);
+    let mut ticks = send(host, first, 2);
     let second = open(host, alloc, SECOND)?;
     if second == first {
         return Ok(Found::Short);
     }
-    send(host, second, 4);
-    send(host, first, 1);
+    ticks = ticks.wrapping_add(send(host, second, 4));
+    ticks = ticks.wrapping_add(send(host, first, 1));
     let at_first = seen(host, first, &TO_FIRST, &TO_FIRST_BUT_SIGNAL);
-    send(host, first, 1);
+    ticks = ticks.wrapping_add(send(host, first, 1));
     if host.socket(first).is_some() {
         return Ok(Found::Wrong);
     }
     let at_second = seen(host, second, &TO_SECOND, &TO_SECOND_BUT_REPLY);
-    Ok(together(at_first, at_second))
+    let found = together(at_first, at_second);
+    // Nobody took too little mail: time passed over a Leave, and the other routers are to look.
+    if found == Found::All && host.post().looks() != ticks {
+        return Ok(Found::Wrong);
+    }
+    Ok(found)
 }
 
 fn both_served(alloc: Global) -> Result<Found, AllocError> {
