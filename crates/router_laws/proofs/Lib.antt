@@ -14,3 +14,6 @@ pub mod Agreeing
 pub mod Joining
 pub mod Recutting
 pub mod Cutting
+pub mod AtOnce
+pub mod Extending
+pub mod Ending

@@ -18,9 +18,9 @@ use Rattle.router.proofs.Grants.{granted_parts, read_parts}
 use Rattle.busd_core.specs.OneThread.{asked_all, happened}
 use Rattle.busd_core.specs.Sessions.{Goes, piece_of, asked_in}
 use Rattle.router_laws.proofs.Readers.{AreRight, read_so, readers_of, right_append}
-use Rattle.busd_laws.specs.Streams.{StreamsAgree, asked_at, asked_until_gone}
-use Rattle.busd_laws.proofs.AtOnce.{AllSettled, all_at_once, arrived, served}
-use Rattle.busd_laws.proofs.Extending.{all_right, all_settled, asked_of, bytes_are, extended, extended_all, extended_all_right, happens_right, one_so, serving_is}
+use Rattle.router_laws.specs.Streams.{StreamsAgree, asked_at, asked_until_gone}
+use Rattle.router_laws.proofs.AtOnce.{AllSettled, all_at_once, arrived, served}
+use Rattle.router_laws.proofs.Extending.{all_right, all_settled, asked_of, bytes_are, extended, extended_all, extended_all_right, happens_right, one_so, serving_is}
 
 -- ## Where nothing is left
 

@@ -22,7 +22,7 @@ use Rattle.busd_core.proofs.OneThread.{all_happened_so}
 use Rattle.router_laws.specs.Readings.{with_behind}
 use Rattle.router_laws.proofs.Fronts.{fronts_stay}
 use Rattle.router_laws.proofs.Readers.{AreRight, right_append, right_lawful}
-use Rattle.busd_laws.proofs.AtOnce.{AllSettled, Serving, Settled, bytes_in}
+use Rattle.router_laws.proofs.AtOnce.{AllSettled, Serving, Settled, bytes_in}
 
 -- ## More bytes behind what was read
 

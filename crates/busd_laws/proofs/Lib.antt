@@ -1,3 +1,0 @@
-pub mod AtOnce
-pub mod Extending
-pub mod Ending
