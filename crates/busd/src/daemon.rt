@@ -1,7 +1,7 @@
 //! `busd serve`: the bus of a socket.
 
+use busd_core::{Device, Options, ServeFault};
 use busd_serve::{Bus, BusAddress, DaemonRuntime};
-use busd_start::{Device, Options, ServeFault};
 use clap::ArgMatches;
 use std::io;
 use std::io::Write;

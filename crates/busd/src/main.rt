@@ -7,8 +7,8 @@ ghost use Rattle.std.specs.Process.{exit_status};
 ghost use Rattle.clap.specs.Values.{kind_of};
 ghost use Rattle.owner_queues.specs.declared.request.Profile.TheVariants.{Two};
 ghost use Rattle.seq_bus_core.specs.Tickets.{opening_bus};
-ghost use Rattle.busd_core.specs.Statuses.{status_of};
-ghost use Rattle.busd_core.specs.declared.fault.RunFault.TheVariants.{Output};
+ghost use Rattle.busd_core.specs.Statuses.{run_status};
+ghost use Rattle.busd_core.specs.declared.run_fault.RunFault.TheVariants.{Output};
 ghost use Rattle.std.specs.IoError.{error_kind};
 ghost use Rattle.busd.specs.Statuses.{refusal_status, unread_status};
 
@@ -16,8 +16,7 @@ mod daemon;
 
 use crate::daemon::serve_clients;
 use bus_view::BusView;
-use busd_core::{RunFault, run};
-use busd_start::serve_command;
+use busd_core::{RunFault, run, serve_command};
 use clap::error::ErrorKind;
 use clap::{Command, Error};
 use registry_snapshots::{Desk, Naming, NewHistory, Seat, Shared};
@@ -75,7 +74,7 @@ fn command_line<'a>(alloc: Global) -> Result<Command<'a>, AllocError> {
 /// Tells what is wrong with the command line, or prints the help that it asks for.
 fn refuse<R: Print + Eprint>(rt: &R, error: &Error) -> ExitCode
     ensures { (exit_status result ≡ refusal_status (kind_of error.now))
-        ⊎ (exit_status result ≡ status_of Output) }
+        ⊎ (exit_status result ≡ run_status Output) }
 {
     if error.kind() == ErrorKind::OutOfMemory {
         return fail(rt, RunFault::Memory);
@@ -88,7 +87,7 @@ fn refuse<R: Print + Eprint>(rt: &R, error: &Error) -> ExitCode
 
 /// Tells why a run ended.
 fn fail<R: Eprint>(rt: &R, fault: RunFault) -> ExitCode
-    ensures { exit_status result ≡ status_of fault }
+    ensures { exit_status result ≡ run_status fault }
 {
     let _ = eprintln!(rt; "busd: {fault}");
     ExitCode::from(fault.status())

@@ -11,8 +11,8 @@ use Rattle.router_core.specs.declared.event.Event.TheVariants.{Opened}
 use Rattle.router_core.specs.Acts.{State}
 use Rattle.router_core.specs.Deeds.{GatedCall}
 use Rattle.router.proofs.OneEvent.{served_well}
-use Rattle.busd_core.specs.declared.fault.RunFault.{RunFault}
-use Rattle.busd_core.specs.declared.fault.RunFault.TheVariants as fault
+use Rattle.busd_core.specs.declared.run_fault.RunFault.{RunFault}
+use Rattle.busd_core.specs.declared.run_fault.RunFault.TheVariants as fault
 use Rattle.busd_core.specs.Happenings.{written_to, mails_of, closed_by, Happens, AllHappen}
 use Rattle.busd_core.specs.Sessions.{piece_of, IsLife, IsServing, Serves}
 use Rattle.busd_core.specs.Parts.{IsBrought, IsCutShort, AreMailedSo, Delivers, HappensSo, IsCarriedOut}

@@ -9,8 +9,8 @@ use Rattle.router_core.specs.Acts.{State}
 use Rattle.router_core.specs.Deeds.{GatedCall}
 use Rattle.router_core.specs.Events.{IsFree}
 use Rattle.router.specs.Upcoming.{HasNoNext}
-use Rattle.busd_core.specs.declared.fault.RunFault.{RunFault}
-use Rattle.busd_core.specs.declared.fault.RunFault.TheVariants as fault
+use Rattle.busd_core.specs.declared.run_fault.RunFault.{RunFault}
+use Rattle.busd_core.specs.declared.run_fault.RunFault.TheVariants as fault
 use Rattle.busd_core.specs.Sessions.{piece_of, IsServing, IsOf, Serves, Ends, Runs}
 use Rattle.busd_core.specs.Parts.{LosesPiece, HappensSo, IsCarriedOut}
 use Rattle.busd_core.proofs.Courses.{IsUnderWay, comes_first, goes_on, serves_so}

@@ -11,8 +11,8 @@ use Rattle.router_core.specs.declared.event.Event.TheVariants.{Mail}
 use Rattle.router_core.specs.Acts.{State, Brings}
 use Rattle.router_core.specs.Deeds.{GatedCall}
 use Rattle.router.proofs.OneEvent.{served_well}
-use Rattle.busd_core.specs.declared.fault.RunFault.{RunFault}
-use Rattle.busd_core.specs.declared.fault.RunFault.TheVariants as fault
+use Rattle.busd_core.specs.declared.run_fault.RunFault.{RunFault}
+use Rattle.busd_core.specs.declared.run_fault.RunFault.TheVariants as fault
 use Rattle.busd_core.specs.Happenings.{written_to, Delivery, mail_to, Carries, IsMailed, AreMailed}
 use Rattle.busd_core.specs.Parts.{IsBrought, IsCutShort, Delivers}
 use Rattle.busd_core.proofs.Quiet.{mail_is_quiet}

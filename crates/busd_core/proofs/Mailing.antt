@@ -6,8 +6,8 @@ use Rattle.std.proofs.lemmas.Grind.{flat_map-append}
 use Rattle.seq_bus_core.specs.Histories.{History}
 use Rattle.router_core.specs.Acts.{State}
 use Rattle.router_core.specs.Deeds.{GatedCall}
-use Rattle.busd_core.specs.declared.fault.RunFault.{RunFault}
-use Rattle.busd_core.specs.declared.fault.RunFault.TheVariants as fault
+use Rattle.busd_core.specs.declared.run_fault.RunFault.{RunFault}
+use Rattle.busd_core.specs.declared.run_fault.RunFault.TheVariants as fault
 use Rattle.busd_core.specs.Happenings.{Delivery, AreMailed}
 use Rattle.busd_core.specs.Parts.{AreMailedInPart, AreMailedSo, Delivers}
 use Rattle.busd_core.proofs.Each.{one_more, split_at}

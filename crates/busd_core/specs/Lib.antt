@@ -4,3 +4,5 @@ pub mod Sessions
 pub mod Parts
 pub mod Transfers
 pub mod Statuses
+pub mod Addresses
+pub mod Heads

@@ -8,8 +8,8 @@ use Rattle.router_core.specs.declared.event.Event.{Event}
 use Rattle.router_core.specs.declared.gate.Gate.{Ghosts as Gate}
 use Rattle.router_core.specs.Acts.{State, Brings}
 use Rattle.router_core.specs.Deeds.{GatedCall}
-use Rattle.busd_core.specs.declared.fault.RunFault.{RunFault}
-use Rattle.busd_core.specs.declared.fault.RunFault.TheVariants as fault
+use Rattle.busd_core.specs.declared.run_fault.RunFault.{RunFault}
+use Rattle.busd_core.specs.declared.run_fault.RunFault.TheVariants as fault
 use Rattle.busd_core.specs.Happenings.{written_to, Delivery, AreMailed, Happens, Closes, Breaks}
 
 -- Nothing was read; or there was no memory for what was read.

@@ -11,8 +11,8 @@ use Rattle.router_core.specs.Events.{IsFree, occasion_of}
 use Rattle.router_core.specs.OneThread.{AreReadBy, Readers}
 use Rattle.router.specs.OneEvent.{rest_in}
 use Rattle.router.specs.Upcoming.{HasNoNext}
-use Rattle.busd_core.specs.declared.fault.RunFault.{RunFault}
-use Rattle.busd_core.specs.declared.fault.RunFault.TheVariants as fault
+use Rattle.busd_core.specs.declared.run_fault.RunFault.{RunFault}
+use Rattle.busd_core.specs.declared.run_fault.RunFault.TheVariants as fault
 use Rattle.busd_core.specs.Happenings.{AllHappen, Happens, Closes, Breaks}
 use Rattle.busd_core.specs.OneThread.{all_happened, asked_all}
 

@@ -5,7 +5,7 @@ ghost use Rattle.router_core.specs.Events.{CanHappen};
 ghost use Rattle.busd_core.specs.Parts.{IsBrought, IsCutShort};
 
 use crate::actions::write_out;
-use crate::fault::RunFault;
+use crate::run_fault::RunFault;
 use bus_view::BusView;
 use router::Engine;
 use router_core::{Action, Event, Gate};

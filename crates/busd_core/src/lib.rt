@@ -1,8 +1,8 @@
-//! Serves the message stream of one connection that needs no authentication, by the engine of a
-//! router.
+//! What the two commands of `busd` do before and beside threads and sockets.
 //!
-//! [`run`] is the whole of it: `specs/Sessions` says which events happen to the engine, and what
-//! becomes of the actions that they bring.
+//! `busd run` serves the message stream of one connection that needs no authentication, by the
+//! engine of a router: [`run`] is the whole of it, and `specs/Sessions` says which events happen to
+//! the engine, and what becomes of the actions that they bring.
 //!
 //! ```
 //! use bus_view::BusView;
@@ -27,14 +27,48 @@
 //!     Ok(written)
 //! }
 //! ```
+//!
+//! `busd serve` needs its command line, the keyring, the services of a folder, the files of a trace
+//! and random bytes before it serves: [`serve_command`] and what stands beside it reads and makes
+//! them, and [`ServeFault`] says why a bus can't begin, or ends.
+//!
+//! ```
+//! use busd_core::{Options, ServeFault, serve_command};
+//! use std::alloc::Global;
+//!
+//! /// How many routers a command line asks for, if it is right. The first word is the command.
+//! fn routers_of(alloc: Global, words: &[String]) -> Result<Option<u8>, ServeFault> {
+//!     let command = serve_command(alloc)?;
+//!     match command.try_get_matches_from(words) {
+//!         Ok(found) => Ok(Some(Options::of(&found)?.routers)),
+//!         Err(_) => Ok(None),
+//!     }
+//! }
+//! ```
 #![tactic(auto)]
 
 mod actions;
+mod address;
 mod carrying;
-mod fault;
+mod command;
+mod files;
 mod mail;
+mod options;
+mod run_fault;
+mod serve_fault;
+mod service_fault;
+mod services;
 mod stream;
+mod trace;
 mod transfer;
 
-pub use fault::RunFault;
+pub use address::SocketPath;
+pub use command::serve_command;
+pub use files::{open_random, random_bytes, read_cookie};
+pub use options::Options;
+pub use run_fault::RunFault;
+pub use serve_fault::{Device, ServeFault};
+pub use service_fault::{FileName, ServiceCode};
+pub use services::{read_services, rising_names};
 pub use stream::run;
+pub use trace::begin_trace;

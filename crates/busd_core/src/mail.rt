@@ -7,7 +7,7 @@ ghost use Rattle.busd_core.specs.Happenings.{mail_to, mail_to_all, mail_of, mail
 ghost use Rattle.busd_core.specs.Parts.{DeliversBy};
 
 use crate::carrying::{Endpoint, bring};
-use crate::fault::RunFault;
+use crate::run_fault::RunFault;
 use bus_view::BusView;
 use outbox_core::{Content, Deliveries, Envelope};
 use router::Engine;

@@ -8,8 +8,8 @@ ghost use Rattle.busd_core.specs.Sessions.{Runs};
 
 use crate::actions::closed_by;
 use crate::carrying::{Endpoint, bring};
-use crate::fault::RunFault;
 use crate::mail::deliver_all;
+use crate::run_fault::RunFault;
 use crate::transfer::read_piece;
 use bus_view::BusView;
 use router::Engine;

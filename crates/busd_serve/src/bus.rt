@@ -5,11 +5,11 @@ use crate::polls::{Polls, open_polls};
 use crate::runtime::DaemonRuntime;
 use crate::serving::begin;
 use crate::tracing::{TraceFile, trace_files};
-use busd_sockets::{NewConnections, PollWaker};
-use busd_start::{
+use busd_core::{
     Device, Options, ServeFault, SocketPath, open_random, random_bytes, read_cookie, read_services,
     rising_names,
 };
+use busd_sockets::{NewConnections, PollWaker};
 use mio::Poll;
 use mio::net::UnixListener;
 use names::WellKnown;

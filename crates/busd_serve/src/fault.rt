@@ -1,6 +1,6 @@
 //! Faults of a bus in the words of `busd serve`.
 
-use busd_start::{Device, ServeFault};
+use busd_core::{Device, ServeFault};
 use routers::Fault;
 use std::io;
 

@@ -1,8 +1,8 @@
 //! The threads that run the programs of services.
 
 use crate::runner::{ProgramEnd, RunsPrograms};
+use busd_core::SocketPath;
 use busd_sockets::PollWaker;
-use busd_start::SocketPath;
 use crossbeam_channel::Receiver;
 use crossbeam_queue::ArrayQueue;
 use names::BusName;

@@ -4,7 +4,7 @@
 //!
 //! ```
 //! use busd_serve::{Bus, DaemonRuntime};
-//! use busd_start::{Options, ServeFault};
+//! use busd_core::{Options, ServeFault};
 //!
 //! /// Serves the clients of a socket, as long as the system gives what that takes.
 //! fn serve_clients<R: DaemonRuntime>(rt: &R, options: Options<'_>) -> Result<(), ServeFault>

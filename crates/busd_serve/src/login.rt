@@ -1,6 +1,6 @@
 //! Who may log in.
 
-use busd_start::ServeFault;
+use busd_core::ServeFault;
 use router::Login;
 use sasl::Cookie;
 use std::alloc::Global;

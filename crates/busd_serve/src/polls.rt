@@ -1,8 +1,8 @@
 //! How routers hear of their sockets.
 
 use crate::fault::poll_fault;
+use busd_core::ServeFault;
 use busd_sockets::{NewConnections, PollWaker};
-use busd_start::ServeFault;
 use crossbeam_queue::ArrayQueue;
 use mio::Poll;
 use routers::Coordinator;

@@ -1,7 +1,7 @@
 //! The files that the threads of a bus write their lines to.
 
 use crate::polls::push;
-use busd_start::{Options, ServeFault, begin_trace};
+use busd_core::{Options, ServeFault, begin_trace};
 use names::WellKnown;
 use routers::{Fault, TraceSink};
 use std::io::{ErrorKind, Write};

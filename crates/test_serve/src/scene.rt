@@ -1,8 +1,8 @@
 //! What clients do, and the bus that they do it over.
 
 use crate::client::Wrong;
+use busd_core::{Options, SocketPath};
 use busd_serve::{Bus, Listening};
-use busd_start::{Options, SocketPath};
 use std::fs;
 use std::net::Net;
 use std::rt::Files;

@@ -5,8 +5,8 @@ use crate::crowd::crowd;
 use crate::half_messages::half_messages;
 use crate::scene::Scene;
 use crate::two_clients::two_clients;
+use busd_core::ServeFault;
 use busd_serve::Bus;
-use busd_start::ServeFault;
 use std::net::Net;
 use std::rt::Files;
 

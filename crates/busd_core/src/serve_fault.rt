@@ -58,7 +58,7 @@ pub enum ServeFault {
 }
 
 impl ServeFault {
-    ghost use Rattle.busd_start.specs.Statuses.{serve_status};
+    ghost use Rattle.busd_core.specs.Statuses.{serve_status};
 
     /// The exit status of a program that ends so.
     pub fn status(self) -> u8
@@ -74,7 +74,7 @@ impl ServeFault {
 
 impl From<AllocError> for ServeFault {
     ghost use Rattle.std.specs.Prelude.{◌≡◌};
-    ghost use Rattle.busd_start.specs.declared.fault.ServeFault.TheVariants.{Memory};
+    ghost use Rattle.busd_core.specs.declared.serve_fault.ServeFault.TheVariants.{Memory};
 
     ghost from_gives = { λ _ e. e ≡ Memory };
 

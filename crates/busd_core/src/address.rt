@@ -2,7 +2,7 @@
 
 ghost use Rattle.std.specs.Prelude.{◌≡◌, ◌↔◌, IsSome, IfSome, IsTrue};
 ghost use Rattle.std.specs.List.{list_all};
-ghost use Rattle.busd_start.specs.Addresses.{is_plain, IsSocketPath};
+ghost use Rattle.busd_core.specs.Addresses.{is_plain, IsSocketPath};
 
 use std::fmt;
 

@@ -22,11 +22,11 @@ pub enum RunFault {
 }
 
 impl RunFault {
-    ghost use Rattle.busd_core.specs.Statuses.{status_of};
+    ghost use Rattle.busd_core.specs.Statuses.{run_status};
 
     /// The exit status of a program that ends so.
     pub fn status(self) -> u8
-        ensures { result ≡ status_of self }
+        ensures { result ≡ run_status self }
     {
         match self {
             RunFault::Closed(_) => 3,

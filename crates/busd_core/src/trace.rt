@@ -1,10 +1,10 @@
 //! The files of a trace.
 
 ghost use Rattle.std.specs.Prelude.{◌≡◌, ◌++◌, string_bytes, IfOk, OnOk};
-ghost use Rattle.busd_start.specs.Heads.{ended, head_text};
+ghost use Rattle.busd_core.specs.Heads.{ended, head_text};
 
-use crate::fault::{Device, ServeFault};
 use crate::files::device;
+use crate::serve_fault::{Device, ServeFault};
 use crate::services::push;
 use names::WellKnown;
 use owner_queues::Profile;

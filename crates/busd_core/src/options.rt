@@ -3,7 +3,7 @@
 ghost use Rattle.std.specs.Prelude.{◌≤◌, IfOk};
 
 use crate::address::SocketPath;
-use crate::fault::ServeFault;
+use crate::serve_fault::ServeFault;
 use clap::ArgMatches;
 
 /// What `busd serve` is asked for.

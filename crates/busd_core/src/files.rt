@@ -1,6 +1,6 @@
 //! What is read before the bus listens.
 
-use crate::fault::{Device, ServeFault};
+use crate::serve_fault::{Device, ServeFault};
 use sasl::{Cookie, KeyringFault, read_keyring};
 use std::alloc::Global;
 use std::fs::File;

@@ -1,3 +1,0 @@
-pub mod Addresses
-pub mod Heads
-pub mod Statuses
