@@ -13,7 +13,7 @@ use Rattle.match_rules.specs.RuleFaults.{rule_fault}
 use Rattle.driver.specs.declared.fault.DriverFault.{DriverFault}
 use Rattle.driver.specs.declared.fault.DriverFault.TheVariants.{MatchRuleInvalid, LimitsExceeded, NoMemory}
 use Rattle.driver.specs.Arguments.{text_of, texts_of, count_of}
-use Rattle.driver.specs.Calls.{AreRuleTexts, has_rule_fault, AreRulesOfTexts, AreRulesUnless, AreMonitorRulesOf, monitor_fault, Reading}
+use Rattle.driver.specs.Calls.{AreRuleTexts, has_rule_fault, AreRulesOfTexts, AreRulesUnless, AreMonitorRulesOf, max_monitor_rules, monitor_fault, Reading}
 
 pub texts_behind : (xs ys : List Value) → texts_of (values_of (xs ++ ys)) ≡ texts_of (values_of xs) ++ texts_of (values_of ys)
 texts_behind [] ys = refl
@@ -80,11 +80,11 @@ all_counted [] = refl
 all_counted (x ∷ xs) = omega (arith, all_counted xs)
 
 -- more elements than a monitor has rules
-pub too_many : (xs : List Value) (flags : ℕ) → flags ≡ 0 → 64 < length xs → monitor_fault (values_of xs) flags ≡ Some LimitsExceeded
-too_many xs flags none many = rw (none, all_counted xs, lt-ltb 64 (length xs) many) refl
+pub too_many : (xs : List Value) (flags : ℕ) → flags ≡ 0 → max_monitor_rules < length xs → monitor_fault (values_of xs) flags ≡ Some LimitsExceeded
+too_many xs flags none many = rw (none, all_counted xs, lt-ltb max_monitor_rules (length xs) many) refl
 
-pub few_enough : (xs : List Value) (flags : ℕ) → flags ≡ 0 → length xs ≤ 64 → monitor_fault (values_of xs) flags ≡ None
-few_enough xs flags none few = rw (none, all_counted xs, le-ltb 64 (length xs) few) refl
+pub few_enough : (xs : List Value) (flags : ℕ) → flags ≡ 0 → length xs ≤ max_monitor_rules → monitor_fault (values_of xs) flags ≡ None
+few_enough xs flags none few = rw (none, all_counted xs, le-ltb max_monitor_rules (length xs) few) refl
 
 pub refused_by : (arguments : Option (Vals × ℕ)) (elements : Vals) (flags : ℕ) (fault : DriverFault) → Some (elements, flags) ≡ arguments → monitor_fault elements flags ≡ Some fault → AreMonitorRulesOf arguments (Err fault)
 refused_by arguments elements flags fault e is =

@@ -12,6 +12,7 @@ use Rattle.match_rules.specs.RuleTexts.{IsRuleText}
 use Rattle.match_rules.specs.RuleFaults.{rule_fault}
 use Rattle.seq_bus_core.specs.declared.error_kind.ErrorKind.{ErrorKind}
 use Rattle.seq_bus_core.specs.declared.error_kind.ErrorKind.TheVariants as error
+use Rattle.seq_bus_core.specs.declared.limits.TheConstants.{MAX_RULES_OF_MONITOR}
 use Rattle.message_core.specs.declared.header.TheConstants.{NO_REPLY_EXPECTED}
 use Rattle.message_core.specs.declared.header_field.HeaderField.TheVariants as field
 use Rattle.message_core.specs.HeaderFields.{text_field}
@@ -83,7 +84,7 @@ AreRulesOfTexts texts (Err fault) = (has_rule_fault texts ≡ true) × (fault �
 
 -- the most rules of a monitor
 abbrev pub max_monitor_rules : ℕ
-max_monitor_rules = 64
+max_monitor_rules = MAX_RULES_OF_MONITOR
 
 -- The flags come first, which are none today, then the number of rules.
 abbrev pub monitor_fault : Vals → ℕ → Option DriverFault
