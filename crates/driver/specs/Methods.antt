@@ -1,6 +1,7 @@
 -- The methods of the bus. (D-Bus Specification: "Message Bus Messages")
 use Rattle.std.specs.Prelude.{Bool, ◌||◌, Option, Some, None, Result, Ok, Err, List, [], ◌∷◌, find, codes, if◌then◌else◌}
 use Rattle.names.specs.Texts.{Text, text_eq}
+use Rattle.names.specs.BusName.{bus_text}
 use Rattle.marshal_core.specs.Signatures.{codes as signature_text}
 use Rattle.message_core.specs.declared.header_field.HeaderField.TheVariants as field
 use Rattle.message_core.specs.HeaderFields.{text_field}
@@ -30,7 +31,7 @@ member_of StartServiceByName = codes "StartServiceByName"
 member_of BecomeMonitor = codes "BecomeMonitor"
 
 abbrev pub bus_interface : Text
-bus_interface = codes "org.freedesktop.DBus"
+bus_interface = bus_text
 
 abbrev pub monitoring_interface : Text
 monitoring_interface = codes "org.freedesktop.DBus.Monitoring"

@@ -14,6 +14,7 @@ use Rattle.driver.specs.Errors.{error_name, error_text}
 use Rattle.seq_bus_core.specs.declared.error_kind.ErrorKind.{ErrorKind}
 use Rattle.seq_bus_core.specs.declared.signal.BusSignal.{BusSignal}
 use Rattle.seq_bus_core.specs.declared.signal.BusSignal.TheVariants.{NameOwnerChanged, NameLost, NameAcquired}
+pub use Rattle.seq_bus_core.specs.Steps.{bus_path}
 use Rattle.message_core.specs.declared.header.Header.{Header}
 use Rattle.message_core.specs.declared.header.TheConstants.{NO_REPLY_EXPECTED}
 use Rattle.message_core.specs.Messages.{Message, IsWritten}
@@ -47,9 +48,6 @@ reply_header serial to = record (plain_header kind.MethodReturn serial to.caller
 
 abbrev pub error_header : ℕ → ReplyTo → ErrorKind → Header
 error_header serial to error = record (plain_header kind.Error serial to.caller) { error_name = Some (error_name error); reply_serial = Some to.call }
-
-abbrev pub bus_path : Text
-bus_path = codes "/org/freedesktop/DBus"
 
 abbrev pub signal_member : BusSignal → Text
 signal_member (NameOwnerChanged name old_owner new_owner) = codes "NameOwnerChanged"
