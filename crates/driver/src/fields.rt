@@ -22,8 +22,8 @@ use names::{BUS_NAME, BUS_PATH, ConnectionName};
 /// The most bytes of the header fields of a message of the bus.
 pub const ROOM: usize = 512;
 
-/// Puts what comes before the value of a field: the padding, its code, its type.
-fn put_start(fields: &mut Vec<u8>, field: HeaderField, letter: u8)
+/// Begins a field: puts what comes before its value, the padding, its code, its type.
+fn begin_field(fields: &mut Vec<u8>, field: HeaderField, letter: u8)
     requires room { length fields.old.items + 11 ≤ ROOM }
     requires capacity { ROOM ≤ vec_capacity fields.old }
     ensures put { fields.new.items
@@ -48,7 +48,7 @@ fn put_text(fields: &mut Vec<u8>, field: HeaderField, letter: u8, text: &str)
     ensures capacity { vec_capacity fields.old ≤ vec_capacity fields.new }
     ensures room { length fields.new.items ≤ length fields.old.items + length text.now + 16 }
 {
-    put_start(fields, field, letter);
+    begin_field(fields, field, letter);
     in_room::put_string(fields, Order::Little, text);
 }
 
@@ -87,7 +87,7 @@ pub fn put_reply_serial(fields: &mut Vec<u8>, serial: u32)
     ensures capacity { vec_capacity fields.old ≤ vec_capacity fields.new }
     ensures room { length fields.new.items ≤ length fields.old.items + 16 }
 {
-    put_start(fields, HeaderField::ReplySerial, b'u');
+    begin_field(fields, HeaderField::ReplySerial, b'u');
     in_room::put_number(fields, Order::Little, serial);
 }
 
@@ -122,7 +122,7 @@ fn put_signature(fields: &mut Vec<u8>, signature: &str)
     if signature.is_empty() {
         return;
     }
-    put_start(fields, HeaderField::Signature, b'g');
+    begin_field(fields, HeaderField::Signature, b'g');
     in_room::put(fields, &[signature.len() as u8]);
     in_room::put(fields, signature.as_bytes());
     in_room::put(fields, &[0]);

@@ -13,7 +13,7 @@ use std::alloc::AllocError;
 
 /// Appends a message of the bus: the fixed part, the header fields, the padding, the body. A body
 /// of 2^32 bytes has no room in any message.
-pub fn lay_out(
+pub fn append_message(
     kind: MessageKind,
     serial: u32,
     fields: &[u8],

@@ -12,7 +12,7 @@ ghost use Rattle.driver.specs.OwnMessages.{error_message, number_types, number_v
 
 use crate::error_words::{error_name, error_text};
 use crate::fields::{ROOM, put_end, put_reply_serial, put_string};
-use crate::layout::lay_out;
+use crate::layout::append_message;
 use crate::strings;
 use arrayvec::ArrayVec;
 use byteorder::{ByteOrder, LittleEndian};
@@ -121,7 +121,7 @@ fn put_reply(
     let mut fields = Vec::with_capacity(*out.allocator(), ROOM)?;
     put_reply_serial(&mut fields, to.call());
     put_end(&mut fields, to.caller(), signature);
-    lay_out(MessageKind::MethodReturn, serial, &fields, body, out)
+    append_message(MessageKind::MethodReturn, serial, &fields, body, out)
 }
 
 /// Appends a reply with a number.
@@ -203,5 +203,5 @@ pub fn write_error(
     put_end(&mut fields, to.caller(), "s");
     let mut text = ArrayVec::<u8, { strings::ROOM }>::new();
     strings::put_string(&mut text, error_text(error));
-    lay_out(MessageKind::Error, serial, &fields, text.as_slice(), out)
+    append_message(MessageKind::Error, serial, &fields, text.as_slice(), out)
 }

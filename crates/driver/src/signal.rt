@@ -8,7 +8,7 @@ ghost use Rattle.driver.specs.OwnMessages.{signal_destination, signal_member, si
 ghost use Rattle.driver.specs.Layout.{spelled_strings};
 
 use crate::fields::{ROOM, put_end, put_path, put_string};
-use crate::layout::lay_out;
+use crate::layout::append_message;
 use crate::strings;
 use arrayvec::ArrayVec;
 use match_rules::MessageKind;
@@ -90,5 +90,5 @@ pub fn write_signal(serial: u32, signal: &BusSignal, out: &mut Vec<u8>) -> Resul
     put_end(&mut fields, destination_of(signal), signature_of(signal));
     let mut body = ArrayVec::<u8, { strings::ROOM }>::new();
     put_body(&mut body, signal);
-    lay_out(MessageKind::Signal, serial, &fields, body.as_slice(), out)
+    append_message(MessageKind::Signal, serial, &fields, body.as_slice(), out)
 }

@@ -14,4 +14,4 @@ returns-clause-put c = λ sent h.
     let word : List ℕ = number_bytes Little w32 c.args.serial in
     one_more Little sent field.ReplySerial (a_uint32 c.args.serial) old c.put_number.new.output.items (omega arith) h
     (text_bytes old (pads 8 (length old)) start word c.put_number.new.output.items
-    (c.put_number.ensures.items ∙ ap (λ (x : List ℕ). x ++ word) c.put_start.ensures.put ∙ append_assoc old (pads 8 (length old) ++ start) word))
+    (c.put_number.ensures.items ∙ ap (λ (x : List ℕ). x ++ word) c.begin_field.ensures.put ∙ append_assoc old (pads 8 (length old) ++ start) word))

@@ -15,7 +15,7 @@ returns-clause-put c = λ types sent e valid h.
     let text : List ℕ = c.args.signature.now in
     let old : List ℕ = c.args.fields.now.items in
     let start : List ℕ = 8 ∷ 1 ∷ 103 ∷ 0 ∷ [] in
-    let before : c.put.new.output.items ≡ (old ++ (pads 8 (length old) ++ start)) ++ length text ∷ [] = c.put.ensures.items ∙ ap (λ (x : List ℕ). x ++ length text ∷ []) c.put_start.ensures.put in
+    let before : c.put.new.output.items ≡ (old ++ (pads 8 (length old) ++ start)) ++ length text ∷ [] = c.put.ensures.items ∙ ap (λ (x : List ℕ). x ++ length text ∷ []) c.begin_field.ensures.put in
     let put : c.put-3.new.output.items ≡ (((old ++ (pads 8 (length old) ++ start)) ++ length text ∷ []) ++ text) ++ 0 ∷ [] =
     c.put-3.ensures.items ∙ ap (λ (x : List ℕ). x ++ 0 ∷ []) (c.put-2.ensures.items ∙ ap (λ (x : List ℕ). c.put.new.output.items ++ x) c.as_bytes.ensures.value ∙ ap (λ (x : List ℕ). x ++ text) before) in
     one_signature Little types sent text old c.put-3.new.output.items (not_zero (length text) (sym c.is_empty.ensures ∙ c.if-is_empty.false)) e valid h put

@@ -21,8 +21,8 @@ returns-clause-ok c = λ types values e spelled.
     let written : AreWritten Little (reply_fields to types) array =
     subst (AreWritten Little (reply_fields to types)) (sym c.deref.ensures.value)
     (c.put_end.ensures.put types (known_field field.ReplySerial (a_uint32 to.call) ∷ []) e spelled.0 (c.put_reply_serial.ensures.put [] c.in_ok-fields.ensures.items)) in
-    subst (λ (t : ReplyTo). OnOk c.lay_out.result (Writes c.args.out.now.items c.lay_out.new.out.items (message_of (reply_header c.args.serial t) types values))) same
-    (writes c.lay_out.result c.args.out.now.items c.lay_out.new.out.items body (own_bytes (kind_number kind.MethodReturn) c.args.serial array body) (message_of (reply_header c.args.serial to) types values)
-    c.lay_out.ensures.ok c.lay_out.ensures.fits
+    subst (λ (t : ReplyTo). OnOk c.append_message.result (Writes c.args.out.now.items c.append_message.new.out.items (message_of (reply_header c.args.serial t) types values))) same
+    (writes c.append_message.result c.args.out.now.items c.append_message.new.out.items body (own_bytes (kind_number kind.MethodReturn) c.args.serial array body) (message_of (reply_header c.args.serial to) types values)
+    c.append_message.ensures.ok c.append_message.ensures.fits
     (λ fits. is_written kind.MethodReturn c.args.serial (reply_fields to types) types values array body (own_bytes (kind_number kind.MethodReturn) c.args.serial array body)
     (reply_sound c.args.serial to types (c.requires.serial, c.ranges.serial.fits) c.call.ensures.positive c.put_end.ensures.named) (subst (λ (x : List ℕ). length x ≤ 512) (sym c.deref.ensures.value) c.put_end.ensures.fits) fits written spelled refl))

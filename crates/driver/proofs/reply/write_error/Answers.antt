@@ -34,7 +34,7 @@ returns-clause-ok c =
     let is : IsString (error_text error) = error_string error c.error_text.result.now c.error_text.ensures c.put_string-2.ensures.utf8 in
     let spelled : body ≡ text_spelling Little 0 (error_text error) =
     c.as_slice.ensures.value ∙ c.put_string-2.ensures.put ∙ ap (λ (l : List ℕ). l ++ text_spelling Little (length l) c.error_text.result.now) c.new-text.ensures ∙ ap (text_spelling Little 0) c.error_text.ensures in
-    subst (λ (t : ReplyTo). OnOk c.lay_out.result (Writes c.args.out.now.items c.lay_out.new.out.items (error_message c.args.serial t error))) same
-    (writes c.lay_out.result c.args.out.now.items c.lay_out.new.out.items body (own_bytes (kind_number kind.Error) c.args.serial array body) (error_message c.args.serial to error) c.lay_out.ensures.ok c.lay_out.ensures.fits
+    subst (λ (t : ReplyTo). OnOk c.append_message.result (Writes c.args.out.now.items c.append_message.new.out.items (error_message c.args.serial t error))) same
+    (writes c.append_message.result c.args.out.now.items c.append_message.new.out.items body (own_bytes (kind_number kind.Error) c.args.serial array body) (error_message c.args.serial to error) c.append_message.ensures.ok c.append_message.ensures.fits
     (λ fits. is_written kind.Error c.args.serial (error_fields to error types) types values array body (own_bytes (kind_number kind.Error) c.args.serial array body)
     (error_sound c.args.serial to error types (c.requires.serial, c.ranges.serial.fits) c.call.ensures.positive c.put_end.ensures.named) (subst (λ (x : List ℕ). length x ≤ 512) (sym c.deref.ensures.value) c.put_end.ensures.fits) fits written (one_spelled (error_text error) body is spelled) refl))

@@ -35,6 +35,6 @@ returns-clause-ok c =
     let laid : body ≡ spelled_strings 0 (signal_texts signal) = c.as_slice.ensures.value ∙ c.put_body.ensures.put in
     let spelled : Spells Little 0 types values body =
     (signal_signed signal, subst (SpellFields values max_container_depth Little 0 types) (sym laid) (strings_spelled 0 (signal_texts signal) c.put_body.ensures.strings)) in
-    writes c.lay_out.result c.args.out.now.items c.lay_out.new.out.items body (own_bytes (kind_number kind.Signal) c.args.serial array body) (signal_message c.args.serial signal) c.lay_out.ensures.ok c.lay_out.ensures.fits
+    writes c.append_message.result c.args.out.now.items c.append_message.new.out.items body (own_bytes (kind_number kind.Signal) c.args.serial array body) (signal_message c.args.serial signal) c.append_message.ensures.ok c.append_message.ensures.fits
     (λ fits. is_written kind.Signal c.args.serial (signal_fields signal types) types values array body (own_bytes (kind_number kind.Signal) c.args.serial array body)
     (signal_sound c.args.serial signal types (c.requires, c.ranges.serial.fits) (subst IsNamed c.destination_of.ensures c.put_end.ensures.named)) (subst (λ (x : List ℕ). length x ≤ 512) (sym c.deref.ensures.value) c.put_end.ensures.fits) fits written spelled refl)

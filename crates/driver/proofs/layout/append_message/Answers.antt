@@ -3,7 +3,7 @@ use Rattle.std.specs.Int.{w32, to_le_bytes}
 use Rattle.marshal_core.specs.Spelling.{pads}
 use Rattle.match_rules.specs.Kinds.{kind_number}
 use Rattle.driver.proofs.Laying.{all_laid}
-use Rattle.driver.proofs.layout.lay_out.Goals as goal
+use Rattle.driver.proofs.layout.append_message.Goals as goal
 
 pub returns-clause-ok : goal.returns-clause-ok
 returns-clause-ok c =
