@@ -1,9 +1,9 @@
 -- One more lane is given away.
 use Rattle.std.proofs.Common.{◌≡◌, ℕ, zero, suc, ◌+◌, ◌<◌, List, [], ◌∷◌, ◌++◌, map, All, sym, refl, ap, ◌∙◌, subst, arith}
-use Rattle.outbox.specs.Lanes.{End, with, only_first, without_first, gives, keeps_rest, lane_end, lanes_of, HasGiven, MayPut}
+use Rattle.outbox.specs.Lanes.{End, lane_count, with, only_first, without_first, gives, keeps_rest, lane_end, lanes_of, HasGiven, MayPut}
 
 module _ {E : Type 0} where
-  pub may_put : (n : ℕ) (ends : List (End E)) → n < 9 → All (HasGiven n) ends → All MayPut ends
+  pub may_put : (n : ℕ) (ends : List (End E)) → n < lane_count → All (HasGiven n) ends → All MayPut ends
   may_put n ends less all k d in' = let is = all k d in' in subst (λ v. v.from < v.to) (sym is) less
 
   same_lane : (l : ℕ) (ends : List (End E)) → map (lane_end l) (map keeps_rest ends) ≡ map (lane_end l) ends

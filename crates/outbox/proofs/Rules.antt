@@ -8,7 +8,7 @@ use Rattle.crossbeam_queue.specs.Fifo.{Pushes, Pops, Forks, Merges, Learns}
 use Rattle.crossbeam_queue.proofs.Lists.{at_set}
 use Rattle.outbox.specs.declared.hand.Entry.{Entry}
 use Rattle.outbox.specs.declared.hand.Hand.{Hand}
-use Rattle.outbox.specs.Lanes.{entry, of, Marked, Knows, Alone, Kept, Shows, whole, spent, sent, got, Took, without_first, only_first, adopted}
+use Rattle.outbox.specs.Lanes.{lane_count, entry, of, Marked, Knows, Alone, Kept, Shows, whole, spent, sent, got, Took, without_first, only_first, adopted}
 use Rattle.outbox.proofs.Picks.{pick-append, pick_inner, pick_outer, of_other, marked_snoc, marked_front}
 
 module _ {E : Type 0} where
@@ -127,7 +127,7 @@ module _ {E : Type 0} where
         ),
       )
       (λ j u other e. let its = h.5 j u e in ((its.0.0, λ l a b. its.0.1 l a b ∙ stays l (λ is. other (its.0.1 l a b ∙ ap h.1 is ∙ sym (mine.0.1 k (omega arith) own)))), its.1)) in
-      let top : v.to ≤ 9 = mine.1.3 in
+      let top : v.to ≤ lane_count = mine.1.3 in
       let fresh : Old end one = (
         ((λ p. absurd (true≢false (sym p))), λ l a b. moved l (omega arith)),
         (

@@ -8,6 +8,11 @@ use Rattle.outbox.specs.declared.hand.Hand.{Hand}
 use Rattle.atomic_table.specs.Seated.{TableId}
 use Rattle.crossbeam_queue.specs.Fifo.{Held}
 use Rattle.crossbeam_queue.specs.Passes.{Pass, view}
+use Rattle.seq_bus_core.specs.Histories.{max_routers}
+
+-- the lanes of each queue: one for each router, and one for the main thread
+abbrev pub lane_count : ℕ
+lane_count = max_routers + 1
 
 -- which queue it is of, and what its holder knows
 pub record End (E : Type 0) : Type 0 where
@@ -43,13 +48,13 @@ module _ {E : Type 0} where
   abbrev pub Marked : List (Entry E) → Type 0
   Marked xs = (l : ℕ) → Counts 0 (of l xs)
 
-  -- what was put, by lanes below 9, is what was taken and then what the queue holds
+  -- what was put, by lanes below the count, is what was taken and then what the queue holds
   abbrev pub Legal : List (Entry E) → List (Entry E) → List E → Type 0
-  Legal put taken items = (left : List (Entry E)) × (put ≡ taken ++ left) × (map (λ x. x.item) left ≡ items) × Marked put × ((l : ℕ) → 9 ≤ l → of l put ≡ [])
+  Legal put taken items = (left : List (Entry E)) × (put ≡ taken ++ left) × (map (λ x. x.item) left ≡ items) × Marked put × ((l : ℕ) → lane_count ≤ l → of l put ≡ [])
 
   -- what a hand knows of it: all that its own lanes put, and all that was taken where it takes
   abbrev pub Knows : Hand E → List (Entry E) → List (Entry E) → Type 0
-  Knows v put taken = (v.takes ≡ true → v.taken ≡ taken) × ((l : ℕ) → v.from ≤ l → l < v.to → of l v.put ≡ of l put) × ((l : ℕ) → ¬ ((v.from ≤ l) × (l < v.to)) → of l v.put ≡ []) × (v.to ≤ 9)
+  Knows v put taken = (v.takes ≡ true → v.taken ≡ taken) × ((l : ℕ) → v.from ≤ l → l < v.to → of l v.put ≡ of l put) × ((l : ℕ) → ¬ ((v.from ≤ l) × (l < v.to)) → of l v.put ≡ []) × (v.to ≤ lane_count)
 
   -- one hand at most takes, and one at most puts for a lane
   abbrev pub Alone : ℕ → (ℕ → ℕ) → ℕ → Hand E → Type 0
@@ -73,7 +78,7 @@ module _ {E : Type 0} where
   WasEmpty e = Held 0 (Shows e.hand)
 
   abbrev pub whole : Hand E
-  whole = hand 0 9 true [] []
+  whole = hand 0 lane_count true [] []
 
   abbrev pub spent : Hand E
   spent = hand 0 0 false [] []
@@ -123,7 +128,7 @@ module _ {E : Type 0} where
 
   -- what is left to the end that takes, once n lanes were given away
   abbrev pub tap_hand : ℕ → Hand E
-  tap_hand n = hand n 9 true [] []
+  tap_hand n = hand n lane_count true [] []
 
   -- the end of lane l of the same queue, before anything was put
   abbrev pub lane_end : ℕ → End E → End E

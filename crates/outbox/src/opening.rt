@@ -1,14 +1,15 @@
 //! Making the queues.
 
 ghost use Rattle.std.specs.Prelude.{◌≡◌, ◌∷◌, [], ◌*◌, ◌^◌, ◌<◌, ◌≤◌, length, IfOk, All, vec_len};
-ghost use Rattle.outbox.specs.Lanes.{HasGiven, lanes_of, all_of, AreGrouped};
+ghost use Rattle.outbox.specs.Lanes.{HasGiven, lane_count, lanes_of, all_of, AreGrouped};
 
 use crate::ends::{Tap, open};
 use crate::lane::{Lane, next_lane};
+use seq_bus_core::limits::MAX_ROUTERS;
 use std::alloc::{AllocError, Global};
 
-/// The most lanes.
-const LANES: u64 = 9;
+/// The lanes of each queue: one for each router, and one for the main thread.
+const LANES: u64 = MAX_ROUTERS as u64 + 1;
 
 /// New queues for groups of slots, as many slots in each: so many lanes, at most 9, each with an
 /// end of every queue, and the taps of each group.
@@ -22,10 +23,10 @@ pub fn open_lanes<E: Drop>(
     groups: usize,
     places: usize,
 ) -> Result<(Vec<Lane<E>>, Vec<Vec<Tap<E>>>), AllocError>
-    requires lanes { lanes ≤ 9 }
+    requires lanes { lanes ≤ lane_count }
     requires slots { groups * places < 2 ^ 64 }
     ensures groups { IfOk result (λ r. AreGrouped groups places r.1.items) }
-    ensures taps { IfOk result (λ r. All (HasGiven 9) (all_of r.1.items)) }
+    ensures taps { IfOk result (λ r. All (HasGiven lane_count) (all_of r.1.items)) }
     ensures lanes { IfOk result (λ r. r.0.items ≡ lanes_of lanes (all_of r.1.items)) }
 {
     let (mut opened, taps) = open_all(alloc, groups * places)?;
@@ -43,8 +44,8 @@ pub fn open_queue<E: Drop>(
     alloc: Global,
     lanes: usize,
 ) -> Result<(Vec<Lane<E>>, Tap<E>), AllocError>
-    requires { lanes ≤ 9 }
-    ensures tap { IfOk result (λ r. HasGiven 9 r.1) }
+    requires { lanes ≤ lane_count }
+    ensures tap { IfOk result (λ r. HasGiven lane_count r.1) }
     ensures lanes { IfOk result (λ r. r.0.items ≡ lanes_of lanes (r.1 ∷ [])) }
 {
     let (mut opened, mut taps) = open_all(alloc, 1)?;
@@ -58,8 +59,8 @@ pub fn open_queue<E: Drop>(
 // New queues, one a slot, with all lanes.
 fn open_all<E: Drop>(alloc: Global, slots: usize) -> Result<(Vec<Lane<E>>, Vec<Tap<E>>), AllocError>
     ensures slots { IfOk result (λ r. length r.1.items ≡ slots) }
-    ensures taps { IfOk result (λ r. All (HasGiven 9) r.1.items) }
-    ensures lanes { IfOk result (λ r. r.0.items ≡ lanes_of 9 r.1.items) }
+    ensures taps { IfOk result (λ r. All (HasGiven lane_count) r.1.items) }
+    ensures lanes { IfOk result (λ r. r.0.items ≡ lanes_of lane_count r.1.items) }
 {
     let mut taps = Vec::with_capacity(alloc, slots)?;
     for slot in 0..slots {

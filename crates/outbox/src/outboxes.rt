@@ -1,7 +1,7 @@
 //! The outboxes of a registry.
 
 ghost use Rattle.std.specs.Prelude.{◌≡◌, ◌+◌, ◌/◌, IfOk, All};
-ghost use Rattle.outbox.specs.Lanes.{HasGiven, lanes_of, all_of, AreGrouped};
+ghost use Rattle.outbox.specs.Lanes.{HasGiven, lane_count, lanes_of, all_of, AreGrouped};
 
 use crate::{Lane, Tap, open_lanes};
 use outbox_core::Envelope;
@@ -34,7 +34,7 @@ impl Outboxes {
     ) -> Result<(Vec<Lane<EnvelopeOf<J>>>, Vec<Vec<Tap<EnvelopeOf<J>>>>), AllocError>
         ensures routers { IfOk result (λ r. AreGrouped J.opening.state.routers
             (MAX_CONNECTIONS / J.opening.state.routers) r.1.items) }
-        ensures taps { IfOk result (λ r. All (HasGiven 9) (all_of r.1.items)) }
+        ensures taps { IfOk result (λ r. All (HasGiven lane_count) (all_of r.1.items)) }
         ensures lanes { IfOk result (λ r. r.0.items
             ≡ lanes_of (J.opening.state.routers + 1) (all_of r.1.items)) }
     {

@@ -1,6 +1,6 @@
 use Rattle.std.proofs.Common.{◌≡◌, ◌++◌, ◌∷◌, [], List, length, take, ap, ◌∙◌, arith}
 use Rattle.std.proofs.lemmas.List.{length-append, nil_from_length}
-use Rattle.outbox.specs.Lanes.{End, lanes_of}
+use Rattle.outbox.specs.Lanes.{End, lane_count, lanes_of}
 use Rattle.outbox.proofs.Grouping.{take-lanes_of}
 use Rattle.outbox.proofs.opening.open_queue.Goals as goal
 
@@ -11,5 +11,5 @@ returns-clause-lanes g c = let lanes = c.args.lanes in let rest = c.pop.new.self
     let one = all ∙ ap (λ (t : List (End _)). t ++ tap ∷ []) (nil_from_length rest none) in
     c.truncate.ensures.items
     ∙ ap (λ (t : List (List (End _))). take lanes t) c.in_ok-opened.ensures.lanes
-    ∙ take-lanes_of lanes 9 c.in_ok-opened.taps.items c.requires
+    ∙ take-lanes_of lanes lane_count c.in_ok-opened.taps.items c.requires
     ∙ ap (λ (t : List (End _)). lanes_of lanes t) one
