@@ -1,10 +1,11 @@
 -- Where a connection that has a slot is found.
 use Rattle.std.specs.Prelude.{◌≡◌, ℕ, ◌<◌, true, Option, Some, None, List, slice_index, slice_index_or}
+use Rattle.seq_bus_core.specs.BusState.{max_connections}
 use Rattle.router_core.specs.Standing.{Peer, Stage, Authenticating, Unnamed, Named, Closing, has_slot}
 
 -- the bus gives slots below this
 abbrev pub slot_count : ℕ
-slot_count = 256
+slot_count = max_connections
 
 -- For each slot a key is kept: that of the connection which has the slot, if there is one. So no two have the same slot.
 abbrev pub IsIndexed : List (Option Peer) → List ℕ → Type 0
