@@ -1,3 +1,4 @@
 pub mod AnswerLemmas
 pub mod DeliveryLaws
 pub mod SeenTexts
+pub mod SignalLaws

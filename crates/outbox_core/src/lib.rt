@@ -5,7 +5,8 @@
 //! numbered by the router of the recipient, so they travel unwritten, as an [`BusMessage`], and are
 //! written where they arrive. An [`Envelope`] has such a [`Content`], the number of the connection
 //! that it is for, and what its sender knew of the bus. Who gets a content, and in which order, is
-//! said by [`Deliveries`]; its laws stand in [`laws`].
+//! said by [`Deliveries`]. Laws of who gets it, and of what rules see of a signal, stand in
+//! [`laws`].
 //!
 //! ```
 //! use outbox_core::Deliveries;
