@@ -206,7 +206,7 @@ full_device() {
     rm bus
     status=0
     "$BUSD" --help > /dev/full 2> err || status=$?
-    [ "$status" = 4 ] || wrong --help
+    [ "$status" = 4 ] && [ "$(< err)" = 'busd: device: output' ] || wrong --help
     mkdir full_head full_router
     ln -s /dev/full full_head/head.trace
     refused 4 'busd: device: trace' --trace full_head

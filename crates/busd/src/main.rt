@@ -80,7 +80,7 @@ fn refuse<R: Print + Eprint>(rt: &R, error: &Error) -> ExitCode
         return fail(rt, RunFault::Memory);
     }
     if error.print(rt).is_err() {
-        return ExitCode::from(RunFault::Output.status());
+        return fail(rt, RunFault::Output);
     }
     ExitCode::from(if error.use_stderr() { 2 } else { 0 })
 }

@@ -27,8 +27,9 @@ legal run is checked by
   cat DIR/head.trace DIR/main.trace DIR/router-*.trace | bus-check -
 
 Exit status:
+  0  this help: a daemon serves until a signal ends it
   2  the command line is wrong
-  4  a file, a socket or another device of the system fails
+  4  the keyring, a service file, or a device of the system fails
   5  there is no memory";
 
 fn value<'a>(alloc: Global, name: &'a str, shown: &'a str, help: &'a str) -> Arg<'a> {

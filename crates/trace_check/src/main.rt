@@ -133,7 +133,7 @@ fn refuse<R: Print + Eprint>(rt: &R, error: &Error) -> ExitCode
         return fail(rt, CheckFault::Memory);
     }
     if error.print(rt).is_err() {
-        return ExitCode::from(CheckFault::Output.status());
+        return fail(rt, CheckFault::Output);
     }
     ExitCode::from(if error.use_stderr() { 2 } else { 0 })
 }
