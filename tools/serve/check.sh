@@ -522,6 +522,37 @@ sessions() {
     session 125 --router 1 true
     session 125
     session 143 sh -c 'kill "$PPID"; exec sleep 20'
+    # The folder of the keyrings may stand elsewhere.
+    mkdir -m 700 linked elsewhere
+    ln -s "$room/elsewhere" linked/.dbus-keyrings
+    status=0
+    HOME=$room/linked XDG_RUNTIME_DIR=$room/session timeout 20 "$session" true > out 2> err < /dev/null || status=$?
+    [ "$status" = 0 ] && [ -z "$(find elsewhere session -mindepth 1)" ] || wrong "in a session with a link"
+    killed_session
+}
+
+nobody_runs() {
+    ! grep -qsaF "$1" /proc/[0-9]*/cmdline
+}
+
+# A session that is killed leaves its bus and its key, but nobody who renews the key.
+killed_session() {
+    if [ ! -r /proc/self/cmdline ]; then
+        echo "there is no /proc here: no session was killed"
+        return
+    fi
+    sed 's/^key_life=.*/key_life=1/' "$session" > killed.sh
+    printf '%s\n' '#!/bin/sh' "echo \$\$ > $room/pid_of_bus" "exec $BUSD \"\$@\"" > bus.sh
+    chmod +x killed.sh bus.sh
+    status=0
+    (HOME=$room/home XDG_RUNTIME_DIR=$room/session BUSD=$room/bus.sh timeout 20 "$room/killed.sh" \
+        sh -c 'sleep 2; kill -9 "$PPID"' || exit) > out 2> err < /dev/null || status=$?
+    bus=$(< pid_of_bus)
+    [ "$status" = 137 ] && [ -s home/.dbus-keyrings/org_freedesktop_general ] || wrong "in a session that is killed"
+    waits nobody_runs "$room/killed.sh" || wrong "in a session that is killed: its key is renewed for ever"
+    kill "$bus"
+    bus=
+    rm -rf home/.dbus-keyrings session/*
 }
 
 command_lines
