@@ -3,10 +3,10 @@
 # and the daemon started as its users do. It is red where an edit is not well formed, too. Its last line is the count of
 # `rt ci` with these five.
 set -uo pipefail
-cd "$(dirname "$0")/.."
+cd "$(dirname "$0")/.." || exit
 
-# As many checks at once as there are processors and 5 GB for each: left to itself `rt ci` keeps back what it takes to need
-# more memory than is free, and what takes longest waits.
+# As many checks at once as there are processors and 5 GB for each: left to itself `rt ci` keeps back what it takes to
+# need more memory than is free, and what takes longest waits.
 available=$(awk '/^MemAvailable/ { print int($2 / 5000000) }' /proc/meminfo)
 processors=$(nproc)
 export RT_JOBS=${RT_JOBS:-$((available < 1 ? 1 : available < processors ? available : processors))}

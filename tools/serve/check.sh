@@ -11,8 +11,22 @@ session=$PWD/tools/busd-run-session
 client=$PWD/tools/serve/client.py
 room=$(TMPDIR=/tmp mktemp -d)
 bus=
-trap '[ -z "$bus" ] || kill "$bus"; rm -rf "$room"' EXIT
+
+# Nothing goes on that was started here, whatever went wrong.
+end_all() {
+    local job
+    for job in $(jobs -pr) $bus; do
+        kill "$job" 2> /dev/null || true
+    done
+    rm -rf "$room"
+}
+trap end_all EXIT
 cd "$room"
+
+if ! command -v python3 > /dev/null; then
+    echo "there is no python3 here, which the clients are written in: nothing was tried" >&2
+    exit 1
+fi
 
 mkdir services home session trace
 : > empty
@@ -102,7 +116,7 @@ $usage$more" serve --address bus --routers 1 --services services --user 1000
     refused 2 "error: invalid value 'two' for '--routers <N>': invalid digit found in string$more" routers=two
     refused 2 'error: an argument is no UTF-8' address=$'\xff'
     fault 2 'error: an argument is no UTF-8' $'\xff'
-    for path in '' "b$name_of_107" 'the bus' 'bus,guid' 'bus%20' 'bus:1' 'büs' '~/bus'; do
+    for path in '' "b$name_of_107" 'the bus' 'bus,guid' 'bus%20' 'bus:1' 'büs' \~/bus; do
         refused 2 'busd: address' address="$path"
     done
 }
@@ -220,13 +234,15 @@ told() {
 }
 
 help() {
-    for words in --help -h help 'serve --help' 'serve -h' 'help serve' 'run --help' 'help run'; do
-        told $words
-        grep -q '^Usage: busd' out && grep -q '^Example' out || wrong "$words"
+    local asked
+    for asked in --help -h help 'serve --help' 'serve -h' 'help serve' 'run --help' 'help run'; do
+        read -ra words <<< "$asked"
+        told "${words[@]}"
+        grep -q '^Usage: busd' out && grep -q '^Example' out || wrong "$asked"
     done
-    for words in --version -V; do
-        told $words
-        grep -qx 'busd [0-9]*\.[0-9]*\.[0-9]*' out || wrong "$words"
+    for asked in --version -V; do
+        told "$asked"
+        grep -qx 'busd [0-9]*\.[0-9]*\.[0-9]*' out || wrong "$asked"
     done
     status=0
     "$session" --help > out 2> err || status=$?
@@ -239,9 +255,13 @@ help() {
 begin() {
     start --print-address "$@"
     mkfifo ready
+    : > said
     (ulimit -n "${FILES:-1024}" && exec "$BUSD" "${words[@]}" > ready 2> said < /dev/null) &
     bus=$!
-    IFS= read -r -t 20 address < ready || wrong "${words[@]}"
+    # Opened for both, as it opens though nobody writes.
+    exec 3<> ready
+    IFS= read -r -t 20 address <&3 || wrong "${words[*]}: tells no address: $(< said)"
+    exec 3>&-
     rm ready
     [[ $address =~ ^unix:path=${wanted[address]},guid=[0-9a-f]{32}$ ]] && [ -S "${wanted[address]}" ] ||
         wrong "tells the address $address"
@@ -266,8 +286,12 @@ waits() {
     return 1
 }
 
+threads() {
+    find "/proc/$bus/task" -mindepth 1 -maxdepth 1 | wc -l
+}
+
 has_threads() {
-    [ "$(ls "/proc/$bus/task" | wc -l)" = "$1" ]
+    [ "$(threads)" = "$1" ]
 }
 
 # How often threads of the daemon have waited.
@@ -288,7 +312,7 @@ idle() {
         echo "there is no /proc here: how still and how small an idle daemon is was not tried"
         return
     fi
-    waits has_threads 9 || wrong "has $(ls "/proc/$bus/task" | wc -l) threads for 8 routers"
+    waits has_threads 9 || wrong "has $(threads) threads for 8 routers"
     sleeps_two_seconds || sleeps_two_seconds || sleeps_two_seconds || wrong "wakes though nobody calls"
     size=$(awk '/^VmRSS/ { print $2 }' "/proc/$bus/status")
     [ "$size" -lt 65536 ] || wrong "has $size KiB"
@@ -303,19 +327,15 @@ daemons() {
     finish
 }
 
-# told_to WANTED ARGUMENT..: a client is told this
+# told_to ANSWER ARGUMENT..: a client is told this
 told_to() {
-    local wanted=$1
+    local answer=$1
     shift
-    [ "$(timeout 60 "$client" "$address" "$@" 2>&1)" = "$wanted" ] || wrong "a client: $* is not told $wanted"
+    [ "$(timeout 60 "$client" "$address" "$@" 2>&1)" = "$answer" ] || wrong "a client: $* is not told $answer"
 }
 
 # Clients are let in who know the cookie, and nobody else. Whoever is closed for a fault is told of where that is wanted.
 logins() {
-    if ! command -v python3 > /dev/null; then
-        echo "there is no python3 here: nobody logged in"
-        return
-    fi
     local bus_name=org.freedesktop.DBus notice="busd: closed: 31: it didn't say who it is"
     begin --verbose
     COOKIE=1000:c0ffee told_to "$bus_name :1.1" ask ListNames
@@ -355,8 +375,8 @@ few_files() {
         [ "$count" -lt 64 ] || wrong "does not start with $count open files"
     done
     [ "$count" -gt 7 ] || wrong "serves with $count open files"
-    if ! command -v python3 > /dev/null || [ ! -r /proc/self/stat ]; then
-        echo "no python3, or no /proc: no client was kept waiting for an open file"
+    if [ ! -r /proc/self/stat ]; then
+        echo "there is no /proc here: no client was kept waiting for an open file"
         return
     fi
     FILES=$((count + 4)) begin --anonymous
@@ -387,10 +407,6 @@ has_no_zombie() {
 
 # Services are started when they are called. Each daemon is told to end once its last client is answered.
 starts() {
-    if ! command -v python3 > /dev/null; then
-        echo "there is no python3 here: no service was started"
-        return
-    fi
     local error=org.freedesktop.DBus.Error
     program Owns "echo \"\$* \$DBUS_STARTER_ADDRESS \$DBUS_STARTER_BUS_TYPE\" > $room/seen; cat >> $room/seen" \
         "exec $client \"\$DBUS_STARTER_ADDRESS\" own com.example.Owns"
@@ -403,7 +419,7 @@ starts() {
         service programs "Many$i" "$group" "Name=com.example.Many$i" 'Exec=/bin/sh -c false'
     done
     begin services=programs --anonymous "$@"
-    "$client" "$address" call com.example.Idle > late &
+    timeout 60 "$client" "$address" call com.example.Idle > late &
     local late=$!
     told_to "$error.ServiceUnknown" call com.example.Unknown
     told_to "$error.ServiceUnknown" call-only com.example.Owns
@@ -413,7 +429,7 @@ starts() {
     [ "$(< seen)" = "one two unix:path=bus session" ] || wrong "a program is given: $(< seen)"
     told_to 2 start com.example.Owns
     told_to 2 start org.freedesktop.DBus
-    "$client" "$address" call com.example.Slow > joined &
+    timeout 60 "$client" "$address" call com.example.Slow > joined &
     told_to 1 start com.example.Slow
     wait "$!" && [ "$(< joined)" = here ] || wrong "two callers of one start"
     runs Slow 1
@@ -443,10 +459,6 @@ says() {
 # A run is recorded, and is explained by one history of the bus. How many lines that is was worked out by hand: three for
 # a client that comes and goes (its Hello, the reply, its leave), and what is told behind each call.
 traces() {
-    if ! command -v python3 > /dev/null; then
-        echo "there is no python3 here: no run was recorded"
-        return
-    fi
     local bus_name=org.freedesktop.DBus
     if [ -e full_router ]; then
         begin routers=1 --anonymous --trace full_router
@@ -507,11 +519,11 @@ traces() {
 
 # session STATUS ARGUMENT..: a session ends so, and leaves nothing
 session() {
-    local wanted=$1
+    local wanted_status=$1
     shift
     status=0
     HOME=$room/home XDG_RUNTIME_DIR=$room/session timeout 20 "$session" "$@" > out 2> err < /dev/null || status=$?
-    [ "$status" = "$wanted" ] && [ -z "$(find home session -mindepth 1)" ] || wrong "in a session: $*"
+    [ "$status" = "$wanted_status" ] && [ -z "$(find home session -mindepth 1)" ] || wrong "in a session: $*"
 }
 
 sessions() {
