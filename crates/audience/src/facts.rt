@@ -11,10 +11,11 @@ use names::{BUS_NAME, BUS_PATH, ConnectionName};
 use seq_bus_core::BusSignal;
 
 /// The arguments of a signal of the bus, of which there are three at most.
-pub(crate) type SignalArguments<'a> = ArrayVec<Argument<'a>, 3>;
+pub type SignalArguments<'a> = ArrayVec<Argument<'a>, 3>;
 
-/// The unique names that a signal of the bus speaks of. Its facts are lent out of both.
-#[derive(Drop)]
+/// The unique names that a signal of the bus speaks of. What match rules see of the signal is lent
+/// out of both, so it takes no memory.
+#[derive(Clone, Copy, Debug)]
 pub struct SignalNames {
     first: Option<ConnectionName>,
     second: Option<ConnectionName>,
@@ -40,11 +41,11 @@ fn text_of(name: &Option<ConnectionName>) -> &str
 }
 
 impl SignalNames {
-    ghost use Rattle.audience.specs.SignalNames.{AreNamesOf};
+    ghost use Rattle.audience.specs.SignalNames.{names_of};
 
     /// Those of this signal.
     pub fn of(signal: &BusSignal) -> Self
-        ensures { AreNamesOf signal.now result }
+        ensures { result ≡ names_of signal.now }
     {
         match signal {
             BusSignal::NameOwnerChanged {
@@ -64,11 +65,12 @@ impl SignalNames {
         }
     }
 
-    /// What match rules see of the signal, with its arguments.
+    /// What match rules see of the signal, with these arguments of it.
     pub fn facts<'a>(&'a self, signal: &'a BusSignal, arguments: &'a [Argument<'a>]) -> Facts<'a>
-        requires names { AreNamesOf signal.now self.now }
-        requires arguments { map argument_of arguments.now ≡ (facts_of signal.now).arguments }
-        ensures { result ≡ facts_of signal.now }
+        requires { self.now ≡ names_of signal.now }
+        ensures { result ≡ record (facts_of signal.now) {
+          arguments = map argument_of arguments.now;
+        } }
     {
         Facts {
             kind: MessageKind::Signal,
@@ -83,7 +85,7 @@ impl SignalNames {
     }
 
     fn destination(&self, signal: &BusSignal) -> Option<&str>
-        requires { AreNamesOf signal.now self.now }
+        requires { self.now ≡ names_of signal.now }
         ensures { option_map (λ t. t.now) result ≡ (facts_of signal.now).destination }
     {
         match signal {
@@ -95,7 +97,7 @@ impl SignalNames {
 
     /// The arguments of the signal.
     pub fn arguments<'a>(&'a self, signal: &'a BusSignal) -> SignalArguments<'a>
-        requires names { AreNamesOf signal.now self.now }
+        requires { self.now ≡ names_of signal.now }
         ensures { map argument_of result.items ≡ (facts_of signal.now).arguments }
     {
         let mut arguments = SignalArguments::new();

@@ -2,9 +2,10 @@
 //!
 //! An [`Audience`] is a bus as it is, or as it will be once a change is made: whoever can say who
 //! wants a message, and who is shown it. [`judge`] says where a message goes, and [`address`] to
-//! whom a signal of the bus goes. The signals of a name that has another owner are put together by
-//! [`push_owner_signals`], and those of a connection that leaves by [`push_left_name`]. (D-Bus
-//! Specification: "Message Bus Message Routing", "Message Bus Messages".)
+//! whom a signal of the bus goes; what match rules see of it is lent by its [`SignalNames`]. The
+//! signals of a name that has another owner are put together by [`push_owner_signals`], and those
+//! of a connection that leaves by [`push_left_name`]. (D-Bus Specification: "Message Bus Message
+//! Routing", "Message Bus Messages".)
 //!
 //! ```
 //! use audience::{Audience, judge};
@@ -25,5 +26,6 @@ mod judging;
 mod signals;
 
 pub use audience::Audience;
+pub use facts::{SignalArguments, SignalNames};
 pub use judging::judge;
 pub use signals::{address, is_owner, push, push_left_name, push_owner_signals};

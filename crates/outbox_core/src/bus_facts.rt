@@ -1,14 +1,14 @@
 //! What rules and routing look at in the bus's own messages.
 
-ghost use Rattle.std.specs.Prelude.{◌≡◌, [], option_map, unwrap_or, map};
+ghost use Rattle.std.specs.Prelude.{◌≡◌, [], None, Some, is_some, map, option_map, true, unwrap_or};
 ghost use Rattle.names.specs.UniqueName.{unique_text};
 ghost use Rattle.marshal_check.specs.Arguments.{argument_of as value_argument, arguments as value_arguments};
-ghost use Rattle.match_rules.specs.Facts.{StringArgument};
+ghost use Rattle.match_rules.specs.Facts.{StringArgument, bus_number};
 ghost use Rattle.match_rules.specs.FactsView.{argument_of};
 ghost use Rattle.message.specs.FactsOf.{as_argument, facts_of};
 ghost use Rattle.bus_view.specs.Bodies.{answer_value};
-ghost use Rattle.driver.specs.OwnMessages.{signal_member, signal_texts};
 ghost use Rattle.outbox_core.specs.Answers.{kind_of};
+ghost use Rattle.driver.specs.OwnMessages.{signal_message};
 ghost use Rattle.driver.specs.declared.reply.BodyKind.TheVariants as of_kind;
 ghost use Rattle.outbox_core.specs.Contents.{Signals, carried_of, carried_values, own_of, bus_message};
 ghost use Rattle.outbox_core.specs.Named.{names_of, number_in};
@@ -16,11 +16,12 @@ ghost use Rattle.outbox_core.specs.Named.{names_of, number_in};
 use crate::answer::AnswerBody;
 use crate::bus_message::{BusMessage, ReplyContent};
 use arrayvec::ArrayVec;
+use audience::SignalNames;
 use driver::{BodyKind, error_text};
 use marshal_check::{Argument as Read, Arguments, Types};
 use marshal_core::Order;
 use match_rules::{Argument, Facts, MessageKind};
-use names::{BUS_NAME, BUS_PATH, ConnectionName};
+use names::ConnectionName;
 use seq_bus_core::BusSignal;
 
 /// The arguments of a message of the bus, of which there are three at most.
@@ -30,11 +31,12 @@ pub type OwnArguments<'a> = ArrayVec<Argument<'a>, 3>;
 /// Its [facts](BusMessage::facts) are lent out of both.
 #[derive(Clone, Copy, Debug)]
 pub struct BusMessageNames {
-    /// The connection that the message is for.
-    destination: Option<ConnectionName>,
-    /// The connections in its body.
-    first: Option<ConnectionName>,
-    second: Option<ConnectionName>,
+    /// Those of a signal.
+    signal: Option<SignalNames>,
+    /// The connection that a reply or an error is for.
+    caller: Option<ConnectionName>,
+    /// The connection in the body of a reply.
+    carried: Option<ConnectionName>,
 }
 
 fn name_of(number: Option<u64>) -> Option<ConnectionName>
@@ -56,7 +58,7 @@ fn lent(name: &Option<ConnectionName>) -> Option<&str>
 }
 
 /// A name as an argument, which is an empty text where there is none.
-fn owner_argument(name: &Option<ConnectionName>) -> Argument<'_>
+fn name_argument(name: &Option<ConnectionName>) -> Argument<'_>
     ensures { argument_of result ≡ StringArgument (unwrap_or name.now []) }
 {
     match name {
@@ -66,26 +68,39 @@ fn owner_argument(name: &Option<ConnectionName>) -> Argument<'_>
 }
 
 impl BusMessageNames {
-    fn of_signal(signal: &BusSignal) -> BusMessageNames
-        ensures { result ≡ names_of (Signals signal.now) }
+    /// Those of a signal.
+    fn of_signal(&self) -> &SignalNames
+        requires { is_some self.now.signal ≡ true }
+        ensures { Some result.now ≡ self.now.signal }
     {
-        match signal {
-            BusSignal::NameOwnerChanged {
-                name: _,
-                old_owner,
-                new_owner,
-            } => BusMessageNames {
-                destination: None,
-                first: name_of(*old_owner),
-                second: name_of(*new_owner),
-            },
-            BusSignal::NameLost { name: _, owner } | BusSignal::NameAcquired { name: _, owner } => {
-                BusMessageNames {
-                    destination: name_of(Some(*owner)),
-                    first: None,
-                    second: None,
-                }
-            }
+        match &self.signal {
+            Some(names) => names,
+            None => unreachable!(),
+        }
+    }
+
+    /// What is seen of a reply or an error with these names: for whom it is, and its arguments.
+    fn facts_of_answer<'a>(&'a self, kind: MessageKind, arguments: &'a [Argument<'a>]) -> Facts<'a>
+        ensures { result ≡ record {
+          kind = kind;
+          auto_start = true;
+          sender = bus_number;
+          path = None;
+          interface = None;
+          member = None;
+          destination = self.now.caller;
+          arguments = map argument_of arguments.now;
+        } }
+    {
+        Facts {
+            kind,
+            auto_start: true,
+            sender: 0,
+            path: None,
+            interface: None,
+            member: None,
+            destination: lent(&self.caller),
+            arguments,
         }
     }
 }
@@ -141,40 +156,22 @@ fn put_carried<'a>(
     match content {
         ReplyContent::Empty => {}
         ReplyContent::Number(_) => arguments.push(Argument::Other),
-        ReplyContent::UniqueName(_) => arguments.push(owner_argument(name)),
+        ReplyContent::UniqueName(_) => arguments.push(name_argument(name)),
         ReplyContent::Answer(answer) => arguments.push(answered(answer)),
     }
 }
 
-/// Puts the texts of a signal.
-fn put_texts<'a>(
+/// Puts what a signal has, in the place of what was there.
+fn put_signal<'a>(
     signal: &'a BusSignal,
     names: &'a BusMessageNames,
     arguments: &mut OwnArguments<'a>,
 )
-    requires names { names.now ≡ names_of (Signals signal.now) }
-    requires none { arguments.old.items ≡ [] }
-    ensures { map argument_of arguments.new.items ≡ map StringArgument (signal_texts signal.now) }
+    requires { names.now ≡ names_of (Signals signal.now) }
+    ensures { map argument_of arguments.new.items
+        ≡ (facts_of (signal_message 1 signal.now)).arguments }
 {
-    match signal {
-        BusSignal::NameOwnerChanged { name, .. } => {
-            arguments.push(Argument::String(name.as_str()));
-            arguments.push(owner_argument(&names.first));
-            arguments.push(owner_argument(&names.second));
-        }
-        BusSignal::NameLost { name, .. } => arguments.push(Argument::String(name.as_str())),
-        BusSignal::NameAcquired { name, .. } => arguments.push(Argument::String(name.as_str())),
-    }
-}
-
-fn member_of(signal: &BusSignal) -> &'static str
-    ensures { result.now ≡ signal_member signal.now }
-{
-    match signal {
-        BusSignal::NameOwnerChanged { .. } => "NameOwnerChanged",
-        BusSignal::NameLost { .. } => "NameLost",
-        BusSignal::NameAcquired { .. } => "NameAcquired",
-    }
+    *arguments = names.of_signal().arguments(signal);
 }
 
 impl BusMessage {
@@ -183,57 +180,21 @@ impl BusMessage {
         ensures { result ≡ names_of (own_of self.now) }
     {
         match self {
-            BusMessage::Signal(signal) => BusMessageNames::of_signal(signal.get()),
+            BusMessage::Signal(signal) => BusMessageNames {
+                signal: Some(SignalNames::of(signal.get())),
+                caller: None,
+                carried: None,
+            },
             BusMessage::Reply { to, content } => BusMessageNames {
-                destination: name_of(to.caller()),
-                first: name_of(content.number()),
-                second: None,
+                signal: None,
+                caller: name_of(to.caller()),
+                carried: name_of(content.number()),
             },
             BusMessage::Error { to, error: _ } => BusMessageNames {
-                destination: name_of(to.caller()),
-                first: None,
-                second: None,
+                signal: None,
+                caller: name_of(to.caller()),
+                carried: None,
             },
-        }
-    }
-
-    fn kind(&self) -> MessageKind
-        ensures { result ≡ (facts_of (bus_message 1 (own_of self.now))).kind }
-    {
-        match self {
-            BusMessage::Signal(_) => MessageKind::Signal,
-            BusMessage::Reply { .. } => MessageKind::MethodReturn,
-            BusMessage::Error { .. } => MessageKind::Error,
-        }
-    }
-
-    fn path(&self) -> Option<&'static str>
-        ensures { option_map (λ t. t.now) result
-            ≡ (facts_of (bus_message 1 (own_of self.now))).path }
-    {
-        match self {
-            BusMessage::Signal(_) => Some(BUS_PATH),
-            BusMessage::Reply { .. } | BusMessage::Error { .. } => None,
-        }
-    }
-
-    fn interface(&self) -> Option<&'static str>
-        ensures { option_map (λ t. t.now) result
-            ≡ (facts_of (bus_message 1 (own_of self.now))).interface }
-    {
-        match self {
-            BusMessage::Signal(_) => Some(BUS_NAME),
-            BusMessage::Reply { .. } | BusMessage::Error { .. } => None,
-        }
-    }
-
-    fn member(&self) -> Option<&'static str>
-        ensures { option_map (λ t. t.now) result
-            ≡ (facts_of (bus_message 1 (own_of self.now))).member }
-    {
-        match self {
-            BusMessage::Signal(signal) => Some(member_of(signal.get())),
-            BusMessage::Reply { .. } | BusMessage::Error { .. } => None,
         }
     }
 
@@ -246,9 +207,9 @@ impl BusMessage {
     {
         let mut arguments = OwnArguments::new();
         match self {
-            BusMessage::Signal(signal) => put_texts(signal.get(), names, &mut arguments),
+            BusMessage::Signal(signal) => put_signal(signal.get(), names, &mut arguments),
             BusMessage::Reply { to: _, content } => {
-                put_carried(content, &names.first, &mut arguments)
+                put_carried(content, &names.carried, &mut arguments)
             }
             BusMessage::Error { to: _, error } => {
                 arguments.push(Argument::String(error_text(*error)))
@@ -270,15 +231,12 @@ impl BusMessage {
           arguments = map argument_of arguments.now;
         } }
     {
-        Facts {
-            kind: self.kind(),
-            auto_start: true,
-            sender: 0,
-            path: self.path(),
-            interface: self.interface(),
-            member: self.member(),
-            destination: lent(&names.destination),
-            arguments,
+        match self {
+            BusMessage::Signal(signal) => names.of_signal().facts(signal.get(), arguments),
+            BusMessage::Reply { .. } => {
+                names.facts_of_answer(MessageKind::MethodReturn, arguments)
+            }
+            BusMessage::Error { .. } => names.facts_of_answer(MessageKind::Error, arguments),
         }
     }
 }
