@@ -2,7 +2,7 @@
 
 ghost use Rattle.std.specs.Prelude.{◌≡◌, ℕ, ◌<◌, ◌≤◌, ◌+◌, true, [], ◌++◌, is_some, length, map, IfOk};
 ghost use Rattle.activation.specs.Holding.{Holding};
-ghost use Rattle.activation.specs.declared.holder.TheConstants.{MAX_HELD};
+ghost use Rattle.seq_bus_core.specs.declared.limits.TheConstants.{MAX_TICKETS};
 ghost use Rattle.seq_bus_core.specs.declared.ticket.Ticket.{Ticket};
 ghost use Rattle.activation.specs.Rooms.{IsRoomFor, message_of};
 ghost use Rattle.activation.specs.Settling.{IsSettled, IsSomeStep, caller_of, fate_of, let_go, new_call, once_told, settled_as};
@@ -169,7 +169,7 @@ fn hold(
     message: Option<SharedBytes>,
 )
     requires room { is_some (caller_of change.now) ≡ true → (number : ℕ) →
-        reply ≡ Held number → length holder.old.held + length holder.old.given < MAX_HELD }
+        reply ≡ Held number → length holder.old.held + length holder.old.given < MAX_TICKETS }
     requires message { message ≡ message_of change.now }
     ensures { holder.new ≡ record holder.old {
       held = holder.old.held ++ new_call change.now reply caller;

@@ -6,12 +6,10 @@ ghost use Rattle.activation.specs.declared.given.Fate.TheVariants.{Failed, Relea
 
 use crate::given::{Fate, Given};
 use names::BusName;
+use seq_bus_core::limits::MAX_TICKETS;
 use std::alloc::{AllocError, Global};
 use std::collections::VecDeque;
 use std::marker::Model;
-
-/// The most that can be in a holder at once.
-pub const MAX_HELD: usize = 512;
 
 /// Something that waits for a name.
 #[derive(Drop)]
@@ -22,8 +20,8 @@ struct Held<T: Drop> {
 
 /// What waits for names, in order of arrival, and what was let go and is not handed out yet.
 ///
-/// There is room for 512 of both together, made when the holder is. No call but [`Holder::new`]
-/// takes memory.
+/// There is room for [`MAX_TICKETS`] of both together, made when the holder is. No call but
+/// [`Holder::new`] takes memory.
 #[derive(Drop)]
 pub struct Holder<T: Drop> {
     held: VecDeque<Held<T>>,
@@ -34,7 +32,7 @@ impl<T: Drop> Model for Holder<T> {
     ghost use Rattle.std.specs.Prelude.{◌≤◌, ◌+◌, map, length};
     ghost use Rattle.std.specs.VecDeque.{deque_capacity};
     ghost use Rattle.activation.specs.Holding.{Holding};
-    ghost use Rattle.activation.specs.declared.holder.TheConstants.{MAX_HELD};
+    ghost use Rattle.seq_bus_core.specs.declared.limits.TheConstants.{MAX_TICKETS};
 
     ghost Value = { Holding T };
 
@@ -43,9 +41,9 @@ impl<T: Drop> Model for Holder<T> {
       given = h.given.items;
     } };
 
-    ghost invariant = { λ h. (MAX_HELD ≤ deque_capacity h.held)
-        × (MAX_HELD ≤ deque_capacity h.given)
-        × (length h.held.items + length h.given.items ≤ MAX_HELD) };
+    ghost invariant = { λ h. (MAX_TICKETS ≤ deque_capacity h.held)
+        × (MAX_TICKETS ≤ deque_capacity h.given)
+        × (length h.held.items + length h.given.items ≤ MAX_TICKETS) };
 }
 
 impl<T: Drop> Holder<T> {
@@ -54,21 +52,21 @@ impl<T: Drop> Holder<T> {
         ensures { IfOk result (λ holder. holder ≡ record { held = []; given = [] }) }
     {
         Ok(Holder {
-            held: VecDeque::with_capacity(alloc, MAX_HELD)?,
-            given: VecDeque::with_capacity(alloc, MAX_HELD)?,
+            held: VecDeque::with_capacity(alloc, MAX_TICKETS)?,
+            given: VecDeque::with_capacity(alloc, MAX_TICKETS)?,
         })
     }
 
     /// Whether one more fits. What was let go counts until it is handed out.
     pub fn has_room(&self) -> bool
-        ensures { IsTrue result ↔ (length self.now.held + length self.now.given < MAX_HELD) }
+        ensures { IsTrue result ↔ (length self.now.held + length self.now.given < MAX_TICKETS) }
     {
-        self.held.len() + self.given.len() < MAX_HELD
+        self.held.len() + self.given.len() < MAX_TICKETS
     }
 
     /// From now on something waits for a name, behind all else that waits.
     pub fn hold(&mut self, name: BusName, what: T)
-        requires { length self.old.held + length self.old.given < MAX_HELD }
+        requires { length self.old.held + length self.old.given < MAX_TICKETS }
         ensures { self.new ≡ record self.old {
           held = self.old.held ++ record { name = name; what = what } ∷ [];
         } }

@@ -16,9 +16,11 @@
 //!     holder.hold(name, 8);
 //!     holder.release_all(&name);
 //!     let fate = Fate::Released;
-//!     Ok(holder.next_given() == Some(Given { fate, what: 7 })
-//!         && holder.next_given() == Some(Given { fate, what: 8 })
-//!         && holder.next_given().is_none())
+//!     Ok(
+//!         holder.next_given() == Some(Given { fate, what: 7 })
+//!             && holder.next_given() == Some(Given { fate, what: 8 })
+//!             && holder.next_given().is_none(),
+//!     )
 //! }
 //! ```
 //!
@@ -61,5 +63,5 @@ mod room;
 
 pub use calls::HeldCalls;
 pub use given::{Fate, Given};
-pub use holder::{Holder, MAX_HELD};
+pub use holder::Holder;
 pub use room::CallRoom;

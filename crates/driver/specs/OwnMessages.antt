@@ -14,7 +14,7 @@ use Rattle.driver.specs.Errors.{error_name, error_text}
 use Rattle.seq_bus_core.specs.declared.error_kind.ErrorKind.{ErrorKind}
 use Rattle.seq_bus_core.specs.declared.signal.BusSignal.{BusSignal}
 use Rattle.seq_bus_core.specs.declared.signal.BusSignal.TheVariants.{NameOwnerChanged, NameLost, NameAcquired}
-pub use Rattle.seq_bus_core.specs.Steps.{bus_path}
+pub use Rattle.seq_bus_core.specs.Steps.{bus_path, owner_text}
 use Rattle.message_core.specs.declared.header.Header.{Header}
 use Rattle.message_core.specs.declared.header.TheConstants.{NO_REPLY_EXPECTED}
 use Rattle.message_core.specs.Messages.{Message, IsWritten}
@@ -84,10 +84,6 @@ abbrev pub number_values : ℕ → Vals
 number_values n = more_values (a_basic (a_uint32 n)) no_values
 
 -- no owner is an empty text
-abbrev pub owner_text : Option ℕ → Text
-owner_text None = []
-owner_text (Some number) = unique_text number
-
 abbrev pub signal_texts : BusSignal → List Text
 signal_texts (NameOwnerChanged name old_owner new_owner) = name ∷ owner_text old_owner ∷ owner_text new_owner ∷ []
 signal_texts (NameLost name owner) = name ∷ []

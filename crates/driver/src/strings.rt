@@ -3,7 +3,7 @@
 ghost use Rattle.std.specs.Prelude.{◌≡◌, ◌+◌, ◌≤◌, ◌++◌, length, IsUtf8};
 ghost use Rattle.marshal_core.specs.declared.order.Order.TheVariants.{Little};
 ghost use Rattle.marshal_core.specs.Spelling.{IsString, text_spelling};
-ghost use Rattle.driver.specs.OwnMessages.{owner_text};
+ghost use Rattle.seq_bus_core.specs.Steps.{owner_text};
 
 use arrayvec::ArrayVec;
 use byteorder::{ByteOrder, LittleEndian};

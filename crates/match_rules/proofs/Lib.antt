@@ -17,3 +17,4 @@ pub mod RoomLemmas
 pub mod ValueLemmas
 pub mod DecimalLemmas
 pub mod CanonicalTextLaws
+pub mod Lists

@@ -101,8 +101,8 @@ impl Key {
     }
 }
 
-/// The number below which the numbers of arguments are.
-const MAX_ARGUMENTS: u8 = 64;
+/// Rules look at the arguments with a number below this. (D-Bus Specification: "Match Rules")
+pub const MAX_ARGUMENTS: usize = 64;
 
 /// The key of an argument, by what stands behind `arg`.
 fn argument_named(text: &[u8]) -> Option<Key>
@@ -128,7 +128,7 @@ fn number_named(first: u8, text: &[u8]) -> Option<Key>
     };
     if second.is_ascii_digit() {
         let number = 10 * first + (*second - b'0');
-        if 0 < first && number < MAX_ARGUMENTS {
+        if 0 < first && usize::from(number) < MAX_ARGUMENTS {
             return numbered(number, rest);
         }
     }

@@ -45,7 +45,7 @@ mod rule;
 pub use facts::{Argument, Facts};
 pub use fault::RuleFault;
 pub use fitting::Owners;
-pub use key::Key;
+pub use key::{Key, MAX_ARGUMENTS};
 pub use kind::MessageKind;
 pub use room::MAX_RULE_LENGTH;
 pub use rule::Rule;

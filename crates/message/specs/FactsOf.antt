@@ -1,6 +1,7 @@
 -- What match rules and routing look at in a message, after "Match Rules" of the D-Bus Specification.
 use Rattle.std.specs.Prelude.{ℕ, List, map, take, bit_and, ◌==◌}
 use Rattle.match_rules.specs.Facts.{Argument, StringArgument, PathArgument, OtherArgument, Facts, bus_number}
+use Rattle.match_rules.specs.Keys.{max_arguments}
 use Rattle.match_rules.specs.Kinds.{kind_of}
 use Rattle.marshal_check.specs.Arguments.{Argument as Read, string_argument, path_argument, other_argument, arguments}
 use Rattle.message_core.specs.declared.header_field.HeaderField.TheVariants as field
@@ -10,10 +11,6 @@ use Rattle.message_core.specs.Messages.{Message}
 -- the flag NO_AUTO_START
 abbrev pub no_auto_start : ℕ
 no_auto_start = 2
-
--- the arguments that rules can look at
-abbrev pub max_arguments : ℕ
-max_arguments = 64
 
 abbrev pub as_argument : Read → Argument
 as_argument (string_argument text) = StringArgument text

@@ -3,6 +3,7 @@ use Rattle.std.specs.Prelude.{ℕ, ◌+◌, ◌-◌, ◌%◌, List, take, drop, 
 use Rattle.std.specs.Int.{w32, from_le_bytes, from_be_bytes}
 use Rattle.marshal_core.specs.declared.order.Order.{Order}
 use Rattle.marshal_core.specs.declared.order.Order.TheVariants as order
+use Rattle.marshal_core.specs.Spelling.{max_array_length}
 use Rattle.message_core.specs.declared.fault.FrameFault.{FrameFault}
 use Rattle.message_core.specs.declared.fault.FrameFault.TheVariants as fault
 
@@ -38,7 +39,7 @@ fields_place = 12
 
 -- the most bytes of the field array, as of every array
 abbrev pub max_fields_length : ℕ
-max_fields_length = 67108864
+max_fields_length = max_array_length
 
 -- the most bytes of a message
 abbrev pub max_message_length : ℕ

@@ -12,13 +12,10 @@ use Rattle.seq_bus_core.specs.BusState.{BusState, Connection, OwnedName, head_of
 use Rattle.seq_bus_core.specs.Steps.{names_without}
 use Rattle.seq_bus_core.proofs.Lists.{all_passing, each_always, each_passing, each_weaker}
 use Rattle.seq_bus_core.proofs.OwnedLemmas.{queue_of_unowned}
-use Rattle.seq_bus_core.proofs.TextLemmas.{text_eq-true, text_eq-swapped, text_lt-itself, text_lt-other, text_lt-trans}
+use Rattle.seq_bus_core.proofs.TextLemmas.{text_eq-true, text_eq-swapped, text_lt-other, text_lt-differs, text_lt-trans}
 use Rattle.registry_core.specs.NameTables.{NamesRise}
 use Rattle.registry.specs.Requests.{requeued}
 use Rattle.registry.proofs.HeadLemmas.{head_of_unique, head_of_other, is_itself}
-
-below_differs : (a b : Text) → text_lt a b ≡ true → text_eq a b ≡ false
-below_differs a b h = elim (cases_Bool (text_eq a b)) [ inl same ↦ absurd (true≢false (sym h ∙ ap (text_lt a) (sym (text_eq-true a b same)) ∙ text_lt-itself a)) | inr other ↦ other ]
 
 -- ## Parts of lists of names
 
@@ -53,8 +50,8 @@ queue_of_its name queue names =
     let below : List OwnedName = filter (λ n. text_lt n.name name) names in
     let above : List OwnedName = filter (λ n. text_lt name n.name) names in
     ap (λ ns. queue_of ns name) (append_assoc below (kept_name name queue) above)
-    ∙ in_back name below (kept_name name queue ++ above) (each_that_passes (λ n. text_lt n.name name) (λ n. text_eq n.name name ≡ false) (λ n lower. below_differs n.name name lower) names)
-    ∙ in_front name (kept_name name queue) above (each_that_passes (λ n. text_lt name n.name) (λ n. text_eq n.name name ≡ false) (λ n higher. text_eq-swapped name n.name (below_differs name n.name higher)) names)
+    ∙ in_back name below (kept_name name queue ++ above) (each_that_passes (λ n. text_lt n.name name) (λ n. text_eq n.name name ≡ false) (λ n lower. text_lt-differs n.name name lower) names)
+    ∙ in_front name (kept_name name queue) above (each_that_passes (λ n. text_lt name n.name) (λ n. text_eq n.name name ≡ false) (λ n higher. text_eq-swapped name n.name (text_lt-differs name n.name higher)) names)
     ∙ kept queue
   where
     kept : (q : Queue) → queue_of (kept_name name q) name ≡ q
@@ -65,13 +62,13 @@ pub queue_of_other : (name : Text) (queue : Queue) (names : List OwnedName) (m :
 queue_of_other name queue names m other = elim (cases_Bool (text_lt m name)) [
   | inl lower ↦
       ap (λ ns. queue_of ns m) (append_assoc below (kept_name name queue) above) ∙ ap (λ ns. queue_of ns m) (sym (append_assoc below (kept_name name queue) above))
-      ∙ in_front m (below ++ kept_name name queue) above (each_that_passes (λ n. text_lt name n.name) (λ n. text_eq n.name m ≡ false) (λ n higher. text_eq-swapped m n.name (below_differs m n.name (text_lt-trans m name n.name lower higher))) names)
+      ∙ in_front m (below ++ kept_name name queue) above (each_that_passes (λ n. text_lt name n.name) (λ n. text_eq n.name m ≡ false) (λ n higher. text_eq-swapped m n.name (text_lt-differs m n.name (text_lt-trans m name n.name lower higher))) names)
       ∙ in_front m below (kept_name name queue) its
       ∙ in_filtered (λ n. text_lt n.name name) m (λ n same. ap (λ t. text_lt t name) (text_eq-true n.name m same) ∙ lower) names
   | inr not_lower ↦
       let higher : text_lt name m ≡ true = text_lt-other m name not_lower (text_eq-swapped m name other) in
       ap (λ ns. queue_of ns m) (append_assoc below (kept_name name queue) above)
-      ∙ in_back m below (kept_name name queue ++ above) (each_that_passes (λ n. text_lt n.name name) (λ n. text_eq n.name m ≡ false) (λ n lower. below_differs n.name m (text_lt-trans n.name name m lower higher)) names)
+      ∙ in_back m below (kept_name name queue ++ above) (each_that_passes (λ n. text_lt n.name name) (λ n. text_eq n.name m ≡ false) (λ n lower. text_lt-differs n.name m (text_lt-trans n.name name m lower higher)) names)
       ∙ in_back m (kept_name name queue) above its
       ∙ in_filtered (λ n. text_lt name n.name) m (λ n same. ap (text_lt name) (text_eq-true n.name m same) ∙ higher) names
 ]
@@ -115,7 +112,7 @@ queue_left c (n ∷ names) name h = by_tests (text_eq n.name name) (without c n.
     others_differ : text_eq n.name name ≡ true → Each (λ m. text_eq m.name name ≡ false) names
     others_differ same =
         each_weaker (λ m. text_lt n.name m.name ≡ true) (λ m. text_eq m.name name ≡ false)
-        (λ m higher. text_eq-swapped name m.name (below_differs name m.name (ap (λ t. text_lt t m.name) (sym (text_eq-true n.name name same)) ∙ higher))) names h.0
+        (λ m higher. text_eq-swapped name m.name (text_lt-differs name m.name (ap (λ t. text_lt t m.name) (sym (text_eq-true n.name name same)) ∙ higher))) names h.0
 
     by_tests : (b : Bool) (q : Queue) → text_eq n.name name ≡ b → without c n.queue ≡ q → queue_of (names_without c names) name ≡ without c (queue_of names name) →
         queue_of (kept_name n.name q ++ names_without c names) name ≡ without c (cond b n.queue (queue_of names name))

@@ -2,14 +2,13 @@
 use Rattle.std.proofs.Common.{inl, inr, Ordering, Result, Ok, Err, ◌≡◌, ℕ, zero, suc, ◌+◌, ◌-◌, ◌<◌, ◌≤◌, nat_le, ◌&&◌, not, true, false, cond, if◌then◌else◌, List, [], ◌∷◌, ◌++◌, map, filter, length, take, drop, insert, remove, get_or, refl, sym, ap, ◌∙◌, subst, arith, append_assoc, append-nil}
 use Rattle.std.specs.List.{AllByRecursion as Each, AllWithin, sum_by}
 use Rattle.std.specs.List.Sorted.{IsBinarySearchResult, IsNonDecreasingBy, IsPartitionedBy, IsSearchInRange}
-use Rattle.std.specs.Ordering.{nat_cmp, is_eq, is_lt, ordering_index, ordering_reverse}
+use Rattle.std.specs.Ordering.{nat_cmp, is_lt, ordering_index, ordering_reverse}
 use Rattle.std.specs.declared.cmp.Ordering.TheVariants.{Less, Equal, Greater}
 use Rattle.std.specs.Cmp.Lexicographic.{slice_cmp}
 use Rattle.std.proofs.Math.ListN.{set}
 use Rattle.std.proofs.lemmas.Bool.{true≢false, cases_Bool}
 use Rattle.std.proofs.lemmas.Bool.Decides.{nat_tests}
 use Rattle.std.proofs.lemmas.Cmp.{nat_list_cmp_total}
-use Rattle.std.proofs.lemmas.Map.Text.{is_eq-slice_cmp}
 use Rattle.std.proofs.lemmas.List.{length-append, length-map, length-take-le, take-append-drop}
 use Rattle.std.proofs.lemmas.List.Edits.{length-insert}
 use Rattle.std.proofs.lemmas.List.Sums.{sum_by-cons, sum_by-append, length-filter}
@@ -18,8 +17,9 @@ use Rattle.owner_queues.specs.Queues.{Queue, IsQueue, without, is_free, is_in}
 use Rattle.owner_queues.proofs.QueueLemmas.{length-without, without-absent, is_in-without}
 use Rattle.seq_bus_core.specs.BusState.{OwnedName, queue_of, with_queue, kept_name, queued_in, names_of, max_names, max_queued, max_names_of_one}
 use Rattle.seq_bus_core.specs.Steps.{names_without}
+use Rattle.seq_bus_core.proofs.Counts.{OfQueue, kept_sum}
 use Rattle.seq_bus_core.proofs.Lists.{each_always, each_passing}
-use Rattle.seq_bus_core.proofs.TextLemmas.{text_lt-trans, text_eq-true, text_eq-swapped, text_lt-itself, text_lt-back}
+use Rattle.seq_bus_core.proofs.TextLemmas.{text_lt-trans, text_eq-true, text_eq-swapped, text_eq-tied, text_lt-itself, text_lt-back, text_lt-differs}
 use Rattle.registry_core.specs.NameTables.{NamesRise, AreOwned, AreInTable, IsAt, WouldStand, SearchGives, are_within}
 use Rattle.registry_core.proofs.CountLemmas.{one_if_in, left_length}
 use Rattle.match_index.proofs.Lists.{each_at as each_passed}
@@ -54,17 +54,11 @@ behind_place f P (x ∷ xs) (suc i) h = behind_place f P xs i (λ k d low high. 
 
 -- ## Names before and behind another
 
-text_eq-tied : (a b : Text) → slice_cmp nat_cmp a b ≡ Equal → text_eq a b ≡ true
-text_eq-tied a b e = sym (is_eq-slice_cmp a b) ∙ ap is_eq e
-
 text_lt-greater : (a b : Text) → slice_cmp nat_cmp a b ≡ Greater → text_lt b a ≡ true
 text_lt-greater a b e = ap is_lt (nat_list_cmp_total.antisymm b a ∙ ap ordering_reverse e)
 
-below_differs : (a b : Text) → text_lt a b ≡ true → text_eq a b ≡ false
-below_differs a b h = elim (cases_Bool (text_eq a b)) [ inl same ↦ absurd (true≢false (sym h ∙ ap (text_lt a) (sym (text_eq-true a b same)) ∙ text_lt-itself a)) | inr other ↦ other ]
-
 above_differs : (a b : Text) → text_lt b a ≡ true → text_eq a b ≡ false
-above_differs a b h = text_eq-swapped b a (below_differs b a h)
+above_differs a b h = text_eq-swapped b a (text_lt-differs b a h)
 
 front_below : (name : Text) (front back : List OwnedName) → Each (λ n. text_lt n.name name ≡ true) front → filter (λ n. text_lt n.name name) (front ++ back) ≡ front ++ filter (λ n. text_lt n.name name) back
 front_below name [] back h = refl
@@ -76,7 +70,7 @@ front_not_above name (n ∷ front) back h = rw (text_lt-back n.name name h.0) (f
 
 front_queue : (name : Text) (front back : List OwnedName) → Each (λ n. text_lt n.name name ≡ true) front → queue_of (front ++ back) name ≡ queue_of back name
 front_queue name [] back h = refl
-front_queue name (n ∷ front) back h = rw (below_differs n.name name h.0) (front_queue name front back h.1)
+front_queue name (n ∷ front) back h = rw (text_lt-differs n.name name h.0) (front_queue name front back h.1)
 
 back_not_below : (name : Text) (back : List OwnedName) → Each (λ n. text_lt name n.name ≡ true) back → filter (λ n. text_lt n.name name) back ≡ []
 back_not_below name [] h = refl
@@ -412,13 +406,6 @@ resized names same spare spare_same queued queued_same room more spare_room spar
   has_room = let less : max_names ≤ room = h.has_room in omega arith;
   has_spare_room = let less : max_names ≤ spare_room = h.has_spare_room in omega arith;
 }
-
-abbrev OfQueue : (Queue → ℕ) → OwnedName → ℕ
-OfQueue g n = g n.queue
-
-kept_sum : (g : Queue → ℕ) → g [] ≡ 0 → (name : Text) (queue : Queue) → sum_by (OfQueue g) (kept_name name queue) ≡ g queue
-kept_sum g none name [] = sym none
-kept_sum g none name (owner ∷ waiting) = omega arith
 
 between_sum : (g : Queue → ℕ) → g [] ≡ 0 → (front back : List OwnedName) (name : Text) (queue : Queue) →
     sum_by (OfQueue g) (front ++ kept_name name queue ++ back) ≡ sum_by (OfQueue g) front + g queue + sum_by (OfQueue g) back

@@ -20,14 +20,12 @@ use names::WellKnown;
 use owner_queues::{Profile, Queue};
 use registry::Registry;
 use registry_snapshots_core::{Batch, Head, Naming, NextEntry, Prefix, Snap};
+use seq_bus_core::limits::MAX_NUMBER;
 use seq_bus_core::{Change, Outcome};
 use settling::{prepare, prepare_all};
 use std::alloc::{AllocError, Global};
 use std::marker::Model;
 use std::sync::Wait;
-
-/// The most changes of a history.
-const FULL: u64 = 1 << 63;
 
 /// It knows all of the history, and what the calls carry that wait after it.
 ///
@@ -75,7 +73,7 @@ pub fn judge(shown: &Snap, seat: u8, made: u64, known: &Prefix, more: u64) -> Re
     if shown.made(seat) != Some(made) || !known.begins(&prefix) {
         return Err(Cause::ForeignSeat);
     }
-    if prefix.len() > FULL - more {
+    if prefix.len() > MAX_NUMBER - more {
         return Err(Cause::HistoryFull);
     }
     Ok(prefix)

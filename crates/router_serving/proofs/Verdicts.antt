@@ -13,7 +13,8 @@ use Rattle.seq_bus_core.specs.declared.connection.Conn.{Conn}
 use Rattle.seq_bus_core.specs.declared.verdict.Verdict.{Verdict}
 use Rattle.message_core.specs.Messages.{Message}
 use Rattle.message_core.specs.Whole.{Lends}
-use Rattle.message.specs.FactsOf.{facts_of, max_arguments}
+use Rattle.match_rules.specs.Keys.{max_arguments}
+use Rattle.message.specs.FactsOf.{facts_of}
 use Rattle.router_core.specs.declared.fate.PeerFate.{PeerFate}
 use Rattle.bus_view.specs.Views.{Knowledge}
 use Rattle.router_core.specs.Answers.{Heard, Says, Refuses, HearsVerdict}

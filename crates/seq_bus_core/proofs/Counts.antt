@@ -43,7 +43,7 @@ few_slots limit connections differ below =
 abbrev pub OfQueue : (Queue → ℕ) → OwnedName → ℕ
 OfQueue g n = g n.queue
 
-kept_sum : (g : Queue → ℕ) → g [] ≡ 0 → (name : Text) (queue : Queue) → sum_by (OfQueue g) (kept_name name queue) ≡ g queue
+pub kept_sum : (g : Queue → ℕ) → g [] ≡ 0 → (name : Text) (queue : Queue) → sum_by (OfQueue g) (kept_name name queue) ≡ g queue
 kept_sum g none name [] = sym none
 kept_sum g none name (owner ∷ waiting) = omega arith
 

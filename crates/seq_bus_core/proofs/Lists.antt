@@ -2,11 +2,8 @@
 use Rattle.std.proofs.Common.{◌≡◌, Bool, true, false, Some, None, List, [], ◌∷◌, ◌++◌, map, refl, sym, ap, ◌∙◌, subst, inl, inr}
 use Rattle.std.specs.List.{AllByRecursion as Each, filter, list_all, list_any, find}
 use Rattle.std.proofs.lemmas.Bool.{cond_both, true≢false, or_from, or_parts, or_left, or_right, or_cases, and_parts, and_from}
+pub use Rattle.match_rules.proofs.Lists.{each_weaker}
 use Rattle.seq_bus_core.specs.Consistency.{Pairwise}
-
-pub each_weaker : {X : Type 0} (P Q : X → Type 0) → ((x : X) → P x → Q x) → (xs : List X) → Each P xs → Each Q xs
-each_weaker P Q weaker [] h = tt
-each_weaker P Q weaker (x ∷ xs) h = (weaker x h.0, each_weaker P Q weaker xs h.1)
 
 pub each_both : {X : Type 0} (P Q S : X → Type 0) → ((x : X) → P x → Q x → S x) → (xs : List X) → Each P xs → Each Q xs → Each S xs
 each_both P Q S both [] h k = tt

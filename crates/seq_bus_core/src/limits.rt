@@ -34,7 +34,8 @@ pub const MAX_TICKETS: usize = 512;
 /// names as one may have gives up each, with three signals, and its unique name with two.
 pub const MAX_SIGNALS: usize = 194;
 
-/// The last number that a connection, a ticket or a start can have.
+/// The last number that a connection, a ticket or a start can have, and the most changes of a
+/// history.
 pub const MAX_NUMBER: u64 = 9_223_372_036_854_775_808;
 
 /// The most changes of one batch.

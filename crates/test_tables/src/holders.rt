@@ -1,7 +1,8 @@
 //! What waits for names: it is held in order of arrival, and comes out once.
 
-use activation::{Fate, Given, Holder, MAX_HELD};
+use activation::{Fate, Given, Holder};
 use names::BusName;
+use seq_bus_core::limits::MAX_TICKETS;
 use std::alloc::Global;
 use std::process::Abort;
 use test_support::once_more;
@@ -145,7 +146,7 @@ fn as_many_as_there_is_room_for(rt: HostRuntime) {
     let mut holder = new_holder(&rt, rt.alloc());
     let even = name_of(&rt, S);
     let odd = name_of(&rt, T);
-    for what in 0..MAX_HELD as u64 {
+    for what in 0..MAX_TICKETS as u64 {
         assert!(rt; holder.has_room(), "{what}");
         let name = if what % 2 == 0 { even } else { odd };
         holder.hold(name, what);
@@ -154,7 +155,7 @@ fn as_many_as_there_is_room_for(rt: HostRuntime) {
     holder.release_all(&odd);
     // What was let go takes room until it is handed out.
     assert!(rt; !holder.has_room());
-    for what in 0..MAX_HELD as u64 / 2 {
+    for what in 0..MAX_TICKETS as u64 / 2 {
         let given = holder.next_given();
         let expected = Given {
             fate: Fate::Released,

@@ -7,9 +7,10 @@ ghost use Rattle.trace_check_core.specs.Verdicts.{follows, out_of_order};
 
 use crate::kept_line::KeptLine;
 use crate::trace::Trace;
+use seq_bus_core::limits::MAX_ROUTERS;
 
 /// The most seats: the main thread's, and one for each router.
-const SEATS: usize = 9;
+const SEATS: usize = MAX_ROUTERS as usize + 1;
 
 /// The lines of a seat so far.
 #[derive(Clone, Copy)]

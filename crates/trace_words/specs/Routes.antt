@@ -5,6 +5,7 @@ use Rattle.names.specs.Interface.{interface_fault}
 use Rattle.names.specs.Member.{member_fault}
 use Rattle.names.specs.ObjectPath.{object_path_fault}
 use Rattle.match_rules.specs.Facts.{Argument, StringArgument, PathArgument, OtherArgument, Facts}
+use Rattle.match_rules.specs.Keys.{max_arguments}
 use Rattle.match_rules.specs.declared.kind.MessageKind.{MessageKind}
 use Rattle.match_rules.specs.declared.kind.MessageKind.TheVariants.{MethodCall, MethodReturn, Error, Signal}
 use Rattle.trace_words.specs.Hex.{bytes_of, utf8_of}
@@ -32,9 +33,6 @@ abbrev pub is_member : Text → Bool
 is_member word = is_none (member_fault word)
 
 -- ## Arguments
-
-abbrev pub max_arguments : ℕ
-max_arguments = 64
 
 abbrev pub string_in : Text → Option Argument
 string_in word = option_map StringArgument (option_and_then utf8_of (bytes_of word))

@@ -1,6 +1,7 @@
 //! The arguments of a message.
 
 ghost use Rattle.std.specs.Prelude.{◌≡◌, ◌≤◌, [], length, option_map, map, IfOk, IfSome, string_bytes, option_and_then};
+ghost use Rattle.match_rules.specs.Keys.{max_arguments};
 ghost use Rattle.trace_words.specs.KeptArguments.{kept_argument};
 ghost use Rattle.trace_words.specs.Cutting.{parts_left};
 ghost use Rattle.trace_words.specs.Routes.{argument_in, argument_of, arguments_from, arguments_of, is_path, path_in_hex, string_in};
@@ -10,11 +11,9 @@ use crate::kept::KeptArgument;
 use crate::parts::Parts;
 use crate::rules::bytes;
 use crate::texts::utf8;
+use match_rules::MAX_ARGUMENTS;
 use names::ObjectPath;
 use std::alloc::{AllocError, Global};
-
-/// The most arguments of a line.
-const MAX_ARGUMENTS: usize = 64;
 
 /// Whether a word is an object path.
 pub(crate) fn is_path(word: &str) -> bool
@@ -96,7 +95,7 @@ fn arguments_in(
 ) -> Result<Option<Vec<KeptArgument>>, AllocError>
     ensures read { IfOk result (λ arguments. option_map (λ a. map kept_argument a.items) arguments
         ≡ arguments_from [] (parts_left words.entry)) }
-    ensures few { IfOk result (λ arguments. IfSome arguments (λ a. length a.items ≤ 64)) }
+    ensures few { IfOk result (λ arguments. IfSome arguments (λ a. length a.items ≤ max_arguments)) }
 {
     let mut arguments = Vec::new(alloc);
     while let Some(word) = words.take() {
@@ -115,7 +114,7 @@ fn arguments_in(
 pub(crate) fn arguments(alloc: Global, word: &str) -> Result<Option<Vec<KeptArgument>>, AllocError>
     ensures read { IfOk result (λ arguments. option_map (λ a. map kept_argument a.items) arguments
         ≡ arguments_of word.now) }
-    ensures few { IfOk result (λ arguments. IfSome arguments (λ a. length a.items ≤ 64)) }
+    ensures few { IfOk result (λ arguments. IfSome arguments (λ a. length a.items ≤ max_arguments)) }
 {
     if word == "." {
         return Ok(Some(Vec::new(alloc)));

@@ -2,13 +2,14 @@
 
 ghost use Rattle.std.specs.Prelude.{◌≡◌, ◌≤◌, length, map};
 ghost use Rattle.match_rules.specs.FactsView.{argument_of};
+ghost use Rattle.match_rules.specs.Keys.{max_arguments};
 ghost use Rattle.trace_words.specs.KeptArguments.{kept_argument};
 ghost use Rattle.trace_words.specs.RouteViews.{route_facts};
 
 use crate::kept::KeptArgument;
 use crate::route::Route;
 use arrayvec::ArrayVec;
-use match_rules::{Argument, Facts};
+use match_rules::{Argument, Facts, MAX_ARGUMENTS};
 
 impl KeptArgument {
     /// The argument, lent.
@@ -23,8 +24,8 @@ impl KeptArgument {
     }
 }
 
-fn lent_arguments(arguments: &[KeptArgument]) -> ArrayVec<Argument<'_>, 64>
-    requires { length arguments.now ≤ 64 }
+fn lent_arguments(arguments: &[KeptArgument]) -> ArrayVec<Argument<'_>, MAX_ARGUMENTS>
+    requires { length arguments.now ≤ max_arguments }
     ensures { map argument_of result.items ≡ map kept_argument arguments.now }
 {
     let mut lent = ArrayVec::new();
@@ -36,7 +37,7 @@ fn lent_arguments(arguments: &[KeptArgument]) -> ArrayVec<Argument<'_>, 64>
 
 impl Route<'_> {
     /// The arguments that match rules look at.
-    pub fn arguments(&self) -> ArrayVec<Argument<'_>, 64>
+    pub fn arguments(&self) -> ArrayVec<Argument<'_>, MAX_ARGUMENTS>
         ensures { map argument_of result.items ≡ (route_facts self.now).arguments }
     {
         lent_arguments(self.arguments.as_slice())

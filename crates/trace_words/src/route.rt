@@ -1,6 +1,7 @@
 //! A message that was routed.
 
 ghost use Rattle.std.specs.Prelude.{◌≤◌, length};
+ghost use Rattle.match_rules.specs.Keys.{max_arguments};
 
 use crate::kept::KeptArgument;
 use match_rules::MessageKind;
@@ -17,7 +18,7 @@ pub struct Route<'a> {
     pub interface: Option<&'a str>,
     pub member: Option<&'a str>,
     pub destination: Option<&'a str>,
-    /// The first arguments.
+    /// The first arguments, those that match rules can look at.
     pub arguments: Vec<KeptArgument>,
-    ghost few: { length arguments.items ≤ 64 },
+    ghost few: { length arguments.items ≤ max_arguments },
 }

@@ -2,7 +2,7 @@ use Rattle.std.proofs.Common.{◌≡◌, ◌∙◌, inl, subst, sym, ap}
 use Rattle.names.specs.UniqueName.{IsUniqueName, unique_text}
 use Rattle.marshal_core.specs.Spelling.{IsString}
 use Rattle.message_core.proofs.NameTexts.{name_string}
-use Rattle.driver.specs.OwnMessages.{owner_text}
+use Rattle.seq_bus_core.specs.Steps.{owner_text}
 use Rattle.driver.proofs.strings.put_owner.Goals as goal
 
 pub returns-in-Some-clause-string : goal.returns-in-Some-clause-string

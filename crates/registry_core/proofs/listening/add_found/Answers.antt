@@ -3,7 +3,7 @@ use Rattle.match_index.specs.Sets.{is_in}
 use Rattle.seq_bus_core.specs.declared.connection.Conn.{Conn}
 use Rattle.registry_core.specs.Listening.{stays}
 use Rattle.registry_core.specs.declared.connection_entry.ConnectionEntry.{ConnectionEntry}
-use Rattle.registry_core.proofs.Places.{few_done}
+use Rattle.monitor.proofs.Places.{few_done}
 use Rattle.registry_core.proofs.listening.add_found.Goals as goal
 
 pub push-requires : goal.push-requires
