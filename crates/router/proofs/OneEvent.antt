@@ -1,8 +1,11 @@
 -- One event over a bus of one thread.
 use Rattle.std.proofs.Common.{◌≡◌, ℕ, Bool, List, Result, Ok, Err, IfOk, OnErr, ap, subst}
 use Rattle.seq_bus_core.specs.Histories.{History}
+use Rattle.bus_view.specs.declared.view.BusView.{Ghosts as BusView}
+use Rattle.bus_view.specs.Views.{Knowledge}
 use Rattle.router_core.specs.declared.action.Action.{Action}
 use Rattle.router_core.specs.declared.event.Event.{Event}
+use Rattle.router_core.specs.declared.gate.Gate.{Ghosts as Gate}
 use Rattle.router_core.specs.Acts.{State, Brings, IsServedBy}
 use Rattle.router_core.specs.Deeds.{GatedCall}
 use Rattle.router_core.specs.Events.{occasion_of}
@@ -11,10 +14,17 @@ use Rattle.router_core.proofs.Functions.{one_thread_is_a_function}
 use Rattle.router_core.proofs.Registries.{notes_are_own}
 use Rattle.router.specs.OneEvent.{IsServedWell, rest_in}
 
+-- a view and a gate of these relations
+abbrev pub view_of : {N : Type 0} → (N → History) → (N → ℕ) → Bool → BusView Knowledge N (Unit {0})
+view_of told registry_of alone = record { alone = alone; knows = λ knowledge. knowledge; told = told; registry_of = registry_of }
+
+abbrev pub gate_of : {G : Type 0} → (G → GatedCall → G → Type 0) → Gate G
+gate_of passes = record { passes = passes }
+
 pub served_well : {N G : Type 0} (told : N → History) (registry_of : N → ℕ) (passes : G → GatedCall → G → Type 0) (alone : Bool) (before after : State G) (event : Event N) (actions : List (Action N)) →
     Brings told registry_of passes alone before event actions after → IsServedWell told passes alone before event actions after
 served_well told registry_of passes alone before after event actions brings =
-    let h = answers_are_lawful told registry_of passes alone before after event actions brings in
+    let h = answers_are_lawful (view_of told registry_of alone) (gate_of passes) before after event actions brings in
     record {
       served = h;
       one_thread = λ is_alone granted readers read.
@@ -25,5 +35,5 @@ served_well told registry_of passes alone before after event actions brings =
 -- the registry that the view is of stays, whether the event was served or refused
 pub registry_stays : {N G T E : Type 0} (told : N → History) (registry_of : N → ℕ) (passes : G → GatedCall → G → Type 0) (alone : Bool) (before after : State G) (event : Event N) (actions_in : T → List (Action N)) (r : Result T E) →
     IfOk r (λ x. Brings told registry_of passes alone before event (actions_in x) after) → OnErr r (after ≡ before) → after.view.registry ≡ before.view.registry
-registry_stays told registry_of passes alone before after event actions_in (Ok x) brings same = (notes_are_own told registry_of passes alone before after event (actions_in x) brings).0
+registry_stays told registry_of passes alone before after event actions_in (Ok x) brings same = (notes_are_own (view_of told registry_of alone) (gate_of passes) before after event (actions_in x) brings).0
 registry_stays {G = G} told registry_of passes alone before after event actions_in (Err e) brings same = ap (λ (s : State G). s.view.registry) same

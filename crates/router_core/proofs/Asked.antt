@@ -10,6 +10,8 @@ use Rattle.router_core.specs.declared.action.Action.{Action}
 use Rattle.router_core.specs.Acts.{Exchange, Changed, ChangedAll, Asked, Routed, Looked, Noted, Fronted, Called, Gated, Wanted, Goes, IsLawful, gated_in, world_of}
 use Rattle.router_core.specs.Deeds.{Deed, GatedCall, PassesAll, Puts, announced, announcement, put_of, put_to, AreDoneBy}
 use Rattle.router_core.specs.Events.{script, occasion_of}
+use Rattle.bus_view.specs.declared.view.BusView.{Ghosts as BusView}
+use Rattle.router_core.specs.declared.gate.Gate.{Ghosts as Gate}
 use Rattle.router_core.specs.Laws.{AnswersAreLawful}
 use Rattle.router_core.specs.Scripts.{Script, Gives, Changing, ChangingAll, Asking, Routing, Looking, Noting, Fronting, Calling, Gating, Wanting, Requiring, Doing, Announcing, World, Comes, knowing}
 use Rattle.router_core.proofs.Knowing.{seat_kept, change_home, changes_home, answer_home, verdict_home, present_home, note_home}
@@ -224,13 +226,13 @@ listed {N = N} {G = G} told registry_of passes alone (Announcing signals s) w x 
       shown = subst (λ (z : World N G). PassesAll passes z.gate (gated_in z.view.seat l.asked) v.gate) p.1.rest l.shown;
     }
 
-pub answers_are_lawful : {N G : Type 0} (told : N → History) (registry_of : N → ℕ) (passes : G → GatedCall → G → Type 0) (alone : Bool) → AnswersAreLawful told registry_of passes alone
-answers_are_lawful told registry_of passes alone before after event actions brings =
-    let l = listed told registry_of passes alone (script before.standing (occasion_of told event)) (world_of before) after.standing brings.ends brings.comes in
+pub answers_are_lawful : {V N R G : Type 0} (view : BusView V N R) (gate : Gate G) → AnswersAreLawful view gate
+answers_are_lawful view gate before after event actions brings =
+    let l = listed view.told view.registry_of gate.passes view.alone (script before.standing (occasion_of view.told event)) (world_of before) after.standing brings.ends brings.comes in
     record {
       asked = l.asked;
       deeds = l.deeds;
-      served = record { goes = l.goes; lawful = subst (λ k. IsLawful alone before.view l.asked k) (sym brings.view) l.lawful };
-      shown = subst (λ gate. PassesAll passes before.gate (gated_in before.view.seat l.asked) gate) (sym brings.gate) l.shown;
+      served = record { goes = l.goes; lawful = subst (λ k. IsLawful view.alone before.view l.asked k) (sym brings.view) l.lawful };
+      shown = subst (λ shown. PassesAll gate.passes before.gate (gated_in before.view.seat l.asked) shown) (sym brings.gate) l.shown;
       done = subst (λ all. AreDoneBy all l.deeds) (sym (brings.done ∙ l.added)) l.done;
     }

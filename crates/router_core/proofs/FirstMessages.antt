@@ -1,7 +1,5 @@
 -- Connections before their Hello, and once they were closed.
 use Rattle.std.proofs.Common.{◌≡◌, ℕ, Bool, true, false, Option, Some, List, [], ◌∷◌, ◌++◌, if◌then◌else◌, refl, sym, ap, ◌∙◌, subst}
-use Rattle.seq_bus_core.specs.Histories.{History}
-use Rattle.router_core.specs.Deeds.{GatedCall}
 use Rattle.seq_bus_core.specs.declared.connection.Conn.{Conn}
 use Rattle.sasl.specs.declared.identity.Identity.{Identity}
 use Rattle.sasl.specs.declared.phase.Phase.{Phase}
@@ -11,8 +9,10 @@ use Rattle.sasl.specs.Conversations.{State as AuthState}
 use Rattle.sasl.specs.Hearing.{Conversed, conversed}
 use Rattle.router_core.specs.Events.{Gathered, gathering, gather_at, none_gathered, turning, coming_next, next_at, for_peer, hearing, answering, conversed_to, converse_if, is_user, closing, greet, serve_named}
 use Rattle.router_core.specs.declared.cause.CloseCause.TheVariants.{NotHello, MonitorSent}
+use Rattle.bus_view.specs.declared.view.BusView.{Ghosts as BusView}
+use Rattle.router_core.specs.declared.gate.Gate.{Ghosts as Gate}
 use Rattle.router_core.specs.Laws.{IsClosing, HasNotBegun, ClosedAreNotServed, ClosedHaveNoTurn, ClosedTakeNothing, ClosedGetNoMail, NobodySpeaksBeforeBegin, NobodyHasATurnBeforeBegin, OnlyBeginBegins, UnknownTypesBringNothing, OnlyHelloGreets, MonitorsSendNothing}
-use Rattle.router_core.specs.Scripts.{Script, Gives, and_then, World, Comes}
+use Rattle.router_core.specs.Scripts.{Script, Gives, and_then, World, RunsTo}
 use Rattle.router_core.specs.Standing.{Authenticating, Unnamed, Closing, Peer, Standing, peer_at, with_peer}
 
 pub closed_are_not_served : ClosedAreNotServed
@@ -47,8 +47,8 @@ nobody_has_a_turn_before_begin s [] all = refl
 nobody_has_a_turn_before_begin s (key ∷ keys) all =
     ap (λ (g : Script Gathered). and_then g (λ (r : Gathered). turning r.joints keys r.served r.standing)) (not_begun s key all.0.0 all.0.1 all.0.2 all.0.3) ∙ nobody_has_a_turn_before_begin s keys all.1
 
-pub only_begin_begins : {N G : Type 0} (told : N → History) (registry_of : N → ℕ) (passes : G → GatedCall → G → Type 0) (alone : Bool) → OnlyBeginBegins told registry_of passes alone
-only_begin_begins {N = N} {G = G} told registry_of passes alone p q key piece setting state privileged w v comes begun = by_grant comes.0 comes.1
+pub only_begin_begins : {V N R G : Type 0} (view : BusView V N R) (gate : Gate G) → OnlyBeginBegins view gate
+only_begin_begins {N = N} {G = G} view gate p q key piece setting state privileged w v comes begun = by_grant comes.0 comes.1
   where
     said : Conversed
     said = conversed setting state [] (p.unread ++ piece)
@@ -62,7 +62,7 @@ only_begin_begins {N = N} {G = G} told registry_of passes alone p q key piece se
     goes_on : q.stage ≡ Authenticating setting said.state → HasBegun
     goes_on is = let never : Authenticating setting said.state ≡ Unnamed privileged = sym is ∙ begun in absurd (cc)
 
-    by_phase : (phase : Phase) → said.state.phase ≡ phase → (m : World N G) → Comes told registry_of passes alone (conversed_to key setting said phase p) m q v → HasBegun
+    by_phase : (phase : Phase) → said.state.phase ≡ phase → (m : World N G) → RunsTo view gate (conversed_to key setting said phase p) m q v → HasBegun
     by_phase (Done identity) is m came =
         let same : Unnamed (is_user identity) ≡ Unnamed privileged = sym (ap (λ (r : Peer). r.stage) came.0) ∙ begun in
         (identity, is, cc)
@@ -72,23 +72,23 @@ only_begin_begins {N = N} {G = G} told registry_of passes alone p q key piece se
     by_phase (WaitingForData due) is m came = goes_on (ap (λ (r : Peer). r.stage) came.0)
     by_phase (WaitingForBegin identity) is m came = goes_on (ap (λ (r : Peer). r.stage) came.0)
 
-    by_sent : (sent : List ℕ) (m : World N G) → Comes told registry_of passes alone (answering key sent (conversed_to key setting said said.state.phase p)) m q v → HasBegun
+    by_sent : (sent : List ℕ) (m : World N G) → RunsTo view gate (answering key sent (conversed_to key setting said said.state.phase p)) m q v → HasBegun
     by_sent [] m came = by_phase said.state.phase refl m came
     by_sent (b ∷ bytes) m came = by_phase said.state.phase refl came.0 came.2
 
-    by_grant : (granted : Bool) → Comes told registry_of passes alone (converse_if key setting said p granted) w q v → HasBegun
+    by_grant : (granted : Bool) → RunsTo view gate (converse_if key setting said p granted) w q v → HasBegun
     by_grant true came = by_sent said.sent w came
     by_grant false came = stays_closed _ (ap (λ (r : Peer). r.stage) came.2.0)
 
 pub unknown_types_bring_nothing : UnknownTypesBringNothing
 unknown_types_bring_nothing m sender unknown = rw unknown refl
 
-pub only_hello_greets : {N G : Type 0} (told : N → History) (registry_of : N → ℕ) (passes : G → GatedCall → G → Type 0) (alone : Bool) → OnlyHelloGreets told registry_of passes alone
-only_hello_greets told registry_of passes alone s t key m p privileged w v other comes =
-    let closed : Comes told registry_of passes alone (for_peer s key (Some p) (closing key NotHello)) w t v = subst (λ b. Comes told registry_of passes alone (if b then greet s key m p privileged else for_peer s key (Some p) (closing key NotHello)) w t v) other comes in
+pub only_hello_greets : {V N R G : Type 0} (view : BusView V N R) (gate : Gate G) → OnlyHelloGreets view gate
+only_hello_greets view gate s t key m p privileged w v other comes =
+    let closed : RunsTo view gate (for_peer s key (Some p) (closing key NotHello)) w t v = subst (λ b. RunsTo view gate (if b then greet s key m p privileged else for_peer s key (Some p) (closing key NotHello)) w t v) other comes in
     (closed.2.0, (closed.1.action, closed.1.done, closed.2.1 ∙ closed.1.rest))
 
-pub monitors_send_nothing : {N G : Type 0} (told : N → History) (registry_of : N → ℕ) (passes : G → GatedCall → G → Type 0) (alone : Bool) → MonitorsSendNothing told registry_of passes alone
-monitors_send_nothing told registry_of passes alone s t key m p conn w v watches comes =
-    let closed : Comes told registry_of passes alone (for_peer s key (Some p) (closing key MonitorSent)) w t v = subst (λ b. Comes told registry_of passes alone (serve_named s key m p conn b) w t v) watches comes in
+pub monitors_send_nothing : {V N R G : Type 0} (view : BusView V N R) (gate : Gate G) → MonitorsSendNothing view gate
+monitors_send_nothing view gate s t key m p conn w v watches comes =
+    let closed : RunsTo view gate (for_peer s key (Some p) (closing key MonitorSent)) w t v = subst (λ b. RunsTo view gate (serve_named s key m p conn b) w t v) watches comes in
     (closed.2.0, (closed.1.action, closed.1.done, closed.2.1 ∙ closed.1.rest))

@@ -12,6 +12,8 @@ use Rattle.router_core.specs.declared.action.Action.TheVariants.{Write, Put, Clo
 use Rattle.router_core.specs.Acts.{world_of}
 use Rattle.router_core.specs.Deeds.{GatedCall, announcement, put_of, IsFurthest, CarriesFurthest, CarriesOwn}
 use Rattle.router_core.specs.Events.{script, occasion_of}
+use Rattle.bus_view.specs.declared.view.BusView.{Ghosts as BusView}
+use Rattle.router_core.specs.declared.gate.Gate.{Ghosts as Gate}
 use Rattle.router_core.specs.Laws.{NotesAreOwn}
 use Rattle.router_core.specs.Scripts.{Script, Gives, Changing, ChangingAll, Asking, Routing, Looking, Noting, Fronting, Calling, Gating, Wanting, Requiring, Doing, Announcing, World, Comes}
 use Rattle.router_core.proofs.Knowing.{home, registry_kept, change_home, changes_home, answer_home, verdict_home, present_home, note_home}
@@ -102,9 +104,9 @@ module _ {N G : Type 0} (told : N → History) (registry_of : N → ℕ) (passes
         own = own_announced told registry_of alone w.view signals p.1.note k.actions p.1.carries (subst (λ n. AllByRecursion (CarriesOwn registry_of n) k.actions) registry k.own);
       }
 
-pub notes_are_own : {N G : Type 0} (told : N → History) (registry_of : N → ℕ) (passes : G → GatedCall → G → Type 0) (alone : Bool) → NotesAreOwn told registry_of passes alone
-notes_are_own told registry_of passes alone before after event actions brings =
-    let k = keeps_own told registry_of passes alone after.standing brings.ends (script before.standing (occasion_of told event)) (world_of before) brings.comes in (
-      ap (λ (view : Knowledge). view.registry) brings.view ∙ k.registry,
-      subst (λ all. AllByRecursion (CarriesOwn registry_of before.view.registry) all) (sym (brings.done ∙ k.added)) k.own,
+pub notes_are_own : {V N R G : Type 0} (view : BusView V N R) (gate : Gate G) → NotesAreOwn view gate
+notes_are_own view gate before after event actions brings =
+    let k = keeps_own view.told view.registry_of gate.passes view.alone after.standing brings.ends (script before.standing (occasion_of view.told event)) (world_of before) brings.comes in (
+      ap (λ (known : Knowledge). known.registry) brings.view ∙ k.registry,
+      subst (λ all. AllByRecursion (CarriesOwn view.registry_of before.view.registry) all) (sym (brings.done ∙ k.added)) k.own,
     )

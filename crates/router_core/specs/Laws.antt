@@ -2,8 +2,8 @@
 use Rattle.std.specs.Prelude.{◌≡◌, ℕ, ◌<◌, Bool, true, false, Option, Some, is_some, List, [], ◌∷◌, ◌++◌, length, count_by}
 use Rattle.std.specs.List.{AllByRecursion}
 use Rattle.match_rules.specs.Kinds.{kind_of}
-use Rattle.seq_bus_core.specs.Histories.{History}
 use Rattle.seq_bus_core.specs.declared.connection.Conn.{Conn}
+use Rattle.bus_view.specs.declared.view.BusView.{Ghosts as BusView}
 use Rattle.sasl.specs.declared.identity.Identity.{Identity}
 use Rattle.sasl.specs.declared.phase.Phase.TheVariants.{Done}
 use Rattle.sasl.specs.Settings.{Setting}
@@ -14,11 +14,12 @@ use Rattle.driver.specs.Calls.{is_hello}
 use Rattle.router_core.specs.declared.cause.CloseCause.TheVariants.{NotHello, MonitorSent}
 use Rattle.router_core.specs.declared.action.Action.{Action}
 use Rattle.router_core.specs.declared.event.Event.{Event}
-use Rattle.router_core.specs.Acts.{State, Brings, IsServed, IsServedBy, Exchange, IsGranted}
-use Rattle.router_core.specs.Deeds.{Deed, Closes, GatedCall, IsDoneBy, CarriesOwn}
+use Rattle.router_core.specs.declared.gate.Gate.{Ghosts as Gate}
+use Rattle.router_core.specs.Acts.{State, BringsBy, IsServed, IsServedBy, Exchange, IsGranted}
+use Rattle.router_core.specs.Deeds.{Deed, Closes, IsDoneBy, CarriesOwn}
 use Rattle.router_core.specs.Events.{Occasion, Bytes, Next, Turn, IsFree, hearing, is_user, script, serve_at}
 use Rattle.router_core.specs.OneThread.{Readers, Rest, given, rest_after, bus_bytes, AreReadBy, IsRun}
-use Rattle.router_core.specs.Scripts.{Gives, World, having_done, Comes}
+use Rattle.router_core.specs.Scripts.{Gives, World, having_done, RunsTo}
 use Rattle.router_core.specs.Serving.{serving, is_unknown, stays_open}
 use Rattle.router_core.specs.Standing.{Authenticating, Unnamed, Named, Closing, Peer, Standing, peer_at, with_peer, opened, closing_peer, is_conn}
 
@@ -57,9 +58,9 @@ NobodyHasATurnBeforeBegin = (s : Standing) (keys : List ℕ) → AllByRecursion 
     script s (Turn keys) ≡ Gives s
 
 -- It goes on to its messages only where its conversation is done, and it is the bus's own user only where it knows the cookie.
-abbrev pub OnlyBeginBegins : {N G : Type 0} → (N → History) → (N → ℕ) → (G → GatedCall → G → Type 0) → Bool → Type 0
-OnlyBeginBegins {N = N} {G = G} told registry_of passes alone = (p q : Peer) (key : ℕ) (piece : List ℕ) (setting : Setting) (state : AuthState) (privileged : Bool) (w v : World N G) →
-    Comes told registry_of passes alone (hearing key piece p (Authenticating setting state)) w q v → q.stage ≡ Unnamed privileged →
+abbrev pub OnlyBeginBegins : {V N R G : Type 0} → BusView V N R → Gate G → Type 0
+OnlyBeginBegins {N = N} {G = G} view gate = (p q : Peer) (key : ℕ) (piece : List ℕ) (setting : Setting) (state : AuthState) (privileged : Bool) (w v : World N G) →
+    RunsTo view gate (hearing key piece p (Authenticating setting state)) w q v → q.stage ≡ Unnamed privileged →
     (identity : Identity) × ((conversed setting state [] (p.unread ++ piece)).state.phase ≡ Done identity) × (privileged ≡ is_user identity)
 
 -- A message of a type that the standard does not define brings nothing.
@@ -67,15 +68,15 @@ abbrev pub UnknownTypesBringNothing : Type 0
 UnknownTypesBringNothing = (m : Message) (sender : Conn) → is_unknown (kind_of m.kind) ≡ true → serving m sender ≡ stays_open
 
 -- Before its Hello a connection is closed for anything else.
-abbrev pub OnlyHelloGreets : {N G : Type 0} → (N → History) → (N → ℕ) → (G → GatedCall → G → Type 0) → Bool → Type 0
-OnlyHelloGreets {N = N} {G = G} told registry_of passes alone = (s t : Standing) (key : ℕ) (m : Message) (p : Peer) (privileged : Bool) (w v : World N G) →
-    is_hello m ≡ false → Comes told registry_of passes alone (serve_at s key m p (Unnamed privileged)) w t v →
+abbrev pub OnlyHelloGreets : {V N R G : Type 0} → BusView V N R → Gate G → Type 0
+OnlyHelloGreets {N = N} {G = G} view gate = (s t : Standing) (key : ℕ) (m : Message) (p : Peer) (privileged : Bool) (w v : World N G) →
+    is_hello m ≡ false → RunsTo view gate (serve_at s key m p (Unnamed privileged)) w t v →
     (t ≡ with_peer s key (Some (closing_peer p))) × ((action : Action N) × IsDoneBy action (Closes key NotHello) × (v ≡ having_done w (action ∷ [])))
 
 -- A monitor that sends anything is closed for it, and nothing else is done.
-abbrev pub MonitorsSendNothing : {N G : Type 0} → (N → History) → (N → ℕ) → (G → GatedCall → G → Type 0) → Bool → Type 0
-MonitorsSendNothing {N = N} {G = G} told registry_of passes alone = (s t : Standing) (key : ℕ) (m : Message) (p : Peer) (conn : Conn) (w v : World N G) →
-    p.watches ≡ true → Comes told registry_of passes alone (serve_at s key m p (Named conn)) w t v →
+abbrev pub MonitorsSendNothing : {V N R G : Type 0} → BusView V N R → Gate G → Type 0
+MonitorsSendNothing {N = N} {G = G} view gate = (s t : Standing) (key : ℕ) (m : Message) (p : Peer) (conn : Conn) (w v : World N G) →
+    p.watches ≡ true → RunsTo view gate (serve_at s key m p (Named conn)) w t v →
     (t ≡ with_peer s key (Some (closing_peer p))) × ((action : Action N) × IsDoneBy action (Closes key MonitorSent) × (v ≡ having_done w (action ∷ [])))
 
 -- The table of connections grows only where each of its keys has its connection, and then each has.
@@ -85,15 +86,15 @@ OnlyFullTablesGrow = (s : Standing) (key : ℕ) (challenge : Option (List ℕ)) 
 
 -- What an event brings it brings for some answers that the bus may give, one after the other, and the gate is shown the calls among
 -- them, each once.
-abbrev pub AnswersAreLawful : {N G : Type 0} → (N → History) → (N → ℕ) → (G → GatedCall → G → Type 0) → Bool → Type 0
-AnswersAreLawful {N = N} {G = G} told registry_of passes alone = (before after : State G) (event : Event N) (actions : List (Action N)) →
-    Brings told registry_of passes alone before event actions after → IsServed told passes alone before event actions after
+abbrev pub AnswersAreLawful : {V N R G : Type 0} → BusView V N R → Gate G → Type 0
+AnswersAreLawful {N = N} {G = G} view gate = (before after : State G) (event : Event N) (actions : List (Action N)) →
+    BringsBy view gate before event actions after → IsServed view.told gate.passes view.alone before event actions after
 
 -- An event leaves the view of the registry that it was of, and the notes that its actions carry are of that registry.
-abbrev pub NotesAreOwn : {N G : Type 0} → (N → History) → (N → ℕ) → (G → GatedCall → G → Type 0) → Bool → Type 0
-NotesAreOwn {N = N} {G = G} told registry_of passes alone = (before after : State G) (event : Event N) (actions : List (Action N)) →
-    Brings told registry_of passes alone before event actions after →
-    (after.view.registry ≡ before.view.registry) × AllByRecursion (CarriesOwn registry_of before.view.registry) actions
+abbrev pub NotesAreOwn : {V N R G : Type 0} → BusView V N R → Gate G → Type 0
+NotesAreOwn {N = N} {G = G} view gate = (before after : State G) (event : Event N) (actions : List (Action N)) →
+    BringsBy view gate before event actions after →
+    (after.view.registry ≡ before.view.registry) × AllByRecursion (CarriesOwn view.registry_of before.view.registry) actions
 
 -- Over a bus of one thread, where nothing is refused, what an occasion brings is a function of it and of what was read.
 abbrev pub OneThreadIsAFunction : Type 0

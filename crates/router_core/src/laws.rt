@@ -33,7 +33,7 @@ pub fn nobody_speaks_before_begin()
 /// A connection that says who it is goes on to its messages only where its conversation is done,
 /// and is the bus's own user's only where it knows the cookie.
 pub fn only_begin_begins<V: BusView, G: Gate>()
-    ensures { OnlyBeginBegins V.told V.registry_of G.passes V.alone }
+    ensures { OnlyBeginBegins V.BusView G.Gate }
 {}
 
 /// A message of a type that the standard does not define brings nothing.
@@ -46,13 +46,13 @@ pub fn unknown_types_bring_nothing()
 /// done.
 #[tactic(auto, using(crate::proofs::FirstMessages::only_hello_greets))]
 pub fn only_hello_greets<V: BusView, G: Gate>()
-    ensures { OnlyHelloGreets V.told V.registry_of G.passes V.alone }
+    ensures { OnlyHelloGreets V.BusView G.Gate }
 {}
 
 /// A monitor that sends anything is closed for it, and nothing else is done.
 #[tactic(auto, using(crate::proofs::FirstMessages::monitors_send_nothing))]
 pub fn monitors_send_nothing<V: BusView, G: Gate>()
-    ensures { MonitorsSendNothing V.told V.registry_of G.passes V.alone }
+    ensures { MonitorsSendNothing V.BusView G.Gate }
 {}
 
 /// A connection gets the least key that none has. So the table of connections is never longer than
@@ -64,13 +64,13 @@ pub fn only_full_tables_grow()
 
 /// What an event brings is what it brings for some answers that the bus may give.
 pub fn answers_are_lawful<V: BusView, G: Gate>()
-    ensures { AnswersAreLawful V.told V.registry_of G.passes V.alone }
+    ensures { AnswersAreLawful V.BusView G.Gate }
 {}
 
 /// An event leaves the view of the registry that it was of, and the notes that its actions carry
 /// are of that registry: they may be handed to any other engine over a view of it.
 pub fn notes_are_own<V: BusView, G: Gate>()
-    ensures { NotesAreOwn V.told V.registry_of G.passes V.alone }
+    ensures { NotesAreOwn V.BusView G.Gate }
 {}
 
 /// Over a bus of one thread, where nothing is refused, what an event brings is a function of it and

@@ -108,6 +108,11 @@ module _ {P N G : Type 0} (told : N → History) (passes : G → GatedCall → G
     pub done : Each IsDone deeds before after
 
 -- the same by a view, a gate and a post
+abbrev pub IsBroughtBy : {V N R G P : Type 0} → BusView V N R → Gate G → Post P V N R → Hosted P G N →
+    Event N → Hosted P G N → Type 0
+IsBroughtBy view gate post before e after =
+    IsBrought view.told gate.passes view.alone post.puts post.starts before e after
+
 abbrev pub DoesBy : {V N R G P : Type 0} → BusView V N R → Gate G → Post P V N R → Hosted P G N →
     Hosted P G N → Type 0
 DoesBy view gate post before after =

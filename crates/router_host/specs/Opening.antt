@@ -2,11 +2,14 @@
 use Rattle.std.specs.Prelude.{◌≡◌, ◌<◌, ℕ, Bool, Option, None, List, [], ◌++◌, length, replicate}
 use Rattle.seq_bus_core.specs.Histories.{History}
 use Rattle.seq_bus_core.specs.declared.connection.Conn.{Conn}
+use Rattle.bus_view.specs.declared.view.BusView.{Ghosts as BusView}
 use Rattle.outbox_core.specs.declared.envelope.Envelope.{Envelope}
 use Rattle.router_core.specs.declared.action.Action.{Action}
 use Rattle.router_core.specs.declared.event.Event.TheVariants.{Opened}
+use Rattle.router_core.specs.declared.gate.Gate.{Ghosts as Gate}
 use Rattle.router_core.specs.Deeds.{GatedCall}
 use Rattle.router.specs.OneEvent.{IsServedWell}
+use Rattle.router_host_core.specs.declared.post.Post.{Ghosts as Post}
 use Rattle.router_host_core.specs.declared.post.StartRequest.{StartRequest}
 use Rattle.router_host_core.specs.Carrying.{GoesOn, with_line}
 use Rattle.router_host_core.specs.States.{new_line}
@@ -39,3 +42,8 @@ pub record Opens {P N G : Type 0} (told : N → History) (passes : G → GatedCa
       (record between.carried { lines = with_line between.carried.lines key new_line })
       after.undone after.carried
   pub kept : after.kept ≡ between.kept
+
+-- the same by a view, a gate and a post
+abbrev pub OpensBy : {V N R G P : Type 0} → BusView V N R → Gate G → Post P V N R → Hosted P G N → ℕ → Option (List ℕ) →
+    Hosted P G N → Type 0
+OpensBy view gate post before key challenge after = Opens view.told gate.passes view.alone post.puts post.starts before key challenge after

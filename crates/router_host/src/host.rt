@@ -6,7 +6,7 @@ ghost use Rattle.router_host_core.specs.Sockets.{unblocked_at};
 ghost use Rattle.router_core.specs.declared.event.Event.TheVariants.{Child};
 ghost use Rattle.router_host.specs.Doing.{with_lines};
 ghost use Rattle.router_host.specs.Happening.{CatchesUp, HappensBy};
-ghost use Rattle.router_host.specs.Opening.{MakesRoom, Opens};
+ghost use Rattle.router_host.specs.Opening.{MakesRoom, OpensBy};
 
 use crate::kept::Kept;
 use crate::opening::{MOST_UNNAMED, OpenFault, Opened, open};
@@ -131,7 +131,7 @@ impl<V: BusView, G: Gate, P: Post<V>, S: Socket> Host<V, G, P, S> {
         challenge: Option<[u8; 16]>,
     ) -> Result<usize, OpenFault>
         ensures opens { IfOk result (λ key.
-            Opens V.told G.passes V.alone P.puts P.starts self.old key challenge self.new) }
+            OpensBy V.BusView G.Gate P.Post self.old key challenge self.new) }
         ensures err { OnErr result (MakesRoom P.puts P.starts self.old self.new) }
     {
         let Ok(()) = self.catch_up(right) else {

@@ -6,7 +6,7 @@ ghost use Rattle.router_core.specs.Deeds.{CarriesOwn};
 ghost use Rattle.router_core.specs.Events.{CanHappen};
 ghost use Rattle.router_core.specs.declared.event.Event.TheVariants.{Full, Tick};
 ghost use Rattle.router_host_core.specs.Carrying.{GoesOn};
-ghost use Rattle.router_host.specs.Doing.{DoesBy, IsBrought};
+ghost use Rattle.router_host.specs.Doing.{DoesBy, IsBroughtBy};
 ghost use Rattle.router_host.specs.Happening.{CatchesUp, HappensBy, IsSlotBlocked};
 ghost use Rattle.router_host.specs.Keeping.{CanWait};
 
@@ -180,8 +180,7 @@ impl<V: BusView, G: Gate, P: Post<V>, S: Socket> Host<V, G, P, S> {
     /// brought, it is kept for the next turn.
     fn serve(&mut self, right: &V::Right, event: Event<V::Note>) -> Result<(), AllocError>
         requires { CanWait V.registry_of self.old.engine.view.registry event }
-        ensures brought { IsBrought V.told G.passes V.alone P.puts P.starts self.old event
-            self.new }
+        ensures brought { IsBroughtBy V.BusView G.Gate P.Post self.old event self.new }
         ensures ok { OnOk result (self.new.kept ≡ self.old.kept) }
     {
         let mut event = event;

@@ -10,6 +10,7 @@ use Rattle.router_core.specs.Events.{Occasion, Opened, Bytes, Next, Turn, Mail, 
 use Rattle.router_core.specs.OneThread.{keys_after, written_to}
 use Rattle.router_core.specs.Standing.{Standing}
 use Rattle.router_core.proofs.Asked.{answers_are_lawful}
+use Rattle.router.proofs.OneEvent.{gate_of, view_of}
 use Rattle.router_laws.specs.declared.fault.RunFault.{RunFault}
 use Rattle.router_laws.specs.declared.fault.RunFault.TheVariants.{WrongKey, NoLogin, NoTurn, NoMemory}
 use Rattle.router.specs.OneEvent.{rest_in}
@@ -87,7 +88,7 @@ module _ {G : Type 0} (passes : G → GatedCall → G → Type 0) where
       Adds (met (happening event) sent) (λ opening. bytes_by_all opening (met (happening event) sent).keys actions) sends →
       IsTurn passes before sent event after sends
   turn_of before after sent sends event actions brings added =
-      let h = answers_are_lawful (λ _. []) (λ _. 0) passes true before after event actions brings in
+      let h = answers_are_lawful (view_of (λ (note : Unit {0}). []) (λ _. 0) true) (gate_of passes) before after event actions brings in
       let out : Output = met (happening event) sent in
       record {
         turn = record { asked = h.asked; deeds = h.deeds };

@@ -18,6 +18,8 @@ use Rattle.router.proofs.Grants.{granted_parts, read_parts}
 use Rattle.busd_core.specs.OneThread.{asked_all, happened}
 use Rattle.busd_core.specs.Sessions.{Goes, piece_of, asked_in}
 use Rattle.router_laws.proofs.Readers.{AreRight, read_so, readers_of, right_append}
+use Rattle.bus_view.specs.declared.view.BusView.{Ghosts as BusView}
+use Rattle.router_core.specs.declared.gate.Gate.{Ghosts as Gate}
 use Rattle.router_laws.specs.Streams.{StreamsAgree, asked_at, asked_until_gone}
 use Rattle.router_laws.proofs.AtOnce.{AllSettled, all_at_once, arrived, served}
 use Rattle.router_laws.proofs.Extending.{all_right, all_settled, asked_of, bytes_are, extended, extended_all, extended_all_right, happens_right, one_so, serving_is}
@@ -157,9 +159,9 @@ read_both told passes others_pass alone seat key before after start end read wri
     (at_once told passes alone seat key before after read written one is readers granted reads.0 reads.1)
     (at_once told others_pass alone seat key start end read others other is readers also reads_too.0 reads_too.1)
 
-pub streams_agree : {N G H : Type 0} (told : N → History) (passes : G → GatedCall → G → Type 0) (others_pass : H → GatedCall → H → Type 0) (alone : Bool) → StreamsAgree told passes others_pass alone
-streams_agree told passes others_pass alone seat key before after start end read written others one other is same granted also =
-    let one_all : List Exchange = all_of told passes alone seat key before after read written one in
-    let other_all : List Exchange = all_of told others_pass alone seat key start end read others other in
-    let right = right_append one_all other_all (all_of_right told passes alone seat key before after read written one) (all_of_right told others_pass alone seat key start end read others other) in
-    read_both told passes others_pass alone seat key before after start end read written others one other is same granted also (readers_of (one_all ++ other_all)) (read_so (one_all ++ other_all) right)
+pub streams_agree : {V N R G H : Type 0} (view : BusView V N R) (gate : Gate G) (others : Gate H) → StreamsAgree view gate others
+streams_agree view gate others seat key before after start end read written wrote one other is same granted also =
+    let one_all : List Exchange = all_of view.told gate.passes view.alone seat key before after read written one in
+    let other_all : List Exchange = all_of view.told others.passes view.alone seat key start end read wrote other in
+    let right = right_append one_all other_all (all_of_right view.told gate.passes view.alone seat key before after read written one) (all_of_right view.told others.passes view.alone seat key start end read wrote other) in
+    read_both view.told gate.passes others.passes view.alone seat key before after start end read written wrote one other is same granted also (readers_of (one_all ++ other_all)) (read_so (one_all ++ other_all) right)

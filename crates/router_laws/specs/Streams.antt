@@ -1,7 +1,9 @@
 -- Streams over the same input are served alike, however it was cut.
 use Rattle.std.specs.Prelude.{◌≡◌, ℕ, Bool, true, List, ◌++◌}
 use Rattle.seq_bus_core.specs.Histories.{History}
+use Rattle.bus_view.specs.declared.view.BusView.{Ghosts as BusView}
 use Rattle.router_core.specs.declared.event.Event.TheVariants.{Closed}
+use Rattle.router_core.specs.declared.gate.Gate.{Ghosts as Gate}
 use Rattle.router_core.specs.Acts.{Exchange, IsGranted, State}
 use Rattle.router_core.specs.Deeds.{GatedCall}
 use Rattle.router.specs.OneEvent.{rest_in}
@@ -21,9 +23,9 @@ module _ {N G : Type 0} (told : N → History) (passes : G → GatedCall → G �
 
 -- Two streams of a connection that end with the same input, whatever gates are shown the calls. Where nobody else makes changes of the bus
 -- and nothing is refused, the same is written for them, and the engines are left the same.
-abbrev pub StreamsAgree : {N G H : Type 0} → (N → History) → (G → GatedCall → G → Type 0) → (H → GatedCall → H → Type 0) → Bool → Type 0
-StreamsAgree {G = G} {H = H} told passes others_pass alone = (seat key : ℕ) (before after : State G) (start end : State H) (read written others : List ℕ)
-    (one : Goes told passes alone seat key before read written after) (other : Goes told others_pass alone seat key start read others end) →
-    alone ≡ true → rest_in before ≡ rest_in start →
-    IsGranted (asked_until_gone told passes alone seat key one) → IsGranted (asked_until_gone told others_pass alone seat key other) →
-    (written ≡ others) × (rest_in after ≡ rest_in end)
+abbrev pub StreamsAgree : {V N R G H : Type 0} → BusView V N R → Gate G → Gate H → Type 0
+StreamsAgree {G = G} {H = H} view gate others = (seat key : ℕ) (before after : State G) (start end : State H) (read written wrote : List ℕ)
+    (one : Goes view.told gate.passes view.alone seat key before read written after) (other : Goes view.told others.passes view.alone seat key start read wrote end) →
+    view.alone ≡ true → rest_in before ≡ rest_in start →
+    IsGranted (asked_until_gone view.told gate.passes view.alone seat key one) → IsGranted (asked_until_gone view.told others.passes view.alone seat key other) →
+    (written ≡ wrote) × (rest_in after ≡ rest_in end)

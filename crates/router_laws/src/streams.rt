@@ -9,7 +9,7 @@
 //!
 //! /// Behind the same gate it makes no difference how the bytes came.
 //! fn may_be_cut_otherwise<V: BusView, G: Gate>()
-//!     ensures { StreamsAgree V.told G.passes G.passes V.alone }
+//!     ensures { StreamsAgree V.BusView G.Gate G.Gate }
 //! {
 //!     streams_agree::<V, G, G>();
 //! }
@@ -24,5 +24,5 @@ use router_core::Gate;
 /// the bytes came and whenever the messages in them were served, where nobody else makes changes of
 /// the bus and nothing is refused.
 pub fn streams_agree<V: BusView, G: Gate, H: Gate>()
-    ensures { StreamsAgree V.told G.passes H.passes V.alone }
+    ensures { StreamsAgree V.BusView G.Gate H.Gate }
 {}

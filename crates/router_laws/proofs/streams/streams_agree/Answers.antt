@@ -3,4 +3,4 @@ use Rattle.router_laws.proofs.Ending.{streams_agree}
 
 -- src/streams.rt:26:1
 pub returns : goal.returns
-returns g c = streams_agree g.V.BusView.told g.G.Gate.passes g.H.Gate.passes g.V.BusView.alone
+returns g c = streams_agree g.V.BusView g.G.Gate g.H.Gate

@@ -12,7 +12,7 @@ returns-clause-served g c =
 pub returns-clause-notes : goal.returns-clause-notes
 returns-clause-notes g c =
     IfOk-weaker c.serve.result _ _
-    (λ actions brought. (notes_are_own g.V.BusView.told g.V.BusView.registry_of g.G.Gate.passes g.V.BusView.alone c.args.self.now c.serve.new.self c.args.event.now actions.items brought).1)
+    (λ actions brought. (notes_are_own g.V.BusView g.G.Gate c.args.self.now c.serve.new.self c.args.event.now actions.items brought).1)
     c.serve.ensures.brings
 
 pub returns-clause-registry : goal.returns-clause-registry
