@@ -172,7 +172,7 @@ impl<V: BusView, G: Gate> Context<V, G> {
     }
 
     /// Writes a message of another connection to the connection of this key.
-    pub fn write(&mut self, key: usize, bytes: WrittenBytes)
+    pub(crate) fn write(&mut self, key: usize, bytes: WrittenBytes)
         requires { 0 < self.old.room }
         ensures does { Performs V.BusView (Writes key bytes) self.old.world self.new.world }
         ensures room { self.new.room + 1 ≡ self.old.room }
@@ -181,7 +181,7 @@ impl<V: BusView, G: Gate> Context<V, G> {
     }
 
     /// Writes a message of the bus to the connection of this key.
-    pub fn send(&mut self, key: usize, message: WrittenBytes)
+    pub(crate) fn send(&mut self, key: usize, message: WrittenBytes)
         requires { 0 < self.old.room }
         ensures does { (m : Message) → IsWritten message m →
             Performs V.BusView (Sends key m) self.old.world self.new.world }
@@ -195,7 +195,7 @@ impl<V: BusView, G: Gate> Context<V, G> {
     }
 
     /// Closes the connection of this key.
-    pub fn close(&mut self, key: usize, cause: CloseCause)
+    pub(crate) fn close(&mut self, key: usize, cause: CloseCause)
         requires { 0 < self.old.room }
         ensures does { Performs V.BusView (Closes key cause) self.old.world self.new.world }
         ensures room { self.new.room + 1 ≡ self.old.room }
@@ -225,7 +225,7 @@ impl<V: BusView, G: Gate> Context<V, G> {
 
     /// Puts a message to the recipients of a verdict and to the monitors, each once; to nobody it
     /// is not put. Where they are several, the verdict goes out with it.
-    pub fn put_to(&mut self, verdict: Box<Verdict>, content: Content)
+    pub(crate) fn put_to(&mut self, verdict: Box<Verdict>, content: Content)
         requires { 0 < self.old.room }
         ensures comes { RunsTo V.BusView G.Gate
             (putting (deliveries_of verdict.value.to verdict.value.monitors) (said_of content)
@@ -346,7 +346,7 @@ impl<V: BusView, G: Gate> Context<V, G> {
     }
 
     /// Asks whether there is a connection of this number.
-    pub fn is_present(&mut self, number: u64) -> Result<bool, Gone>
+    pub(crate) fn is_present(&mut self, number: u64) -> Result<bool, Gone>
         ensures looks { Looks V.alone number self.old.world (heard_present result) self.new.world }
         ensures room { self.new.room ≡ self.old.room }
     {
@@ -366,7 +366,7 @@ impl<V: BusView, G: Gate> Context<V, G> {
     }
 
     /// Takes in what another router told.
-    pub fn take_note(&mut self, note: &V::Note)
+    pub(crate) fn take_note(&mut self, note: &V::Note)
         requires { V.registry_of note.now ≡ self.old.world.view.registry }
         ensures takes { Takes V.alone (V.told note.now) self.old.world self.new.world }
         ensures room { self.new.room ≡ self.old.room }

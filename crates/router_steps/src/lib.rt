@@ -50,7 +50,7 @@ pub use context::Context;
 pub use first::HelloCall;
 pub use hello_errors::HelloErrors;
 pub use incoming::Incoming;
-pub use mail::{bytes_of, serial_after};
+pub use mail::bytes_of;
 pub use peer::{Peer, Stage};
 pub use replies::is_method_call;
 pub use upcoming::Upcoming;

@@ -42,7 +42,7 @@ pub fn bytes_of(alloc: Global, content: &Content, serial: u32) -> Result<Written
 impl<V: BusView, G: Gate> Context<V, G> {
     /// Writes to a connection what an envelope brings.
     #[tactic(auto, using(crate::proofs::Delivering::relays))]
-    pub fn write_mail(
+    pub(crate) fn write_mail(
         &mut self,
         key: usize,
         peer: &mut Peer,
@@ -78,7 +78,7 @@ impl<V: BusView, G: Gate> Context<V, G> {
 
     /// Takes the note of an envelope, and writes to its connection what it brings. Without memory
     /// nothing changes.
-    pub fn deliver(
+    pub(crate) fn deliver(
         &mut self,
         alloc: Global,
         key: usize,

@@ -236,7 +236,7 @@ impl<V: BusView, G: Gate> Context<V, G> {
     }
 
     /// Closes a connection that has left.
-    pub fn look_after(&mut self, key: usize, peer: &mut Peer)
+    pub(crate) fn look_after(&mut self, key: usize, peer: &mut Peer)
         requires { 0 < self.old.room }
         ensures comes { RunsTo V.BusView G.Gate (look key peer.old peer.old.stage)
             self.old.world peer.new self.new.world }

@@ -46,7 +46,7 @@ impl<V: BusView, G: Gate> Context<V, G> {
     /// Releases a call that waited for a name, once the name has this owner. The call is put to the
     /// owner, its bytes as they are held; StartServiceByName is answered that the service was
     /// started.
-    pub fn release(&mut self, owner: Conn, ticket: Ticket)
+    pub(crate) fn release(&mut self, owner: Conn, ticket: Ticket)
         requires { 0 < self.old.room }
         ensures comes { RunsTo V.BusView G.Gate (releasing owner ticket ticket.message)
             self.old.world tt self.new.world }

@@ -62,7 +62,7 @@ impl<V: BusView, G: Gate> Context<V, G> {
     }
 
     /// Tells a connection a message of the bus. The monitors are shown it too.
-    pub fn tell(&mut self, conn: Conn, own: BusMessage)
+    pub(crate) fn tell(&mut self, conn: Conn, own: BusMessage)
         requires room { 0 < self.old.room }
         requires spare_verdicts { 0 < self.old.spare_verdicts }
         ensures comes { RunsTo V.BusView G.Gate (telling conn (own_of own))
