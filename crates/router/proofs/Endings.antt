@@ -4,7 +4,7 @@ use Rattle.seq_bus_core.specs.Histories.{History}
 use Rattle.seq_bus_core.specs.declared.connection.Conn.{Conn}
 use Rattle.outbox_core.specs.Contents.{Said}
 use Rattle.router_core.specs.Deeds.{GatedCall}
-use Rattle.router_core.specs.Scripts.{Script, Gives, Changing, ChangingAll, Asking, Routing, Looking, Noting, Fronting, Calling, Gating, Wanting, Requiring, Doing, Announcing, and_then, putting, World, Comes}
+use Rattle.router_core.specs.Scripts.{Script, Gives, Changing, ChangingAll, Asking, Routing, AskingPresence, Noting, Fronting, Calling, Gating, Wanting, Requiring, Doing, Announcing, and_then, putting, World, Comes}
 
 -- whatever it gives is such
 abbrev pub AllGive : {X : Type 0} → (X → Type 0) → Script X → Type 0
@@ -13,7 +13,7 @@ AllGive P (Changing change goes_on) = (heard : _) → AllGive P (goes_on heard)
 AllGive P (ChangingAll changes goes_on) = (heard : _) → AllGive P (goes_on heard)
 AllGive P (Asking query goes_on) = (heard : _) → AllGive P (goes_on heard)
 AllGive P (Routing from facts goes_on) = (heard : _) → AllGive P (goes_on heard)
-AllGive P (Looking number goes_on) = (heard : _) → AllGive P (goes_on heard)
+AllGive P (AskingPresence number goes_on) = (heard : _) → AllGive P (goes_on heard)
 AllGive P (Noting history s) = AllGive P s
 AllGive P (Fronting bytes goes_on) = (front : _) → AllGive P (goes_on front)
 AllGive P (Calling message goes_on) = (reading : _) → AllGive P (goes_on reading)
@@ -31,7 +31,7 @@ module _ {N G : Type 0} (told : N → History) (registry_of : N → ℕ) (passes
   given (ChangingAll changes goes_on) w all p = given (goes_on p.0) p.1 (all p.0) p.3
   given (Asking query goes_on) w all p = given (goes_on p.0) p.1 (all p.0) p.3
   given (Routing from facts goes_on) w all p = given (goes_on p.0) p.1 (all p.0) p.3
-  given (Looking number goes_on) w all p = given (goes_on p.0) p.1 (all p.0) p.3
+  given (AskingPresence number goes_on) w all p = given (goes_on p.0) p.1 (all p.0) p.3
   given (Noting history s) w all p = given s p.0 all p.2
   given (Fronting bytes goes_on) w all p = given (goes_on p.0) w (all p.0) p.2
   given (Calling message goes_on) w all p = given (goes_on p.0) w (all p.0) p.2
@@ -49,7 +49,7 @@ module _ {X Y : Type 0} (Q : X → Type 0) (P : Y → Type 0) (next : X → Scri
   then_give (ChangingAll changes goes_on) all = λ heard. then_give (goes_on heard) (all heard)
   then_give (Asking query goes_on) all = λ heard. then_give (goes_on heard) (all heard)
   then_give (Routing from facts goes_on) all = λ heard. then_give (goes_on heard) (all heard)
-  then_give (Looking number goes_on) all = λ heard. then_give (goes_on heard) (all heard)
+  then_give (AskingPresence number goes_on) all = λ heard. then_give (goes_on heard) (all heard)
   then_give (Noting history s) all = then_give s all
   then_give (Fronting bytes goes_on) all = λ front. then_give (goes_on front) (all front)
   then_give (Calling message goes_on) all = λ reading. then_give (goes_on reading) (all reading)
@@ -67,7 +67,7 @@ module _ {X : Type 0} (P : X → Type 0) (each : (x : X) → P x) where
   all_give (ChangingAll changes goes_on) = λ heard. all_give (goes_on heard)
   all_give (Asking query goes_on) = λ heard. all_give (goes_on heard)
   all_give (Routing from facts goes_on) = λ heard. all_give (goes_on heard)
-  all_give (Looking number goes_on) = λ heard. all_give (goes_on heard)
+  all_give (AskingPresence number goes_on) = λ heard. all_give (goes_on heard)
   all_give (Noting history s) = all_give s
   all_give (Fronting bytes goes_on) = λ front. all_give (goes_on front)
   all_give (Calling message goes_on) = λ reading. all_give (goes_on reading)
@@ -84,7 +84,7 @@ module _ {X : Type 0} (P Q : X → Type 0) (weaker : (x : X) → P x → Q x) wh
   weaker_give (ChangingAll changes goes_on) all = λ heard. weaker_give (goes_on heard) (all heard)
   weaker_give (Asking query goes_on) all = λ heard. weaker_give (goes_on heard) (all heard)
   weaker_give (Routing from facts goes_on) all = λ heard. weaker_give (goes_on heard) (all heard)
-  weaker_give (Looking number goes_on) all = λ heard. weaker_give (goes_on heard) (all heard)
+  weaker_give (AskingPresence number goes_on) all = λ heard. weaker_give (goes_on heard) (all heard)
   weaker_give (Noting history s) all = weaker_give s all
   weaker_give (Fronting bytes goes_on) all = λ front. weaker_give (goes_on front) (all front)
   weaker_give (Calling message goes_on) all = λ reading. weaker_give (goes_on reading) (all reading)

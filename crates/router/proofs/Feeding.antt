@@ -31,7 +31,7 @@ use Rattle.router_core.specs.Deeds.{Deed, Closes, Sends}
 use Rattle.router_core.specs.Events.{Bytes, Mail, Next, OfPeer, Stands, hearing, closing, fated, send, writing, for_slot, for_peer, fed, refuse, refuse_with, close_found, close_former, welcome, turn_away, greeted_by, greeted, greet, serve_named, serve_at, read, next_at, coming_next, mail_found}
 use Rattle.router_core.specs.Fronts.{Front, Waits, Whole, Faulty}
 use Rattle.router_core.specs.OneThread.{Readers, Rest, Course, alone, given, rest_of}
-use Rattle.router_core.specs.Scripts.{Script, Gives, Changing, ChangingAll, Asking, Routing, Looking, Noting, Fronting, Calling, Gating, Wanting, Requiring, Doing, Announcing, and_then, putting}
+use Rattle.router_core.specs.Scripts.{Script, Gives, Changing, ChangingAll, Asking, Routing, AskingPresence, Noting, Fronting, Calling, Gating, Wanting, Requiring, Doing, Announcing, and_then, putting}
 use Rattle.router_core.specs.Serving.{monitors_in, replying, serving}
 use Rattle.router_core.specs.Standing.{Stage, Authenticating, Unnamed, Named, Closing, Peer, Standing, SpeaksDBus, peer_at, with_peer, closing_peer, next_serial, has_slot, is_conn}
 
@@ -46,7 +46,7 @@ and_then_assoc (Changing change goes_on) f g = λ i. Changing change (λ heard. 
 and_then_assoc (ChangingAll changes goes_on) f g = λ i. ChangingAll changes (λ heard. and_then_assoc (goes_on heard) f g i)
 and_then_assoc (Asking query goes_on) f g = λ i. Asking query (λ heard. and_then_assoc (goes_on heard) f g i)
 and_then_assoc (Routing from facts goes_on) f g = λ i. Routing from facts (λ heard. and_then_assoc (goes_on heard) f g i)
-and_then_assoc (Looking number goes_on) f g = λ i. Looking number (λ heard. and_then_assoc (goes_on heard) f g i)
+and_then_assoc (AskingPresence number goes_on) f g = λ i. AskingPresence number (λ heard. and_then_assoc (goes_on heard) f g i)
 and_then_assoc (Noting told s) f g = λ i. Noting told (and_then_assoc s f g i)
 and_then_assoc (Fronting bytes goes_on) f g = λ i. Fronting bytes (λ front. and_then_assoc (goes_on front) f g i)
 and_then_assoc (Calling m goes_on) f g = λ i. Calling m (λ reading. and_then_assoc (goes_on reading) f g i)
@@ -67,7 +67,7 @@ module _ (readers : Readers) {X Y : Type 0} (f : X → Y) where
   alone_seen (ChangingAll changes goes_on) c = alone_seen (goes_on _) _
   alone_seen (Asking query goes_on) c = alone_seen (goes_on _) c
   alone_seen (Routing from facts goes_on) c = alone_seen (goes_on _) c
-  alone_seen (Looking number goes_on) c = alone_seen (goes_on _) c
+  alone_seen (AskingPresence number goes_on) c = alone_seen (goes_on _) c
   alone_seen (Noting told s) c = alone_seen s c
   alone_seen (Fronting bytes goes_on) c = alone_seen (goes_on (readers.front bytes)) c
   alone_seen (Calling m goes_on) c = alone_seen (goes_on (readers.call m)) c

@@ -26,7 +26,7 @@ use Rattle.router_core.specs.declared.fate.PeerFate.{PeerFate}
 use Rattle.router_core.specs.declared.fate.PeerFate.TheVariants as fate
 use Rattle.router_core.specs.Answers.{Heard, Says, Refuses, error_for}
 use Rattle.router_core.specs.Deeds.{GatedCall}
-use Rattle.router_core.specs.Events.{OfPeer, closing, fated, close_at, close_found, close_former, writing, for_slot, for_peer, hearing, answering, conversed_to, converse_if, refuse, refuse_with, turn_away, welcome, greeted, greeted_by, greet, serve_named, serve_at, read, coming_next, next_at, looked, look, looking_at_all}
+use Rattle.router_core.specs.Events.{OfPeer, closing, fated, close_at, close_found, close_former, writing, for_slot, for_peer, hearing, answering, conversed_to, converse_if, refuse, refuse_with, turn_away, welcome, greeted, greeted_by, greet, serve_named, serve_at, read, coming_next, next_at, after_check, checking_presence, checking_each}
 use Rattle.router_core.specs.Fronts.{Front, Waits, Whole, Faulty}
 use Rattle.router_core.specs.Scripts.{Gives, Routing, Announcing, World, Comes, and_then}
 use Rattle.router_core.specs.Serving.{monitors_in, replying, serving}
@@ -87,16 +87,16 @@ bringing (Some told) key said old = writing_keeps key said old
 
 -- ---- all connections, as time passes
 
-look_keeps : (key : ℕ) (old : Option Peer) → AllGive (λ new. Keeps old new) (for_slot old (λ p. look key p p.stage))
-look_keeps key None = λ slot has. has
-look_keeps key (Some p) = in_stage p.stage
+check_keeps : (key : ℕ) (old : Option Peer) → AllGive (λ new. Keeps old new) (for_slot old (λ p. checking_presence key p p.stage))
+check_keeps key None = λ slot has. has
+check_keeps key (Some p) = in_stage p.stage
   where
-    heard_keeps : (conn : Conn) (heard : Heard Bool) → AllGive (λ new. Keeps (Some (record p { stage = Named conn })) new) (and_then (looked key (record p { stage = Named conn }) heard) (λ q. Gives (Some q)))
+    heard_keeps : (conn : Conn) (heard : Heard Bool) → AllGive (λ new. Keeps (Some (record p { stage = Named conn })) new) (and_then (after_check key (record p { stage = Named conn }) heard) (λ q. Gives (Some q)))
     heard_keeps conn (Says true) = λ slot has. has
     heard_keeps conn (Says false) = λ slot has. absurd (false≢true has)
     heard_keeps conn (Refuses refusal) = λ slot has. has
 
-    in_stage : (stage : Stage) → AllGive (λ new. Keeps (Some (record p { stage = stage })) new) (and_then (look key (record p { stage = stage }) stage) (λ q. Gives (Some q)))
+    in_stage : (stage : Stage) → AllGive (λ new. Keeps (Some (record p { stage = stage })) new) (and_then (checking_presence key (record p { stage = stage }) stage) (λ q. Gives (Some q)))
     in_stage (Authenticating setting state) = λ slot has. has
     in_stage (Unnamed privileged) = λ slot has. has
     in_stage (Named conn) = heard_keeps conn
@@ -106,19 +106,19 @@ keeps_more : (x y : Option Peer) (xs ys : List (Option Peer)) → Keeps x y → 
 keeps_more x y xs ys here rest zero = here
 keeps_more x y xs ys here rest (suc k) = rest k
 
--- those behind the ones that were looked at
+-- those behind the ones that were asked for
 abbrev KeepsRest : List (Option Peer) → List (Option Peer) → List (Option Peer) → Type 0
 KeepsRest done old all = (new : List (Option Peer)) × (all ≡ done ++ new) × KeepsAll old new
 
-looking : (done old : List (Option Peer)) → AllGive (λ all. KeepsRest done old all) (looking_at_all done old)
-looking done [] = ([], sym (append-nil done), λ k slot has. has)
-looking done (x ∷ xs) =
-    then_give (λ y. Keeps x y) (λ all. KeepsRest done (x ∷ xs) all) (λ y. looking_at_all (done ++ y ∷ []) xs)
+checking : (done old : List (Option Peer)) → AllGive (λ all. KeepsRest done old all) (checking_each done old)
+checking done [] = ([], sym (append-nil done), λ k slot has. has)
+checking done (x ∷ xs) =
+    then_give (λ y. Keeps x y) (λ all. KeepsRest done (x ∷ xs) all) (λ y. checking_each (done ++ y ∷ []) xs)
     (λ y here.
     weaker_give (λ all. KeepsRest (done ++ y ∷ []) xs all) (λ all. KeepsRest done (x ∷ xs) all)
     (λ all rest. (y ∷ rest.0, rest.1 ∙ append_assoc done (y ∷ []) rest.0, keeps_more x y xs rest.0 here rest.2))
-    (looking_at_all (done ++ y ∷ []) xs) (looking (done ++ y ∷ []) xs))
-    (for_slot x (λ p. look (length done) p p.stage)) (look_keeps (length done) x)
+    (checking_each (done ++ y ∷ []) xs) (checking (done ++ y ∷ []) xs))
+    (for_slot x (λ p. checking_presence (length done) p p.stage)) (check_keeps (length done) x)
 
 -- ---- the next message
 
@@ -334,9 +334,9 @@ module _ {N G : Type 0} (told : N → History) (registry_of : N → ℕ) (passes
   pub brought_keeps : (held : Option History) (key : ℕ) (said : Said) (old new : Option Peer) → Comes told registry_of passes alone (once_noted held (for_slot old (writing key said))) w new v → Keeps old new
   brought_keeps held key said old new came = given told registry_of passes alone (λ o. Keeps old o) new v (once_noted held (for_slot old (writing key said))) w (bringing held key said old) came
 
-  pub looked_keeps : (old new : List (Option Peer)) → Comes told registry_of passes alone (looking_at_all [] old) w new v → KeepsAll old new
-  looked_keeps old new came =
-      let rest = given told registry_of passes alone (λ all. KeepsRest [] old all) new v (looking_at_all [] old) w (looking [] old) came in
+  pub checks_keep : (old new : List (Option Peer)) → Comes told registry_of passes alone (checking_each [] old) w new v → KeepsAll old new
+  checks_keep old new came =
+      let rest = given told registry_of passes alone (λ all. KeepsRest [] old all) new v (checking_each [] old) w (checking [] old) came in
       subst (λ xs. KeepsAll old xs) (sym rest.1) rest.2
 
   pub refused_keeps : (key : ℕ) (m : Message) (kind : ErrorKind) (old new : Option Peer) → Comes told registry_of passes alone (for_slot old (refuse_with key m kind)) w new v → Keeps old new

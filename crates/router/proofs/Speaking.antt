@@ -21,7 +21,7 @@ use Rattle.router_core.specs.Answers.{Heard, Says, Refuses, error_for}
 use Rattle.router_core.specs.Events.{Mail, Next, OfPeer, fed, closing, fated, close_found, close_former, writing, for_slot, for_peer, refuse_with, turn_away, welcome, greeted, greeted_by, greet, serve_named, serve_at, read, next_at, coming_next, mail_found}
 use Rattle.router_core.specs.Fronts.{Front, Waits, Whole, Faulty}
 use Rattle.router_core.specs.OneThread.{Readers, Rest, Course, alone, given}
-use Rattle.router_core.specs.Scripts.{Script, Gives, Changing, ChangingAll, Asking, Routing, Looking, Noting, Fronting, Calling, Gating, Wanting, Requiring, Doing, Announcing, and_then}
+use Rattle.router_core.specs.Scripts.{Script, Gives, Changing, ChangingAll, Asking, Routing, AskingPresence, Noting, Fronting, Calling, Gating, Wanting, Requiring, Doing, Announcing, and_then}
 use Rattle.router_core.specs.Serving.{replying, serving}
 use Rattle.router_core.specs.Standing.{Stage, Authenticating, Unnamed, Named, Closing, Peer, Standing, SpeaksDBus, first_stage, newcomer, opened, peer_at, with_peer, is_conn}
 use Rattle.router.proofs.Endings.{AllGive, then_give, all_give, weaker_give, if_give}
@@ -36,7 +36,7 @@ module _ (readers : Readers) {X : Type 0} (P : X → Type 0) where
   alone_gives (ChangingAll changes goes_on) c all = alone_gives (goes_on _) _ (all _)
   alone_gives (Asking query goes_on) c all = alone_gives (goes_on _) c (all _)
   alone_gives (Routing from facts goes_on) c all = alone_gives (goes_on _) c (all _)
-  alone_gives (Looking number goes_on) c all = alone_gives (goes_on _) c (all _)
+  alone_gives (AskingPresence number goes_on) c all = alone_gives (goes_on _) c (all _)
   alone_gives (Noting told s) c all = alone_gives s c all
   alone_gives (Fronting bytes goes_on) c all = alone_gives (goes_on (readers.front bytes)) c (all _)
   alone_gives (Calling m goes_on) c all = alone_gives (goes_on (readers.call m)) c (all _)

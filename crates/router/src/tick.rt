@@ -33,7 +33,7 @@ impl<V: BusView, G: Gate> Peers<V, G> {
         let mut kept = Vec::with_capacity(self.alloc, self.due_leaves.len())?;
         self.context.leave_all(right, &self.due_leaves, &mut kept);
         self.due_leaves = kept;
-        self.context.look_at_all(&mut self.peers);
+        self.context.check_all(&mut self.peers);
         Ok(())
     }
 }

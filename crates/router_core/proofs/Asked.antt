@@ -7,13 +7,13 @@ use Rattle.seq_bus_core.specs.declared.signal.AddressedSignal.{AddressedSignal}
 use Rattle.outbox_core.specs.Contents.{Tells, Signals}
 use Rattle.outbox_core.specs.Deliveries.{deliveries_of}
 use Rattle.router_core.specs.declared.action.Action.{Action}
-use Rattle.router_core.specs.Acts.{Exchange, Changed, ChangedAll, Asked, Routed, Looked, Noted, Fronted, Called, Gated, Wanted, Goes, IsLawful, gated_in, world_of}
+use Rattle.router_core.specs.Acts.{Exchange, Changed, ChangedAll, Asked, Routed, AskedPresence, Noted, Fronted, Called, Gated, Wanted, Goes, IsLawful, gated_in, world_of}
 use Rattle.router_core.specs.Deeds.{Deed, GatedCall, PassesAll, Puts, announced, announcement, put_of, put_to, AreDoneBy}
 use Rattle.router_core.specs.Events.{script, occasion_of}
 use Rattle.bus_view.specs.declared.view.BusView.{Ghosts as BusView}
 use Rattle.router_core.specs.declared.gate.Gate.{Ghosts as Gate}
 use Rattle.router_core.specs.Laws.{AnswersAreLawful}
-use Rattle.router_core.specs.Scripts.{Script, Gives, Changing, ChangingAll, Asking, Routing, Looking, Noting, Fronting, Calling, Gating, Wanting, Requiring, Doing, Announcing, World, Comes, knowing}
+use Rattle.router_core.specs.Scripts.{Script, Gives, Changing, ChangingAll, Asking, Routing, AskingPresence, Noting, Fronting, Calling, Gating, Wanting, Requiring, Doing, Announcing, World, Comes, knowing}
 use Rattle.router_core.proofs.Knowing.{seat_kept, change_home, changes_home, answer_home, verdict_home, present_home, note_home}
 
 -- ## Deeds of actions
@@ -116,10 +116,10 @@ listed told registry_of passes alone (Routing from facts goes_on) w x v p =
       added = kept_actions passes w p.1 v p.2.rest l.actions l.added;
       shown = kept_gate passes w p.1 v p.2.rest l.asked (seat_kept w.view (p.1).view (verdict_home alone from facts p.0 w.view (p.1).view p.2.hears)) l.shown;
     }
-listed told registry_of passes alone (Looking number goes_on) w x v p =
+listed told registry_of passes alone (AskingPresence number goes_on) w x v p =
     let l = listed told registry_of passes alone (goes_on p.0) p.1 x v p.3 in
     record {
-      asked = Looked number p.0 ∷ l.asked;
+      asked = AskedPresence number p.0 ∷ l.asked;
       deeds = l.deeds;
       actions = l.actions;
       goes = (p.0, l.asked, refl, l.goes);

@@ -12,13 +12,13 @@ use Rattle.seq_bus_core.specs.declared.outcome.Outcome.{Outcome}
 use Rattle.seq_bus_core.specs.declared.query.Query.{Query}
 use Rattle.seq_bus_core.specs.declared.verdict.Verdict.{Verdict}
 use Rattle.bus_view.specs.Views.{Knowledge, bus_seen, next_entry, having_made, having_changed}
-use Rattle.router_core.specs.Acts.{Exchange, Changed, ChangedAll, Asked, Routed, Looked, Wanted, Goes, IsLawful, IsGranted}
+use Rattle.router_core.specs.Acts.{Exchange, Changed, ChangedAll, Asked, Routed, AskedPresence, Wanted, Goes, IsLawful, IsGranted}
 use Rattle.router_core.specs.Answers.{Heard, Says, Refuses}
 use Rattle.router_core.specs.Deeds.{Deed, announced}
 use Rattle.router_core.specs.Events.{script}
 use Rattle.router_core.specs.Laws.{OneThreadIsAFunction, BytesAreAFunction}
 use Rattle.router_core.specs.OneThread.{Readers, AreReadBy, Course, learning, doing, alone, given, rest_after, keys_after, written_to, bus_bytes}
-use Rattle.router_core.specs.Scripts.{Script, Gives, Changing, ChangingAll, Asking, Routing, Looking, Noting, Fronting, Calling, Gating, Wanting, Requiring, Doing, Announcing}
+use Rattle.router_core.specs.Scripts.{Script, Gives, Changing, ChangingAll, Asking, Routing, AskingPresence, Noting, Fronting, Calling, Gating, Wanting, Requiring, Doing, Announcing}
 use Rattle.router_core.proofs.Knowing.{read_alone, added_alone, all_added_alone}
 
 -- how a script ends that asked this and did these deeds
@@ -74,10 +74,10 @@ module _ (readers : Readers) {X : Type 0} where
       let here = subst (λ z. Ends readers (goes_on (Says z)) (learning w w.view) deeds x k) is now in
       record { result = here.result; view = here.view; done = here.done }
 
-  looked : (number : ℕ) (goes_on : Heard Bool → Script X) (heard : Heard Bool) (later : List Exchange) (deeds : List Deed) (x : X) (k : Knowledge) →
-      Goes_on (goes_on heard) later deeds x k → Goes_on (Looking number goes_on) (Looked number heard ∷ later) deeds x k
-  looked number goes_on (Refuses r) later deeds x k ih w lawful granted read = absurd granted
-  looked number goes_on (Says there) later deeds x k ih w lawful granted read =
+  asked_presence : (number : ℕ) (goes_on : Heard Bool → Script X) (heard : Heard Bool) (later : List Exchange) (deeds : List Deed) (x : X) (k : Knowledge) →
+      Goes_on (goes_on heard) later deeds x k → Goes_on (AskingPresence number goes_on) (AskedPresence number heard ∷ later) deeds x k
+  asked_presence number goes_on (Refuses r) later deeds x k ih w lawful granted read = absurd granted
+  asked_presence number goes_on (Says there) later deeds x k ih w lawful granted read =
       let same = read_alone w.view lawful.0 lawful.1.0 in
       let is : there ≡ is_some (connection_of (bus_seen w.view).state number) = lawful.1.1 ∙ ap (λ m. is_some (connection_of (bus_seen m).state number)) same in
       let now = subst (λ z. Ends readers (goes_on (Says there)) (learning w z) deeds x k) same (ih (learning w lawful.0) lawful.2 granted read) in
@@ -105,8 +105,8 @@ module _ (readers : Readers) {X : Type 0} where
       subst (λ a. Goes_on (Asking query goes_on) a deeds x k) (sym p.2) (asked_of query goes_on p.0 p.1 deeds x k (ends (goes_on p.0) p.1 deeds x k p.3))
   ends (Routing from facts goes_on) asked deeds x k p =
       subst (λ a. Goes_on (Routing from facts goes_on) a deeds x k) (sym p.2) (routed from facts goes_on p.0 p.1 deeds x k (ends (goes_on p.0) p.1 deeds x k p.3))
-  ends (Looking number goes_on) asked deeds x k p =
-      subst (λ a. Goes_on (Looking number goes_on) a deeds x k) (sym p.2) (looked number goes_on p.0 p.1 deeds x k (ends (goes_on p.0) p.1 deeds x k p.3))
+  ends (AskingPresence number goes_on) asked deeds x k p =
+      subst (λ a. Goes_on (AskingPresence number goes_on) a deeds x k) (sym p.2) (asked_presence number goes_on p.0 p.1 deeds x k (ends (goes_on p.0) p.1 deeds x k p.3))
   ends (Noting told s) asked deeds x k p =
       subst (λ a. Goes_on (Noting told s) a deeds x k) (sym p.1) (λ w lawful granted read.
       let same = lawful.1.nothing refl in

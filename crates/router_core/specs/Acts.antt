@@ -19,7 +19,7 @@ use Rattle.router_core.specs.Answers.{Heard, Refuses, HearsChange, HearsChanges,
 use Rattle.router_core.specs.Deeds.{Deed, GatedCall, PassesAll, announced, AreDoneBy}
 use Rattle.router_core.specs.Events.{Occasion, occasion_of, script}
 use Rattle.router_core.specs.Fronts.{Front, IsFront}
-use Rattle.router_core.specs.Scripts.{Script, Gives, Changing, ChangingAll, Asking, Routing, Looking, Noting, Fronting, Calling, Gating, Wanting, Requiring, Doing, Announcing, World, Comes}
+use Rattle.router_core.specs.Scripts.{Script, Gives, Changing, ChangingAll, Asking, Routing, AskingPresence, Noting, Fronting, Calling, Gating, Wanting, Requiring, Doing, Announcing, World, Comes}
 use Rattle.router_core.specs.Standing.{Standing}
 
 -- ## What was asked and answered
@@ -29,7 +29,7 @@ pub data Exchange : Type 0 where
   ChangedAll : List Change → Heard (List Outcome) → Exchange
   Asked : Query → Heard (Option Answer) → Exchange
   Routed : (from : ℕ) → Facts → Heard Verdict → Exchange
-  Looked : (number : ℕ) → Heard Bool → Exchange
+  AskedPresence : (number : ℕ) → Heard Bool → Exchange
   Noted : History → Exchange
   Fronted : (bytes : List ℕ) → Front → Exchange
   Called : Message → Reading Call → Exchange
@@ -43,7 +43,7 @@ Goes (Changing change goes_on) asked deeds x = (heard : Heard Outcome) × (later
 Goes (ChangingAll changes goes_on) asked deeds x = (heard : Heard (List Outcome)) × (later : List Exchange) × (asked ≡ ChangedAll changes heard ∷ later) × Goes (goes_on heard) later deeds x
 Goes (Asking query goes_on) asked deeds x = (heard : Heard (Option Answer)) × (later : List Exchange) × (asked ≡ Asked query heard ∷ later) × Goes (goes_on heard) later deeds x
 Goes (Routing from facts goes_on) asked deeds x = (heard : Heard Verdict) × (later : List Exchange) × (asked ≡ Routed from facts heard ∷ later) × Goes (goes_on heard) later deeds x
-Goes (Looking number goes_on) asked deeds x = (heard : Heard Bool) × (later : List Exchange) × (asked ≡ Looked number heard ∷ later) × Goes (goes_on heard) later deeds x
+Goes (AskingPresence number goes_on) asked deeds x = (heard : Heard Bool) × (later : List Exchange) × (asked ≡ AskedPresence number heard ∷ later) × Goes (goes_on heard) later deeds x
 Goes (Noting told s) asked deeds x = (later : List Exchange) × (asked ≡ Noted told ∷ later) × Goes s later deeds x
 Goes (Fronting bytes goes_on) asked deeds x = (front : Front) × (later : List Exchange) × (asked ≡ Fronted bytes front ∷ later) × Goes (goes_on front) later deeds x
 Goes (Calling m goes_on) asked deeds x = (reading : Reading Call) × (later : List Exchange) × (asked ≡ Called m reading ∷ later) × Goes (goes_on reading) later deeds x
@@ -60,7 +60,7 @@ IsLawful alone before (Changed change heard ∷ later) after = (k : Knowledge) �
 IsLawful alone before (ChangedAll changes heard ∷ later) after = (k : Knowledge) × HearsChanges alone changes before heard k × IsLawful alone k later after
 IsLawful alone before (Asked query heard ∷ later) after = (k : Knowledge) × HearsAnswer alone query before heard k × IsLawful alone k later after
 IsLawful alone before (Routed from facts heard ∷ later) after = (k : Knowledge) × HearsVerdict alone from facts before heard k × IsLawful alone k later after
-IsLawful alone before (Looked number heard ∷ later) after = (k : Knowledge) × HearsPresent alone number before heard k × IsLawful alone k later after
+IsLawful alone before (AskedPresence number heard ∷ later) after = (k : Knowledge) × HearsPresent alone number before heard k × IsLawful alone k later after
 IsLawful alone before (Noted told ∷ later) after = (k : Knowledge) × IsNoted alone before told k × IsLawful alone k later after
 IsLawful alone before (Fronted bytes front ∷ later) after = IsFront bytes front × IsLawful alone before later after
 IsLawful alone before (Called m reading ∷ later) after = IsCall m reading × IsLawful alone before later after
@@ -80,7 +80,7 @@ IsGranted (Changed change (Refuses refusal) ∷ later) = ⊥
 IsGranted (ChangedAll changes (Refuses refusal) ∷ later) = ⊥
 IsGranted (Asked query (Refuses refusal) ∷ later) = ⊥
 IsGranted (Routed from facts (Refuses refusal) ∷ later) = ⊥
-IsGranted (Looked number (Refuses refusal) ∷ later) = ⊥
+IsGranted (AskedPresence number (Refuses refusal) ∷ later) = ⊥
 IsGranted (Wanted false ∷ later) = ⊥
 IsGranted (other ∷ later) = IsGranted later
 

@@ -42,7 +42,7 @@ use Rattle.router_core.specs.declared.start_end.HowEnded.TheVariants as how
 use Rattle.router_core.specs.Answers.{Heard, Says, Refuses, error_for, is_final}
 use Rattle.router_core.specs.Deeds.{Writes, Sends, Closes, IsOwnNote}
 use Rattle.router_core.specs.Fronts.{Front, Waits, Whole, Faulty}
-use Rattle.router_core.specs.Scripts.{Script, Gives, Changing, ChangingAll, Routing, Looking, Noting, Fronting, Calling, Gating, Wanting, Requiring, Doing, Announcing, and_then, putting}
+use Rattle.router_core.specs.Scripts.{Script, Gives, Changing, ChangingAll, Routing, AskingPresence, Noting, Fronting, Calling, Gating, Wanting, Requiring, Doing, Announcing, and_then, putting}
 use Rattle.router_core.specs.Serving.{Work, Fated, nothing, monitors_in, replying, made, failing_all, serving}
 use Rattle.router_core.specs.Together.{Joining, Joins, Parts, change_of_joint, joining, may_join, rule_call}
 use Rattle.router_core.specs.Standing.{Stage, Authenticating, Unnamed, Named, Closing, Peer, Standing, peer_at, with_peer, opened, conn_of, next_serial, closing_peer, has_slot, is_conn}
@@ -402,28 +402,28 @@ leaving_by gathered (number ∷ numbers) s =
 abbrev pub leaving_all : List ℕ → Standing → Stands
 leaving_all numbers s = leaving_by [] numbers s
 
-abbrev pub looked : ℕ → Peer → Heard Bool → OfPeer
-looked key p (Says false) = closing key cause.Left p
-looked key p (Says true) = Gives p
-looked key p (Refuses refusal) = Gives p
+abbrev pub after_check : ℕ → Peer → Heard Bool → OfPeer
+after_check key p (Says false) = closing key cause.Left p
+after_check key p (Says true) = Gives p
+after_check key p (Refuses refusal) = Gives p
 
 -- A connection that has left is closed.
-abbrev pub look : ℕ → Peer → Stage → OfPeer
-look key p (Named conn) = Looking conn.number (λ heard. looked key p heard)
-look key p (Authenticating setting state) = Gives p
-look key p (Unnamed privileged) = Gives p
-look key p (Closing conn) = Gives p
+abbrev pub checking_presence : ℕ → Peer → Stage → OfPeer
+checking_presence key p (Named conn) = AskingPresence conn.number (λ heard. after_check key p heard)
+checking_presence key p (Authenticating setting state) = Gives p
+checking_presence key p (Unnamed privileged) = Gives p
+checking_presence key p (Closing conn) = Gives p
 
 -- by rising key; those so far are as they are then
-abbrev pub looking_at_all : List (Option Peer) → List (Option Peer) → Script (List (Option Peer))
-looking_at_all done [] = Gives done
-looking_at_all done (peer ∷ peers) = and_then (for_slot peer (λ p. look (length done) p p.stage)) (λ q. looking_at_all (done ++ q ∷ []) peers)
+abbrev pub checking_each : List (Option Peer) → List (Option Peer) → Script (List (Option Peer))
+checking_each done [] = Gives done
+checking_each done (peer ∷ peers) = and_then (for_slot peer (λ p. checking_presence (length done) p p.stage)) (λ q. checking_each (done ++ q ∷ []) peers)
 
-abbrev pub look_at_all : Standing → Stands
-look_at_all s = and_then (looking_at_all [] s.peers) (λ peers. Gives (record s { peers = peers }))
+abbrev pub checking_all : Standing → Stands
+checking_all s = and_then (checking_each [] s.peers) (λ peers. Gives (record s { peers = peers }))
 
 abbrev pub ticking : Standing → Stands
-ticking s = and_then (leaving_all s.due_leaves (record s { due_leaves = [] })) look_at_all
+ticking s = and_then (leaving_all s.due_leaves (record s { due_leaves = [] })) checking_all
 
 -- ## Starts that end
 

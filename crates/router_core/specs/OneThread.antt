@@ -15,7 +15,7 @@ use Rattle.router_core.specs.Answers.{Says}
 use Rattle.router_core.specs.Deeds.{Deed, Writes, Sends, announced}
 use Rattle.router_core.specs.Events.{Occasion, Opened, script}
 use Rattle.router_core.specs.Fronts.{Front}
-use Rattle.router_core.specs.Scripts.{Script, Gives, Changing, ChangingAll, Asking, Routing, Looking, Noting, Fronting, Calling, Gating, Wanting, Requiring, Doing, Announcing}
+use Rattle.router_core.specs.Scripts.{Script, Gives, Changing, ChangingAll, Asking, Routing, AskingPresence, Noting, Fronting, Calling, Gating, Wanting, Requiring, Doing, Announcing}
 use Rattle.router_core.specs.Standing.{Standing}
 
 -- what bytes and calls are read as
@@ -53,7 +53,7 @@ alone readers (ChangingAll changes goes_on) c =
     (learning c (having_made c.view (length changes) (c.view.seen ++ entries_of c.view.seat (c.view.made + 1) changes)))
 alone readers (Asking query goes_on) c = alone readers (goes_on (Says (answer (bus_seen c.view).state query))) c
 alone readers (Routing from facts goes_on) c = alone readers (goes_on (Says (recipients (bus_seen c.view).state from facts))) c
-alone readers (Looking number goes_on) c = alone readers (goes_on (Says (is_some (connection_of (bus_seen c.view).state number)))) c
+alone readers (AskingPresence number goes_on) c = alone readers (goes_on (Says (is_some (connection_of (bus_seen c.view).state number)))) c
 alone readers (Noting told s) c = alone readers s c
 alone readers (Fronting bytes goes_on) c = alone readers (goes_on (readers.front bytes)) c
 alone readers (Calling m goes_on) c = alone readers (goes_on (readers.call m)) c

@@ -29,7 +29,7 @@ pub data Script (X : Type 0) : Type 0 where
   ChangingAll : List Change → (Heard (List Outcome) → Script X) → Script X
   Asking : Query → (Heard (Option Answer) → Script X) → Script X
   Routing : (from : ℕ) → Facts → (Heard Verdict → Script X) → Script X
-  Looking : (number : ℕ) → (Heard Bool → Script X) → Script X
+  AskingPresence : (number : ℕ) → (Heard Bool → Script X) → Script X
   -- what another router told is taken in
   Noting : History → Script X → Script X
   -- the front of bytes is read
@@ -52,7 +52,7 @@ and_then (Changing change goes_on) next = Changing change (λ heard. and_then (g
 and_then (ChangingAll changes goes_on) next = ChangingAll changes (λ heard. and_then (goes_on heard) next)
 and_then (Asking query goes_on) next = Asking query (λ heard. and_then (goes_on heard) next)
 and_then (Routing from facts goes_on) next = Routing from facts (λ heard. and_then (goes_on heard) next)
-and_then (Looking number goes_on) next = Looking number (λ heard. and_then (goes_on heard) next)
+and_then (AskingPresence number goes_on) next = AskingPresence number (λ heard. and_then (goes_on heard) next)
 and_then (Noting told s) next = Noting told (and_then s next)
 and_then (Fronting bytes goes_on) next = Fronting bytes (λ front. and_then (goes_on front) next)
 and_then (Calling m goes_on) next = Calling m (λ reading. and_then (goes_on reading) next)
@@ -99,7 +99,7 @@ pub record Routes {N G : Type 0} (alone : Bool) (from : ℕ) (facts : Facts) (w 
   pub hears : HearsVerdict alone from facts w.view heard m.view
   pub rest : m ≡ knowing w m.view
 
-pub record Looks {N G : Type 0} (alone : Bool) (number : ℕ) (w : World N G) (heard : Heard Bool) (m : World N G) : Type 0 where
+pub record AsksPresence {N G : Type 0} (alone : Bool) (number : ℕ) (w : World N G) (heard : Heard Bool) (m : World N G) : Type 0 where
   pub hears : HearsPresent alone number w.view heard m.view
   pub rest : m ≡ knowing w m.view
 
@@ -137,8 +137,8 @@ Comes {N = N} {G = G} told registry_of passes alone (Asking query goes_on) w x v
     (heard : Heard (Option Answer)) × (m : World N G) × Asks alone query w heard m × Comes told registry_of passes alone (goes_on heard) m x v
 Comes {N = N} {G = G} told registry_of passes alone (Routing from facts goes_on) w x v =
     (heard : Heard Verdict) × (m : World N G) × Routes alone from facts w heard m × Comes told registry_of passes alone (goes_on heard) m x v
-Comes {N = N} {G = G} told registry_of passes alone (Looking number goes_on) w x v =
-    (heard : Heard Bool) × (m : World N G) × Looks alone number w heard m × Comes told registry_of passes alone (goes_on heard) m x v
+Comes {N = N} {G = G} told registry_of passes alone (AskingPresence number goes_on) w x v =
+    (heard : Heard Bool) × (m : World N G) × AsksPresence alone number w heard m × Comes told registry_of passes alone (goes_on heard) m x v
 Comes {N = N} {G = G} told registry_of passes alone (Noting history s) w x v = (m : World N G) × Takes alone history w m × Comes told registry_of passes alone s m x v
 Comes told registry_of passes alone (Fronting bytes goes_on) w x v = (front : Front) × IsFront bytes front × Comes told registry_of passes alone (goes_on front) w x v
 Comes told registry_of passes alone (Calling m goes_on) w x v = (reading : Reading Call) × IsCall m reading × Comes told registry_of passes alone (goes_on reading) w x v

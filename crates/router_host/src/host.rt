@@ -35,8 +35,8 @@ pub struct Host<V: BusView, G: Gate, P: Post<V>, S: Socket> {
     /// What was read last.
     pub(crate) room: Vec<u8>,
     pub(crate) ended: Vec<Ended>,
-    /// A connection of these took no more mail, and is to be looked at.
-    pub(crate) looks: bool,
+    /// A connection of these took no more mail: whether it is present is to be checked.
+    pub(crate) check_due: bool,
     /// The last event seems to have added or removed rules. Such calls come in numbers, and share a
     /// publication where they are served at once.
     pub(crate) changes_rules: bool,
@@ -87,7 +87,7 @@ impl<V: BusView + Drop, G: Gate + Drop, P: Post<V>, S: Socket> Host<V, G, P, S> 
             kept: None,
             room,
             ended: Vec::new(alloc),
-            looks: false,
+            check_due: false,
             changes_rules: false,
         })
     }
@@ -189,11 +189,12 @@ impl<V: BusView, G: Gate, P: Post<V>, S: Socket> Host<V, G, P, S> {
         self.carrier.slots.note_own(slot);
     }
 
-    /// Another router says that a connection of this one took no more mail.
-    pub fn look_came(&mut self)
+    /// Another router asks to check which connections are present: one of this router took no more
+    /// mail.
+    pub fn check_came(&mut self)
         ensures { self.new ≡ self.old }
     {
-        self.looks = true;
+        self.check_due = true;
     }
 
     /// Whether something is left for the next turn.
@@ -205,9 +206,10 @@ impl<V: BusView, G: Gate, P: Post<V>, S: Socket> Host<V, G, P, S> {
             || !self.carrier.put_out.is_empty()
     }
 
-    /// Whether a tick is wanted: a connection is to be looked at, or could not leave the bus yet.
+    /// Whether a tick is wanted: whether a connection is present is to be checked, or one could not
+    /// leave the bus yet.
     pub fn wants_tick(&self) -> bool {
-        self.looks || self.engine.ticks()
+        self.check_due || self.engine.ticks()
     }
 
     /// The connections that were over since this was asked last; at most 1,024, and none that there

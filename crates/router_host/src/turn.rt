@@ -87,7 +87,7 @@ impl<V: BusView, G: Gate, P: Post<V>, S: Socket> Host<V, G, P, S> {
     {
         let leaves = self.engine.ticks();
         self.bring(right, &mut Event::Tick)?;
-        self.looks = false;
+        self.check_due = false;
         self.end_tick(right, leaves);
         Ok(())
     }
@@ -97,7 +97,7 @@ impl<V: BusView, G: Gate, P: Post<V>, S: Socket> Host<V, G, P, S> {
         ensures { self.new ≡ self.old }
     {
         if leaves {
-            self.carrier.post.look_all(right);
+            self.carrier.post.ask_checks(right);
         }
         self.carrier.post.turn_ends(right);
     }
@@ -464,7 +464,7 @@ impl<V: BusView, G: Gate, P: Post<V>, S: Socket> Host<V, G, P, S> {
         };
         match self.tell_full(right, conn) {
             Ok(()) => {
-                self.look_again(right, conn);
+                self.ask_check(right, conn);
                 Ok(true)
             }
             Err(AllocError) => {
@@ -488,14 +488,14 @@ impl<V: BusView, G: Gate, P: Post<V>, S: Socket> Host<V, G, P, S> {
         )
     }
 
-    /// The router of a connection looks at it again.
-    fn look_again(&mut self, right: &V::Right, conn: Conn)
+    /// The router of a connection is asked to check whether it is present.
+    fn ask_check(&mut self, right: &V::Right, conn: Conn)
         ensures { self.new ≡ self.old }
     {
         if self.carrier.slots.contains(conn.slot) {
-            self.looks = true;
+            self.check_due = true;
         } else {
-            self.carrier.post.look(right, conn);
+            self.carrier.post.ask_check(right, conn);
         }
     }
 }

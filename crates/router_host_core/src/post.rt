@@ -82,13 +82,14 @@ pub trait Post<V: BusView>: Drop {
         ensures none { IfNone result (self.new ≡ self.old) }
         ensures empty { IfNone result (lacks self.old slot) };
 
-    /// Tells the router of a connection that it took no more mail, and has left the bus.
-    fn look(&mut self, right: &V::Right, at: Conn)
+    /// Asks the router of a connection to check whether it is present: it took no more mail, and
+    /// has left the bus.
+    fn ask_check(&mut self, right: &V::Right, at: Conn)
         ensures { self.new ≡ self.old };
 
-    /// Tells the other routers that connections have left the bus which were to leave it before:
-    /// any of them may be theirs.
-    fn look_all(&mut self, right: &V::Right)
+    /// Asks the other routers to check which of their connections are present: some have left the
+    /// bus that were to leave it before, and any of them may be theirs.
+    fn ask_checks(&mut self, right: &V::Right)
         ensures { self.new ≡ self.old };
 
     /// A turn ends: whoever something was put for may be woken.

@@ -6,7 +6,7 @@ use Rattle.seq_bus_core.specs.Histories.{History}
 use Rattle.message_core.specs.declared.fault.FrameFault.{FrameFault}
 use Rattle.router_core.specs.declared.event.Event.{Event}
 use Rattle.router_core.specs.declared.event.Event.TheVariants as event
-use Rattle.router_core.specs.Acts.{Exchange, Changed, ChangedAll, Asked, Routed, Looked, Noted, Fronted, Called, Gated, Wanted, Goes, IsGranted, State}
+use Rattle.router_core.specs.Acts.{Exchange, Changed, ChangedAll, Asked, Routed, AskedPresence, Noted, Fronted, Called, Gated, Wanted, Goes, IsGranted, State}
 use Rattle.router_core.specs.Deeds.{Deed, GatedCall}
 use Rattle.router_core.specs.Events.{Next, coming_next, next_at, occasion_of, script}
 use Rattle.router_core.specs.Fronts.{Front, Waits, Whole, Faulty, IsFront}
@@ -53,7 +53,7 @@ extended_right later (Changed change heard ∷ asked) right = extended_right lat
 extended_right later (ChangedAll changes heard ∷ asked) right = extended_right later asked right
 extended_right later (Asked query heard ∷ asked) right = extended_right later asked right
 extended_right later (Routed from facts heard ∷ asked) right = extended_right later asked right
-extended_right later (Looked number heard ∷ asked) right = extended_right later asked right
+extended_right later (AskedPresence number heard ∷ asked) right = extended_right later asked right
 extended_right later (Noted told ∷ asked) right = extended_right later asked right
 extended_right later (Fronted bytes front ∷ asked) right = right_append (behind later bytes front) (extended later asked) (behind_right later bytes front right.0) (extended_right later asked right.1)
 extended_right later (Called m reading ∷ asked) right = extended_right later asked right.1

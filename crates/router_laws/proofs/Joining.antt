@@ -1,7 +1,7 @@
 -- Runs in which nothing is refused, one after the other.
 use Rattle.std.proofs.Common.{◌≡◌, ℕ, true, false, List, [], ◌∷◌, ◌++◌, length, map, refl, sym, ap, ◌∙◌, subst, append_assoc}
 use Rattle.std.specs.List.{range_with_len}
-use Rattle.router_core.specs.Acts.{Exchange, Changed, ChangedAll, Asked, Routed, Looked, Noted, Fronted, Called, Gated, Wanted, IsGranted}
+use Rattle.router_core.specs.Acts.{Exchange, Changed, ChangedAll, Asked, Routed, AskedPresence, Noted, Fronted, Called, Gated, Wanted, IsGranted}
 use Rattle.router_core.specs.Answers.{Says, Refuses}
 use Rattle.router_core.specs.Events.{Occasion}
 use Rattle.router_core.specs.OneThread.{Rest, keys_after, written_to}
@@ -19,8 +19,8 @@ granted_append (Asked query (Says told) ∷ first) later h k = granted_append fi
 granted_append (Asked query (Refuses r) ∷ first) later h k = absurd h
 granted_append (Routed from facts (Says v) ∷ first) later h k = granted_append first later h k
 granted_append (Routed from facts (Refuses r) ∷ first) later h k = absurd h
-granted_append (Looked number (Says there) ∷ first) later h k = granted_append first later h k
-granted_append (Looked number (Refuses r) ∷ first) later h k = absurd h
+granted_append (AskedPresence number (Says there) ∷ first) later h k = granted_append first later h k
+granted_append (AskedPresence number (Refuses r) ∷ first) later h k = absurd h
 granted_append (Noted told ∷ first) later h k = granted_append first later h k
 granted_append (Fronted bytes front ∷ first) later h k = granted_append first later h k
 granted_append (Called m reading ∷ first) later h k = granted_append first later h k

@@ -7,7 +7,7 @@ use Rattle.seq_bus_core.specs.declared.outcome.Outcome.{Outcome}
 use Rattle.seq_bus_core.specs.declared.query.Query.{Query}
 use Rattle.seq_bus_core.specs.declared.verdict.Verdict.{Verdict}
 use Rattle.bus_view.specs.Views.{Knowledge, IsRead}
-use Rattle.router_core.specs.Acts.{Exchange, Changed, ChangedAll, Asked, Routed, Looked, Noted, Fronted, Called, Gated, Wanted, IsLawful}
+use Rattle.router_core.specs.Acts.{Exchange, Changed, ChangedAll, Asked, Routed, AskedPresence, Noted, Fronted, Called, Gated, Wanted, IsLawful}
 use Rattle.router_core.specs.Answers.{Heard, Says, Refuses, NoMemory, Lost, HearsChange, HearsChanges, HearsAnswer, HearsVerdict, HearsPresent}
 use Rattle.router_core.specs.Events.{Occasion}
 use Rattle.router_core.specs.OneThread.{Rest}
@@ -53,7 +53,7 @@ lawful_keeps alone (Changed c heard ∷ later) k m h = both k h.0 m (change alon
 lawful_keeps alone (ChangedAll changes heard ∷ later) k m h = both k h.0 m (change_all alone changes heard k h.0 h.1) (lawful_keeps alone later h.0 m h.2)
 lawful_keeps alone (Asked query heard ∷ later) k m h = both k h.0 m (answer alone query heard k h.0 h.1) (lawful_keeps alone later h.0 m h.2)
 lawful_keeps alone (Routed from facts heard ∷ later) k m h = both k h.0 m (verdict alone from facts heard k h.0 h.1) (lawful_keeps alone later h.0 m h.2)
-lawful_keeps alone (Looked number heard ∷ later) k m h = both k h.0 m (present alone number heard k h.0 h.1) (lawful_keeps alone later h.0 m h.2)
+lawful_keeps alone (AskedPresence number heard ∷ later) k m h = both k h.0 m (present alone number heard k h.0 h.1) (lawful_keeps alone later h.0 m h.2)
 lawful_keeps alone (Noted told ∷ later) k m h =
     both k h.0 m (record { registry = ap (λ (n : Knowledge). n.registry) h.1.kept; seat = ap (λ (n : Knowledge). n.seat) h.1.kept }) (lawful_keeps alone later h.0 m h.2)
 lawful_keeps alone (Fronted bytes front ∷ later) k m h = lawful_keeps alone later k m h.1

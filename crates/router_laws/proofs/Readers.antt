@@ -5,7 +5,7 @@ use Rattle.std.specs.Prelude.{◌==◌, ◌&&◌, if◌then◌else◌}
 use Rattle.marshal_core.proofs.Results.{both_true, eqb-yes}
 use Rattle.bus_view.specs.Views.{Knowledge}
 use Rattle.driver.specs.Calls.{IsCall}
-use Rattle.router_core.specs.Acts.{Exchange, Changed, ChangedAll, Asked, Routed, Looked, Noted, Fronted, Called, Gated, Wanted, IsLawful}
+use Rattle.router_core.specs.Acts.{Exchange, Changed, ChangedAll, Asked, Routed, AskedPresence, Noted, Fronted, Called, Gated, Wanted, IsLawful}
 use Rattle.router_core.specs.Fronts.{Front, Waits, IsFront}
 use Rattle.router_core.specs.OneThread.{Readers, AreReadBy}
 use Rattle.router_laws.proofs.Calls.{calls_are_one, calls_are_read}
@@ -25,7 +25,7 @@ right_lawful alone (Changed change heard ∷ later) before after h = right_lawfu
 right_lawful alone (ChangedAll changes heard ∷ later) before after h = right_lawful alone later h.0 after h.2
 right_lawful alone (Asked query heard ∷ later) before after h = right_lawful alone later h.0 after h.2
 right_lawful alone (Routed from facts heard ∷ later) before after h = right_lawful alone later h.0 after h.2
-right_lawful alone (Looked number heard ∷ later) before after h = right_lawful alone later h.0 after h.2
+right_lawful alone (AskedPresence number heard ∷ later) before after h = right_lawful alone later h.0 after h.2
 right_lawful alone (Noted told ∷ later) before after h = right_lawful alone later h.0 after h.2
 right_lawful alone (Fronted bytes front ∷ later) before after h = (h.0, right_lawful alone later before after h.1)
 right_lawful alone (Called m reading ∷ later) before after h = (h.0, right_lawful alone later before after h.1)
@@ -38,7 +38,7 @@ right_append (Changed change heard ∷ first) later h k = right_append first lat
 right_append (ChangedAll changes heard ∷ first) later h k = right_append first later h k
 right_append (Asked query heard ∷ first) later h k = right_append first later h k
 right_append (Routed from facts heard ∷ first) later h k = right_append first later h k
-right_append (Looked number heard ∷ first) later h k = right_append first later h k
+right_append (AskedPresence number heard ∷ first) later h k = right_append first later h k
 right_append (Noted told ∷ first) later h k = right_append first later h k
 right_append (Fronted bytes front ∷ first) later h k = (h.0, right_append first later h.1 k)
 right_append (Called m reading ∷ first) later h k = (h.0, right_append first later h.1 k)
@@ -98,7 +98,7 @@ module _ (bytes : List ℕ) (front : Front) (is : IsFront bytes front) (others :
   still (ChangedAll changes heard ∷ later) right read = still later right read
   still (Asked query heard ∷ later) right read = still later right read
   still (Routed from facts heard ∷ later) right read = still later right read
-  still (Looked number heard ∷ later) right read = still later right read
+  still (AskedPresence number heard ∷ later) right read = still later right read
   still (Noted told ∷ later) right read = still later right read
   still (Fronted other so ∷ later) right read = (still_read other so right.0 read.0, still later right.1 read.1)
   still (Called m reading ∷ later) right read = (read.0, still later right.1 read.1)
@@ -112,7 +112,7 @@ read_so (Changed change heard ∷ later) right = read_so later right
 read_so (ChangedAll changes heard ∷ later) right = read_so later right
 read_so (Asked query heard ∷ later) right = read_so later right
 read_so (Routed from facts heard ∷ later) right = read_so later right
-read_so (Looked number heard ∷ later) right = read_so later right
+read_so (AskedPresence number heard ∷ later) right = read_so later right
 read_so (Noted told ∷ later) right = read_so later right
 read_so (Fronted bytes front ∷ later) right = (rw (same_is bytes) refl, still bytes front right.0 (fronts_of later) later right.1 (read_so later right.1))
 read_so (Called m reading ∷ later) right =

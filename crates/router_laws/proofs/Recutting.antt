@@ -12,7 +12,7 @@ use Rattle.router_core.specs.Deeds.{Deed}
 use Rattle.router_core.specs.Events.{Occasion, Bytes, Next, Stands, answering, conversed_to, fed, for_peer, hearing, coming_next, next_at, read, serve_at}
 use Rattle.router_core.specs.Fronts.{Front, Waits, Whole, Faulty, IsFront}
 use Rattle.router_core.specs.OneThread.{Course, Readers, Rest, alone, doing, given, written_to}
-use Rattle.router_core.specs.Scripts.{Script, Gives, Changing, ChangingAll, Asking, Routing, Looking, Noting, Fronting, Calling, Gating, Wanting, Requiring, Doing, Announcing, and_then}
+use Rattle.router_core.specs.Scripts.{Script, Gives, Changing, ChangingAll, Asking, Routing, AskingPresence, Noting, Fronting, Calling, Gating, Wanting, Requiring, Doing, Announcing, and_then}
 use Rattle.router_core.specs.Standing.{Peer, Stage, Standing, SpeaksDBus, Authenticating, Unnamed, Named, Closing, peer_at, closing_peer, with_peer}
 use Rattle.router_core.proofs.Functions.{one_thread_is_a_function}
 use Rattle.router.proofs.Conversations.{hears_joined}
@@ -36,7 +36,7 @@ goes_seen f (Changing change goes_on) asked deeds x h = (h.0, h.1, h.2, goes_see
 goes_seen f (ChangingAll changes goes_on) asked deeds x h = (h.0, h.1, h.2, goes_seen f (goes_on h.0) h.1 deeds x h.3)
 goes_seen f (Asking query goes_on) asked deeds x h = (h.0, h.1, h.2, goes_seen f (goes_on h.0) h.1 deeds x h.3)
 goes_seen f (Routing from facts goes_on) asked deeds x h = (h.0, h.1, h.2, goes_seen f (goes_on h.0) h.1 deeds x h.3)
-goes_seen f (Looking number goes_on) asked deeds x h = (h.0, h.1, h.2, goes_seen f (goes_on h.0) h.1 deeds x h.3)
+goes_seen f (AskingPresence number goes_on) asked deeds x h = (h.0, h.1, h.2, goes_seen f (goes_on h.0) h.1 deeds x h.3)
 goes_seen f (Noting told s) asked deeds x h = (h.0, h.1, goes_seen f s h.0 deeds x h.2)
 goes_seen f (Fronting bytes goes_on) asked deeds x h = (h.0, h.1, h.2, goes_seen f (goes_on h.0) h.1 deeds x h.3)
 goes_seen f (Calling m goes_on) asked deeds x h = (h.0, h.1, h.2, goes_seen f (goes_on h.0) h.1 deeds x h.3)

@@ -12,7 +12,7 @@ ghost use Rattle.outbox_core.specs.Contents.{said_of};
 ghost use Rattle.outbox_core.specs.Deliveries.{deliveries_of};
 ghost use Rattle.router_core.specs.Answers.{Heard};
 ghost use Rattle.router_core.specs.Deeds.{IsFurthest, Writes, Sends, Puts, Closes, put_of};
-ghost use Rattle.router_core.specs.Scripts.{putting, having_done, Changes, ChangesAll, Asks, Routes, Looks, Takes, Passes, Performs, Emits, RunsTo};
+ghost use Rattle.router_core.specs.Scripts.{putting, having_done, Changes, ChangesAll, Asks, Routes, AsksPresence, Takes, Passes, Performs, Emits, RunsTo};
 ghost use Rattle.router_core.specs.Serving.{nothing, running};
 ghost use Rattle.router_steps.specs.Hearing.{heard_change, heard_changes, heard_verdict, heard_present, IsTold};
 
@@ -347,7 +347,8 @@ impl<V: BusView, G: Gate> Context<V, G> {
 
     /// Asks whether there is a connection of this number.
     pub(crate) fn is_present(&mut self, number: u64) -> Result<bool, Gone>
-        ensures looks { Looks V.alone number self.old.world (heard_present result) self.new.world }
+        ensures asks { AsksPresence V.alone number self.old.world
+            (heard_present result) self.new.world }
         ensures room { self.new.room ≡ self.old.room }
     {
         match self.view.present(number) {

@@ -5,7 +5,7 @@ ghost use Rattle.message_core.specs.Said.{said};
 ghost use Rattle.outbox_core.specs.Contents.{said_of};
 ghost use Rattle.router_core.specs.Answers.{error_for, refusal_of};
 ghost use Rattle.router_core.specs.Deeds.{IsOwnNote};
-ghost use Rattle.router_core.specs.Events.{closing, hearing, for_slot, look, looking_at_all, refuse_with, turn_away, writing};
+ghost use Rattle.router_core.specs.Events.{closing, hearing, for_slot, checking_presence, checking_each, refuse_with, turn_away, writing};
 ghost use Rattle.router_core.specs.Scripts.{RunsTo};
 ghost use Rattle.router_core.specs.Standing.{next_serial};
 ghost use Rattle.router_steps.specs.Noting.{once_noted};
@@ -131,26 +131,27 @@ impl<V: BusView, G: Gate> Context<V, G> {
     }
 
     /// Closes the connection of a key, if it is there and has left.
-    fn look_into(&mut self, key: usize, entry: &mut Option<Peer>)
+    fn check_entry(&mut self, key: usize, entry: &mut Option<Peer>)
         requires { 0 < self.old.room }
-        ensures comes { RunsTo V.BusView G.Gate (for_slot entry.old (λ p. look key p p.stage))
+        ensures comes { RunsTo V.BusView G.Gate
+            (for_slot entry.old (λ p. checking_presence key p p.stage))
             self.old.world entry.new self.new.world }
         ensures room { self.old.room ≤ self.new.room + 1 }
     {
         match entry {
             None => {}
-            Some(peer) => self.look_after(key, peer),
+            Some(peer) => self.check_presence(key, peer),
         }
     }
 
     /// Closes those that have left, by rising key.
-    pub fn look_at_all(&mut self, peers: &mut [Option<Peer>])
+    pub fn check_all(&mut self, peers: &mut [Option<Peer>])
         requires { length peers.old ≤ self.old.room }
-        ensures { RunsTo V.BusView G.Gate (looking_at_all [] peers.old)
+        ensures { RunsTo V.BusView G.Gate (checking_each [] peers.old)
             self.old.world peers.new self.new.world }
     {
         for key in 0..peers.len() {
-            self.look_into(key, &mut peers[key]);
+            self.check_entry(key, &mut peers[key]);
         }
     }
 }

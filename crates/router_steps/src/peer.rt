@@ -1,7 +1,7 @@
 //! One connection.
 
 ghost use Rattle.std.specs.Prelude.{◌≡◌, ◌<◌, ◌≤◌, ◌+◌, [], true, false, OnOk, OnErr};
-ghost use Rattle.router_core.specs.Events.{closing, fed, look};
+ghost use Rattle.router_core.specs.Events.{closing, fed, checking_presence};
 ghost use Rattle.router_core.specs.Fronts.{Waits, IsFront};
 ghost use Rattle.router_core.specs.Scripts.{RunsTo};
 ghost use Rattle.router_core.specs.Standing.{Named, SpeaksDBus, newcomer, next_serial, conn_of, closing_peer};
@@ -222,9 +222,9 @@ impl<V: BusView, G: Gate> Context<V, G> {
     }
 
     /// Closes a connection that has a name, if it has left.
-    fn look_at(&mut self, key: usize, peer: &mut Peer, conn: Conn)
+    fn close_if_absent(&mut self, key: usize, peer: &mut Peer, conn: Conn)
         requires { 0 < self.old.room }
-        ensures comes { RunsTo V.BusView G.Gate (look key peer.old (Named conn))
+        ensures comes { RunsTo V.BusView G.Gate (checking_presence key peer.old (Named conn))
             self.old.world peer.new self.new.world }
         ensures room { self.old.room ≤ self.new.room + 1 }
     {
@@ -236,15 +236,15 @@ impl<V: BusView, G: Gate> Context<V, G> {
     }
 
     /// Closes a connection that has left.
-    pub(crate) fn look_after(&mut self, key: usize, peer: &mut Peer)
+    pub(crate) fn check_presence(&mut self, key: usize, peer: &mut Peer)
         requires { 0 < self.old.room }
-        ensures comes { RunsTo V.BusView G.Gate (look key peer.old peer.old.stage)
+        ensures comes { RunsTo V.BusView G.Gate (checking_presence key peer.old peer.old.stage)
             self.old.world peer.new self.new.world }
         ensures room { self.old.room ≤ self.new.room + 1 }
     {
         if let Stage::Named(conn) = peer.stage() {
             let conn = *conn;
-            self.look_at(key, peer, conn);
+            self.close_if_absent(key, peer, conn);
         }
     }
 }

@@ -29,7 +29,7 @@ struct RouterState<W: Wake + Drop> {
     /// There is mail from another router for a place of it: which one, the flag of the place says.
     mail: AtomicBool,
     /// A connection of it was full for another router.
-    looks: AtomicBool,
+    check_due: AtomicBool,
     /// A connection came for it.
     comes: AtomicBool,
     /// Something was brought to it: whoever ends a turn wakes it.
@@ -42,7 +42,7 @@ impl<W: Wake + Drop> RouterState<W> {
             waker,
             sleeps: AtomicBool::new(false),
             mail: AtomicBool::new(false),
-            looks: AtomicBool::new(false),
+            check_due: AtomicBool::new(false),
             comes: AtomicBool::new(false),
             owed: AtomicBool::new(false),
         }
@@ -186,30 +186,31 @@ impl<W: Wake + Drop> Coordinator<W> {
         }
     }
 
-    /// The connection of this place was full for another router than its own, which is to look.
-    pub(crate) fn ask_to_look(&self, slot: usize) {
+    /// The connection of this place was full for another router than its own, which is to check
+    /// whether it is present.
+    pub(crate) fn ask_check(&self, slot: usize) {
         if let Some(state) = self.states.get(self.router_of(slot)) {
-            raise(&state.looks);
+            raise(&state.check_due);
             raise(&state.owed);
         }
     }
 
     /// Connections that were to leave the bus before have left it: any router may have one, and all
-    /// but that of this place are to look.
-    pub(crate) fn ask_others_to_look(&self, slot: usize) {
+    /// but that of this place are to check which of theirs are present.
+    pub(crate) fn ask_checks_of_others(&self, slot: usize) {
         let own = self.router_of(slot);
         for (router, state) in self.states.iter().enumerate() {
             if router != own {
-                raise(&state.looks);
+                raise(&state.check_due);
                 raise(&state.owed);
             }
         }
     }
 
     /// Whether a connection of this router was full for another. It is asked for once.
-    pub(crate) fn take_look(&self, router: usize) -> bool {
+    pub(crate) fn take_check(&self, router: usize) -> bool {
         match self.states.get(router) {
-            Some(state) => lower(&state.looks),
+            Some(state) => lower(&state.check_due),
             None => false,
         }
     }
@@ -221,7 +222,7 @@ impl<W: Wake + Drop> Coordinator<W> {
         };
         state.sleeps.store(true, Ordering::SeqCst);
         let is_awaited = state.mail.load(Ordering::SeqCst)
-            || state.looks.load(Ordering::SeqCst)
+            || state.check_due.load(Ordering::SeqCst)
             || state.comes.load(Ordering::SeqCst);
         !(is_awaited || self.is_over())
     }

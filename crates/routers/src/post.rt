@@ -137,14 +137,14 @@ impl<'a, 'b, J: Naming, W: Wake + Drop, R: Wait> Post<Traced<Desk<'b, J, R>>>
         self.coordinator.wake_owed();
     }
 
-    fn look(&mut self, _right: &R, at: Conn) {
+    fn ask_check(&mut self, _right: &R, at: Conn) {
         let slot = usize::from(at.slot);
         if !self.is_own(slot) {
-            self.coordinator.ask_to_look(slot);
+            self.coordinator.ask_check(slot);
         }
     }
 
-    fn look_all(&mut self, _right: &R) {
-        self.coordinator.ask_others_to_look(self.first);
+    fn ask_checks(&mut self, _right: &R) {
+        self.coordinator.ask_checks_of_others(self.first);
     }
 }

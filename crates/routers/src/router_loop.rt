@@ -206,8 +206,8 @@ impl<'a, V: BusView, G: Gate, P: Post<V>, S: Socket, E: Source<S>, W: Wake + Dro
         if self.coordinator.take_any_mail(self.me) {
             self.take_mail_flags();
         }
-        if self.coordinator.take_look(self.me) {
-            self.host.look_came();
+        if self.coordinator.take_check(self.me) {
+            self.host.check_came();
         }
     }
 

@@ -59,8 +59,8 @@ impl Mail {
 pub struct LocalPost {
     mails: Vec<Mail>,
     starts: VecDeque<StartRequest>,
-    /// How often the other routers were told to look.
-    looks: u64,
+    /// How often the other routers were asked to check.
+    checks_asked: u64,
 }
 
 impl Model for LocalPost {
@@ -84,13 +84,13 @@ impl LocalPost {
         Ok(LocalPost {
             mails,
             starts: VecDeque::new(alloc),
-            looks: 0,
+            checks_asked: 0,
         })
     }
 
-    /// How often the other routers were told to look at their connections.
-    pub fn looks(&self) -> u64 {
-        self.looks
+    /// How often the other routers were asked to check which of their connections are present.
+    pub fn checks_asked(&self) -> u64 {
+        self.checks_asked
     }
 
     /// The start that was asked for first, of those that were not taken yet.
@@ -149,10 +149,10 @@ impl Post<SeqBus> for LocalPost {
         self.mails[slot].take()
     }
 
-    fn look(&mut self, _right: &(), _at: Conn) {}
+    fn ask_check(&mut self, _right: &(), _at: Conn) {}
 
-    fn look_all(&mut self, _right: &()) {
-        self.looks = self.looks.wrapping_add(1);
+    fn ask_checks(&mut self, _right: &()) {
+        self.checks_asked = self.checks_asked.wrapping_add(1);
     }
 
     fn turn_ends(&mut self, _right: &()) {}

@@ -347,7 +347,7 @@ impl<V: BusView, G: Gate, P: Post<V>> Scene<V, G, P> {
     /// Time passes.
     fn tick(&mut self, right: &V::Right) -> Result<()> {
         for host in self.hosts.iter_mut() {
-            host.look_came();
+            host.check_came();
             host.tick(right)?;
         }
         self.drive(right)

@@ -189,8 +189,8 @@ fn serve_both(host: &mut ScriptedHost, alloc: Global) -> Result<Found, AllocErro
     }
     let at_second = seen(host, second, &TO_SECOND, &TO_SECOND_BUT_REPLY);
     let found = together(at_first, at_second);
-    // Nobody took too little mail: time passed over a Leave, and the other routers are to look.
-    if found == Found::All && host.post().looks() != ticks {
+    // Nobody took too little mail: time passed over a Leave, and the other routers are to check.
+    if found == Found::All && host.post().checks_asked() != ticks {
         return Ok(Found::Wrong);
     }
     Ok(found)

@@ -23,4 +23,4 @@ returns-in-Ok-clause-does g c =
       rw (← c.self.view_is, ← c.self-inside.view_is) c.in-Some.ensures.taken,
       inl (rw (← c.self.view_is, ← c.self-inside.view_is) c.in-Ok.ensures.happens),
     ))
-    (does_same c.look_again.ensures)
+    (does_same c.ask_check.ensures)

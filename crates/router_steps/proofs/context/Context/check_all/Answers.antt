@@ -1,9 +1,9 @@
 use Rattle.std.proofs.Common.{◌<◌, None, length, subst, arith}
 use Rattle.std.proofs.lemmas.List.{get_or_default}
-use Rattle.router_core.specs.Events.{for_slot, look}
+use Rattle.router_core.specs.Events.{for_slot, checking_presence}
 use Rattle.router_core.specs.Scripts.{Comes}
-use Rattle.router_steps.proofs.Rounds.{looks_more}
-use Rattle.router_steps.proofs.context.Context.look_at_all.Goals as goal
+use Rattle.router_steps.proofs.Rounds.{checks_more}
+use Rattle.router_steps.proofs.context.Context.check_all.Goals as goal
 
 pub loop-key-preserved : goal.loop-key-preserved
 loop-key-preserved g c =
@@ -14,13 +14,13 @@ loop-key-preserved g c =
     let key = c.loop-key.key in
     let peers = c.loop-key.peers in
     let w = c.loop-key.self.world in
-    let m = c.look_into.new.self.world in
-    let q = c.look_into.new.entry in
+    let m = c.check_entry.new.self.world in
+    let q = c.check_entry.new.entry in
     let inside : key < length peers = omega arith in
     let read = get_or_default peers key c.index-peers-key.result None inside in
     record {
       room = omega arith;
       comes = λ ys v later.
           c.loop-key.invariant.comes ys v
-          (looks_more told registry_of passes alone w m v peers key inside q ys (subst (λ o. Comes told registry_of passes alone (for_slot o (λ p. look key p p.stage)) w q m) read c.look_into.ensures.comes) later);
+          (checks_more told registry_of passes alone w m v peers key inside q ys (subst (λ o. Comes told registry_of passes alone (for_slot o (λ p. checking_presence key p p.stage)) w q m) read c.check_entry.ensures.comes) later);
     }

@@ -1,7 +1,0 @@
-use Rattle.router_core.specs.Events.{look}
-use Rattle.router_steps.proofs.Receiving.{for_one}
-use Rattle.router_steps.proofs.context.Context.look_into.Goals as goal
-
-pub returns-in-Some-clause-comes : goal.returns-in-Some-clause-comes
-returns-in-Some-clause-comes g c =
-    for_one g.V.BusView.told g.V.BusView.registry_of g.G.Gate.passes g.V.BusView.alone c.args.self.now.world c.args.self.now.world c.look_after.new.self.world c.args.entry.now c.in-Some.peer c.look_after.new.peer (λ p. look c.args.key p p.stage) c.in-Some.is c.look_after.ensures.comes
