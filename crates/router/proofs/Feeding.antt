@@ -28,7 +28,7 @@ use Rattle.router_core.specs.declared.fate.PeerFate.{PeerFate}
 use Rattle.router_core.specs.declared.fate.PeerFate.TheVariants as fate
 use Rattle.router_core.specs.Answers.{Heard, Says, Refuses, error_for}
 use Rattle.router_core.specs.Deeds.{Deed, Closes, Sends}
-use Rattle.router_core.specs.Events.{Bytes, Mail, Next, OfPeer, Stands, hearing, closing, fated, send, writing, for_slot, for_peer, fed, refuse, refuse_with, close_found, close_former, welcome, turn_away, greeted_by, greeted, greet, serve_named, serve_at, read, next_at, coming_next, mail_found}
+use Rattle.router_core.specs.Events.{Bytes, Mail, Next, OfPeer, Stands, hearing, closing, fated, send, writing, for_slot, for_peer, fed, refuse, refuse_with, close_found, close_former, welcome, turn_away, after_hello_by, after_hello, serving_hello, serve_named, serve_at, read, next_at, coming_next, mail_found}
 use Rattle.router_core.specs.Fronts.{Front, Waits, Whole, Faulty}
 use Rattle.router_core.specs.OneThread.{Readers, Rest, Course, alone, given, rest_of}
 use Rattle.router_core.specs.Scripts.{Script, Gives, Changing, ChangingAll, Asking, Routing, AskingPresence, Noting, Fronting, Calling, Gating, Wanting, Requiring, Doing, Announcing, and_then, putting}
@@ -341,32 +341,32 @@ module _ (piece : List ℕ) (key : ℕ) where
     turned_away_more : (s : Standing) → for_peer (with_more s) key (Some (more p)) (turn_away key m) ≡ seen_as with_more (for_peer s key (Some p) (turn_away key m))
     turned_away_more s = here s (turn_away key m) (turn_away_natural key m) (Some p)
 
-    greeted_by_more : (s : Standing) (o : Outcome) (r : Reply) → greeted_by (with_more s) key m (more p) o r ≡ seen_as with_more (greeted_by s key m p o r)
-    greeted_by_more s o (reply.Welcome conn) = welcomed_more s o conn
-    greeted_by_more s o reply.Gone = turned_away_more s
-    greeted_by_more s o reply.LimitsExceeded = turned_away_more s
-    greeted_by_more s o reply.Done = turned_away_more s
-    greeted_by_more s o (reply.OfQueue r) = turned_away_more s
-    greeted_by_more s o reply.InvalidName = turned_away_more s
-    greeted_by_more s o reply.RuleNotFound = turned_away_more s
-    greeted_by_more s o reply.AccessDenied = turned_away_more s
-    greeted_by_more s o reply.AlreadyRunning = turned_away_more s
-    greeted_by_more s o (reply.Held ticket) = turned_away_more s
-    greeted_by_more s o reply.ServiceUnknown = turned_away_more s
-    greeted_by_more s o (reply.Pass conn) = turned_away_more s
-    greeted_by_more s o reply.Ignored = turned_away_more s
+    after_hello_by_more : (s : Standing) (o : Outcome) (r : Reply) → after_hello_by (with_more s) key m (more p) o r ≡ seen_as with_more (after_hello_by s key m p o r)
+    after_hello_by_more s o (reply.Welcome conn) = welcomed_more s o conn
+    after_hello_by_more s o reply.Gone = turned_away_more s
+    after_hello_by_more s o reply.LimitsExceeded = turned_away_more s
+    after_hello_by_more s o reply.Done = turned_away_more s
+    after_hello_by_more s o (reply.OfQueue r) = turned_away_more s
+    after_hello_by_more s o reply.InvalidName = turned_away_more s
+    after_hello_by_more s o reply.RuleNotFound = turned_away_more s
+    after_hello_by_more s o reply.AccessDenied = turned_away_more s
+    after_hello_by_more s o reply.AlreadyRunning = turned_away_more s
+    after_hello_by_more s o (reply.Held ticket) = turned_away_more s
+    after_hello_by_more s o reply.ServiceUnknown = turned_away_more s
+    after_hello_by_more s o (reply.Pass conn) = turned_away_more s
+    after_hello_by_more s o reply.Ignored = turned_away_more s
 
-    greeted_more : (s : Standing) (heard : Heard Outcome) → greeted (with_more s) key m (more p) heard ≡ seen_as with_more (greeted s key m p heard)
-    greeted_more s (Refuses refusal) = here s (refuse_with key m (error_for refusal)) (refuse_with_natural key m (error_for refusal)) (Some p)
-    greeted_more s (Says o) = greeted_by_more s o o.reply
+    after_hello_more : (s : Standing) (heard : Heard Outcome) → after_hello (with_more s) key m (more p) heard ≡ seen_as with_more (after_hello s key m p heard)
+    after_hello_more s (Refuses refusal) = here s (refuse_with key m (error_for refusal)) (refuse_with_natural key m (error_for refusal)) (Some p)
+    after_hello_more s (Says o) = after_hello_by_more s o o.reply
 
-    greet_more : (s : Standing) → greet (with_more s) key m (more p) privileged ≡ seen_as with_more (greet s key m p privileged)
-    greet_more s = λ i. Gating call.Hello (Changing (Hello privileged) (λ heard. greeted_more s heard i))
+    serving_hello_more : (s : Standing) → serving_hello (with_more s) key m (more p) privileged ≡ seen_as with_more (serving_hello s key m p privileged)
+    serving_hello_more s = λ i. Gating call.Hello (Changing (Hello privileged) (λ heard. after_hello_more s heard i))
 
     hello_more : (s : Standing) (b : Bool) →
-        (if b then greet (with_more s) key m (more p) privileged else for_peer (with_more s) key (Some (more p)) (closing key cause.NotHello))
-        ≡ seen_as with_more (if b then greet s key m p privileged else for_peer s key (Some p) (closing key cause.NotHello))
-    hello_more s true = greet_more s
+        (if b then serving_hello (with_more s) key m (more p) privileged else for_peer (with_more s) key (Some (more p)) (closing key cause.NotHello))
+        ≡ seen_as with_more (if b then serving_hello s key m p privileged else for_peer s key (Some p) (closing key cause.NotHello))
+    hello_more s true = serving_hello_more s
     hello_more s false = here s (closing key cause.NotHello) (closing_natural key cause.NotHello) (Some p)
 
   -- ## The coming_next message

@@ -26,7 +26,7 @@ use Rattle.router_core.specs.declared.fate.PeerFate.{PeerFate}
 use Rattle.router_core.specs.declared.fate.PeerFate.TheVariants as fate
 use Rattle.router_core.specs.Answers.{Heard, Says, Refuses, error_for}
 use Rattle.router_core.specs.Deeds.{GatedCall}
-use Rattle.router_core.specs.Events.{OfPeer, closing, fated, close_at, close_found, close_former, writing, for_slot, for_peer, hearing, answering, conversed_to, converse_if, refuse, refuse_with, turn_away, welcome, greeted, greeted_by, greet, serve_named, serve_at, read, coming_next, next_at, after_check, checking_presence, checking_each}
+use Rattle.router_core.specs.Events.{OfPeer, closing, fated, close_at, close_found, close_former, writing, for_slot, for_peer, hearing, answering, conversed_to, converse_if, refuse, refuse_with, turn_away, welcome, after_hello, after_hello_by, serving_hello, serve_named, serve_at, read, coming_next, next_at, after_check, checking_presence, checking_each}
 use Rattle.router_core.specs.Fronts.{Front, Waits, Whole, Faulty}
 use Rattle.router_core.specs.Scripts.{Gives, Routing, Announcing, World, Comes, and_then}
 use Rattle.router_core.specs.Serving.{monitors_in, replying, serving}
@@ -261,14 +261,14 @@ module _ (slot key : ℕ) where
               (close_former s conn) (all_give (λ t. Unit {0}) (λ t. tt) (close_former s conn))
         ]
 
-    greeting : (x y : Option Peer) (known : Bool) → has_slot slot x ≡ false → has_slot slot y ≡ true → AllGive NotBoth (greet (record { peers = two key x y; due_leaves = []; login = None }) key m p known)
-    greeting x y known isnt is = by_answer
+    hello_served : (x y : Option Peer) (known : Bool) → has_slot slot x ≡ false → has_slot slot y ≡ true → AllGive NotBoth (serving_hello (record { peers = two key x y; due_leaves = []; login = None }) key m p known)
+    hello_served x y known isnt is = by_answer
       where
-        by_reply : (o : Outcome) (reply : Reply) → AllGive NotBoth (greeted_by (record { peers = two key x y; due_leaves = []; login = None }) key m p o reply)
+        by_reply : (o : Outcome) (reply : Reply) → AllGive NotBoth (after_hello_by (record { peers = two key x y; due_leaves = []; login = None }) key m p o reply)
         by_reply o (Welcome conn) = welcomed_by x y o conn isnt is
         by_reply o other = turned_away (record { peers = two key x y; due_leaves = []; login = None })
 
-        by_answer : (heard : Heard Outcome) → AllGive NotBoth (greeted (record { peers = two key x y; due_leaves = []; login = None }) key m p heard)
+        by_answer : (heard : Heard Outcome) → AllGive NotBoth (after_hello (record { peers = two key x y; due_leaves = []; login = None }) key m p heard)
         by_answer (Says o) = by_reply o o.reply
         by_answer (Refuses refusal) = refused (record { peers = two key x y; due_leaves = []; login = None }) (error_for refusal)
 
@@ -285,8 +285,8 @@ module _ (slot key : ℕ) where
     serving_keeps p m rest (Unnamed privileged) isnt =
         let s : Standing = standing_of (Some (record p { stage = Unnamed privileged })) in
         let q : Peer = record p { stage = Unnamed privileged; unread = rest } in
-        if_give NotBoth (is_hello m) (greet s key m q privileged) (for_peer s key (Some q) (closing key cause.NotHello))
-        (greeting m q privileged refl (Some (record p { stage = Unnamed privileged })) y privileged isnt has_second)
+        if_give NotBoth (is_hello m) (serving_hello s key m q privileged) (for_peer s key (Some q) (closing key cause.NotHello))
+        (hello_served m q privileged refl (Some (record p { stage = Unnamed privileged })) y privileged isnt has_second)
         (not_first s (Some (closing_peer q)) (λ has. false≢true has))
     serving_keeps p m rest (Named conn) isnt = if_watches p.watches
       where

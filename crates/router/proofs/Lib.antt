@@ -1,9 +1,9 @@
 pub mod Slots
 pub mod Ticks
 pub mod FoundMail
-pub mod Greetings
+pub mod HelloAnswers
 pub mod Bringing
-pub mod Greeted
+pub mod HelloTaken
 pub mod Indexing
 pub mod Endings
 pub mod Keeping

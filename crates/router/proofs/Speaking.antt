@@ -18,7 +18,7 @@ use Rattle.router_core.specs.declared.cause.CloseCause.TheVariants as cause
 use Rattle.router_core.specs.declared.fate.PeerFate.{PeerFate}
 use Rattle.router_core.specs.declared.fate.PeerFate.TheVariants as fate
 use Rattle.router_core.specs.Answers.{Heard, Says, Refuses, error_for}
-use Rattle.router_core.specs.Events.{Mail, Next, OfPeer, fed, closing, fated, close_found, close_former, writing, for_slot, for_peer, refuse_with, turn_away, welcome, greeted, greeted_by, greet, serve_named, serve_at, read, next_at, coming_next, mail_found}
+use Rattle.router_core.specs.Events.{Mail, Next, OfPeer, fed, closing, fated, close_found, close_former, writing, for_slot, for_peer, refuse_with, turn_away, welcome, after_hello, after_hello_by, serving_hello, serve_named, serve_at, read, next_at, coming_next, mail_found}
 use Rattle.router_core.specs.Fronts.{Front, Waits, Whole, Faulty}
 use Rattle.router_core.specs.OneThread.{Readers, Rest, Course, alone, given}
 use Rattle.router_core.specs.Scripts.{Script, Gives, Changing, ChangingAll, Asking, Routing, AskingPresence, Noting, Fronting, Calling, Gating, Wanting, Requiring, Doing, Announcing, and_then}
@@ -92,14 +92,14 @@ module _ (key : ℕ) where
         then_give (λ x. Unit {0}) (SpeaksAt key) (λ x. Announcing o.signals (Gives (with_peer t key (Some (record p { stage = Named conn })))))
         (λ x done. with_speaks t key (Some (record p { stage = Named conn })) speaks tt) (replying m conn (UniqueName conn.number)) (all_give (λ x. Unit {0}) (λ x. tt) (replying m conn (UniqueName conn.number)))
 
-    greeted_by_speaks : (s : Standing) (o : Outcome) (reply : Reply) → SpeaksAt key s → AllGive (SpeaksAt key) (greeted_by s key m p o reply)
-    greeted_by_speaks s o (Welcome conn) speaks =
+    after_hello_by_speaks : (s : Standing) (o : Outcome) (reply : Reply) → SpeaksAt key s → AllGive (SpeaksAt key) (after_hello_by s key m p o reply)
+    after_hello_by_speaks s o (Welcome conn) speaks =
         then_give (SpeaksAt key) (SpeaksAt key) (λ t. welcome key m p o conn t) (λ t so. welcome_speaks o conn t so) (close_former s conn) (found_speaks s _ speaks)
-    greeted_by_speaks s o other speaks = turned_away_speaks s speaks
+    after_hello_by_speaks s o other speaks = turned_away_speaks s speaks
 
-    greeted_speaks : (s : Standing) (heard : Heard Outcome) → SpeaksAt key s → AllGive (SpeaksAt key) (greeted s key m p heard)
-    greeted_speaks s (Says o) speaks = greeted_by_speaks s o o.reply speaks
-    greeted_speaks s (Refuses refusal) speaks =
+    after_hello_speaks : (s : Standing) (heard : Heard Outcome) → SpeaksAt key s → AllGive (SpeaksAt key) (after_hello s key m p heard)
+    after_hello_speaks s (Says o) speaks = after_hello_by_speaks s o o.reply speaks
+    after_hello_speaks s (Refuses refusal) speaks =
         for_speaks s key (Some p) (refuse_with key m (error_for refusal)) speaks
         (λ q is. weaker_give (IsLike key m q) Speaks (λ r like. subst (λ (stage : Stage). SpeaksDBus stage) (sym like) (of_it q is)) (refuse_with key m (error_for refusal) q) (refusing key m q (error_for refusal)))
       where
@@ -121,7 +121,7 @@ module _ (key : ℕ) where
     serve_speaks : (s : Standing) (stage : Stage) → SpeaksAt key s → AllGive (SpeaksAt key) (serve_at s key m p stage)
     serve_speaks s (Authenticating setting state) speaks = speaks
     serve_speaks s (Unnamed privileged) speaks =
-        if_give (SpeaksAt key) (is_hello m) (greet s key m p privileged) (for_peer s key (Some p) (closing key cause.NotHello)) (λ heard. greeted_speaks s heard speaks) (closing_speaks s key (Some p) cause.NotHello speaks)
+        if_give (SpeaksAt key) (is_hello m) (serving_hello s key m p privileged) (for_peer s key (Some p) (closing key cause.NotHello)) (λ heard. after_hello_speaks s heard speaks) (closing_speaks s key (Some p) cause.NotHello speaks)
     serve_speaks s (Named conn) speaks = named_speaks s conn p.watches speaks
     serve_speaks s (Closing conn) speaks = speaks
 

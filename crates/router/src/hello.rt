@@ -5,7 +5,7 @@ ghost use Rattle.message_core.specs.Said.{said};
 ghost use Rattle.seq_bus_core.specs.Bounds.{IsBounded};
 ghost use Rattle.seq_bus_core.specs.declared.limits.TheConstants.{MAX_SIGNALS};
 ghost use Rattle.router_core.specs.Answers.{error_for, refusal_of};
-ghost use Rattle.router_core.specs.Events.{refuse_with, turn_away, for_peer, close_former, welcome, greeted, greeted_by, greet};
+ghost use Rattle.router_core.specs.Events.{refuse_with, turn_away, for_peer, close_former, welcome, after_hello, after_hello_by, serving_hello};
 ghost use Rattle.router_core.specs.Scripts.{RunsTo};
 ghost use Rattle.router_core.specs.Standing.{Peer as Standing_peer, Named, has_slot, next_serial, peer_at};
 ghost use Rattle.router_steps.specs.Hearing.{heard_change};
@@ -176,7 +176,7 @@ impl<V: BusView, G: Gate> Peers<V, G> {
             (λ p. AreRefusals (said hello.now) (next_serial p.serial) errors) }
         ensures { (p : Standing_peer) → peer_at self.old.standing key ≡ Some p →
             RunsTo V.BusView G.Gate
-            (greeted_by self.old.standing key (said hello.now) p outcome outcome.reply)
+            (after_hello_by self.old.standing key (said hello.now) p outcome outcome.reply)
             self.old.work.world self.new.standing self.new.work.world }
     {
         match welcomed(outcome.reply) {
@@ -189,7 +189,7 @@ impl<V: BusView, G: Gate> Peers<V, G> {
     }
 
     /// What comes of a Hello once the bus has answered.
-    fn greeted(
+    fn finish_hello(
         &mut self,
         key: usize,
         hello: &Message,
@@ -205,7 +205,7 @@ impl<V: BusView, G: Gate> Peers<V, G> {
             (λ p. AreRefusals (said hello.now) (next_serial p.serial) errors) }
         ensures { (p : Standing_peer) → peer_at self.old.standing key ≡ Some p →
             RunsTo V.BusView G.Gate
-            (greeted self.old.standing key (said hello.now) p (heard_change heard))
+            (after_hello self.old.standing key (said hello.now) p (heard_change heard))
             self.old.work.world self.new.standing self.new.work.world }
     {
         match heard {
@@ -220,7 +220,7 @@ impl<V: BusView, G: Gate> Peers<V, G> {
     /// connection is answered an error; where a limit would be exceeded, it is closed too.
     ///
     /// It takes no memory: room was made, and the errors were made too.
-    pub(crate) fn greet(
+    pub(crate) fn serve_hello(
         &mut self,
         right: &V::Right,
         key: usize,
@@ -236,11 +236,11 @@ impl<V: BusView, G: Gate> Peers<V, G> {
             (λ p. AreRefusals (said hello.now) (next_serial p.serial) errors) }
         ensures { (p : Standing_peer) → peer_at self.old.standing key ≡ Some p →
             RunsTo V.BusView G.Gate
-            (greet self.old.standing key (said hello.now) p privileged)
+            (serving_hello self.old.standing key (said hello.now) p privileged)
             self.old.work.world self.new.standing self.new.work.world }
     {
         self.context.show_gate(&Call::Hello);
         let heard = self.context.change(right, Change::Hello { privileged });
-        self.greeted(key, hello, heard, errors);
+        self.finish_hello(key, hello, heard, errors);
     }
 }

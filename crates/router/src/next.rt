@@ -41,7 +41,7 @@ impl<V: BusView, G: Gate> Peers<V, G> {
     }
 
     /// Serves the next whole message of a connection, if there is one. A connection without a name
-    /// is greeted where it says Hello, and closed where it says anything else; what is no message
+    /// is served where it says Hello, and closed where it says anything else; what is no message
     /// closes each. Without memory nothing changes.
     #[tactic(auto, using(crate::proofs::Slots::none_beyond))]
     pub fn next(&mut self, right: &V::Right, key: usize) -> Result<(), AllocError>
@@ -72,7 +72,7 @@ impl<V: BusView, G: Gate> Peers<V, G> {
                     hello,
                     errors,
                 },
-            ) => self.greet(right, key, &hello, privileged, errors),
+            ) => self.serve_hello(right, key, &hello, privileged, errors),
         }
         Ok(())
     }

@@ -7,11 +7,11 @@ use Rattle.sasl.specs.declared.phase.Phase.TheVariants.{WaitingForNul, WaitingFo
 use Rattle.sasl.specs.Settings.{Setting}
 use Rattle.sasl.specs.Conversations.{State as AuthState}
 use Rattle.sasl.specs.Hearing.{Conversed, conversed}
-use Rattle.router_core.specs.Events.{Gathered, gathering, gather_at, none_gathered, turning, coming_next, next_at, for_peer, hearing, answering, conversed_to, converse_if, is_user, closing, greet, serve_named}
+use Rattle.router_core.specs.Events.{Gathered, gathering, gather_at, none_gathered, turning, coming_next, next_at, for_peer, hearing, answering, conversed_to, converse_if, is_user, closing, serving_hello, serve_named}
 use Rattle.router_core.specs.declared.cause.CloseCause.TheVariants.{NotHello, MonitorSent}
 use Rattle.bus_view.specs.declared.view.BusView.{Ghosts as BusView}
 use Rattle.router_core.specs.declared.gate.Gate.{Ghosts as Gate}
-use Rattle.router_core.specs.Laws.{IsClosing, HasNotBegun, ClosedAreNotServed, ClosedHaveNoTurn, ClosedTakeNothing, ClosedGetNoMail, NobodySpeaksBeforeBegin, NobodyHasATurnBeforeBegin, OnlyBeginBegins, UnknownTypesBringNothing, OnlyHelloGreets, MonitorsSendNothing}
+use Rattle.router_core.specs.Laws.{IsClosing, HasNotBegun, ClosedAreNotServed, ClosedHaveNoTurn, ClosedTakeNothing, ClosedGetNoMail, NobodySpeaksBeforeBegin, NobodyHasATurnBeforeBegin, OnlyBeginBegins, UnknownTypesBringNothing, OnlyHelloIsServed, MonitorsSendNothing}
 use Rattle.router_core.specs.Scripts.{Script, Gives, and_then, World, RunsTo}
 use Rattle.router_core.specs.Standing.{Authenticating, Unnamed, Closing, Peer, Standing, peer_at, with_peer}
 
@@ -83,9 +83,9 @@ only_begin_begins {N = N} {G = G} view gate p q key piece setting state privileg
 pub unknown_types_bring_nothing : UnknownTypesBringNothing
 unknown_types_bring_nothing m sender unknown = rw unknown refl
 
-pub only_hello_greets : {V N R G : Type 0} (view : BusView V N R) (gate : Gate G) → OnlyHelloGreets view gate
-only_hello_greets view gate s t key m p privileged w v other comes =
-    let closed : RunsTo view gate (for_peer s key (Some p) (closing key NotHello)) w t v = subst (λ b. RunsTo view gate (if b then greet s key m p privileged else for_peer s key (Some p) (closing key NotHello)) w t v) other comes in
+pub only_hello_is_served : {V N R G : Type 0} (view : BusView V N R) (gate : Gate G) → OnlyHelloIsServed view gate
+only_hello_is_served view gate s t key m p privileged w v other comes =
+    let closed : RunsTo view gate (for_peer s key (Some p) (closing key NotHello)) w t v = subst (λ b. RunsTo view gate (if b then serving_hello s key m p privileged else for_peer s key (Some p) (closing key NotHello)) w t v) other comes in
     (closed.2.0, (closed.1.action, closed.1.done, closed.2.1 ∙ closed.1.rest))
 
 pub monitors_send_nothing : {V N R G : Type 0} (view : BusView V N R) (gate : Gate G) → MonitorsSendNothing view gate

@@ -161,29 +161,29 @@ welcome key m p o conn s =
 abbrev pub turn_away : ℕ → Message → Peer → OfPeer
 turn_away key m p = and_then (refuse_with key m error.LimitsExceeded p) (λ q. closing key cause.LimitsExceeded q)
 
-abbrev pub greeted_by : Standing → ℕ → Message → Peer → Outcome → Reply → Stands
-greeted_by s key m p o (reply.Welcome conn) = and_then (close_former s conn) (λ t. welcome key m p o conn t)
-greeted_by s key m p o reply.LimitsExceeded = for_peer s key (Some p) (turn_away key m)
+abbrev pub after_hello_by : Standing → ℕ → Message → Peer → Outcome → Reply → Stands
+after_hello_by s key m p o (reply.Welcome conn) = and_then (close_former s conn) (λ t. welcome key m p o conn t)
+after_hello_by s key m p o reply.LimitsExceeded = for_peer s key (Some p) (turn_away key m)
 -- these are no replies to a Hello
-greeted_by s key m p o reply.Gone = for_peer s key (Some p) (turn_away key m)
-greeted_by s key m p o reply.Done = for_peer s key (Some p) (turn_away key m)
-greeted_by s key m p o (reply.OfQueue r) = for_peer s key (Some p) (turn_away key m)
-greeted_by s key m p o reply.InvalidName = for_peer s key (Some p) (turn_away key m)
-greeted_by s key m p o reply.RuleNotFound = for_peer s key (Some p) (turn_away key m)
-greeted_by s key m p o reply.AccessDenied = for_peer s key (Some p) (turn_away key m)
-greeted_by s key m p o reply.AlreadyRunning = for_peer s key (Some p) (turn_away key m)
-greeted_by s key m p o (reply.Held ticket) = for_peer s key (Some p) (turn_away key m)
-greeted_by s key m p o reply.ServiceUnknown = for_peer s key (Some p) (turn_away key m)
-greeted_by s key m p o (reply.Pass owner) = for_peer s key (Some p) (turn_away key m)
-greeted_by s key m p o reply.Ignored = for_peer s key (Some p) (turn_away key m)
+after_hello_by s key m p o reply.Gone = for_peer s key (Some p) (turn_away key m)
+after_hello_by s key m p o reply.Done = for_peer s key (Some p) (turn_away key m)
+after_hello_by s key m p o (reply.OfQueue r) = for_peer s key (Some p) (turn_away key m)
+after_hello_by s key m p o reply.InvalidName = for_peer s key (Some p) (turn_away key m)
+after_hello_by s key m p o reply.RuleNotFound = for_peer s key (Some p) (turn_away key m)
+after_hello_by s key m p o reply.AccessDenied = for_peer s key (Some p) (turn_away key m)
+after_hello_by s key m p o reply.AlreadyRunning = for_peer s key (Some p) (turn_away key m)
+after_hello_by s key m p o (reply.Held ticket) = for_peer s key (Some p) (turn_away key m)
+after_hello_by s key m p o reply.ServiceUnknown = for_peer s key (Some p) (turn_away key m)
+after_hello_by s key m p o (reply.Pass owner) = for_peer s key (Some p) (turn_away key m)
+after_hello_by s key m p o reply.Ignored = for_peer s key (Some p) (turn_away key m)
 
 -- A Hello that is refused leaves the connection without a name: it may say Hello again.
-abbrev pub greeted : Standing → ℕ → Message → Peer → Heard Outcome → Stands
-greeted s key m p (Refuses refusal) = for_peer s key (Some p) (refuse_with key m (error_for refusal))
-greeted s key m p (Says o) = greeted_by s key m p o o.reply
+abbrev pub after_hello : Standing → ℕ → Message → Peer → Heard Outcome → Stands
+after_hello s key m p (Refuses refusal) = for_peer s key (Some p) (refuse_with key m (error_for refusal))
+after_hello s key m p (Says o) = after_hello_by s key m p o o.reply
 
-abbrev pub greet : Standing → ℕ → Message → Peer → Bool → Stands
-greet s key m p privileged = Gating call.Hello (Changing (Hello privileged) (λ heard. greeted s key m p heard))
+abbrev pub serving_hello : Standing → ℕ → Message → Peer → Bool → Stands
+serving_hello s key m p privileged = Gating call.Hello (Changing (Hello privileged) (λ heard. after_hello s key m p heard))
 
 -- ## The next message
 
@@ -194,7 +194,7 @@ serve_named s key m p conn false = for_peer s key (Some p) (λ q. and_then (serv
 
 abbrev pub serve_at : Standing → ℕ → Message → Peer → Stage → Stands
 serve_at s key m p (Authenticating setting state) = Gives s
-serve_at s key m p (Unnamed privileged) = if is_hello m then greet s key m p privileged else for_peer s key (Some p) (closing key cause.NotHello)
+serve_at s key m p (Unnamed privileged) = if is_hello m then serving_hello s key m p privileged else for_peer s key (Some p) (closing key cause.NotHello)
 serve_at s key m p (Named conn) = serve_named s key m p conn p.watches
 serve_at s key m p (Closing conn) = Gives s
 

@@ -68,8 +68,8 @@ abbrev pub UnknownTypesBringNothing : Type 0
 UnknownTypesBringNothing = (m : Message) (sender : Conn) → is_unknown (kind_of m.kind) ≡ true → serving m sender ≡ stays_open
 
 -- Before its Hello a connection is closed for anything else.
-abbrev pub OnlyHelloGreets : {V N R G : Type 0} → BusView V N R → Gate G → Type 0
-OnlyHelloGreets {N = N} {G = G} view gate = (s t : Standing) (key : ℕ) (m : Message) (p : Peer) (privileged : Bool) (w v : World N G) →
+abbrev pub OnlyHelloIsServed : {V N R G : Type 0} → BusView V N R → Gate G → Type 0
+OnlyHelloIsServed {N = N} {G = G} view gate = (s t : Standing) (key : ℕ) (m : Message) (p : Peer) (privileged : Bool) (w v : World N G) →
     is_hello m ≡ false → RunsTo view gate (serve_at s key m p (Unnamed privileged)) w t v →
     (t ≡ with_peer s key (Some (closing_peer p))) × ((action : Action N) × IsDoneBy action (Closes key NotHello) × (v ≡ having_done w (action ∷ [])))
 

@@ -1,7 +1,7 @@
 //! Laws of the definitions.
 
 ghost use Rattle.std.specs.Prelude.{◌≡◌};
-ghost use Rattle.router_core.specs.Laws.{ClosedAreNotServed, ClosedHaveNoTurn, ClosedTakeNothing, ClosedGetNoMail, NobodySpeaksBeforeBegin, NobodyHasATurnBeforeBegin, OnlyBeginBegins, UnknownTypesBringNothing, OnlyHelloGreets, MonitorsSendNothing, OnlyFullTablesGrow, AnswersAreLawful, NotesAreOwn, OneThreadIsAFunction, BytesAreAFunction};
+ghost use Rattle.router_core.specs.Laws.{ClosedAreNotServed, ClosedHaveNoTurn, ClosedTakeNothing, ClosedGetNoMail, NobodySpeaksBeforeBegin, NobodyHasATurnBeforeBegin, OnlyBeginBegins, UnknownTypesBringNothing, OnlyHelloIsServed, MonitorsSendNothing, OnlyFullTablesGrow, AnswersAreLawful, NotesAreOwn, OneThreadIsAFunction, BytesAreAFunction};
 ghost use Rattle.router_core.specs.Standing.{next_serial};
 
 use crate::gate::Gate;
@@ -44,9 +44,9 @@ pub fn unknown_types_bring_nothing()
 
 /// A connection that sends anything before the call of Hello is closed for it, and nothing else is
 /// done.
-#[tactic(auto, using(crate::proofs::FirstMessages::only_hello_greets))]
-pub fn only_hello_greets<V: BusView, G: Gate>()
-    ensures { OnlyHelloGreets V.BusView G.Gate }
+#[tactic(auto, using(crate::proofs::FirstMessages::only_hello_is_served))]
+pub fn only_hello_is_served<V: BusView, G: Gate>()
+    ensures { OnlyHelloIsServed V.BusView G.Gate }
 {}
 
 /// A monitor that sends anything is closed for it, and nothing else is done.

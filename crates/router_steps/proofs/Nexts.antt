@@ -9,7 +9,7 @@ use Rattle.driver.specs.Calls.{is_hello}
 use Rattle.router_core.specs.declared.fate.PeerFate.{PeerFate}
 use Rattle.router_core.specs.declared.cause.CloseCause.TheVariants as cause
 use Rattle.router_core.specs.Deeds.{GatedCall}
-use Rattle.router_core.specs.Events.{OfPeer, closing, fated, for_slot, for_peer, greet, serve_named, serve_at, read, next_at, coming_next}
+use Rattle.router_core.specs.Events.{OfPeer, closing, fated, for_slot, for_peer, serving_hello, serve_named, serve_at, read, next_at, coming_next}
 use Rattle.router_core.specs.Fronts.{Waits, Whole, Faulty, IsFront}
 use Rattle.router_core.specs.Scripts.{Gives, Fronting, World, Comes, and_then}
 use Rattle.router_core.specs.Serving.{serving}
@@ -48,7 +48,7 @@ module _ {N G : Type 0} (told : N → History) (registry_of : N → ℕ) (passes
         let here = subst (λ (x : Peer). Comes told registry_of passes alone (for_peer s key (Some x) (closing key cause.NotHello)) w t v) rest (for_some s key r q (closing key cause.NotHello) w v done) in
         let x : Peer = record p { unread = r.unread } in
         let chosen : Comes told registry_of passes alone (serve_at s key (said message) x (Unnamed privileged)) w t v =
-        subst (λ (b : Bool). Comes told registry_of passes alone (if b then greet s key (said message) x privileged else for_peer s key (Some x) (closing key cause.NotHello)) w t v) (sym other) here in
+        subst (λ (b : Bool). Comes told registry_of passes alone (if b then serving_hello s key (said message) x privileged else for_peer s key (Some x) (closing key cause.NotHello)) w t v) (sym other) here in
         (Whole message r.unread, front, subst (λ (stage : Stage). Comes told registry_of passes alone (serve_at s key (said message) x stage) w t v) (sym unnamed) chosen)
 
     pub reads_named : (s : Standing) (message : List ℕ) (r q : Peer) (conn : Conn) (fate : PeerFate) (m : World N G) → IsFront p.unread (Whole message r.unread) → IsRest p r → p.stage ≡ Named conn → r.watches ≡ false →

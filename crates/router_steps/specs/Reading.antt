@@ -8,8 +8,8 @@ use Rattle.router_core.specs.Events.{coming_next}
 use Rattle.router_core.specs.Fronts.{Waits, Whole, Faulty, IsFront}
 use Rattle.router_core.specs.Scripts.{World, RunsTo}
 use Rattle.router_core.specs.Standing.{Unnamed, Peer, Standing, peer_at, with_peer, next_serial}
-use Rattle.router_steps.specs.declared.first.FirstMessage.{FirstMessage}
-use Rattle.router_steps.specs.declared.first.FirstMessage.TheVariants as first
+use Rattle.router_steps.specs.declared.first.FirstIncoming.{FirstIncoming}
+use Rattle.router_steps.specs.declared.first.FirstIncoming.TheVariants as first
 use Rattle.router_steps.specs.declared.incoming.Incoming.{Incoming}
 use Rattle.router_steps.specs.declared.incoming.Incoming.TheVariants as incoming
 use Rattle.router_steps.specs.declared.incoming.More.{More}
@@ -39,7 +39,7 @@ abbrev pub IsRest : Peer → Peer → Type 0
 IsRest old new = new ≡ record old { unread = new.unread }
 
 -- The first message of a connection. A Hello comes with the errors that it may be answered.
-abbrev pub HasFirst : FirstMessage → Peer → Peer → Type 0
+abbrev pub HasFirst : FirstIncoming → Peer → Peer → Type 0
 HasFirst first.Waits old new = IsFront old.unread Waits × (new ≡ old)
 HasFirst (first.Hello message errors) old new =
     IsFront old.unread (Whole message new.unread) × IsRest old new × (is_hello (said message) ≡ true) × AreRefusals (said message) (next_serial old.serial) errors

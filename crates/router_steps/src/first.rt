@@ -17,7 +17,7 @@ use std::alloc::AllocError;
 
 /// What a connection sends first.
 #[derive(Drop)]
-pub(crate) enum FirstMessage {
+pub(crate) enum FirstIncoming {
     /// More bytes are wanted.
     Waits,
     /// The call of Hello, with the errors that it may be answered.
@@ -53,26 +53,26 @@ impl Peer {
 
     /// Takes its first message off its bytes. Without memory nothing changes.
     #[tactic(auto, using(crate::proofs::Stages::messages_unread, crate::proofs::Stages::messages_silent))]
-    fn take_first(&mut self) -> Result<FirstMessage, AllocError>
+    fn take_first(&mut self) -> Result<FirstIncoming, AllocError>
         requires { SpeaksDBus self.old.stage }
         ensures ok { IfOk result (λ first. HasFirst first self.old self.new) }
         ensures err { OnErr result (self.new ≡ self.old) }
     {
         match fill(&mut self.pending, &mut self.unread)? {
-            More::Waits => Ok(FirstMessage::Waits),
+            More::Waits => Ok(FirstIncoming::Waits),
             More::Faulty(fault) => {
                 self.let_go();
-                Ok(FirstMessage::Faulty(fault))
+                Ok(FirstIncoming::Faulty(fault))
             }
             More::Pending => {
                 let Some(message) = self.pending.pop_front() else {
                     unreachable!()
                 };
                 if !is_hello(&message) {
-                    return Ok(FirstMessage::Other(message));
+                    return Ok(FirstIncoming::Other(message));
                 }
                 match HelloErrors::new(self.alloc, &message, serial_after(self.serial)) {
-                    Ok(errors) => Ok(FirstMessage::Hello(message, errors)),
+                    Ok(errors) => Ok(FirstIncoming::Hello(message, errors)),
                     Err(error) => {
                         self.pending.push_front_reserved(message);
                         Err(error)
@@ -104,17 +104,17 @@ impl<V: BusView, G: Gate> Context<V, G> {
         ensures world { OnErr result (self.new.world ≡ self.old.world) }
     {
         match peer.take_first()? {
-            FirstMessage::Waits => Ok(None),
-            FirstMessage::Hello(hello, errors) => Ok(Some(HelloCall {
+            FirstIncoming::Waits => Ok(None),
+            FirstIncoming::Hello(hello, errors) => Ok(Some(HelloCall {
                 privileged,
                 hello,
                 errors,
             })),
-            FirstMessage::Other(_message) => {
+            FirstIncoming::Other(_message) => {
                 self.close_peer(key, peer, CloseCause::NotHello);
                 Ok(None)
             }
-            FirstMessage::Faulty(fault) => {
+            FirstIncoming::Faulty(fault) => {
                 self.close_peer(key, peer, CloseCause::Faulty(fault));
                 Ok(None)
             }

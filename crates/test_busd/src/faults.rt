@@ -61,13 +61,13 @@ const CALLS: &[Call] = &[
 fn ends_well(alloc: Global, (call, reply, lost): &Call) -> Result<bool, AllocError> {
     let input = joined(alloc, &[HELLO, call])?;
     let whole = joined(alloc, &[WELCOME, ACQUIRED, reply])?;
-    let greeted = joined(alloc, &[WELCOME, ACQUIRED])?;
+    let welcomed = joined(alloc, &[WELCOME, ACQUIRED])?;
     let unanswered = joined(alloc, &[WELCOME, ACQUIRED, lost])?;
     let mut output = Vec::new(alloc);
     let end = run(alloc, &mut input.as_slice(), &mut output);
     let written = output.as_slice();
     let is_over = written == whole.as_slice() || written == unanswered.as_slice();
-    let is_between = written.is_empty() || written == WELCOME || written == greeted.as_slice();
+    let is_between = written.is_empty() || written == WELCOME || written == welcomed.as_slice();
     Ok(match end {
         Ok(()) => is_over,
         Err(RunFault::Memory) => is_between || is_over,

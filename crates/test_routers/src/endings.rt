@@ -34,7 +34,7 @@ const STOPPED: Scenario = Scenario {
     tracing: Tracing::Off,
 };
 
-const GREETED: &str = "client 0
+const AFTER_HELLO: &str = "client 0
 1 reply 1 :1.1
 2 org.freedesktop.DBus NameAcquired :1.1
 ";
@@ -43,7 +43,7 @@ const GREETED: &str = "client 0
 fn the_first_fault_ends_all(rt: HostRuntime) -> Result<(), Fail> {
     let told = play(&rt, rt.alloc(), &FAILING)?.told;
     assert!(rt;
-        told.strip_prefix(GREETED) == Some("fault: memory\n"),
+        told.strip_prefix(AFTER_HELLO) == Some("fault: memory\n"),
         "{told}"
     );
     Ok(())
@@ -52,6 +52,6 @@ fn the_first_fault_ends_all(rt: HostRuntime) -> Result<(), Fail> {
 #[test]
 fn a_bus_is_stopped(rt: HostRuntime) -> Result<(), Fail> {
     let told = play(&rt, rt.alloc(), &STOPPED)?.told;
-    assert_eq!(rt; told.as_str(), GREETED);
+    assert_eq!(rt; told.as_str(), AFTER_HELLO);
     Ok(())
 }

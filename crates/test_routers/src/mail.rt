@@ -9,12 +9,12 @@ use test_support::messages::{ACQUIRED, WELCOME};
 /// Room for whatever comes.
 const ROOM: usize = 1_000_000;
 
-/// Room for what the first client of a bus is greeted with.
-const GREETING: usize = WELCOME.len() + ACQUIRED.len();
+/// Room for what the first client of a bus is told at its Hello.
+const WELCOME_ROOM: usize = WELCOME.len() + ACQUIRED.len();
 
 /// A client that does not read leaves while mail waits for it, and another takes its place.
 const NEWCOMER: Scenario = Scenario {
-    rooms: &[GREETING, ROOM, ROOM],
+    rooms: &[WELCOME_ROOM, ROOM, ROOM],
     steps: &[
         &[
             Step::Connects(0),
@@ -104,7 +104,7 @@ client 1
 /// 256 envelopes wait for a client that does not read. The next is one too many: the client is put
 /// out, and others are told.
 const SLOW: Scenario = Scenario {
-    rooms: &[GREETING, ROOM, ROOM],
+    rooms: &[WELCOME_ROOM, ROOM, ROOM],
     steps: &[
         &[
             Step::Connects(0),
@@ -238,7 +238,7 @@ fn signals_come_to_all_in_order(rt: HostRuntime) -> Result<(), Fail> {
 
 /// 256 envelopes wait for a client that does not read, until it does.
 const RESUMED: Scenario = Scenario {
-    rooms: &[GREETING, ROOM],
+    rooms: &[WELCOME_ROOM, ROOM],
     steps: &[
         &[
             Step::Connects(0),

@@ -34,7 +34,7 @@ pub fn serve(alloc: Global) -> Served {
     let Some(mut engine) = opened(alloc) else {
         return Served::default();
     };
-    let come = greet(&mut engine, alloc).is_some();
+    let come = say_hello(&mut engine, alloc).is_some();
     let served = Served {
         mail: come && mail::is_written(&mut engine, alloc) == Some(true),
         waiting: come && waiting::are_answered(&mut engine, alloc) == Some(true),
@@ -48,7 +48,7 @@ pub fn serve(alloc: Global) -> Served {
 }
 
 /// A connection comes, and has its name.
-pub fn greet(engine: &mut Plain, alloc: Global) -> Option<()> {
+pub fn say_hello(engine: &mut Plain, alloc: Global) -> Option<()> {
     if !engine.is_free(0) {
         return None;
     }

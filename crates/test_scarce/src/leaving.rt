@@ -1,6 +1,6 @@
 //! Connections that are put out or gone, where there may be no memory for their Leaves.
 
-use crate::engine::{Plain, brought, greet};
+use crate::engine::{Plain, brought, say_hello};
 use router_core::{Action, CloseCause, Event};
 use seq_bus_core::limits::MAX_CONNECTIONS;
 use std::alloc::Global;
@@ -13,7 +13,7 @@ pub fn are_gone(engine: &mut Plain, alloc: Global) -> Option<bool> {
     let is_put_out = is_put_out(engine)?;
     let is_still = is_still(engine);
     let first_is_gone = is_gone(engine)?;
-    greet(engine, alloc)?;
+    say_hello(engine, alloc)?;
     let has_come = engine.number_of(0) == Some(2);
     let second_is_gone = is_gone(engine)?;
     Some(is_put_out && is_still && first_is_gone && has_come && second_is_gone)

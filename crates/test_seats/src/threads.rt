@@ -50,7 +50,7 @@ fn call_to(name: &UniqueName) -> Facts<'_> {
 
 /// Makes a Hello, and routes a call of the new connection to itself: its number, if nothing was
 /// refused.
-fn greet<J: Naming, R: Wait>(rt: &R, seat: &mut Seat<J>, shared: &Shared<J>) -> Option<u64> {
+fn say_hello<J: Naming, R: Wait>(rt: &R, seat: &mut Seat<J>, shared: &Shared<J>) -> Option<u64> {
     let change = Change::Hello { privileged: false };
     let (outcome, _) = seat.change(rt, shared, change).ok()?;
     let number = number_of(&outcome);
@@ -73,7 +73,7 @@ fn hellos<J: Naming, R: Wait>(
     let mut numbers = Vec::new(alloc);
     let mut refused = 0u64;
     for _ in 0..HELLOS {
-        let fine = match greet(rt, &mut seat, shared) {
+        let fine = match say_hello(rt, &mut seat, shared) {
             Some(number) => numbers.push(number).is_ok(),
             None => false,
         };

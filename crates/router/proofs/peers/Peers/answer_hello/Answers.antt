@@ -4,7 +4,7 @@ use Rattle.router_core.specs.Events.{close_former, for_peer, turn_away, welcome}
 use Rattle.router_core.specs.Scripts.{RunsTo}
 use Rattle.router_core.specs.Standing.{Peer, Standing, peer_at}
 use Rattle.router.specs.Indexed.{IsNameless}
-use Rattle.router.proofs.Greetings.{is_turned_away, is_welcome, nameless_slot}
+use Rattle.router.proofs.HelloAnswers.{is_turned_away, is_welcome, nameless_slot}
 use Rattle.router_steps.proofs.Sequels.{comes_then}
 use Rattle.router.proofs.peers.Peers.answer_hello.Goals as goal
 

@@ -7,7 +7,7 @@ use Rattle.router_core.specs.Events.{closing, for_slot, close_former}
 use Rattle.router_core.specs.Scripts.{Comes}
 use Rattle.router_core.specs.Standing.{Peer, Standing, has_slot, peer_at, with_peer}
 use Rattle.router.specs.Tables.{Table}
-use Rattle.router.proofs.Greetings.{closes_former}
+use Rattle.router.proofs.HelloAnswers.{closes_former}
 use Rattle.router.specs.Indexed.{IsVacant}
 use Rattle.router.proofs.Indexing.{vacant_closed, vacant_unfound}
 use Rattle.router.proofs.Keeping.{closed_has_none}

@@ -6,7 +6,7 @@ use Rattle.router_core.specs.Events.{for_peer, refuse_with}
 use Rattle.router_core.specs.Scripts.{RunsTo}
 use Rattle.router_core.specs.Standing.{Standing, peer_at, with_peer}
 use Rattle.router.specs.Tables.{Table}
-use Rattle.router.proofs.Greetings.{at_place}
+use Rattle.router.proofs.HelloAnswers.{at_place}
 use Rattle.router.proofs.Indexing.{index_at}
 use Rattle.router.proofs.Keeping.{refused_keeps}
 use Rattle.router.proofs.peers.Peers.refuse_at.Goals as goal

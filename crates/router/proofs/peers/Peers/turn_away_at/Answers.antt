@@ -5,7 +5,7 @@ use Rattle.router_core.specs.Events.{for_peer, turn_away}
 use Rattle.router_core.specs.Scripts.{RunsTo}
 use Rattle.router_core.specs.Standing.{Standing, peer_at, with_peer}
 use Rattle.router.specs.Tables.{Table}
-use Rattle.router.proofs.Greetings.{at_place}
+use Rattle.router.proofs.HelloAnswers.{at_place}
 use Rattle.router.proofs.Indexing.{index_without}
 use Rattle.router.proofs.Keeping.{turned_away_has_none}
 use Rattle.router.proofs.peers.Peers.turn_away_at.Goals as goal

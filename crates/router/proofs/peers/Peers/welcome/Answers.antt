@@ -9,7 +9,7 @@ use Rattle.router_core.specs.Standing.{Peer, Standing, Named, peer_at, with_peer
 use Rattle.router_steps.proofs.Sequels.{comes_then}
 use Rattle.router.specs.Tables.{Table}
 use Rattle.router.specs.Indexed.{IsIndexed, IsNameless, IsVacant}
-use Rattle.router.proofs.Greetings.{nameless_peer}
+use Rattle.router.proofs.HelloAnswers.{nameless_peer}
 use Rattle.router.proofs.Indexing.{index_named}
 use Rattle.router.proofs.peers.Peers.welcome.Goals as goal
 

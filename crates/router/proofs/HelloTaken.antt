@@ -1,4 +1,4 @@
--- A connection is greeted once its Hello was taken off its bytes.
+-- A Hello is served once it was taken off the bytes of its connection.
 use Rattle.std.proofs.Common.{◌≡◌, ◌≢◌, ℕ, Bool, false, true, Option, Some, None, List, length, position, cond, nat_lt, get_or, set, refl, sym, ap, ◌∙◌, subst, if◌then◌else◌}
 use Rattle.std.proofs.lemmas.List.{set-set, set_comm, get_or-set_other, length-set}
 use Rattle.std.specs.List.{position_or_len}
@@ -16,7 +16,7 @@ use Rattle.outbox_core.specs.Contents.{UniqueName}
 use Rattle.router_core.specs.declared.cause.CloseCause.TheVariants as cause
 use Rattle.router_core.specs.Answers.{Heard, Says, Refuses, error_for}
 use Rattle.router_core.specs.Deeds.{GatedCall, Closes}
-use Rattle.router_core.specs.Events.{OfPeer, Stands, closing, for_slot, for_peer, close_found, welcome, turn_away, refuse_with, greeted_by, greeted, greet, serve_at, next_at, coming_next}
+use Rattle.router_core.specs.Events.{OfPeer, Stands, closing, for_slot, for_peer, close_found, welcome, turn_away, refuse_with, after_hello_by, after_hello, serving_hello, serve_at, next_at, coming_next}
 use Rattle.router_core.specs.Fronts.{Whole, IsFront}
 use Rattle.router_core.specs.Scripts.{Gives, Doing, Announcing, World, Comes, and_then}
 use Rattle.router_core.specs.Serving.{replying}
@@ -83,33 +83,33 @@ module _ (s : Standing) (key : ℕ) (left : Option Peer) where
           let never : false ≡ true = sym (without slot) ∙ ap (λ n. has_slot slot (peer_at s n)) (sym same) ∙ has in
           cc
 
-      by_reply : (reply : Reply) → greeted_by taken key m p o reply ≡ greeted_by s key m p o reply
+      by_reply : (reply : Reply) → after_hello_by taken key m p o reply ≡ after_hello_by s key m p o reply
       by_reply (Welcome conn) =
           ap (λ found. and_then (close_found taken found) (λ t. welcome key m p o conn t)) (position_same (has_slot conn.slot) s.peers key left None (slotless conn.slot ∙ sym (without conn.slot)))
           ∙ found_then conn (position (has_slot conn.slot) s.peers) (λ k found. other_key conn.slot k found)
       by_reply other = for_it p (turn_away key m)
 
   module _ (m : Message) (p : Peer) (was : Peer) (privileged : Bool) (there : peer_at s key ≡ Some was) (unnamed : was.stage ≡ Unnamed privileged) (slotless : (slot : ℕ) → has_slot slot left ≡ false) where
-    greeted_same : (heard : Heard Outcome) → greeted taken key m p heard ≡ greeted s key m p heard
-    greeted_same (Refuses refusal) = for_it p (refuse_with key m (error_for refusal))
-    greeted_same (Says o) = by_reply m p o was privileged there unnamed slotless o.reply
+    after_hello_same : (heard : Heard Outcome) → after_hello taken key m p heard ≡ after_hello s key m p heard
+    after_hello_same (Refuses refusal) = for_it p (refuse_with key m (error_for refusal))
+    after_hello_same (Says o) = by_reply m p o was privileged there unnamed slotless o.reply
 
     -- what comes of the Hello then comes of it
-    pub greets : {N G : Type 0} (told : N → History) (registry_of : N → ℕ) (passes : G → GatedCall → G → Type 0) (alone known : Bool) (w : World N G) (t : Standing) (v : World N G) →
-        Comes told registry_of passes alone (greet taken key m p known) w t v → Comes told registry_of passes alone (greet s key m p known) w t v
-    greets told registry_of passes alone known w t v h =
-        (h.0, h.1, (h.2.0, h.2.1, h.2.2, subst (λ script. Comes told registry_of passes alone script h.2.1 t v) (greeted_same h.2.0) h.2.3))
+    pub serves_hello : {N G : Type 0} (told : N → History) (registry_of : N → ℕ) (passes : G → GatedCall → G → Type 0) (alone known : Bool) (w : World N G) (t : Standing) (v : World N G) →
+        Comes told registry_of passes alone (serving_hello taken key m p known) w t v → Comes told registry_of passes alone (serving_hello s key m p known) w t v
+    serves_hello told registry_of passes alone known w t v h =
+        (h.0, h.1, (h.2.0, h.2.1, h.2.2, subst (λ script. Comes told registry_of passes alone script h.2.1 t v) (after_hello_same h.2.0) h.2.3))
 
--- A Hello is served by greeting its connection.
+-- It is served as the next message of its connection.
 pub hello_next : {N G : Type 0} (told : N → History) (registry_of : N → ℕ) (passes : G → GatedCall → G → Type 0) (alone : Bool) (s : Standing) (key : ℕ) (p q : Peer) (privileged : Bool) (message : List ℕ) (w : World N G) (t : Standing) (v : World N G) →
     peer_at s key ≡ Some p → p.stage ≡ Unnamed privileged → IsFront p.unread (Whole message q.unread) → IsRest p q → is_hello (said message) ≡ true →
-    Comes told registry_of passes alone (greet s key (said message) q privileged) w t v → Comes told registry_of passes alone (coming_next s key (peer_at s key)) w t v
+    Comes told registry_of passes alone (serving_hello s key (said message) q privileged) w t v → Comes told registry_of passes alone (coming_next s key (peer_at s key)) w t v
 hello_next told registry_of passes alone s key p q privileged message w t v there unnamed front rest hello done =
     let m = said message in
     let x : Peer = record p { unread = q.unread } in
-    let greets_it = subst (λ (r : Peer). Comes told registry_of passes alone (greet s key m r privileged) w t v) rest done in
+    let serves_it = subst (λ (r : Peer). Comes told registry_of passes alone (serving_hello s key m r privileged) w t v) rest done in
     let chosen : Comes told registry_of passes alone (serve_at s key m x (Unnamed privileged)) w t v =
-    subst (λ (b : Bool). Comes told registry_of passes alone (if b then greet s key m x privileged else for_peer s key (Some x) (closing key cause.NotHello)) w t v) (sym hello) greets_it in
+    subst (λ (b : Bool). Comes told registry_of passes alone (if b then serving_hello s key m x privileged else for_peer s key (Some x) (closing key cause.NotHello)) w t v) (sym hello) serves_it in
     let served = subst (λ (stage : Stage). Comes told registry_of passes alone (serve_at s key m x stage) w t v) (sym unnamed) chosen in
     let reads : Comes told registry_of passes alone (next_at s key p (Unnamed privileged)) w t v = (Whole message q.unread, front, served) in
     subst (λ (o : Option Peer). Comes told registry_of passes alone (coming_next s key o) w t v) (sym there) (subst (λ (stage : Stage). Comes told registry_of passes alone (next_at s key p stage) w t v) (sym unnamed) reads)
