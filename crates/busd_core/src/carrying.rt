@@ -19,7 +19,7 @@ pub struct Endpoint {
 }
 
 /// Serves an event, and writes what its actions write to the connection of a key.
-pub fn bring<V: BusView, G: Gate, W: Write>(
+pub fn dispatch<V: BusView, G: Gate, W: Write>(
     engine: &mut Engine<V, G>,
     right: &V::Right,
     key: usize,

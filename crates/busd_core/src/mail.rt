@@ -6,7 +6,7 @@ ghost use Rattle.outbox_core.specs.Deliveries.{deliveries_of};
 ghost use Rattle.busd_core.specs.Happenings.{mail_to, mail_to_all, mail_of, mails_of};
 ghost use Rattle.busd_core.specs.Parts.{DeliversBy};
 
-use crate::carrying::{Endpoint, bring};
+use crate::carrying::{Endpoint, dispatch};
 use crate::run_fault::RunFault;
 use bus_view::BusView;
 use outbox_core::{Content, Deliveries, Envelope};
@@ -43,7 +43,7 @@ fn deliver_to<V: BusView, G: Gate, W: Write>(
         slot: conn.slot,
         envelope,
     };
-    let actions = bring(engine, right, endpoint.key, mail, writer)?;
+    let actions = dispatch(engine, right, endpoint.key, mail, writer)?;
     engine.give_back(actions);
     Ok(())
 }

@@ -7,7 +7,7 @@ ghost use Rattle.busd_core.specs.Parts.{LosesPiece, IsCarriedOut};
 ghost use Rattle.busd_core.specs.Sessions.{Runs};
 
 use crate::actions::closed_by;
-use crate::carrying::{Endpoint, bring};
+use crate::carrying::{Endpoint, dispatch};
 use crate::mail::deliver_all;
 use crate::run_fault::RunFault;
 use crate::transfer::read_piece;
@@ -62,7 +62,7 @@ fn carry_out<V: BusView, G: Gate, W: Write>(
     ensures { IsCarriedOut V.told G.passes V.alone endpoint.seat endpoint.key engine.old event
         (W.contents writer.old) (W.contents writer.new) engine.new result }
 {
-    let actions = bring(engine, right, endpoint.key, event, writer)?;
+    let actions = dispatch(engine, right, endpoint.key, event, writer)?;
     if let Some(cause) = closed_by(endpoint.key, &actions) {
         return Err(RunFault::Closed(cause));
     }

@@ -162,7 +162,7 @@ impl<V: BusView, G: Gate, P: Post<V>, S: Socket> Host<V, G, P, S> {
             (HappensBy V.BusView G.Gate P.Post self.old (Child end) self.new) }
         ensures err { OnErr result (CatchesUp P.puts P.starts self.old self.new) }
     {
-        self.bring(right, &mut Event::Child(end))
+        self.dispatch(right, &mut Event::Child(end))
     }
 
     /// The socket of a connection may be read; where it is closing, the other side sends no more.

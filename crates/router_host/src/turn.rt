@@ -86,7 +86,7 @@ impl<V: BusView, G: Gate, P: Post<V>, S: Socket> Host<V, G, P, S> {
         ensures err { OnErr result (CatchesUp P.puts P.starts self.old self.new) }
     {
         let leaves = self.engine.ticks();
-        self.bring(right, &mut Event::Tick)?;
+        self.dispatch(right, &mut Event::Tick)?;
         self.check_due = false;
         self.end_tick(right, leaves);
         Ok(())
@@ -158,7 +158,7 @@ impl<V: BusView, G: Gate, P: Post<V>, S: Socket> Host<V, G, P, S> {
 
     /// Serves an event, and carries out what it brings. Where there is no memory for it, or no room
     /// for what events before it brought, it is as it was.
-    pub(crate) fn bring(
+    pub(crate) fn dispatch(
         &mut self,
         right: &V::Right,
         event: &mut Event<V::Note>,
@@ -184,7 +184,7 @@ impl<V: BusView, G: Gate, P: Post<V>, S: Socket> Host<V, G, P, S> {
         ensures ok { OnOk result (self.new.kept ≡ self.old.kept) }
     {
         let mut event = event;
-        match self.bring(right, &mut event) {
+        match self.dispatch(right, &mut event) {
             Ok(()) => Ok(()),
             Err(AllocError) => {
                 self.kept = Some(Kept::Happening(event));
@@ -480,7 +480,7 @@ impl<V: BusView, G: Gate, P: Post<V>, S: Socket> Host<V, G, P, S> {
             (HappensBy V.BusView G.Gate P.Post self.old (Full conn.number) self.new) }
         ensures err { OnErr result (CatchesUp P.puts P.starts self.old self.new) }
     {
-        self.bring(
+        self.dispatch(
             right,
             &mut Event::Full {
                 number: conn.number,

@@ -210,7 +210,7 @@ impl EngineScene {
         let mut words = Words::of(row);
         match words.next() {
             "engine" => Ok(()),
-            "mail" => self.bring_mail(journal),
+            "mail" => self.dispatch_mail(journal),
             "comers" => self.come(words.number(), journal),
             "run" => self.run(journal),
             "to" => {
@@ -255,21 +255,21 @@ impl EngineScene {
     fn happen(&mut self, row: &str, journal: &mut Journal) -> Result<()> {
         self.events.push(event_of(self.alloc, row)?)?;
         let event = event_of(self.alloc, row)?;
-        self.bring(event, journal)
+        self.dispatch(event, journal)
     }
 
     /// The oldest mail comes, and is noted.
-    fn bring_mail(&mut self, journal: &mut Journal) -> Result<()> {
+    fn dispatch_mail(&mut self, journal: &mut Journal) -> Result<()> {
         let Some(letter) = self.letters.pop_front() else {
             bail!("there is no mail");
         };
         self.events
             .push(mail(letter.to, Some(()), &letter.content)?)?;
-        self.bring(mail(letter.to, None, &letter.content)?, journal)
+        self.dispatch(mail(letter.to, None, &letter.content)?, journal)
     }
 
     /// An event happens, where it can.
-    fn bring(&mut self, event: Event<()>, journal: &mut Journal) -> Result<()> {
+    fn dispatch(&mut self, event: Event<()>, journal: &mut Journal) -> Result<()> {
         let mut event = event;
         let brought = self.serve(&mut event, journal);
         drop(event);

@@ -13,7 +13,7 @@ returns-in_err-actions g c =
     let envelope : Envelope g.row.V-Note.Denot = record { number = c.args.conn.number; note = None; content = c.in-Ok.content } in
     let carries : Carries envelope (for_conn said c.args.conn) = record { number = refl; note = refl; said = ap said_of c.in-Ok.ensures } in
     let p = err_from_is_err_and c.from_residual.result c.from_residual.ensures.1 in
-    rw (p.1, p.2) (sent_in_part g.V.BusView.told g.G.Gate.passes g.V.BusView.alone c.args.endpoint.seat c.args.endpoint.key g.V.BusView.registry_of c.args.engine.now c.bring.new.engine (contents c.args.writer.now) (contents c.bring.new.writer)
+    rw (p.1, p.2) (sent_in_part g.V.BusView.told g.G.Gate.passes g.V.BusView.alone c.args.endpoint.seat c.args.endpoint.key g.V.BusView.registry_of c.args.engine.now c.dispatch.new.engine (contents c.args.writer.now) (contents c.dispatch.new.writer)
     said c.args.conn envelope carries c.if-conn-endpoint.false c.in_err-actions.field-0.0 c.in_err-actions.ensures.err)
 
 pub returns : goal.returns
@@ -22,5 +22,5 @@ returns g c =
     let said = said_of c.args.content.now in
     let envelope : Envelope g.row.V-Note.Denot = record { number = c.args.conn.number; note = None; content = c.in-Ok.content } in
     let carries : Carries envelope (for_conn said c.args.conn) = record { number = refl; note = refl; said = ap said_of c.in-Ok.ensures } in
-    rw c.give_back.ensures (sent g.V.BusView.told g.G.Gate.passes g.V.BusView.alone c.args.endpoint.seat c.args.endpoint.key g.V.BusView.registry_of c.args.engine.now c.bring.new.engine (contents c.args.writer.now) (contents c.bring.new.writer) said c.args.conn envelope carries
+    rw c.give_back.ensures (sent g.V.BusView.told g.G.Gate.passes g.V.BusView.alone c.args.endpoint.seat c.args.endpoint.key g.V.BusView.registry_of c.args.engine.now c.dispatch.new.engine (contents c.args.writer.now) (contents c.dispatch.new.writer) said c.args.conn envelope carries
     c.if-conn-endpoint.false c.in_ok-actions.actions.items c.in_ok-actions.ensures.ok)

@@ -1,4 +1,4 @@
-use Rattle.router_host.proofs.host.Host.bring.Goals as goal
+use Rattle.router_host.proofs.host.Host.dispatch.Goals as goal
 
 pub returns-clause-happens : goal.returns-clause-happens
 returns-clause-happens g c = record {
