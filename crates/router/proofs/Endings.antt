@@ -4,7 +4,7 @@ use Rattle.seq_bus_core.specs.Histories.{History}
 use Rattle.seq_bus_core.specs.declared.connection.Conn.{Conn}
 use Rattle.outbox_core.specs.Contents.{Said}
 use Rattle.router_core.specs.Deeds.{GatedCall}
-use Rattle.router_core.specs.Scripts.{Script, Gives, Changing, ChangingAll, Asking, Routing, AskingPresence, Noting, Fronting, Calling, Gating, Wanting, Requiring, Doing, Announcing, and_then, putting, World, Comes}
+use Rattle.router_core.specs.Scripts.{Script, Gives, Changing, ChangingAll, Asking, Routing, AskingPresence, Noting, Framing, Calling, Gating, Wanting, Requiring, Doing, Announcing, and_then, putting, World, Comes}
 
 -- whatever it gives is such
 abbrev pub AllGive : {X : Type 0} → (X → Type 0) → Script X → Type 0
@@ -15,7 +15,7 @@ AllGive P (Asking query goes_on) = (heard : _) → AllGive P (goes_on heard)
 AllGive P (Routing from facts goes_on) = (heard : _) → AllGive P (goes_on heard)
 AllGive P (AskingPresence number goes_on) = (heard : _) → AllGive P (goes_on heard)
 AllGive P (Noting history s) = AllGive P s
-AllGive P (Fronting bytes goes_on) = (front : _) → AllGive P (goes_on front)
+AllGive P (Framing bytes goes_on) = (incoming : _) → AllGive P (goes_on incoming)
 AllGive P (Calling message goes_on) = (reading : _) → AllGive P (goes_on reading)
 AllGive P (Gating call s) = AllGive P s
 AllGive P (Wanting goes_on) = (granted : Bool) → AllGive P (goes_on granted)
@@ -33,7 +33,7 @@ module _ {N G : Type 0} (told : N → History) (registry_of : N → ℕ) (passes
   given (Routing from facts goes_on) w all p = given (goes_on p.0) p.1 (all p.0) p.3
   given (AskingPresence number goes_on) w all p = given (goes_on p.0) p.1 (all p.0) p.3
   given (Noting history s) w all p = given s p.0 all p.2
-  given (Fronting bytes goes_on) w all p = given (goes_on p.0) w (all p.0) p.2
+  given (Framing bytes goes_on) w all p = given (goes_on p.0) w (all p.0) p.2
   given (Calling message goes_on) w all p = given (goes_on p.0) w (all p.0) p.2
   given (Gating call s) w all p = given s p.0 all p.2
   given (Wanting goes_on) w all p = given (goes_on p.0) w (all p.0) p.1
@@ -51,7 +51,7 @@ module _ {X Y : Type 0} (Q : X → Type 0) (P : Y → Type 0) (next : X → Scri
   then_give (Routing from facts goes_on) all = λ heard. then_give (goes_on heard) (all heard)
   then_give (AskingPresence number goes_on) all = λ heard. then_give (goes_on heard) (all heard)
   then_give (Noting history s) all = then_give s all
-  then_give (Fronting bytes goes_on) all = λ front. then_give (goes_on front) (all front)
+  then_give (Framing bytes goes_on) all = λ incoming. then_give (goes_on incoming) (all incoming)
   then_give (Calling message goes_on) all = λ reading. then_give (goes_on reading) (all reading)
   then_give (Gating call s) all = then_give s all
   then_give (Wanting goes_on) all = λ granted. then_give (goes_on granted) (all granted)
@@ -69,7 +69,7 @@ module _ {X : Type 0} (P : X → Type 0) (each : (x : X) → P x) where
   all_give (Routing from facts goes_on) = λ heard. all_give (goes_on heard)
   all_give (AskingPresence number goes_on) = λ heard. all_give (goes_on heard)
   all_give (Noting history s) = all_give s
-  all_give (Fronting bytes goes_on) = λ front. all_give (goes_on front)
+  all_give (Framing bytes goes_on) = λ incoming. all_give (goes_on incoming)
   all_give (Calling message goes_on) = λ reading. all_give (goes_on reading)
   all_give (Gating call s) = all_give s
   all_give (Wanting goes_on) = λ granted. all_give (goes_on granted)
@@ -86,7 +86,7 @@ module _ {X : Type 0} (P Q : X → Type 0) (weaker : (x : X) → P x → Q x) wh
   weaker_give (Routing from facts goes_on) all = λ heard. weaker_give (goes_on heard) (all heard)
   weaker_give (AskingPresence number goes_on) all = λ heard. weaker_give (goes_on heard) (all heard)
   weaker_give (Noting history s) all = weaker_give s all
-  weaker_give (Fronting bytes goes_on) all = λ front. weaker_give (goes_on front) (all front)
+  weaker_give (Framing bytes goes_on) all = λ incoming. weaker_give (goes_on incoming) (all incoming)
   weaker_give (Calling message goes_on) all = λ reading. weaker_give (goes_on reading) (all reading)
   weaker_give (Gating call s) all = weaker_give s all
   weaker_give (Wanting goes_on) all = λ granted. weaker_give (goes_on granted) (all granted)

@@ -29,9 +29,9 @@ use Rattle.router_core.specs.declared.fate.PeerFate.TheVariants as fate
 use Rattle.router_core.specs.Answers.{Heard, Says, Refuses, error_for}
 use Rattle.router_core.specs.Deeds.{Deed, Closes, Sends}
 use Rattle.router_core.specs.Events.{Bytes, Mail, Next, OfPeer, Stands, hearing, closing, fated, send, writing, for_slot, for_peer, fed, refuse, refuse_with, close_found, close_former, welcome, turn_away, after_hello_by, after_hello, serving_hello, serve_named, serve_at, read, next_at, coming_next, mail_found}
-use Rattle.router_core.specs.Fronts.{Front, Waits, Whole, Faulty}
+use Rattle.router_core.specs.Incoming.{Incoming, Waits, Whole, Faulty}
 use Rattle.router_core.specs.OneThread.{Readers, Rest, Course, alone, given, rest_of}
-use Rattle.router_core.specs.Scripts.{Script, Gives, Changing, ChangingAll, Asking, Routing, AskingPresence, Noting, Fronting, Calling, Gating, Wanting, Requiring, Doing, Announcing, and_then, putting}
+use Rattle.router_core.specs.Scripts.{Script, Gives, Changing, ChangingAll, Asking, Routing, AskingPresence, Noting, Framing, Calling, Gating, Wanting, Requiring, Doing, Announcing, and_then, putting}
 use Rattle.router_core.specs.Serving.{monitors_in, replying, serving}
 use Rattle.router_core.specs.Standing.{Stage, Authenticating, Unnamed, Named, Closing, Peer, Standing, SpeaksDBus, peer_at, with_peer, closing_peer, next_serial, has_slot, is_conn}
 
@@ -48,7 +48,7 @@ and_then_assoc (Asking query goes_on) f g = λ i. Asking query (λ heard. and_th
 and_then_assoc (Routing from facts goes_on) f g = λ i. Routing from facts (λ heard. and_then_assoc (goes_on heard) f g i)
 and_then_assoc (AskingPresence number goes_on) f g = λ i. AskingPresence number (λ heard. and_then_assoc (goes_on heard) f g i)
 and_then_assoc (Noting told s) f g = λ i. Noting told (and_then_assoc s f g i)
-and_then_assoc (Fronting bytes goes_on) f g = λ i. Fronting bytes (λ front. and_then_assoc (goes_on front) f g i)
+and_then_assoc (Framing bytes goes_on) f g = λ i. Framing bytes (λ incoming. and_then_assoc (goes_on incoming) f g i)
 and_then_assoc (Calling m goes_on) f g = λ i. Calling m (λ reading. and_then_assoc (goes_on reading) f g i)
 and_then_assoc (Gating call s) f g = λ i. Gating call (and_then_assoc s f g i)
 and_then_assoc (Wanting goes_on) f g = λ i. Wanting (λ granted. and_then_assoc (goes_on granted) f g i)
@@ -69,7 +69,7 @@ module _ (readers : Readers) {X Y : Type 0} (f : X → Y) where
   alone_seen (Routing from facts goes_on) c = alone_seen (goes_on _) c
   alone_seen (AskingPresence number goes_on) c = alone_seen (goes_on _) c
   alone_seen (Noting told s) c = alone_seen s c
-  alone_seen (Fronting bytes goes_on) c = alone_seen (goes_on (readers.front bytes)) c
+  alone_seen (Framing bytes goes_on) c = alone_seen (goes_on (readers.incoming bytes)) c
   alone_seen (Calling m goes_on) c = alone_seen (goes_on (readers.call m)) c
   alone_seen (Gating call s) c = alone_seen s c
   alone_seen (Wanting goes_on) c = alone_seen (goes_on true) c
@@ -437,35 +437,35 @@ module _ (readers : Readers) (piece : List ℕ) (key : ℕ) where
 
     -- a stage at which bytes are taken
     turn : (stage : Stage) → p.stage ≡ stage → fed piece p stage ≡ left_with p (p.unread ++ piece) → fed piece (left_with p rest) stage ≡ left_with p (rest ++ piece) →
-        readers.front p.unread ≡ Whole message rest → readers.front (p.unread ++ piece) ≡ Whole message (rest ++ piece) → (c : Course) →
-        alone readers (read (with_more piece key s) key (more piece key p) (readers.front (more piece key p).unread)) c ≡ alone readers (seen_as (with_more piece key) (read s key p (readers.front p.unread))) c
-    turn stage is grows left front later c =
+        readers.incoming p.unread ≡ Whole message rest → readers.incoming (p.unread ++ piece) ≡ Whole message (rest ++ piece) → (c : Course) →
+        alone readers (read (with_more piece key s) key (more piece key p) (readers.incoming (more piece key p).unread)) c ≡ alone readers (seen_as (with_more piece key) (read s key p (readers.incoming p.unread))) c
+    turn stage is grows left incoming later c =
         let s2 : Standing = with_more piece key s in
         let grown : more piece key p ≡ left_with p (p.unread ++ piece) = ap (λ (st : Stage). fed piece p st) is ∙ grows in
-        ap (λ (q : Peer). alone readers (read s2 key q (readers.front q.unread)) c) grown
-        ∙ ap (λ (f : Front). alone readers (read s2 key (left_with p (p.unread ++ piece)) f) c) later
+        ap (λ (q : Peer). alone readers (read s2 key q (readers.incoming q.unread)) c) grown
+        ∙ ap (λ (f : Incoming). alone readers (read s2 key (left_with p (p.unread ++ piece)) f) c) later
         ∙ ap (λ (q : Peer). alone readers (serve_at s2 key (message_said message) q p.stage) c) (sym (ap (λ (st : Stage). fed piece (left_with p rest) st) is ∙ left))
         ∙ ap (λ (x : Stands). alone readers x c) (serve_more piece key s (message_said message) (left_with p rest) p.stage refl)
-        ∙ ap (λ (f : Front). alone readers (seen_as (with_more piece key) (read s key p f)) c) (sym front)
+        ∙ ap (λ (f : Incoming). alone readers (seen_as (with_more piece key) (read s key p f)) c) (sym incoming)
 
-    turn_at : (stage : Stage) → p.stage ≡ stage → readers.front p.unread ≡ Whole message rest → readers.front (p.unread ++ piece) ≡ Whole message (rest ++ piece) → (c : Course) →
+    turn_at : (stage : Stage) → p.stage ≡ stage → readers.incoming p.unread ≡ Whole message rest → readers.incoming (p.unread ++ piece) ≡ Whole message (rest ++ piece) → (c : Course) →
         alone readers (next_at (with_more piece key s) key (more piece key p) stage) c ≡ alone readers (seen_as (with_more piece key) (next_at s key p stage)) c
-    turn_at (Authenticating setting state) is front later c = refl
-    turn_at (Unnamed privileged) is front later c = turn (Unnamed privileged) is refl refl front later c
-    turn_at (Named conn) is front later c = turn (Named conn) is refl refl front later c
-    turn_at (Closing conn) is front later c = refl
+    turn_at (Authenticating setting state) is incoming later c = refl
+    turn_at (Unnamed privileged) is incoming later c = turn (Unnamed privileged) is refl refl incoming later c
+    turn_at (Named conn) is incoming later c = turn (Named conn) is refl refl incoming later c
+    turn_at (Closing conn) is incoming later c = refl
 
   -- a whole message is served, whatever comes behind it
-  pub next_given : (r : Rest) (p : Peer) (message rest : List ℕ) → peer_at r.standing key ≡ Some p → readers.front p.unread ≡ Whole message rest → readers.front (p.unread ++ piece) ≡ Whole message (rest ++ piece) →
+  pub next_given : (r : Rest) (p : Peer) (message rest : List ℕ) → peer_at r.standing key ≡ Some p → readers.incoming p.unread ≡ Whole message rest → readers.incoming (p.unread ++ piece) ≡ Whole message (rest ++ piece) →
       given readers (rest_more piece key r) (Next key) ≡ end_more piece key (given readers r (Next key))
-  next_given r p message rest here front later =
+  next_given r p message rest here incoming later =
       let s : Standing = r.standing in
       let s2 : Standing = with_more piece key s in
       let c : Course = record { view = r.view; deeds = [] } in
       let now : peer_at s2 key ≡ Some (more piece key p) = peer_with_more piece key s ∙ ap (λ (o : Option Peer). more_if piece key o) here in
       ap (λ (o : Option Peer). come_to readers r (coming_next s2 key o)) now
       ∙ ap (λ (st : Stage). come_to readers r (next_at s2 key (more piece key p) st)) (stage_same piece key p p.stage)
-      ∙ ap (λ (end : Standing × Course). let at : List Deed × Rest = (end.1.deeds, rest_of end) in at) (turn_at s p message rest p.stage refl front later c)
+      ∙ ap (λ (end : Standing × Course). let at : List Deed × Rest = (end.1.deeds, rest_of end) in at) (turn_at s p message rest p.stage refl incoming later c)
       ∙ come_to_more r (next_at s key p p.stage)
       ∙ ap (λ (o : Option Peer). end_more piece key (come_to readers r (coming_next s key o))) (sym here)
 
@@ -500,23 +500,23 @@ module _ (readers : Readers) (key : ℕ) where
   pub authenticating_given : (r : Rest) (p : Peer) (setting : Setting) (state : AuthState) → peer_at r.standing key ≡ Some p → p.stage ≡ Authenticating setting state → given readers r (Next key) ≡ ([], r)
   authenticating_given r p setting state here is = ap (next_so r) here ∙ ap (λ (stage : Stage). come_to readers r (next_at r.standing key p stage)) is
 
-  pub waiting_given : (r : Rest) (p : Peer) → peer_at r.standing key ≡ Some p → readers.front p.unread ≡ Waits → given readers r (Next key) ≡ ([], r)
-  waiting_given r p here front = ap (next_so r) here ∙ by_stage p.stage
+  pub waiting_given : (r : Rest) (p : Peer) → peer_at r.standing key ≡ Some p → readers.incoming p.unread ≡ Waits → given readers r (Next key) ≡ ([], r)
+  waiting_given r p here incoming = ap (next_so r) here ∙ by_stage p.stage
     where
       by_stage : (stage : Stage) → come_to readers r (next_at r.standing key p stage) ≡ ([], r)
       by_stage (Authenticating setting state) = refl
-      by_stage (Unnamed privileged) = ap (λ (f : Front). come_to readers r (read r.standing key p f)) front
-      by_stage (Named conn) = ap (λ (f : Front). come_to readers r (read r.standing key p f)) front
+      by_stage (Unnamed privileged) = ap (λ (f : Incoming). come_to readers r (read r.standing key p f)) incoming
+      by_stage (Named conn) = ap (λ (f : Incoming). come_to readers r (read r.standing key p f)) incoming
       by_stage (Closing conn) = refl
 
-  pub faulty_given : (r : Rest) (p : Peer) (fault : FrameFault) → peer_at r.standing key ≡ Some p → TakesBytes p.stage → readers.front p.unread ≡ Faulty fault →
+  pub faulty_given : (r : Rest) (p : Peer) (fault : FrameFault) → peer_at r.standing key ≡ Some p → TakesBytes p.stage → readers.incoming p.unread ≡ Faulty fault →
       given readers r (Next key) ≡ (Closes key (cause.Faulty fault) ∷ [], closed_so key r p)
-  faulty_given r p fault here takes front = ap (next_so r) here ∙ by_stage p.stage takes
+  faulty_given r p fault here takes incoming = ap (next_so r) here ∙ by_stage p.stage takes
     where
       by_stage : (stage : Stage) → TakesBytes stage → come_to readers r (next_at r.standing key p stage) ≡ (Closes key (cause.Faulty fault) ∷ [], closed_so key r p)
       by_stage (Authenticating setting state) takes = absurd takes
-      by_stage (Unnamed privileged) takes = ap (λ (f : Front). come_to readers r (read r.standing key p f)) front
-      by_stage (Named conn) takes = ap (λ (f : Front). come_to readers r (read r.standing key p f)) front
+      by_stage (Unnamed privileged) takes = ap (λ (f : Incoming). come_to readers r (read r.standing key p f)) incoming
+      by_stage (Named conn) takes = ap (λ (f : Incoming). come_to readers r (read r.standing key p f)) incoming
       by_stage (Closing conn) takes = absurd takes
 
 -- ## Pieces

@@ -1,6 +1,6 @@
 -- What was asked in two parts was granted and read in each.
 use Rattle.std.proofs.Common.{true, false, List, [], ◌∷◌, ◌++◌}
-use Rattle.router_core.specs.Acts.{Exchange, Changed, ChangedAll, Asked, Routed, AskedPresence, Noted, Fronted, Called, Gated, Wanted, IsGranted}
+use Rattle.router_core.specs.Acts.{Exchange, Changed, ChangedAll, Asked, Routed, AskedPresence, Noted, Framed, Called, Gated, Wanted, IsGranted}
 use Rattle.router_core.specs.Answers.{Says, Refuses}
 use Rattle.router_core.specs.OneThread.{AreReadBy, Readers}
 
@@ -17,7 +17,7 @@ granted_parts (Routed from facts (Refuses r) ∷ first) later h = absurd h
 granted_parts (AskedPresence number (Says there) ∷ first) later h = granted_parts first later h
 granted_parts (AskedPresence number (Refuses r) ∷ first) later h = absurd h
 granted_parts (Noted told ∷ first) later h = granted_parts first later h
-granted_parts (Fronted bytes front ∷ first) later h = granted_parts first later h
+granted_parts (Framed bytes incoming ∷ first) later h = granted_parts first later h
 granted_parts (Called m reading ∷ first) later h = granted_parts first later h
 granted_parts (Gated call ∷ first) later h = granted_parts first later h
 granted_parts (Wanted true ∷ first) later h = granted_parts first later h
@@ -31,7 +31,7 @@ read_parts readers (Asked query heard ∷ first) later h = read_parts readers fi
 read_parts readers (Routed from facts heard ∷ first) later h = read_parts readers first later h
 read_parts readers (AskedPresence number heard ∷ first) later h = read_parts readers first later h
 read_parts readers (Noted told ∷ first) later h = read_parts readers first later h
-read_parts readers (Fronted bytes front ∷ first) later h = let parts = read_parts readers first later h.1 in ((h.0, parts.0), parts.1)
+read_parts readers (Framed bytes incoming ∷ first) later h = let parts = read_parts readers first later h.1 in ((h.0, parts.0), parts.1)
 read_parts readers (Called m reading ∷ first) later h = let parts = read_parts readers first later h.1 in ((h.0, parts.0), parts.1)
 read_parts readers (Gated call ∷ first) later h = read_parts readers first later h
 read_parts readers (Wanted granted ∷ first) later h = read_parts readers first later h

@@ -17,7 +17,7 @@ use Rattle.router_core.specs.declared.cause.CloseCause.TheVariants as cause
 use Rattle.router_core.specs.Answers.{Heard, Says, Refuses, error_for}
 use Rattle.router_core.specs.Deeds.{GatedCall, Closes}
 use Rattle.router_core.specs.Events.{OfPeer, Stands, closing, for_slot, for_peer, close_found, welcome, turn_away, refuse_with, after_hello_by, after_hello, serving_hello, serve_at, next_at, coming_next}
-use Rattle.router_core.specs.Fronts.{Whole, IsFront}
+use Rattle.router_core.specs.Incoming.{Whole, IsIncoming}
 use Rattle.router_core.specs.Scripts.{Gives, Doing, Announcing, World, Comes, and_then}
 use Rattle.router_core.specs.Serving.{replying}
 use Rattle.router_core.specs.Standing.{Peer, Standing, Stage, Named, Unnamed, peer_at, with_peer, has_slot, closing_peer}
@@ -102,14 +102,14 @@ module _ (s : Standing) (key : ℕ) (left : Option Peer) where
 
 -- It is served as the next message of its connection.
 pub hello_next : {N G : Type 0} (told : N → History) (registry_of : N → ℕ) (passes : G → GatedCall → G → Type 0) (alone : Bool) (s : Standing) (key : ℕ) (p q : Peer) (privileged : Bool) (message : List ℕ) (w : World N G) (t : Standing) (v : World N G) →
-    peer_at s key ≡ Some p → p.stage ≡ Unnamed privileged → IsFront p.unread (Whole message q.unread) → IsRest p q → is_hello (said message) ≡ true →
+    peer_at s key ≡ Some p → p.stage ≡ Unnamed privileged → IsIncoming p.unread (Whole message q.unread) → IsRest p q → is_hello (said message) ≡ true →
     Comes told registry_of passes alone (serving_hello s key (said message) q privileged) w t v → Comes told registry_of passes alone (coming_next s key (peer_at s key)) w t v
-hello_next told registry_of passes alone s key p q privileged message w t v there unnamed front rest hello done =
+hello_next told registry_of passes alone s key p q privileged message w t v there unnamed incoming rest hello done =
     let m = said message in
     let x : Peer = record p { unread = q.unread } in
     let serves_it = subst (λ (r : Peer). Comes told registry_of passes alone (serving_hello s key m r privileged) w t v) rest done in
     let chosen : Comes told registry_of passes alone (serve_at s key m x (Unnamed privileged)) w t v =
     subst (λ (b : Bool). Comes told registry_of passes alone (if b then serving_hello s key m x privileged else for_peer s key (Some x) (closing key cause.NotHello)) w t v) (sym hello) serves_it in
     let served = subst (λ (stage : Stage). Comes told registry_of passes alone (serve_at s key m x stage) w t v) (sym unnamed) chosen in
-    let reads : Comes told registry_of passes alone (next_at s key p (Unnamed privileged)) w t v = (Whole message q.unread, front, served) in
+    let reads : Comes told registry_of passes alone (next_at s key p (Unnamed privileged)) w t v = (Whole message q.unread, incoming, served) in
     subst (λ (o : Option Peer). Comes told registry_of passes alone (coming_next s key o) w t v) (sym there) (subst (λ (stage : Stage). Comes told registry_of passes alone (next_at s key p stage) w t v) (sym unnamed) reads)

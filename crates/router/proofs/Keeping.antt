@@ -27,7 +27,7 @@ use Rattle.router_core.specs.declared.fate.PeerFate.TheVariants as fate
 use Rattle.router_core.specs.Answers.{Heard, Says, Refuses, error_for}
 use Rattle.router_core.specs.Deeds.{GatedCall}
 use Rattle.router_core.specs.Events.{OfPeer, closing, fated, close_at, close_found, close_former, writing, for_slot, for_peer, hearing, answering, conversed_to, converse_if, refuse, refuse_with, turn_away, welcome, after_hello, after_hello_by, serving_hello, serve_named, serve_at, read, coming_next, next_at, after_check, checking_presence, checking_each}
-use Rattle.router_core.specs.Fronts.{Front, Waits, Whole, Faulty}
+use Rattle.router_core.specs.Incoming.{Incoming, Waits, Whole, Faulty}
 use Rattle.router_core.specs.Scripts.{Gives, Routing, Announcing, World, Comes, and_then}
 use Rattle.router_core.specs.Serving.{monitors_in, replying, serving}
 use Rattle.router_core.specs.Standing.{Peer, Standing, Stage, Authenticating, Unnamed, Named, Closing, peer_at, with_peer, next_serial, has_slot, closing_peer}
@@ -307,7 +307,7 @@ module _ (slot key : ℕ) where
             for_give s key q (λ r. and_then (serving m conn) (λ fate. fated key fate r)) (λ r. HasNot (Some r)) NotBoth (λ r hasnt. not_first s (Some r) hasnt)
             (then_give (λ fate. Unit {0}) (λ r. HasNot (Some r)) (λ fate. fated key fate q) (λ fate done. by_fate fate) (serving m conn) (all_give (λ fate. Unit {0}) (λ fate. tt) (serving m conn)))
 
-    reading : (p : Peer) (stage : Stage) → has_slot slot (Some (record p { stage = stage })) ≡ false → (front : Front) → AllGive NotBoth (read (standing_of (Some (record p { stage = stage }))) key (record p { stage = stage }) front)
+    reading : (p : Peer) (stage : Stage) → has_slot slot (Some (record p { stage = stage })) ≡ false → (incoming : Incoming) → AllGive NotBoth (read (standing_of (Some (record p { stage = stage }))) key (record p { stage = stage }) incoming)
     reading p stage isnt Waits = as_it_was (Some (record p { stage = stage })) isnt
     reading p stage isnt (Faulty fault) = not_first (standing_of (Some (record p { stage = stage }))) (Some (closing_peer (record p { stage = stage }))) (λ has. false≢true has)
     reading p stage isnt (Whole bytes rest) = serving_keeps p (message_said bytes) rest stage isnt

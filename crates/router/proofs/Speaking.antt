@@ -19,9 +19,9 @@ use Rattle.router_core.specs.declared.fate.PeerFate.{PeerFate}
 use Rattle.router_core.specs.declared.fate.PeerFate.TheVariants as fate
 use Rattle.router_core.specs.Answers.{Heard, Says, Refuses, error_for}
 use Rattle.router_core.specs.Events.{Mail, Next, OfPeer, fed, closing, fated, close_found, close_former, writing, for_slot, for_peer, refuse_with, turn_away, welcome, after_hello, after_hello_by, serving_hello, serve_named, serve_at, read, next_at, coming_next, mail_found}
-use Rattle.router_core.specs.Fronts.{Front, Waits, Whole, Faulty}
+use Rattle.router_core.specs.Incoming.{Incoming, Waits, Whole, Faulty}
 use Rattle.router_core.specs.OneThread.{Readers, Rest, Course, alone, given}
-use Rattle.router_core.specs.Scripts.{Script, Gives, Changing, ChangingAll, Asking, Routing, AskingPresence, Noting, Fronting, Calling, Gating, Wanting, Requiring, Doing, Announcing, and_then}
+use Rattle.router_core.specs.Scripts.{Script, Gives, Changing, ChangingAll, Asking, Routing, AskingPresence, Noting, Framing, Calling, Gating, Wanting, Requiring, Doing, Announcing, and_then}
 use Rattle.router_core.specs.Serving.{replying, serving}
 use Rattle.router_core.specs.Standing.{Stage, Authenticating, Unnamed, Named, Closing, Peer, Standing, SpeaksDBus, first_stage, newcomer, opened, peer_at, with_peer, is_conn}
 use Rattle.router.proofs.Endings.{AllGive, then_give, all_give, weaker_give, if_give}
@@ -38,7 +38,7 @@ module _ (readers : Readers) {X : Type 0} (P : X → Type 0) where
   alone_gives (Routing from facts goes_on) c all = alone_gives (goes_on _) c (all _)
   alone_gives (AskingPresence number goes_on) c all = alone_gives (goes_on _) c (all _)
   alone_gives (Noting told s) c all = alone_gives s c all
-  alone_gives (Fronting bytes goes_on) c all = alone_gives (goes_on (readers.front bytes)) c (all _)
+  alone_gives (Framing bytes goes_on) c all = alone_gives (goes_on (readers.incoming bytes)) c (all _)
   alone_gives (Calling m goes_on) c all = alone_gives (goes_on (readers.call m)) c (all _)
   alone_gives (Gating call s) c all = alone_gives s c all
   alone_gives (Wanting goes_on) c all = alone_gives (goes_on true) c (all true)
@@ -125,15 +125,15 @@ module _ (key : ℕ) where
     serve_speaks s (Named conn) speaks = named_speaks s conn p.watches speaks
     serve_speaks s (Closing conn) speaks = speaks
 
-  read_speaks : (s : Standing) (p : Peer) (front : Front) → SpeaksAt key s → Speaks p → AllGive (SpeaksAt key) (read s key p front)
+  read_speaks : (s : Standing) (p : Peer) (incoming : Incoming) → SpeaksAt key s → Speaks p → AllGive (SpeaksAt key) (read s key p incoming)
   read_speaks s p Waits speaks begun = speaks
   read_speaks s p (Faulty fault) speaks begun = closing_speaks s key (Some p) (cause.Faulty fault) speaks
   read_speaks s p (Whole bytes rest) speaks begun = serve_speaks (message_said bytes) (record p { unread = rest }) begun s p.stage speaks
 
   next_at_speaks : (s : Standing) (p : Peer) (stage : Stage) → SpeaksAt key s → Speaks p → AllGive (SpeaksAt key) (next_at s key p stage)
   next_at_speaks s p (Authenticating setting state) speaks begun = speaks
-  next_at_speaks s p (Unnamed privileged) speaks begun = λ front. read_speaks s p front speaks begun
-  next_at_speaks s p (Named conn) speaks begun = λ front. read_speaks s p front speaks begun
+  next_at_speaks s p (Unnamed privileged) speaks begun = λ incoming. read_speaks s p incoming speaks begun
+  next_at_speaks s p (Named conn) speaks begun = λ incoming. read_speaks s p incoming speaks begun
   next_at_speaks s p (Closing conn) speaks begun = speaks
 
   next_speaks_at : (s : Standing) (o : Option Peer) → SpeaksAt key s → IfSome o Speaks → AllGive (SpeaksAt key) (coming_next s key o)

@@ -20,8 +20,8 @@ use Rattle.bus_view.specs.declared.view.BusView.{Ghosts as BusView}
 use Rattle.router_core.specs.declared.gate.Gate.{Ghosts as Gate}
 use Rattle.router_core.specs.Answers.{Says}
 use Rattle.router_core.specs.Deeds.{GatedCall}
-use Rattle.router_core.specs.Events.{Gathered, Stands, answering_each, apart, done_at, done_for, done_in, fated, gathering, gather_at, apart_front, gather_front, gather_message, gathered, join_call, join_if, join_read, making_all, making_each, making_if, coming_next, parted, turning}
-use Rattle.router_core.specs.Fronts.{Front, Waits, Whole, Faulty, IsFront}
+use Rattle.router_core.specs.Events.{Gathered, Stands, answering_each, apart, done_at, done_for, done_in, fated, gathering, gather_at, apart_incoming, gather_incoming, gather_message, gathered, join_call, join_if, join_read, making_all, making_each, making_if, coming_next, parted, turning}
+use Rattle.router_core.specs.Incoming.{Incoming, Waits, Whole, Faulty, IsIncoming}
 use Rattle.router_core.specs.Scripts.{Changing, Wanting, World, Comes, and_then}
 use Rattle.router_core.specs.Serving.{Fated, made}
 use Rattle.router_core.specs.Standing.{Stage, Authenticating, Unnamed, Named, Closing, Peer, Standing, peer_at, with_peer}
@@ -140,12 +140,12 @@ module _ {N G : Type 0} (told : N → History) (registry_of : N → ℕ) (passes
       if_watches message q conn true = served
       if_watches message q conn false = if_joins message q conn (may_join (said message))
 
-      at_front : (conn : Conn) (front : Front) → front ≢ Waits → Comes told registry_of passes alone (gather_front joints s key p conn front) w end v
-      at_front conn Waits other = absurd (other refl)
-      at_front conn (Faulty fault) other = served
-      at_front conn (Whole message rest) other = if_watches message (record p { unread = rest }) conn p.watches
+      at_incoming : (conn : Conn) (incoming : Incoming) → incoming ≢ Waits → Comes told registry_of passes alone (gather_incoming joints s key p conn incoming) w end v
+      at_incoming conn Waits other = absurd (other refl)
+      at_incoming conn (Faulty fault) other = served
+      at_incoming conn (Whole message rest) other = if_watches message (record p { unread = rest }) conn p.watches
 
-      apart_at : (front : Front) → front ≢ Waits → Comes told registry_of passes alone (apart_front joints s key front) w end v
+      apart_at : (incoming : Incoming) → incoming ≢ Waits → Comes told registry_of passes alone (apart_incoming joints s key incoming) w end v
       apart_at Waits other = absurd (other refl)
       apart_at (Faulty fault) other = served
       apart_at (Whole message rest) other = served
@@ -153,21 +153,21 @@ module _ {N G : Type 0} (told : N → History) (registry_of : N → ℕ) (passes
       in_stage : (stage : Stage) → IsApart p stage → Comes told registry_of passes alone (gather_at joints s key p stage) w end v
       in_stage (Authenticating setting state) due = absurd due
       in_stage (Unnamed privileged) due = (due.0, due.1, apart_at due.0 due.2)
-      in_stage (Named conn) due = (due.0, due.1, at_front conn due.0 due.2)
+      in_stage (Named conn) due = (due.0, due.1, at_incoming conn due.0 due.2)
       in_stage (Closing conn) due = absurd due
 
   -- it is a call that adds or removes a rule, and reads well
   pub gathers_rule : (joints : List Joint) (s : Standing) (key : ℕ) (old new : Peer) (conn : Conn) (message : List ℕ) (call : Call) (c : RuleCall) (w v : World N G) (end : Gathered) →
-      old.stage ≡ Named conn → IsFront old.unread (Whole message new.unread) → IsRest old new → old.watches ≡ false → may_join (said message) ≡ true → IsCall (said message) (Ok call) → rule_call (Ok call) ≡ Some c →
+      old.stage ≡ Named conn → IsIncoming old.unread (Whole message new.unread) → IsRest old new → old.watches ≡ false → may_join (said message) ≡ true → IsCall (said message) (Ok call) → rule_call (Ok call) ≡ Some c →
       Comes told registry_of passes alone (join_call joints s key message new conn c) w end v → Comes told registry_of passes alone (gathering joints s key (Some old)) w end v
-  gathers_rule joints s key old new conn message call c w v end named front rest speaks joins reads is served =
+  gathers_rule joints s key old new conn message call c w v end named incoming rest speaks joins reads is served =
       let left : Peer = record old { unread = new.unread } in
       let of_left = subst (λ (q : Peer). Comes told registry_of passes alone (join_call joints s key message q conn c) w end v) rest served in
       let of_call = subst (λ (o : Option RuleCall). Comes told registry_of passes alone (join_read joints s key message left conn o) w end v) (sym is) of_left in
       let wanted : Comes told registry_of passes alone (Wanting (λ granted. join_if joints s key message left conn granted)) w end v = (true, (Ok call, reads, of_call)) in
       let of_header = subst (λ (b : Bool). Comes told registry_of passes alone (if b then Wanting (λ granted. join_if joints s key message left conn granted) else apart joints s key) w end v) (sym joins) wanted in
       let of_client = subst (λ (b : Bool). Comes told registry_of passes alone (gather_message joints s key message left conn b) w end v) (sym speaks) of_header in
-      subst (λ (stage : Stage). Comes told registry_of passes alone (gather_at joints s key old stage) w end v) (sym named) (Whole message new.unread, front, of_client)
+      subst (λ (stage : Stage). Comes told registry_of passes alone (gather_at joints s key old stage) w end v) (sym named) (Whole message new.unread, incoming, of_client)
 
   -- the coming_next message, then the rest; memory is there
   pub turns_more : (keys : List ℕ) (i : ℕ) → i < length keys → (begun : Bool) (js : List Joint) (before end : Standing) (after : Gathered) (w m v : World N G) →

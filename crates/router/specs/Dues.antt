@@ -2,7 +2,7 @@
 use Rattle.std.specs.Prelude.{◌≡◌, false, true, Option, Some, None, Ok, is_some}
 use Rattle.message_core.specs.Said.{said}
 use Rattle.driver.specs.Calls.{IsCall}
-use Rattle.router_core.specs.Fronts.{Whole, IsFront}
+use Rattle.router_core.specs.Incoming.{Whole, IsIncoming}
 use Rattle.router_core.specs.Standing.{Stage, Authenticating, Unnamed, Named, Closing, Peer}
 use Rattle.router_core.specs.Together.{may_join, rule_call}
 use Rattle.router_steps.specs.Quiet.{IsQuiet}
@@ -25,5 +25,5 @@ IsDue due.Apart None new = ⊥
 IsDue due.Apart (Some old) new = IsApart old old.stage × (new ≡ Some old)
 IsDue (due.Rule conn message call) None new = ⊥
 IsDue (due.Rule conn message call) (Some old) new =
-    (p : Peer) × (new ≡ Some p) × (old.stage ≡ Named conn) × IsFront old.unread (Whole message p.unread) × IsRest old p × (old.watches ≡ false)
+    (p : Peer) × (new ≡ Some p) × (old.stage ≡ Named conn) × IsIncoming old.unread (Whole message p.unread) × IsRest old p × (old.watches ≡ false)
     × (may_join (said message) ≡ true) × IsCall (said message) (Ok call) × (is_some (rule_call (Ok call)) ≡ true)

@@ -7,13 +7,13 @@ use Rattle.seq_bus_core.specs.declared.signal.AddressedSignal.{AddressedSignal}
 use Rattle.outbox_core.specs.Contents.{Tells, Signals}
 use Rattle.outbox_core.specs.Deliveries.{deliveries_of}
 use Rattle.router_core.specs.declared.action.Action.{Action}
-use Rattle.router_core.specs.Acts.{Exchange, Changed, ChangedAll, Asked, Routed, AskedPresence, Noted, Fronted, Called, Gated, Wanted, Goes, IsLawful, gated_in, world_of}
+use Rattle.router_core.specs.Acts.{Exchange, Changed, ChangedAll, Asked, Routed, AskedPresence, Noted, Framed, Called, Gated, Wanted, Goes, IsLawful, gated_in, world_of}
 use Rattle.router_core.specs.Deeds.{Deed, GatedCall, PassesAll, Puts, announced, announcement, put_of, put_to, AreDoneBy}
 use Rattle.router_core.specs.Events.{script, occasion_of}
 use Rattle.bus_view.specs.declared.view.BusView.{Ghosts as BusView}
 use Rattle.router_core.specs.declared.gate.Gate.{Ghosts as Gate}
 use Rattle.router_core.specs.Laws.{AnswersAreLawful}
-use Rattle.router_core.specs.Scripts.{Script, Gives, Changing, ChangingAll, Asking, Routing, AskingPresence, Noting, Fronting, Calling, Gating, Wanting, Requiring, Doing, Announcing, World, Comes, knowing}
+use Rattle.router_core.specs.Scripts.{Script, Gives, Changing, ChangingAll, Asking, Routing, AskingPresence, Noting, Framing, Calling, Gating, Wanting, Requiring, Doing, Announcing, World, Comes, knowing}
 use Rattle.router_core.proofs.Knowing.{seat_kept, change_home, changes_home, answer_home, verdict_home, present_home, note_home}
 
 -- ## Deeds of actions
@@ -140,10 +140,10 @@ listed told registry_of passes alone (Noting history s) w x v p =
       added = kept_actions passes w p.0 v p.1.rest l.actions l.added;
       shown = kept_gate passes w p.0 v p.1.rest l.asked (seat_kept w.view (p.0).view (note_home alone history w.view (p.0).view p.1.noted)) l.shown;
     }
-listed told registry_of passes alone (Fronting bytes goes_on) w x v p =
+listed told registry_of passes alone (Framing bytes goes_on) w x v p =
     let l = listed told registry_of passes alone (goes_on p.0) w x v p.2 in
     record {
-      asked = Fronted bytes p.0 ∷ l.asked;
+      asked = Framed bytes p.0 ∷ l.asked;
       deeds = l.deeds;
       actions = l.actions;
       goes = (p.0, l.asked, refl, l.goes);

@@ -18,7 +18,7 @@ use Rattle.router_core.specs.Deeds.{Deed, announced}
 use Rattle.router_core.specs.Events.{script}
 use Rattle.router_core.specs.Laws.{OneThreadIsAFunction, BytesAreAFunction}
 use Rattle.router_core.specs.OneThread.{Readers, AreReadBy, Course, learning, doing, alone, given, rest_after, keys_after, written_to, bus_bytes}
-use Rattle.router_core.specs.Scripts.{Script, Gives, Changing, ChangingAll, Asking, Routing, AskingPresence, Noting, Fronting, Calling, Gating, Wanting, Requiring, Doing, Announcing}
+use Rattle.router_core.specs.Scripts.{Script, Gives, Changing, ChangingAll, Asking, Routing, AskingPresence, Noting, Framing, Calling, Gating, Wanting, Requiring, Doing, Announcing}
 use Rattle.router_core.proofs.Knowing.{read_alone, added_alone, all_added_alone}
 
 -- how a script ends that asked this and did these deeds
@@ -112,8 +112,8 @@ module _ (readers : Readers) {X : Type 0} where
       let same = lawful.1.nothing refl in
       let here = subst (λ z. Ends readers s (learning w z) deeds x k) same (ends s p.0 deeds x k p.2 (learning w lawful.0) lawful.2 granted read) in
       record { result = here.result; view = here.view; done = here.done })
-  ends (Fronting bytes goes_on) asked deeds x k p =
-      subst (λ a. Goes_on (Fronting bytes goes_on) a deeds x k) (sym p.2) (λ w lawful granted read.
+  ends (Framing bytes goes_on) asked deeds x k p =
+      subst (λ a. Goes_on (Framing bytes goes_on) a deeds x k) (sym p.2) (λ w lawful granted read.
       let here = subst (λ z. Ends readers (goes_on z) w deeds x k) read.0 (ends (goes_on p.0) p.1 deeds x k p.3 w lawful.1 granted read.1) in
       record { result = here.result; view = here.view; done = here.done })
   ends (Calling m goes_on) asked deeds x k p =

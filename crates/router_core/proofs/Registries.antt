@@ -15,7 +15,7 @@ use Rattle.router_core.specs.Events.{script, occasion_of}
 use Rattle.bus_view.specs.declared.view.BusView.{Ghosts as BusView}
 use Rattle.router_core.specs.declared.gate.Gate.{Ghosts as Gate}
 use Rattle.router_core.specs.Laws.{NotesAreOwn}
-use Rattle.router_core.specs.Scripts.{Script, Gives, Changing, ChangingAll, Asking, Routing, AskingPresence, Noting, Fronting, Calling, Gating, Wanting, Requiring, Doing, Announcing, World, Comes}
+use Rattle.router_core.specs.Scripts.{Script, Gives, Changing, ChangingAll, Asking, Routing, AskingPresence, Noting, Framing, Calling, Gating, Wanting, Requiring, Doing, Announcing, World, Comes}
 use Rattle.router_core.proofs.Knowing.{home, registry_kept, change_home, changes_home, answer_home, verdict_home, present_home, note_home}
 
 module _ {N : Type 0} (told : N → History) (registry_of : N → ℕ) (alone : Bool) (view : Knowledge) where
@@ -79,7 +79,7 @@ module _ {N G : Type 0} (told : N → History) (registry_of : N → ℕ) (passes
       own_after registry_of w p.1 v (ap actions_of p.2.rest) (present_home alone number p.0 w.view (p.1).view p.2.hears) (keeps_own (goes_on p.0) p.1 p.3)
   keeps_own (Noting history s) w p =
       own_after registry_of w p.0 v (ap actions_of p.1.rest) (note_home alone history w.view (p.0).view p.1.noted) (keeps_own s p.0 p.2)
-  keeps_own (Fronting bytes goes_on) w p = keeps_own (goes_on p.0) w p.2
+  keeps_own (Framing bytes goes_on) w p = keeps_own (goes_on p.0) w p.2
   keeps_own (Calling m goes_on) w p = keeps_own (goes_on p.0) w p.2
   keeps_own (Gating call s) w p =
       own_after registry_of w p.0 v (ap actions_of p.1.rest) (ap (λ (z : World N G). home z.view) p.1.rest) (keeps_own s p.0 p.2)

@@ -18,8 +18,8 @@ use Rattle.router_core.specs.declared.gate.Gate.{Ghosts as Gate}
 use Rattle.router_core.specs.Answers.{Heard, Refuses, HearsChange, HearsChanges, HearsAnswer, HearsVerdict, HearsPresent}
 use Rattle.router_core.specs.Deeds.{Deed, GatedCall, PassesAll, announced, AreDoneBy}
 use Rattle.router_core.specs.Events.{Occasion, occasion_of, script}
-use Rattle.router_core.specs.Fronts.{Front, IsFront}
-use Rattle.router_core.specs.Scripts.{Script, Gives, Changing, ChangingAll, Asking, Routing, AskingPresence, Noting, Fronting, Calling, Gating, Wanting, Requiring, Doing, Announcing, World, Comes}
+use Rattle.router_core.specs.Incoming.{Incoming, IsIncoming}
+use Rattle.router_core.specs.Scripts.{Script, Gives, Changing, ChangingAll, Asking, Routing, AskingPresence, Noting, Framing, Calling, Gating, Wanting, Requiring, Doing, Announcing, World, Comes}
 use Rattle.router_core.specs.Standing.{Standing}
 
 -- ## What was asked and answered
@@ -31,7 +31,7 @@ pub data Exchange : Type 0 where
   Routed : (from : ℕ) → Facts → Heard Verdict → Exchange
   AskedPresence : (number : ℕ) → Heard Bool → Exchange
   Noted : History → Exchange
-  Fronted : (bytes : List ℕ) → Front → Exchange
+  Framed : (bytes : List ℕ) → Incoming → Exchange
   Called : Message → Reading Call → Exchange
   Gated : Call → Exchange
   Wanted : Bool → Exchange
@@ -45,7 +45,7 @@ Goes (Asking query goes_on) asked deeds x = (heard : Heard (Option Answer)) × (
 Goes (Routing from facts goes_on) asked deeds x = (heard : Heard Verdict) × (later : List Exchange) × (asked ≡ Routed from facts heard ∷ later) × Goes (goes_on heard) later deeds x
 Goes (AskingPresence number goes_on) asked deeds x = (heard : Heard Bool) × (later : List Exchange) × (asked ≡ AskedPresence number heard ∷ later) × Goes (goes_on heard) later deeds x
 Goes (Noting told s) asked deeds x = (later : List Exchange) × (asked ≡ Noted told ∷ later) × Goes s later deeds x
-Goes (Fronting bytes goes_on) asked deeds x = (front : Front) × (later : List Exchange) × (asked ≡ Fronted bytes front ∷ later) × Goes (goes_on front) later deeds x
+Goes (Framing bytes goes_on) asked deeds x = (incoming : Incoming) × (later : List Exchange) × (asked ≡ Framed bytes incoming ∷ later) × Goes (goes_on incoming) later deeds x
 Goes (Calling m goes_on) asked deeds x = (reading : Reading Call) × (later : List Exchange) × (asked ≡ Called m reading ∷ later) × Goes (goes_on reading) later deeds x
 Goes (Gating call s) asked deeds x = (later : List Exchange) × (asked ≡ Gated call ∷ later) × Goes s later deeds x
 Goes (Wanting goes_on) asked deeds x = (granted : Bool) × (later : List Exchange) × (asked ≡ Wanted granted ∷ later) × Goes (goes_on granted) later deeds x
@@ -62,7 +62,7 @@ IsLawful alone before (Asked query heard ∷ later) after = (k : Knowledge) × H
 IsLawful alone before (Routed from facts heard ∷ later) after = (k : Knowledge) × HearsVerdict alone from facts before heard k × IsLawful alone k later after
 IsLawful alone before (AskedPresence number heard ∷ later) after = (k : Knowledge) × HearsPresent alone number before heard k × IsLawful alone k later after
 IsLawful alone before (Noted told ∷ later) after = (k : Knowledge) × IsNoted alone before told k × IsLawful alone k later after
-IsLawful alone before (Fronted bytes front ∷ later) after = IsFront bytes front × IsLawful alone before later after
+IsLawful alone before (Framed bytes incoming ∷ later) after = IsIncoming bytes incoming × IsLawful alone before later after
 IsLawful alone before (Called m reading ∷ later) after = IsCall m reading × IsLawful alone before later after
 IsLawful alone before (Gated call ∷ later) after = IsLawful alone before later after
 IsLawful alone before (Wanted granted ∷ later) after = IsLawful alone before later after

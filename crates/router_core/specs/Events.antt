@@ -41,8 +41,8 @@ use Rattle.router_core.specs.declared.start_end.HowEnded.{HowEnded}
 use Rattle.router_core.specs.declared.start_end.HowEnded.TheVariants as how
 use Rattle.router_core.specs.Answers.{Heard, Says, Refuses, error_for, is_final}
 use Rattle.router_core.specs.Deeds.{Writes, Sends, Closes, IsOwnNote}
-use Rattle.router_core.specs.Fronts.{Front, Waits, Whole, Faulty}
-use Rattle.router_core.specs.Scripts.{Script, Gives, Changing, ChangingAll, Routing, AskingPresence, Noting, Fronting, Calling, Gating, Wanting, Requiring, Doing, Announcing, and_then, putting}
+use Rattle.router_core.specs.Incoming.{Incoming, Waits, Whole, Faulty}
+use Rattle.router_core.specs.Scripts.{Script, Gives, Changing, ChangingAll, Routing, AskingPresence, Noting, Framing, Calling, Gating, Wanting, Requiring, Doing, Announcing, and_then, putting}
 use Rattle.router_core.specs.Serving.{Work, Fated, nothing, monitors_in, replying, made, failing_all, serving}
 use Rattle.router_core.specs.Together.{Joining, Joins, Parts, change_of_joint, joining, may_join, rule_call}
 use Rattle.router_core.specs.Standing.{Stage, Authenticating, Unnamed, Named, Closing, Peer, Standing, peer_at, with_peer, opened, conn_of, next_serial, closing_peer, has_slot, is_conn}
@@ -198,7 +198,7 @@ serve_at s key m p (Unnamed privileged) = if is_hello m then serving_hello s key
 serve_at s key m p (Named conn) = serve_named s key m p conn p.watches
 serve_at s key m p (Closing conn) = Gives s
 
-abbrev pub read : Standing → ℕ → Peer → Front → Stands
+abbrev pub read : Standing → ℕ → Peer → Incoming → Stands
 read s key p Waits = Gives s
 read s key p (Faulty fault) = for_peer s key (Some p) (closing key (cause.Faulty fault))
 read s key p (Whole bytes rest) = serve_at s key (message_said bytes) (record p { unread = rest }) p.stage
@@ -206,7 +206,7 @@ read s key p (Whole bytes rest) = serve_at s key (message_said bytes) (record p 
 abbrev pub next_at : Standing → ℕ → Peer → Stage → Stands
 next_at s key p (Authenticating setting state) = Gives s
 next_at s key p (Closing conn) = Gives s
-next_at s key p stage = Fronting p.unread (λ front. read s key p front)
+next_at s key p stage = Framing p.unread (λ incoming. read s key p incoming)
 
 abbrev pub coming_next : Standing → ℕ → Option Peer → Stands
 coming_next s key None = Gives s
@@ -302,19 +302,19 @@ gather_message joints s key message p conn true = apart joints s key
 gather_message joints s key message p conn false =
     if may_join (message_said message) then Wanting (λ granted. join_if joints s key message p conn granted) else apart joints s key
 
-abbrev pub gather_front : List Joint → Standing → ℕ → Peer → Conn → Front → Script Gathered
-gather_front joints s key p conn Waits = none_gathered joints s
-gather_front joints s key p conn (Faulty fault) = apart joints s key
-gather_front joints s key p conn (Whole bytes rest) = gather_message joints s key bytes (record p { unread = rest }) conn p.watches
+abbrev pub gather_incoming : List Joint → Standing → ℕ → Peer → Conn → Incoming → Script Gathered
+gather_incoming joints s key p conn Waits = none_gathered joints s
+gather_incoming joints s key p conn (Faulty fault) = apart joints s key
+gather_incoming joints s key p conn (Whole bytes rest) = gather_message joints s key bytes (record p { unread = rest }) conn p.watches
 
-abbrev pub apart_front : List Joint → Standing → ℕ → Front → Script Gathered
-apart_front joints s key Waits = none_gathered joints s
-apart_front joints s key front = apart joints s key
+abbrev pub apart_incoming : List Joint → Standing → ℕ → Incoming → Script Gathered
+apart_incoming joints s key Waits = none_gathered joints s
+apart_incoming joints s key incoming = apart joints s key
 
 -- Only connections that have a name make changes.
 abbrev pub gather_at : List Joint → Standing → ℕ → Peer → Stage → Script Gathered
-gather_at joints s key p (Named conn) = Fronting p.unread (λ front. gather_front joints s key p conn front)
-gather_at joints s key p (Unnamed privileged) = Fronting p.unread (λ front. apart_front joints s key front)
+gather_at joints s key p (Named conn) = Framing p.unread (λ incoming. gather_incoming joints s key p conn incoming)
+gather_at joints s key p (Unnamed privileged) = Framing p.unread (λ incoming. apart_incoming joints s key incoming)
 gather_at joints s key p (Authenticating setting state) = none_gathered joints s
 gather_at joints s key p (Closing conn) = none_gathered joints s
 

@@ -2,7 +2,7 @@ pub mod Addressed
 pub mod Written
 pub mod Deeds
 pub mod Answers
-pub mod Fronts
+pub mod Incoming
 pub mod Scripts
 pub mod Serving
 pub mod Together

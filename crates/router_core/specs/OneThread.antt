@@ -10,23 +10,23 @@ use Rattle.message.specs.MessageBytes.{message_bytes}
 use Rattle.driver.specs.declared.call.Call.{Call}
 use Rattle.driver.specs.Calls.{Reading}
 use Rattle.bus_view.specs.Views.{Knowledge, bus_seen, next_entry, having_made, having_changed}
-use Rattle.router_core.specs.Acts.{Exchange, Fronted, Called, IsGranted, IsServedBy}
+use Rattle.router_core.specs.Acts.{Exchange, Framed, Called, IsGranted, IsServedBy}
 use Rattle.router_core.specs.Answers.{Says}
 use Rattle.router_core.specs.Deeds.{Deed, Writes, Sends, announced}
 use Rattle.router_core.specs.Events.{Occasion, Opened, script}
-use Rattle.router_core.specs.Fronts.{Front}
-use Rattle.router_core.specs.Scripts.{Script, Gives, Changing, ChangingAll, Asking, Routing, AskingPresence, Noting, Fronting, Calling, Gating, Wanting, Requiring, Doing, Announcing}
+use Rattle.router_core.specs.Incoming.{Incoming}
+use Rattle.router_core.specs.Scripts.{Script, Gives, Changing, ChangingAll, Asking, Routing, AskingPresence, Noting, Framing, Calling, Gating, Wanting, Requiring, Doing, Announcing}
 use Rattle.router_core.specs.Standing.{Standing}
 
 -- what bytes and calls are read as
 pub record Readers : Type 0 where
-  pub front : List ℕ → Front
+  pub incoming : List ℕ → Incoming
   pub call : Message → Reading Call
 
 -- all that was read was read so
 abbrev pub AreReadBy : Readers → List Exchange → Type 0
 AreReadBy readers [] = Unit {0}
-AreReadBy readers (Fronted bytes front ∷ later) = (front ≡ readers.front bytes) × AreReadBy readers later
+AreReadBy readers (Framed bytes incoming ∷ later) = (incoming ≡ readers.incoming bytes) × AreReadBy readers later
 AreReadBy readers (Called m reading ∷ later) = (reading ≡ readers.call m) × AreReadBy readers later
 AreReadBy readers (other ∷ later) = AreReadBy readers later
 
@@ -55,7 +55,7 @@ alone readers (Asking query goes_on) c = alone readers (goes_on (Says (answer (b
 alone readers (Routing from facts goes_on) c = alone readers (goes_on (Says (recipients (bus_seen c.view).state from facts))) c
 alone readers (AskingPresence number goes_on) c = alone readers (goes_on (Says (is_some (connection_of (bus_seen c.view).state number)))) c
 alone readers (Noting told s) c = alone readers s c
-alone readers (Fronting bytes goes_on) c = alone readers (goes_on (readers.front bytes)) c
+alone readers (Framing bytes goes_on) c = alone readers (goes_on (readers.incoming bytes)) c
 alone readers (Calling m goes_on) c = alone readers (goes_on (readers.call m)) c
 alone readers (Gating call s) c = alone readers s c
 alone readers (Wanting goes_on) c = alone readers (goes_on true) c

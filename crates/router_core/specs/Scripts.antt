@@ -19,7 +19,7 @@ use Rattle.router_core.specs.Answers.{Heard, HearsChange, HearsChanges, HearsAns
 use Rattle.outbox_core.specs.Contents.{Said}
 use Rattle.router_core.specs.declared.action.Action.{Action}
 use Rattle.router_core.specs.Deeds.{Deed, Puts, GatedCall, IsDoneBy, announcement, IsFurthest, CarriesFurthest}
-use Rattle.router_core.specs.Fronts.{Front, IsFront}
+use Rattle.router_core.specs.Incoming.{Incoming, IsIncoming}
 
 -- A script comes to a result in the end.
 pub data Script (X : Type 0) : Type 0 where
@@ -33,7 +33,7 @@ pub data Script (X : Type 0) : Type 0 where
   -- what another router told is taken in
   Noting : History → Script X → Script X
   -- the front of bytes is read
-  Fronting : (bytes : List ℕ) → (Front → Script X) → Script X
+  Framing : (bytes : List ℕ) → (Incoming → Script X) → Script X
   -- a call to the bus is read
   Calling : Message → (Reading Call → Script X) → Script X
   -- the gate is shown a call
@@ -54,7 +54,7 @@ and_then (Asking query goes_on) next = Asking query (λ heard. and_then (goes_on
 and_then (Routing from facts goes_on) next = Routing from facts (λ heard. and_then (goes_on heard) next)
 and_then (AskingPresence number goes_on) next = AskingPresence number (λ heard. and_then (goes_on heard) next)
 and_then (Noting told s) next = Noting told (and_then s next)
-and_then (Fronting bytes goes_on) next = Fronting bytes (λ front. and_then (goes_on front) next)
+and_then (Framing bytes goes_on) next = Framing bytes (λ incoming. and_then (goes_on incoming) next)
 and_then (Calling m goes_on) next = Calling m (λ reading. and_then (goes_on reading) next)
 and_then (Gating call s) next = Gating call (and_then s next)
 and_then (Wanting goes_on) next = Wanting (λ granted. and_then (goes_on granted) next)
@@ -140,7 +140,7 @@ Comes {N = N} {G = G} told registry_of passes alone (Routing from facts goes_on)
 Comes {N = N} {G = G} told registry_of passes alone (AskingPresence number goes_on) w x v =
     (heard : Heard Bool) × (m : World N G) × AsksPresence alone number w heard m × Comes told registry_of passes alone (goes_on heard) m x v
 Comes {N = N} {G = G} told registry_of passes alone (Noting history s) w x v = (m : World N G) × Takes alone history w m × Comes told registry_of passes alone s m x v
-Comes told registry_of passes alone (Fronting bytes goes_on) w x v = (front : Front) × IsFront bytes front × Comes told registry_of passes alone (goes_on front) w x v
+Comes told registry_of passes alone (Framing bytes goes_on) w x v = (incoming : Incoming) × IsIncoming bytes incoming × Comes told registry_of passes alone (goes_on incoming) w x v
 Comes told registry_of passes alone (Calling m goes_on) w x v = (reading : Reading Call) × IsCall m reading × Comes told registry_of passes alone (goes_on reading) w x v
 Comes {N = N} {G = G} told registry_of passes alone (Gating call s) w x v = (m : World N G) × Passes passes call w m × Comes told registry_of passes alone s m x v
 Comes told registry_of passes alone (Wanting goes_on) w x v = (granted : Bool) × Comes told registry_of passes alone (goes_on granted) w x v

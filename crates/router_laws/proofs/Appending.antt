@@ -1,7 +1,7 @@
 -- One event more.
 use Rattle.std.proofs.Common.{◌≡◌, ℕ, Bool, List, [], ◌∷◌, ◌++◌, refl, sym, ap, ◌∙◌, subst, append_assoc}
 use mathlib.Core.List.{append-nil}
-use Rattle.router_core.specs.Acts.{Exchange, Changed, ChangedAll, Asked, Routed, AskedPresence, Noted, Fronted, Called, Gated, Wanted, IsServedBy, gated_in}
+use Rattle.router_core.specs.Acts.{Exchange, Changed, ChangedAll, Asked, Routed, AskedPresence, Noted, Framed, Called, Gated, Wanted, IsServedBy, gated_in}
 use Rattle.router_core.specs.Deeds.{GatedCall, PassesAll}
 use Rattle.router_core.specs.Events.{Occasion}
 use Rattle.router_core.specs.OneThread.{Rest, keys_after, written_to}
@@ -43,7 +43,7 @@ gated_append seat (Asked query heard ∷ first) later = gated_append seat first 
 gated_append seat (Routed from facts heard ∷ first) later = gated_append seat first later
 gated_append seat (AskedPresence number heard ∷ first) later = gated_append seat first later
 gated_append seat (Noted told ∷ first) later = gated_append seat first later
-gated_append seat (Fronted bytes front ∷ first) later = gated_append seat first later
+gated_append seat (Framed bytes incoming ∷ first) later = gated_append seat first later
 gated_append seat (Called m reading ∷ first) later = gated_append seat first later
 gated_append seat (Gated call ∷ first) later = ap (λ (calls : List GatedCall). record { seat = seat; call = call } ∷ calls) (gated_append seat first later)
 gated_append seat (Wanted granted ∷ first) later = gated_append seat first later

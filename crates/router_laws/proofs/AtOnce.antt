@@ -4,7 +4,7 @@ use Rattle.std.specs.List.{flat_map, AllByRecursion}
 use Rattle.message_core.specs.declared.fault.FrameFault.{FrameFault}
 use Rattle.router_core.specs.Deeds.{Deed}
 use Rattle.router_core.specs.Events.{Bytes, Mail, Next, Occasion, Opened}
-use Rattle.router_core.specs.Fronts.{Front, Waits, Whole, Faulty}
+use Rattle.router_core.specs.Incoming.{Incoming, Waits, Whole, Faulty}
 use Rattle.router_core.specs.OneThread.{Readers, Rest, given}
 use Rattle.router_core.specs.Standing.{Peer, Stage, Authenticating, Unnamed, Named, Closing, peer_at}
 use Rattle.router.proofs.Feeding.{TakesBytes, authenticating_given, bytes_given, end_more, mail_given, none_given, nothing_fed, pieces_joined, rest_more, closing_given, waiting_given}
@@ -82,26 +82,26 @@ module _ (readers : Readers) (seat key : ℕ) where
 
   -- What stands at the front of the connection's bytes is read so also with these behind it.
   abbrev pub Settled : List ℕ → Rest → Type 0
-  Settled later r = (p : Peer) → peer_at r.standing key ≡ Some p → TakesBytes p.stage → readers.front p.unread ≢ Waits → readers.front (p.unread ++ later) ≡ with_behind later (readers.front p.unread)
+  Settled later r = (p : Peer) → peer_at r.standing key ≡ Some p → TakesBytes p.stage → readers.incoming p.unread ≢ Waits → readers.incoming (p.unread ++ later) ≡ with_behind later (readers.incoming p.unread)
 
   rests_or_first : (later : List ℕ) (r : Rest) → Settled later r → Rests r ⊎ Goes_first later r
   rests_or_first later r settled = by_peer (peer_at r.standing key) refl
     where
-      first : (p : Peer) → peer_at r.standing key ≡ Some p → TakesBytes p.stage → (front : Front) → readers.front p.unread ≡ front → front ≢ Waits → Goes_first later r
-      first p here takes front so not_so =
+      first : (p : Peer) → peer_at r.standing key ≡ Some p → TakesBytes p.stage → (incoming : Incoming) → readers.incoming p.unread ≡ incoming → incoming ≢ Waits → Goes_first later r
+      first p here takes incoming so not_so =
           goes_first later r
-          (commutes readers key later r p front not_so here so
-          (settled p here takes (λ waits. not_so (sym so ∙ waits)) ∙ ap (λ (f : Front). with_behind later f) so))
+          (commutes readers key later r p incoming not_so here so
+          (settled p here takes (λ waits. not_so (sym so ∙ waits)) ∙ ap (λ (f : Incoming). with_behind later f) so))
 
-      by_front : (p : Peer) → peer_at r.standing key ≡ Some p → TakesBytes p.stage → (front : Front) → readers.front p.unread ≡ front → Rests r ⊎ Goes_first later r
-      by_front p here takes Waits so = inl (at_rest r (waiting_given readers key r p here so))
-      by_front p here takes (Whole message rest) so = inr (first p here takes (Whole message rest) so (whole_not message rest))
-      by_front p here takes (Faulty fault) so = inr (first p here takes (Faulty fault) so (faulty_not fault))
+      by_incoming : (p : Peer) → peer_at r.standing key ≡ Some p → TakesBytes p.stage → (incoming : Incoming) → readers.incoming p.unread ≡ incoming → Rests r ⊎ Goes_first later r
+      by_incoming p here takes Waits so = inl (at_rest r (waiting_given readers key r p here so))
+      by_incoming p here takes (Whole message rest) so = inr (first p here takes (Whole message rest) so (whole_not message rest))
+      by_incoming p here takes (Faulty fault) so = inr (first p here takes (Faulty fault) so (faulty_not fault))
 
       by_stage : (p : Peer) → peer_at r.standing key ≡ Some p → (stage : Stage) → p.stage ≡ stage → Rests r ⊎ Goes_first later r
       by_stage p here (Authenticating setting state) is = inl (at_rest r (authenticating_given readers key r p setting state here is))
-      by_stage p here (Unnamed privileged) is = by_front p here (subst (λ (stage : Stage). TakesBytes stage) (sym is) tt) (readers.front p.unread) refl
-      by_stage p here (Named conn) is = by_front p here (subst (λ (stage : Stage). TakesBytes stage) (sym is) tt) (readers.front p.unread) refl
+      by_stage p here (Unnamed privileged) is = by_incoming p here (subst (λ (stage : Stage). TakesBytes stage) (sym is) tt) (readers.incoming p.unread) refl
+      by_stage p here (Named conn) is = by_incoming p here (subst (λ (stage : Stage). TakesBytes stage) (sym is) tt) (readers.incoming p.unread) refl
       by_stage p here (Closing conn) is = inl (at_rest r (closing_given readers key r p conn here is))
 
       by_peer : (o : Option Peer) → peer_at r.standing key ≡ o → Rests r ⊎ Goes_first later r

@@ -4,7 +4,7 @@ use Rattle.message_core.specs.declared.fault.FrameFault.{FrameFault}
 use Rattle.router_core.specs.declared.cause.CloseCause.TheVariants as cause
 use Rattle.router_core.specs.Deeds.{Deed, Closes}
 use Rattle.router_core.specs.Events.{Next, fed}
-use Rattle.router_core.specs.Fronts.{Front, Waits, Whole, Faulty}
+use Rattle.router_core.specs.Incoming.{Incoming, Waits, Whole, Faulty}
 use Rattle.router_core.specs.OneThread.{Readers, Rest, given}
 use Rattle.router_core.specs.Standing.{Peer, Stage, Authenticating, Unnamed, Named, Closing, peer_at}
 use Rattle.router.proofs.Feeding.{TakesBytes, authenticating_given, closed_more, end_more, faulty_given, more, more_if, next_given, peer_with_more, rest_more, closing_given}
@@ -28,9 +28,9 @@ module _ (readers : Readers) where
       by_stage (Named conn) is takes = grown (Named conn) is takes (subst (λ (st : Stage). TakesBytes st) (sym is) tt, refl)
       by_stage (Closing conn) is takes = absurd takes
 
-  faulty_commutes : (key : ℕ) (piece : List ℕ) (r : Rest) (p : Peer) (fault : FrameFault) → peer_at r.standing key ≡ Some p → readers.front p.unread ≡ Faulty fault → readers.front (p.unread ++ piece) ≡ Faulty fault →
+  faulty_commutes : (key : ℕ) (piece : List ℕ) (r : Rest) (p : Peer) (fault : FrameFault) → peer_at r.standing key ≡ Some p → readers.incoming p.unread ≡ Faulty fault → readers.incoming (p.unread ++ piece) ≡ Faulty fault →
       Commutes key piece r
-  faulty_commutes key piece r p fault here front later = by_stage p.stage refl
+  faulty_commutes key piece r p fault here incoming later = by_stage p.stage refl
     where
       there : peer_at (rest_more piece key r).standing key ≡ Some (more piece key p)
       there = peer_with_more piece key r.standing ∙ ap (λ (o : Option Peer). more_if piece key o) here
@@ -38,9 +38,9 @@ module _ (readers : Readers) where
       taken : TakesBytes p.stage → Commutes key piece r
       taken takes =
           let grown = more_taken key piece p takes in
-          faulty_given readers key (rest_more piece key r) (more piece key p) fault there grown.0 (ap (λ (bytes : List ℕ). readers.front bytes) grown.1 ∙ later)
+          faulty_given readers key (rest_more piece key r) (more piece key p) fault there grown.0 (ap (λ (bytes : List ℕ). readers.incoming bytes) grown.1 ∙ later)
           ∙ ap (λ (s : Rest). let end : List Deed × Rest = (Closes key (cause.Faulty fault) ∷ [], s) in end) (closed_more key piece r p)
-          ∙ ap (λ (end : List Deed × Rest). end_more piece key end) (sym (faulty_given readers key r p fault here takes front))
+          ∙ ap (λ (end : List Deed × Rest). end_more piece key end) (sym (faulty_given readers key r p fault here takes incoming))
 
       by_stage : (stage : Stage) → p.stage ≡ stage → Commutes key piece r
       by_stage (Authenticating setting state) is =
@@ -52,8 +52,8 @@ module _ (readers : Readers) where
           closing_given readers key (rest_more piece key r) (more piece key p) conn there (ap (λ (st : Stage). (fed piece p st).stage) is ∙ is)
           ∙ ap (λ (end : List Deed × Rest). end_more piece key end) (sym (closing_given readers key r p conn here is))
 
-  pub commutes : (key : ℕ) (piece : List ℕ) (r : Rest) (p : Peer) (front : Front) → front ≢ Waits → peer_at r.standing key ≡ Some p → readers.front p.unread ≡ front →
-      readers.front (p.unread ++ piece) ≡ with_behind piece front → Commutes key piece r
+  pub commutes : (key : ℕ) (piece : List ℕ) (r : Rest) (p : Peer) (incoming : Incoming) → incoming ≢ Waits → peer_at r.standing key ≡ Some p → readers.incoming p.unread ≡ incoming →
+      readers.incoming (p.unread ++ piece) ≡ with_behind piece incoming → Commutes key piece r
   commutes key piece r p Waits not_so here so later = absurd (not_so refl)
   commutes key piece r p (Whole message rest) not_so here so later = next_given readers piece key r p message rest here so later
   commutes key piece r p (Faulty fault) not_so here so later = faulty_commutes key piece r p fault here so later

@@ -5,10 +5,10 @@ use Rattle.std.specs.Prelude.{IfSome}
 use Rattle.seq_bus_core.specs.Histories.{History}
 use Rattle.router_core.specs.declared.event.Event.{Event}
 use Rattle.router_core.specs.declared.event.Event.TheVariants as event
-use Rattle.router_core.specs.Acts.{Exchange, Fronted, IsGranted, State}
+use Rattle.router_core.specs.Acts.{Exchange, Framed, IsGranted, State}
 use Rattle.router_core.specs.Deeds.{GatedCall}
 use Rattle.router_core.specs.Events.{Closed, Next, Occasion, occasion_of}
-use Rattle.router_core.specs.Fronts.{Waits}
+use Rattle.router_core.specs.Incoming.{Waits}
 use Rattle.router_core.specs.OneThread.{AreReadBy, Readers, Rest, given}
 use Rattle.router_core.specs.Standing.{Peer, Stage, Authenticating, Unnamed, Named, Closing, peer_at}
 use Rattle.router_steps.specs.Quiet.{IsQuiet, IsQuietAt}
@@ -34,7 +34,7 @@ left_of (Some p) = at_stage p.stage
     at_stage : Stage → List Exchange
     at_stage (Authenticating setting state) = []
     at_stage (Closing conn) = []
-    at_stage stage = Fronted p.unread Waits ∷ []
+    at_stage stage = Framed p.unread Waits ∷ []
 
 left_right : (o : Option Peer) → IfSome o IsQuiet → AreRight (left_of o)
 left_right None quiet = tt
@@ -51,8 +51,8 @@ quiet_given readers key r read = by_peer (peer_at r.standing key) refl read
   where
     by_stage : (p : Peer) → peer_at r.standing key ≡ Some p → (stage : Stage) → p.stage ≡ stage → AreReadBy readers (left_of (Some p)) → given readers r (Next key) ≡ ([], r)
     by_stage p here (Authenticating setting state) is so = authenticating_given readers key r p setting state here is
-    by_stage p here (Unnamed privileged) is so = let waits : AreReadBy readers (Fronted p.unread Waits ∷ []) = rw is at so in waiting_given readers key r p here (sym waits.0)
-    by_stage p here (Named conn) is so = let waits : AreReadBy readers (Fronted p.unread Waits ∷ []) = rw is at so in waiting_given readers key r p here (sym waits.0)
+    by_stage p here (Unnamed privileged) is so = let waits : AreReadBy readers (Framed p.unread Waits ∷ []) = rw is at so in waiting_given readers key r p here (sym waits.0)
+    by_stage p here (Named conn) is so = let waits : AreReadBy readers (Framed p.unread Waits ∷ []) = rw is at so in waiting_given readers key r p here (sym waits.0)
     by_stage p here (Closing conn) is so = closing_given readers key r p conn here is
 
     by_peer : (o : Option Peer) → peer_at r.standing key ≡ o → AreReadBy readers (left_of o) → given readers r (Next key) ≡ ([], r)

@@ -6,10 +6,10 @@ use Rattle.seq_bus_core.specs.Histories.{History}
 use Rattle.message_core.specs.declared.fault.FrameFault.{FrameFault}
 use Rattle.router_core.specs.declared.event.Event.{Event}
 use Rattle.router_core.specs.declared.event.Event.TheVariants as event
-use Rattle.router_core.specs.Acts.{Exchange, Changed, ChangedAll, Asked, Routed, AskedPresence, Noted, Fronted, Called, Gated, Wanted, Goes, IsGranted, State}
+use Rattle.router_core.specs.Acts.{Exchange, Changed, ChangedAll, Asked, Routed, AskedPresence, Noted, Framed, Called, Gated, Wanted, Goes, IsGranted, State}
 use Rattle.router_core.specs.Deeds.{Deed, GatedCall}
 use Rattle.router_core.specs.Events.{Next, coming_next, next_at, occasion_of, script}
-use Rattle.router_core.specs.Fronts.{Front, Waits, Whole, Faulty, IsFront}
+use Rattle.router_core.specs.Incoming.{Incoming, Waits, Whole, Faulty, IsIncoming}
 use Rattle.router_core.specs.OneThread.{AreReadBy, Readers, Rest}
 use Rattle.router_core.specs.Standing.{Peer, Stage, Standing, Authenticating, Unnamed, Named, Closing, peer_at}
 use Rattle.router.specs.OneEvent.{rest_in}
@@ -20,20 +20,20 @@ use Rattle.busd_core.specs.OneThread.{asked_mailed, asked_all, happened}
 use Rattle.busd_core.specs.Sessions.{IsServing, piece_of}
 use Rattle.busd_core.proofs.OneThread.{all_happened_so}
 use Rattle.router_laws.specs.Readings.{with_behind}
-use Rattle.router_laws.proofs.Fronts.{fronts_stay}
+use Rattle.router_laws.proofs.Incoming.{incoming_stays}
 use Rattle.router_laws.proofs.Readers.{AreRight, right_append, right_lawful}
 use Rattle.router_laws.proofs.AtOnce.{AllSettled, Serving, Settled, bytes_in}
 
 -- ## More bytes behind what was read
 
-abbrev behind : List ℕ → List ℕ → Front → List Exchange
+abbrev behind : List ℕ → List ℕ → Incoming → List Exchange
 behind later bytes Waits = []
-behind later bytes front = Fronted (bytes ++ later) (with_behind later front) ∷ []
+behind later bytes incoming = Framed (bytes ++ later) (with_behind later incoming) ∷ []
 
 -- what was read, with these bytes behind it
 abbrev pub extended : List ℕ → List Exchange → List Exchange
 extended later [] = []
-extended later (Fronted bytes front ∷ asked) = behind later bytes front ++ extended later asked
+extended later (Framed bytes incoming ∷ asked) = behind later bytes incoming ++ extended later asked
 extended later (other ∷ asked) = extended later asked
 
 whole_not : (message rest : List ℕ) → Whole message rest ≢ Waits
@@ -42,10 +42,10 @@ whole_not message rest e = cc
 faulty_not : (fault : FrameFault) → Faulty fault ≢ Waits
 faulty_not fault e = cc
 
-behind_right : (later bytes : List ℕ) (front : Front) → IsFront bytes front → AreRight (behind later bytes front)
+behind_right : (later bytes : List ℕ) (incoming : Incoming) → IsIncoming bytes incoming → AreRight (behind later bytes incoming)
 behind_right later bytes Waits is = tt
-behind_right later bytes (Whole message rest) is = (fronts_stay bytes later (Whole message rest) (whole_not message rest) is, tt)
-behind_right later bytes (Faulty fault) is = (fronts_stay bytes later (Faulty fault) (faulty_not fault) is, tt)
+behind_right later bytes (Whole message rest) is = (incoming_stays bytes later (Whole message rest) (whole_not message rest) is, tt)
+behind_right later bytes (Faulty fault) is = (incoming_stays bytes later (Faulty fault) (faulty_not fault) is, tt)
 
 extended_right : (later : List ℕ) (asked : List Exchange) → AreRight asked → AreRight (extended later asked)
 extended_right later [] right = tt
@@ -55,34 +55,34 @@ extended_right later (Asked query heard ∷ asked) right = extended_right later 
 extended_right later (Routed from facts heard ∷ asked) right = extended_right later asked right
 extended_right later (AskedPresence number heard ∷ asked) right = extended_right later asked right
 extended_right later (Noted told ∷ asked) right = extended_right later asked right
-extended_right later (Fronted bytes front ∷ asked) right = right_append (behind later bytes front) (extended later asked) (behind_right later bytes front right.0) (extended_right later asked right.1)
+extended_right later (Framed bytes incoming ∷ asked) right = right_append (behind later bytes incoming) (extended later asked) (behind_right later bytes incoming right.0) (extended_right later asked right.1)
 extended_right later (Called m reading ∷ asked) right = extended_right later asked right.1
 extended_right later (Gated call ∷ asked) right = extended_right later asked right
 extended_right later (Wanted granted ∷ asked) right = extended_right later asked right
 
-behind_read : (readers : Readers) (later bytes : List ℕ) (front : Front) → front ≢ Waits → AreReadBy readers (behind later bytes front) → readers.front (bytes ++ later) ≡ with_behind later front
+behind_read : (readers : Readers) (later bytes : List ℕ) (incoming : Incoming) → incoming ≢ Waits → AreReadBy readers (behind later bytes incoming) → readers.incoming (bytes ++ later) ≡ with_behind later incoming
 behind_read readers later bytes Waits not_so read = absurd (not_so refl)
 behind_read readers later bytes (Whole message rest) not_so read = sym read.0
 behind_read readers later bytes (Faulty fault) not_so read = sym read.0
 
 module _ (readers : Readers) (key : ℕ) (later : List ℕ) where
   -- what stands at the front, where it was read
-  front_read : (bytes : List ℕ) (front : Front) (asked : List Exchange) → AreReadBy readers (Fronted bytes front ∷ asked) → AreReadBy readers (extended later (Fronted bytes front ∷ asked)) →
-      readers.front bytes ≢ Waits → readers.front (bytes ++ later) ≡ with_behind later (readers.front bytes)
-  front_read bytes front asked read more not_so =
-      behind_read readers later bytes front (λ waits. not_so (sym read.0 ∙ waits)) (read_parts readers (behind later bytes front) (extended later asked) more).0
-      ∙ ap (λ (f : Front). with_behind later f) read.0
+  incoming_read : (bytes : List ℕ) (incoming : Incoming) (asked : List Exchange) → AreReadBy readers (Framed bytes incoming ∷ asked) → AreReadBy readers (extended later (Framed bytes incoming ∷ asked)) →
+      readers.incoming bytes ≢ Waits → readers.incoming (bytes ++ later) ≡ with_behind later (readers.incoming bytes)
+  incoming_read bytes incoming asked read more not_so =
+      behind_read readers later bytes incoming (λ waits. not_so (sym read.0 ∙ waits)) (read_parts readers (behind later bytes incoming) (extended later asked) more).0
+      ∙ ap (λ (f : Incoming). with_behind later f) read.0
 
   next_settled : (s : Standing) (asked : List Exchange) (deeds : List Deed) (x : Standing) (p : Peer) → peer_at s key ≡ Some p → TakesBytes p.stage → Goes (script s (Next key)) asked deeds x →
-      AreReadBy readers asked → AreReadBy readers (extended later asked) → readers.front p.unread ≢ Waits → readers.front (p.unread ++ later) ≡ with_behind later (readers.front p.unread)
+      AreReadBy readers asked → AreReadBy readers (extended later asked) → readers.incoming p.unread ≢ Waits → readers.incoming (p.unread ++ later) ≡ with_behind later (readers.incoming p.unread)
   next_settled s asked deeds x p here takes goes read more not_so =
       by_stage p.stage takes (subst (λ (o : Option Peer). Goes (coming_next s key o) asked deeds x) here goes)
     where
-      read_first : (front : Front) (others : List Exchange) → asked ≡ Fronted p.unread front ∷ others → readers.front (p.unread ++ later) ≡ with_behind later (readers.front p.unread)
-      read_first front others is =
-          front_read p.unread front others (subst (λ (a : List Exchange). AreReadBy readers a) is read) (subst (λ (a : List Exchange). AreReadBy readers (extended later a)) is more) not_so
+      read_first : (incoming : Incoming) (others : List Exchange) → asked ≡ Framed p.unread incoming ∷ others → readers.incoming (p.unread ++ later) ≡ with_behind later (readers.incoming p.unread)
+      read_first incoming others is =
+          incoming_read p.unread incoming others (subst (λ (a : List Exchange). AreReadBy readers a) is read) (subst (λ (a : List Exchange). AreReadBy readers (extended later a)) is more) not_so
 
-      by_stage : (stage : Stage) → TakesBytes stage → Goes (next_at s key p stage) asked deeds x → readers.front (p.unread ++ later) ≡ with_behind later (readers.front p.unread)
+      by_stage : (stage : Stage) → TakesBytes stage → Goes (next_at s key p stage) asked deeds x → readers.incoming (p.unread ++ later) ≡ with_behind later (readers.incoming p.unread)
       by_stage (Authenticating setting state) takes so = absurd takes
       by_stage (Unnamed privileged) takes so = read_first so.0 so.1 so.2
       by_stage (Named conn) takes so = read_first so.0 so.1 so.2

@@ -1,7 +1,7 @@
 -- Runs in which nothing is refused, one after the other.
 use Rattle.std.proofs.Common.{◌≡◌, ℕ, true, false, List, [], ◌∷◌, ◌++◌, length, map, refl, sym, ap, ◌∙◌, subst, append_assoc}
 use Rattle.std.specs.List.{range_with_len}
-use Rattle.router_core.specs.Acts.{Exchange, Changed, ChangedAll, Asked, Routed, AskedPresence, Noted, Fronted, Called, Gated, Wanted, IsGranted}
+use Rattle.router_core.specs.Acts.{Exchange, Changed, ChangedAll, Asked, Routed, AskedPresence, Noted, Framed, Called, Gated, Wanted, IsGranted}
 use Rattle.router_core.specs.Answers.{Says, Refuses}
 use Rattle.router_core.specs.Events.{Occasion}
 use Rattle.router_core.specs.OneThread.{Rest, keys_after, written_to}
@@ -22,7 +22,7 @@ granted_append (Routed from facts (Refuses r) ∷ first) later h k = absurd h
 granted_append (AskedPresence number (Says there) ∷ first) later h k = granted_append first later h k
 granted_append (AskedPresence number (Refuses r) ∷ first) later h k = absurd h
 granted_append (Noted told ∷ first) later h k = granted_append first later h k
-granted_append (Fronted bytes front ∷ first) later h k = granted_append first later h k
+granted_append (Framed bytes incoming ∷ first) later h k = granted_append first later h k
 granted_append (Called m reading ∷ first) later h k = granted_append first later h k
 granted_append (Gated call ∷ first) later h k = granted_append first later h k
 granted_append (Wanted true ∷ first) later h k = granted_append first later h k

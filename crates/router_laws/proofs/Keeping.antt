@@ -7,7 +7,7 @@ use Rattle.seq_bus_core.specs.declared.outcome.Outcome.{Outcome}
 use Rattle.seq_bus_core.specs.declared.query.Query.{Query}
 use Rattle.seq_bus_core.specs.declared.verdict.Verdict.{Verdict}
 use Rattle.bus_view.specs.Views.{Knowledge, IsRead}
-use Rattle.router_core.specs.Acts.{Exchange, Changed, ChangedAll, Asked, Routed, AskedPresence, Noted, Fronted, Called, Gated, Wanted, IsLawful}
+use Rattle.router_core.specs.Acts.{Exchange, Changed, ChangedAll, Asked, Routed, AskedPresence, Noted, Framed, Called, Gated, Wanted, IsLawful}
 use Rattle.router_core.specs.Answers.{Heard, Says, Refuses, NoMemory, Lost, HearsChange, HearsChanges, HearsAnswer, HearsVerdict, HearsPresent}
 use Rattle.router_core.specs.Events.{Occasion}
 use Rattle.router_core.specs.OneThread.{Rest}
@@ -56,7 +56,7 @@ lawful_keeps alone (Routed from facts heard ∷ later) k m h = both k h.0 m (ver
 lawful_keeps alone (AskedPresence number heard ∷ later) k m h = both k h.0 m (present alone number heard k h.0 h.1) (lawful_keeps alone later h.0 m h.2)
 lawful_keeps alone (Noted told ∷ later) k m h =
     both k h.0 m (record { registry = ap (λ (n : Knowledge). n.registry) h.1.kept; seat = ap (λ (n : Knowledge). n.seat) h.1.kept }) (lawful_keeps alone later h.0 m h.2)
-lawful_keeps alone (Fronted bytes front ∷ later) k m h = lawful_keeps alone later k m h.1
+lawful_keeps alone (Framed bytes incoming ∷ later) k m h = lawful_keeps alone later k m h.1
 lawful_keeps alone (Called m reading ∷ later) k n h = lawful_keeps alone later k n h.1
 lawful_keeps alone (Gated call ∷ later) k m h = lawful_keeps alone later k m h
 lawful_keeps alone (Wanted granted ∷ later) k m h = lawful_keeps alone later k m h

@@ -7,7 +7,7 @@ pub mod Courses
 pub mod Counting
 pub mod FieldFaults
 pub mod Faults
-pub mod Fronts
+pub mod Incoming
 pub mod Calls
 pub mod Readers
 pub mod Agreeing

@@ -5,17 +5,17 @@ use Rattle.std.specs.Prelude.{◌==◌, ◌&&◌, if◌then◌else◌}
 use Rattle.marshal_core.proofs.Results.{both_true, eqb-yes}
 use Rattle.bus_view.specs.Views.{Knowledge}
 use Rattle.driver.specs.Calls.{IsCall}
-use Rattle.router_core.specs.Acts.{Exchange, Changed, ChangedAll, Asked, Routed, AskedPresence, Noted, Fronted, Called, Gated, Wanted, IsLawful}
-use Rattle.router_core.specs.Fronts.{Front, Waits, IsFront}
+use Rattle.router_core.specs.Acts.{Exchange, Changed, ChangedAll, Asked, Routed, AskedPresence, Noted, Framed, Called, Gated, Wanted, IsLawful}
+use Rattle.router_core.specs.Incoming.{Incoming, Waits, IsIncoming}
 use Rattle.router_core.specs.OneThread.{Readers, AreReadBy}
 use Rattle.router_laws.proofs.Calls.{calls_are_one, calls_are_read}
-use Rattle.router_laws.proofs.Fronts.{fronts_are_one}
+use Rattle.router_laws.proofs.Incoming.{incoming_is_one}
 
 -- ## What is read rightly
 
 abbrev pub AreRight : List Exchange → Type 0
 AreRight [] = Unit {0}
-AreRight (Fronted bytes front ∷ later) = IsFront bytes front × AreRight later
+AreRight (Framed bytes incoming ∷ later) = IsIncoming bytes incoming × AreRight later
 AreRight (Called m reading ∷ later) = IsCall m reading × AreRight later
 AreRight (other ∷ later) = AreRight later
 
@@ -27,7 +27,7 @@ right_lawful alone (Asked query heard ∷ later) before after h = right_lawful a
 right_lawful alone (Routed from facts heard ∷ later) before after h = right_lawful alone later h.0 after h.2
 right_lawful alone (AskedPresence number heard ∷ later) before after h = right_lawful alone later h.0 after h.2
 right_lawful alone (Noted told ∷ later) before after h = right_lawful alone later h.0 after h.2
-right_lawful alone (Fronted bytes front ∷ later) before after h = (h.0, right_lawful alone later before after h.1)
+right_lawful alone (Framed bytes incoming ∷ later) before after h = (h.0, right_lawful alone later before after h.1)
 right_lawful alone (Called m reading ∷ later) before after h = (h.0, right_lawful alone later before after h.1)
 right_lawful alone (Gated call ∷ later) before after h = right_lawful alone later before after h
 right_lawful alone (Wanted granted ∷ later) before after h = right_lawful alone later before after h
@@ -40,7 +40,7 @@ right_append (Asked query heard ∷ first) later h k = right_append first later 
 right_append (Routed from facts heard ∷ first) later h k = right_append first later h k
 right_append (AskedPresence number heard ∷ first) later h k = right_append first later h k
 right_append (Noted told ∷ first) later h k = right_append first later h k
-right_append (Fronted bytes front ∷ first) later h k = (h.0, right_append first later h.1 k)
+right_append (Framed bytes incoming ∷ first) later h k = (h.0, right_append first later h.1 k)
 right_append (Called m reading ∷ first) later h k = (h.0, right_append first later h.1 k)
 right_append (Gated call ∷ first) later h k = right_append first later h k
 right_append (Wanted granted ∷ first) later h k = right_append first later h k
@@ -68,31 +68,31 @@ same_is [] = refl
 same_is (a ∷ later) = rw (eqb-same a) (same_is later)
 
 -- these bytes are read so, and others as before
-abbrev front_or : List ℕ → Front → (List ℕ → Front) → List ℕ → Front
-front_or bytes front others other = if same_bytes bytes other then front else others other
+abbrev incoming_or : List ℕ → Incoming → (List ℕ → Incoming) → List ℕ → Incoming
+incoming_or bytes incoming others other = if same_bytes bytes other then incoming else others other
 
-abbrev fronts_of : List Exchange → List ℕ → Front
-fronts_of [] = λ bytes. Waits
-fronts_of (Fronted bytes front ∷ later) = front_or bytes front (fronts_of later)
-fronts_of (other ∷ later) = fronts_of later
+abbrev incoming_of : List Exchange → List ℕ → Incoming
+incoming_of [] = λ bytes. Waits
+incoming_of (Framed bytes incoming ∷ later) = incoming_or bytes incoming (incoming_of later)
+incoming_of (other ∷ later) = incoming_of later
 
-abbrev reading_by : (List ℕ → Front) → Readers
-reading_by front = record { front = front; call = λ m. (calls_are_read m).0 }
+abbrev reading_by : (List ℕ → Incoming) → Readers
+reading_by incoming = record { incoming = incoming; call = λ m. (calls_are_read m).0 }
 
 -- readers who read all that was asked
 abbrev pub readers_of : List Exchange → Readers
-readers_of asked = reading_by (fronts_of asked)
+readers_of asked = reading_by (incoming_of asked)
 
-module _ (bytes : List ℕ) (front : Front) (is : IsFront bytes front) (others : List ℕ → Front) where
-  still_read : (other : List ℕ) (so : Front) → IsFront other so → so ≡ others other → so ≡ front_or bytes front others other
+module _ (bytes : List ℕ) (incoming : Incoming) (is : IsIncoming bytes incoming) (others : List ℕ → Incoming) where
+  still_read : (other : List ℕ) (so : Incoming) → IsIncoming other so → so ≡ others other → so ≡ incoming_or bytes incoming others other
   still_read other so right e = by_test (same_bytes bytes other) refl
     where
-      by_test : (b : Bool) → same_bytes bytes other ≡ b → so ≡ front_or bytes front others other
+      by_test : (b : Bool) → same_bytes bytes other ≡ b → so ≡ incoming_or bytes incoming others other
       by_test true same =
-          rw same (fronts_are_one other so front right (subst (λ (bs : List ℕ). IsFront bs front) (are_same bytes other same) is))
+          rw same (incoming_is_one other so incoming right (subst (λ (bs : List ℕ). IsIncoming bs incoming) (are_same bytes other same) is))
       by_test false same = rw same e
 
-  still : (asked : List Exchange) → AreRight asked → AreReadBy (reading_by others) asked → AreReadBy (reading_by (front_or bytes front others)) asked
+  still : (asked : List Exchange) → AreRight asked → AreReadBy (reading_by others) asked → AreReadBy (reading_by (incoming_or bytes incoming others)) asked
   still [] right read = tt
   still (Changed change heard ∷ later) right read = still later right read
   still (ChangedAll changes heard ∷ later) right read = still later right read
@@ -100,7 +100,7 @@ module _ (bytes : List ℕ) (front : Front) (is : IsFront bytes front) (others :
   still (Routed from facts heard ∷ later) right read = still later right read
   still (AskedPresence number heard ∷ later) right read = still later right read
   still (Noted told ∷ later) right read = still later right read
-  still (Fronted other so ∷ later) right read = (still_read other so right.0 read.0, still later right.1 read.1)
+  still (Framed other so ∷ later) right read = (still_read other so right.0 read.0, still later right.1 read.1)
   still (Called m reading ∷ later) right read = (read.0, still later right.1 read.1)
   still (Gated call ∷ later) right read = still later right read
   still (Wanted granted ∷ later) right read = still later right read
@@ -114,7 +114,7 @@ read_so (Asked query heard ∷ later) right = read_so later right
 read_so (Routed from facts heard ∷ later) right = read_so later right
 read_so (AskedPresence number heard ∷ later) right = read_so later right
 read_so (Noted told ∷ later) right = read_so later right
-read_so (Fronted bytes front ∷ later) right = (rw (same_is bytes) refl, still bytes front right.0 (fronts_of later) later right.1 (read_so later right.1))
+read_so (Framed bytes incoming ∷ later) right = (rw (same_is bytes) refl, still bytes incoming right.0 (incoming_of later) later right.1 (read_so later right.1))
 read_so (Called m reading ∷ later) right =
     let found = calls_are_read m in
     (calls_are_one m reading found.0 right.0 found.1, read_so later right.1)

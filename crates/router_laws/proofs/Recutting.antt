@@ -7,12 +7,12 @@ use Rattle.sasl.specs.Settings.{Setting}
 use Rattle.sasl.specs.Hearing.{Conversed, conversed}
 use Rattle.message_core.specs.Said.{said as message_said}
 use Rattle.bus_view.specs.Views.{Knowledge}
-use Rattle.router_core.specs.Acts.{Exchange, Fronted, Wanted, Goes, IsGranted, IsLawful, IsServedBy}
+use Rattle.router_core.specs.Acts.{Exchange, Framed, Wanted, Goes, IsGranted, IsLawful, IsServedBy}
 use Rattle.router_core.specs.Deeds.{Deed}
 use Rattle.router_core.specs.Events.{Occasion, Bytes, Next, Stands, answering, conversed_to, fed, for_peer, hearing, coming_next, next_at, read, serve_at}
-use Rattle.router_core.specs.Fronts.{Front, Waits, Whole, Faulty, IsFront}
+use Rattle.router_core.specs.Incoming.{Incoming, Waits, Whole, Faulty, IsIncoming}
 use Rattle.router_core.specs.OneThread.{Course, Readers, Rest, alone, doing, given, written_to}
-use Rattle.router_core.specs.Scripts.{Script, Gives, Changing, ChangingAll, Asking, Routing, AskingPresence, Noting, Fronting, Calling, Gating, Wanting, Requiring, Doing, Announcing, and_then}
+use Rattle.router_core.specs.Scripts.{Script, Gives, Changing, ChangingAll, Asking, Routing, AskingPresence, Noting, Framing, Calling, Gating, Wanting, Requiring, Doing, Announcing, and_then}
 use Rattle.router_core.specs.Standing.{Peer, Stage, Standing, SpeaksDBus, Authenticating, Unnamed, Named, Closing, peer_at, closing_peer, with_peer}
 use Rattle.router_core.proofs.Functions.{one_thread_is_a_function}
 use Rattle.router.proofs.Conversations.{hears_joined}
@@ -24,7 +24,7 @@ use Rattle.router_laws.specs.Cuts.{HasCome, LinesAreNotServed, PiecesAreJoined, 
 use Rattle.router_laws.specs.GrantedRuns.{IsGrantedRun}
 use Rattle.router_laws.specs.Readings.{with_behind}
 use Rattle.router_laws.proofs.Agreeing.{run_right, runs_are_one}
-use Rattle.router_laws.proofs.Fronts.{fronts_are_one, fronts_stay}
+use Rattle.router_laws.proofs.Incoming.{incoming_is_one, incoming_stays}
 use Rattle.router_laws.proofs.Joining.{StandFor, between, granted_append}
 use Rattle.router_laws.proofs.Readers.{read_so, readers_of}
 
@@ -38,7 +38,7 @@ goes_seen f (Asking query goes_on) asked deeds x h = (h.0, h.1, h.2, goes_seen f
 goes_seen f (Routing from facts goes_on) asked deeds x h = (h.0, h.1, h.2, goes_seen f (goes_on h.0) h.1 deeds x h.3)
 goes_seen f (AskingPresence number goes_on) asked deeds x h = (h.0, h.1, h.2, goes_seen f (goes_on h.0) h.1 deeds x h.3)
 goes_seen f (Noting told s) asked deeds x h = (h.0, h.1, goes_seen f s h.0 deeds x h.2)
-goes_seen f (Fronting bytes goes_on) asked deeds x h = (h.0, h.1, h.2, goes_seen f (goes_on h.0) h.1 deeds x h.3)
+goes_seen f (Framing bytes goes_on) asked deeds x h = (h.0, h.1, h.2, goes_seen f (goes_on h.0) h.1 deeds x h.3)
 goes_seen f (Calling m goes_on) asked deeds x h = (h.0, h.1, h.2, goes_seen f (goes_on h.0) h.1 deeds x h.3)
 goes_seen f (Gating call s) asked deeds x h = (h.0, h.1, goes_seen f s h.0 deeds x h.2)
 goes_seen f (Wanting goes_on) asked deeds x h = (h.0, h.1, h.2, goes_seen f (goes_on h.0) h.1 deeds x h.3)
@@ -240,14 +240,14 @@ module _ (key : ℕ) (s : Standing) (p : Peer) where
   IsLeft stage = (k m : Knowledge) (asked : List Exchange) (deeds : List Deed) (x : Standing) → Goes (next_at s key p stage) asked deeds x → IsLawful true k asked m →
       (deeds ≡ []) × (x ≡ s) × (m ≡ k)
 
-  reads_nothing : IsFront p.unread Waits → (k m : Knowledge) (asked : List Exchange) (deeds : List Deed) (x : Standing) → Goes (Fronting p.unread (λ front. read s key p front)) asked deeds x → IsLawful true k asked m →
+  reads_nothing : IsIncoming p.unread Waits → (k m : Knowledge) (asked : List Exchange) (deeds : List Deed) (x : Standing) → Goes (Framing p.unread (λ incoming. read s key p incoming)) asked deeds x → IsLawful true k asked m →
       (deeds ≡ []) × (x ≡ s) × (m ≡ k)
   reads_nothing is k m asked deeds x goes lawful =
       let there = subst (λ (a : List Exchange). IsLawful true k a m) goes.2 lawful in
-      let so = subst (λ (f : Front). Goes (read s key p f) goes.1 deeds x) (fronts_are_one p.unread goes.0 Waits there.0 is) goes.3 in
+      let so = subst (λ (f : Incoming). Goes (read s key p f) goes.1 deeds x) (incoming_is_one p.unread goes.0 Waits there.0 is) goes.3 in
       (so.1, so.2, subst (λ (a : List Exchange). IsLawful true k a m) so.0 there.1)
 
-  short_is_left : IsFront p.unread Waits → (stage : Stage) → IsLeft stage
+  short_is_left : IsIncoming p.unread Waits → (stage : Stage) → IsLeft stage
   short_is_left is (Authenticating setting state) k m asked deeds x goes lawful = (goes.1, goes.2, subst (λ (a : List Exchange). IsLawful true k a m) goes.0 lawful)
   short_is_left is (Unnamed privileged) k m asked deeds x goes lawful = reads_nothing is k m asked deeds x goes lawful
   short_is_left is (Named conn) k m asked deeds x goes lawful = reads_nothing is k m asked deeds x goes lawful
@@ -316,8 +316,8 @@ module _ (key : ℕ) (piece : List ℕ) (r : Rest) (p : Peer) where
   grown stage t = ap (λ (st : Stage). fed piece p st) t.is ∙ t.grows
 
   -- what is read goes on in the same way
-  read_more : (stage : Stage) → Takes stage → (front : Front) → front ≢ Waits → (asked : List Exchange) (deeds : List Deed) (x : Standing) → Goes (read r.standing key p front) asked deeds x →
-      Goes (read later_standing key later_peer (with_behind piece front)) asked deeds (with_more piece key x)
+  read_more : (stage : Stage) → Takes stage → (incoming : Incoming) → incoming ≢ Waits → (asked : List Exchange) (deeds : List Deed) (x : Standing) → Goes (read r.standing key p incoming) asked deeds x →
+      Goes (read later_standing key later_peer (with_behind piece incoming)) asked deeds (with_more piece key x)
   read_more stage t Waits not_so asked deeds x goes = absurd (not_so refl)
   read_more stage t (Whole message rest) not_so asked deeds x goes =
       let here : more piece key (left_with p rest) ≡ left_with p (rest ++ piece) = ap (λ (st : Stage). fed piece (left_with p rest) st) t.is ∙ t.left rest in
@@ -337,29 +337,29 @@ module _ (key : ℕ) (piece : List ℕ) (r : Rest) (p : Peer) where
     lawful : IsLawful true k again m
     granted : IsGranted asked → IsGranted again
 
-  module _ (front : Front) (not_so : front ≢ Waits) (is_front : IsFront p.unread front) (k m : Knowledge) (asked : List Exchange) (deeds : List Deed) (x : Standing) where
-    abbrev behind : Front
-    behind = with_behind piece front
+  module _ (incoming : Incoming) (not_so : incoming ≢ Waits) (is_incoming : IsIncoming p.unread incoming) (k m : Knowledge) (asked : List Exchange) (deeds : List Deed) (x : Standing) where
+    abbrev behind : Incoming
+    behind = with_behind piece incoming
 
-    fronting : (stage : Stage) → Takes stage → Goes (Fronting p.unread (λ f. read r.standing key p f)) asked deeds x → IsLawful true k asked m →
-        (later : List Exchange) × Goes (read later_standing key later_peer behind) later deeds (with_more piece key x) × IsFront later_peer.unread behind × IsLawful true k later m × (IsGranted asked → IsGranted later)
-    fronting stage t goes lawful =
+    framing : (stage : Stage) → Takes stage → Goes (Framing p.unread (λ f. read r.standing key p f)) asked deeds x → IsLawful true k asked m →
+        (later : List Exchange) × Goes (read later_standing key later_peer behind) later deeds (with_more piece key x) × IsIncoming later_peer.unread behind × IsLawful true k later m × (IsGranted asked → IsGranted later)
+    framing stage t goes lawful =
         let there = subst (λ (a : List Exchange). IsLawful true k a m) goes.2 lawful in
-        let so = subst (λ (f : Front). Goes (read r.standing key p f) goes.1 deeds x) (fronts_are_one p.unread goes.0 front there.0 is_front) goes.3 in (
+        let so = subst (λ (f : Incoming). Goes (read r.standing key p f) goes.1 deeds x) (incoming_is_one p.unread goes.0 incoming there.0 is_incoming) goes.3 in (
           goes.1,
-          read_more stage t front not_so goes.1 deeds x so,
-          subst (λ (q : Peer). IsFront q.unread behind) (sym (grown stage t)) (fronts_stay p.unread piece front not_so is_front),
+          read_more stage t incoming not_so goes.1 deeds x so,
+          subst (λ (q : Peer). IsIncoming q.unread behind) (sym (grown stage t)) (incoming_stays p.unread piece incoming not_so is_incoming),
           there.1,
           λ granted. subst (λ (a : List Exchange). IsGranted a) goes.2 granted,
         )
 
     next_again : (stage : Stage) → p.stage ≡ stage → Goes (next_at r.standing key p stage) asked deeds x → IsLawful true k asked m → GoesAgain stage k m asked deeds x
     next_again (Unnamed privileged) is goes lawful =
-        let h = fronting (Unnamed privileged) (record { is = is; grows = refl; left = λ rest. refl }) goes lawful in
-        record { again = Fronted later_peer.unread behind ∷ h.0; goes = (behind, h.0, refl, h.1); lawful = (h.2, h.3); granted = h.4 }
+        let h = framing (Unnamed privileged) (record { is = is; grows = refl; left = λ rest. refl }) goes lawful in
+        record { again = Framed later_peer.unread behind ∷ h.0; goes = (behind, h.0, refl, h.1); lawful = (h.2, h.3); granted = h.4 }
     next_again (Named conn) is goes lawful =
-        let h = fronting (Named conn) (record { is = is; grows = refl; left = λ rest. refl }) goes lawful in
-        record { again = Fronted later_peer.unread behind ∷ h.0; goes = (behind, h.0, refl, h.1); lawful = (h.2, h.3); granted = h.4 }
+        let h = framing (Named conn) (record { is = is; grows = refl; left = λ rest. refl }) goes lawful in
+        record { again = Framed later_peer.unread behind ∷ h.0; goes = (behind, h.0, refl, h.1); lawful = (h.2, h.3); granted = h.4 }
     next_again (Authenticating setting state) is goes lawful =
         record { again = asked; goes = (goes.0, goes.1, ap (λ (standing : Standing). with_more piece key standing) goes.2); lawful = lawful; granted = λ granted. granted }
     next_again (Closing conn) is goes lawful =
@@ -371,15 +371,15 @@ module _ (key : ℕ) (piece : List ℕ) (r : Rest) (p : Peer) where
   kept_stage (Named conn) = refl
   kept_stage (Closing conn) = refl
 
-  in_turn : (front : Front) → front ≢ Waits → IsFront p.unread front → peer_at r.standing key ≡ Some p → SpeaksDBus p.stage →
+  in_turn : (incoming : Incoming) → incoming ≢ Waits → IsIncoming p.unread incoming → peer_at r.standing key ≡ Some p → SpeaksDBus p.stage →
       StandFor r (Next key ∷ Bytes key piece ∷ []) (Bytes key piece ∷ Next key ∷ [])
-  in_turn front not_so is here begun [] after run = absurd run.served
-  in_turn front not_so is here begun (one ∷ []) after run = absurd run.served.2
-  in_turn front not_so is here begun (one ∷ two ∷ three ∷ turns) after run = absurd run.served.2.2
-  in_turn front not_so is here begun (one ∷ two ∷ []) after run =
+  in_turn incoming not_so is here begun [] after run = absurd run.served
+  in_turn incoming not_so is here begun (one ∷ []) after run = absurd run.served.2
+  in_turn incoming not_so is here begun (one ∷ two ∷ three ∷ turns) after run = absurd run.served.2.2
+  in_turn incoming not_so is here begun (one ∷ two ∷ []) after run =
       let now : Rest = run.served.0 in
       let goes = subst (λ (o : Option Peer). Goes (coming_next r.standing key o) one.asked one.deeds now.standing) here run.served.1.goes in
-      let h = next_again front not_so is r.view now.view one.asked one.deeds now.standing p.stage refl goes run.served.1.lawful in
+      let h = next_again incoming not_so is r.view now.view one.asked one.deeds now.standing p.stage refl goes run.served.1.lawful in
       let there : peer_at later_standing key ≡ Some later_peer = peer_with_more piece key r.standing ∙ ap (λ (o : Option Peer). more_if piece key o) here in
       let again = subst (λ (o : Option Peer). Goes (coming_next later_standing key o) h.again one.deeds (with_more piece key now.standing)) (sym there)
       (subst (λ (stage : Stage). Goes (next_at later_standing key later_peer stage) h.again one.deeds (with_more piece key now.standing)) (sym (kept_stage p.stage)) h.goes) in
@@ -418,6 +418,6 @@ lines_are_not_served before earlier later key h says =
     (λ turns now run. waits key now h.peer (found before earlier key h turns now run) (lines_are_left key now.standing h.peer h.peer.stage says))
 
 pub whole_messages_come_first : WholeMessagesComeFirst
-whole_messages_come_first before earlier later key piece front h not_so is begun =
+whole_messages_come_first before earlier later key piece incoming h not_so is begun =
     between before earlier (Next key ∷ Bytes key piece ∷ []) (Bytes key piece ∷ Next key ∷ []) later (λ keys. refl)
-    (λ turns now run. in_turn key piece now h.peer front not_so is (found before earlier key h turns now run) begun)
+    (λ turns now run. in_turn key piece now h.peer incoming not_so is (found before earlier key h turns now run) begun)

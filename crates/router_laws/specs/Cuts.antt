@@ -1,7 +1,7 @@
 -- How the bytes of a connection are cut. Other events may stand before and behind.
 use Rattle.std.specs.Prelude.{◌≡◌, ◌≢◌, ℕ, Some, List, ◌∷◌, ◌++◌}
 use Rattle.router_core.specs.Events.{Occasion, Bytes, Next}
-use Rattle.router_core.specs.Fronts.{Front, Waits, IsFront}
+use Rattle.router_core.specs.Incoming.{Incoming, Waits, IsIncoming}
 use Rattle.router_core.specs.OneThread.{Rest}
 use Rattle.router_core.specs.Standing.{Peer, SpeaksDBus, peer_at}
 use Rattle.router_laws.specs.Turns.{Turn}
@@ -24,7 +24,7 @@ pub record HasCome (before : Rest) (events : List Occasion) (key : ℕ) : Type 0
 -- To serve a connection whose next message is not whole yet does nothing.
 abbrev pub ShortMessagesWait : Type 0
 ShortMessagesWait = (before : Rest) (earlier later : List Occasion) (key : ℕ) (come : HasCome before earlier key) →
-    IsFront come.peer.unread Waits → ComeToTheSame before (earlier ++ Next key ∷ later) (earlier ++ later)
+    IsIncoming come.peer.unread Waits → ComeToTheSame before (earlier ++ Next key ∷ later) (earlier ++ later)
 
 -- To serve a connection that still says who it is does nothing: its bytes are lines.
 abbrev pub LinesAreNotServed : Type 0
@@ -34,6 +34,6 @@ LinesAreNotServed = (before : Rest) (earlier later : List Occasion) (key : ℕ) 
 -- A whole message of a connection that has begun its messages is served in the same way whatever comes behind it, and so is what is no
 -- message.
 abbrev pub WholeMessagesComeFirst : Type 0
-WholeMessagesComeFirst = (before : Rest) (earlier later : List Occasion) (key : ℕ) (piece : List ℕ) (front : Front) (come : HasCome before earlier key) →
-    front ≢ Waits → IsFront come.peer.unread front → SpeaksDBus come.peer.stage →
+WholeMessagesComeFirst = (before : Rest) (earlier later : List Occasion) (key : ℕ) (piece : List ℕ) (incoming : Incoming) (come : HasCome before earlier key) →
+    incoming ≢ Waits → IsIncoming come.peer.unread incoming → SpeaksDBus come.peer.stage →
     ComeToTheSame before (earlier ++ Next key ∷ Bytes key piece ∷ later) (earlier ++ Bytes key piece ∷ Next key ∷ later)

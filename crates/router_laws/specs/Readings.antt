@@ -3,21 +3,21 @@ use Rattle.std.specs.Prelude.{◌≡◌, ◌≢◌, ℕ, List, ◌++◌}
 use Rattle.message_core.specs.Messages.{Message}
 use Rattle.driver.specs.declared.call.Call.{Call}
 use Rattle.driver.specs.Calls.{Reading, IsCall}
-use Rattle.router_core.specs.Fronts.{Front, Waits, Whole, Faulty, IsFront}
+use Rattle.router_core.specs.Incoming.{Incoming, Waits, Whole, Faulty, IsIncoming}
 
 -- Bytes have one front: one message and one rest, or one fault, or more bytes are wanted.
-abbrev pub FrontsAreOne : Type 0
-FrontsAreOne = (bytes : List ℕ) (front other : Front) → IsFront bytes front → IsFront bytes other → front ≡ other
+abbrev pub IncomingIsOne : Type 0
+IncomingIsOne = (bytes : List ℕ) (incoming other : Incoming) → IsIncoming bytes incoming → IsIncoming bytes other → incoming ≡ other
 
 -- the front with more bytes behind it
-abbrev pub with_behind : List ℕ → Front → Front
+abbrev pub with_behind : List ℕ → Incoming → Incoming
 with_behind piece Waits = Waits
 with_behind piece (Whole message rest) = Whole message (rest ++ piece)
 with_behind piece (Faulty fault) = Faulty fault
 
 -- What comes behind a message or a fault makes no other of it.
-abbrev pub FrontsStay : Type 0
-FrontsStay = (bytes piece : List ℕ) (front : Front) → front ≢ Waits → IsFront bytes front → IsFront (bytes ++ piece) (with_behind piece front)
+abbrev pub IncomingStays : Type 0
+IncomingStays = (bytes piece : List ℕ) (incoming : Incoming) → incoming ≢ Waits → IsIncoming bytes incoming → IsIncoming (bytes ++ piece) (with_behind piece incoming)
 
 -- A message is one call, or has one fault.
 abbrev pub CallsAreOne : Type 0

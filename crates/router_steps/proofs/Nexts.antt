@@ -10,8 +10,8 @@ use Rattle.router_core.specs.declared.fate.PeerFate.{PeerFate}
 use Rattle.router_core.specs.declared.cause.CloseCause.TheVariants as cause
 use Rattle.router_core.specs.Deeds.{GatedCall}
 use Rattle.router_core.specs.Events.{OfPeer, closing, fated, for_slot, for_peer, serving_hello, serve_named, serve_at, read, next_at, coming_next}
-use Rattle.router_core.specs.Fronts.{Waits, Whole, Faulty, IsFront}
-use Rattle.router_core.specs.Scripts.{Gives, Fronting, World, Comes, and_then}
+use Rattle.router_core.specs.Incoming.{Waits, Whole, Faulty, IsIncoming}
+use Rattle.router_core.specs.Scripts.{Gives, Framing, World, Comes, and_then}
 use Rattle.router_core.specs.Serving.{serving}
 use Rattle.router_core.specs.Standing.{Peer, Standing, Stage, Unnamed, Named, peer_at, with_peer}
 use Rattle.router_steps.specs.Reading.{IsRest}
@@ -28,32 +28,32 @@ module _ {N G : Type 0} (told : N → History) (registry_of : N → ℕ) (passes
   module _ (key : ℕ) (p : Peer) (w v : World N G) where
     -- the front of its bytes is read, and it is served
     abbrev pub Reads : Standing → Peer → Type 0
-    Reads s q = Comes told registry_of passes alone (Fronting p.unread (λ front. read s key p front)) w (with_peer s key (Some q)) v
+    Reads s q = Comes told registry_of passes alone (Framing p.unread (λ incoming. read s key p incoming)) w (with_peer s key (Some q)) v
 
-    pub reads_waiting : (s : Standing) (q : Peer) → q ≡ p → peer_at s key ≡ Some p → IsFront p.unread Waits → v ≡ w → Reads s q
+    pub reads_waiting : (s : Standing) (q : Peer) → q ≡ p → peer_at s key ≡ Some p → IsIncoming p.unread Waits → v ≡ w → Reads s q
     reads_waiting s q is there waits same =
         let whole : with_peer s key (peer_at s key) ≡ s = λ i. record s { peers = set-get_or s.peers key None i } in
         let e = ap (λ (x : Peer). with_peer s key (Some x)) is ∙ ap (λ o. with_peer s key o) (sym there) ∙ whole in
         (Waits, waits, (e, same))
 
-    pub reads_faulty : (s : Standing) (fault : FrameFault) (r q : Peer) → IsFront p.unread (Faulty fault) → r ≡ record p { unread = [] } → Comes told registry_of passes alone (closing key (cause.Faulty fault) r) w q v → Reads s q
-    reads_faulty s fault r q front rest done =
+    pub reads_faulty : (s : Standing) (fault : FrameFault) (r q : Peer) → IsIncoming p.unread (Faulty fault) → r ≡ record p { unread = [] } → Comes told registry_of passes alone (closing key (cause.Faulty fault) r) w q v → Reads s q
+    reads_faulty s fault r q incoming rest done =
         let closes : Comes told registry_of passes alone (closing key (cause.Faulty fault) p) w q v = subst (λ (x : Peer). Comes told registry_of passes alone (closing key (cause.Faulty fault) x) w q v) rest done in
-        (Faulty fault, front, for_some s key p q (closing key (cause.Faulty fault)) w v closes)
+        (Faulty fault, incoming, for_some s key p q (closing key (cause.Faulty fault)) w v closes)
 
-    pub reads_other : (s : Standing) (message : List ℕ) (r q : Peer) (privileged : Bool) → IsFront p.unread (Whole message r.unread) → IsRest p r → is_hello (said message) ≡ false → p.stage ≡ Unnamed privileged →
+    pub reads_other : (s : Standing) (message : List ℕ) (r q : Peer) (privileged : Bool) → IsIncoming p.unread (Whole message r.unread) → IsRest p r → is_hello (said message) ≡ false → p.stage ≡ Unnamed privileged →
         Comes told registry_of passes alone (closing key cause.NotHello r) w q v → Reads s q
-    reads_other s message r q privileged front rest other unnamed done =
+    reads_other s message r q privileged incoming rest other unnamed done =
         let t : Standing = with_peer s key (Some q) in
         let here = subst (λ (x : Peer). Comes told registry_of passes alone (for_peer s key (Some x) (closing key cause.NotHello)) w t v) rest (for_some s key r q (closing key cause.NotHello) w v done) in
         let x : Peer = record p { unread = r.unread } in
         let chosen : Comes told registry_of passes alone (serve_at s key (said message) x (Unnamed privileged)) w t v =
         subst (λ (b : Bool). Comes told registry_of passes alone (if b then serving_hello s key (said message) x privileged else for_peer s key (Some x) (closing key cause.NotHello)) w t v) (sym other) here in
-        (Whole message r.unread, front, subst (λ (stage : Stage). Comes told registry_of passes alone (serve_at s key (said message) x stage) w t v) (sym unnamed) chosen)
+        (Whole message r.unread, incoming, subst (λ (stage : Stage). Comes told registry_of passes alone (serve_at s key (said message) x stage) w t v) (sym unnamed) chosen)
 
-    pub reads_named : (s : Standing) (message : List ℕ) (r q : Peer) (conn : Conn) (fate : PeerFate) (m : World N G) → IsFront p.unread (Whole message r.unread) → IsRest p r → p.stage ≡ Named conn → r.watches ≡ false →
+    pub reads_named : (s : Standing) (message : List ℕ) (r q : Peer) (conn : Conn) (fate : PeerFate) (m : World N G) → IsIncoming p.unread (Whole message r.unread) → IsRest p r → p.stage ≡ Named conn → r.watches ≡ false →
         Comes told registry_of passes alone (serving (said message) conn) w fate m → Comes told registry_of passes alone (fated key fate r) m q v → Reads s q
-    reads_named s message r q conn fate m front rest named speaks served closes =
+    reads_named s message r q conn fate m incoming rest named speaks served closes =
         let t : Standing = with_peer s key (Some q) in
         let work = λ (x : Peer). and_then (serving (said message) conn) (λ (f : PeerFate). fated key f x) in
         let done = comes_then told registry_of passes alone (λ (f : PeerFate). fated key f r) fate m q v closes (serving (said message) conn) w served in
@@ -62,18 +62,18 @@ module _ {N G : Type 0} (told : N → History) (registry_of : N → ℕ) (passes
         let same : p.watches ≡ false = sym (ap (λ (y : Peer). y.watches) rest) ∙ speaks in
         let chosen : Comes told registry_of passes alone (serve_at s key (said message) x (Named conn)) w t v =
         subst (λ (b : Bool). Comes told registry_of passes alone (serve_named s key (said message) x conn b) w t v) (sym same) here in
-        (Whole message r.unread, front, subst (λ (stage : Stage). Comes told registry_of passes alone (serve_at s key (said message) x stage) w t v) (sym named) chosen)
+        (Whole message r.unread, incoming, subst (λ (stage : Stage). Comes told registry_of passes alone (serve_at s key (said message) x stage) w t v) (sym named) chosen)
 
-    pub reads_watching : (s : Standing) (message : List ℕ) (r q : Peer) (conn : Conn) → IsFront p.unread (Whole message r.unread) → IsRest p r → p.stage ≡ Named conn → r.watches ≡ true →
+    pub reads_watching : (s : Standing) (message : List ℕ) (r q : Peer) (conn : Conn) → IsIncoming p.unread (Whole message r.unread) → IsRest p r → p.stage ≡ Named conn → r.watches ≡ true →
         Comes told registry_of passes alone (closing key cause.MonitorSent r) w q v → Reads s q
-    reads_watching s message r q conn front rest named watches done =
+    reads_watching s message r q conn incoming rest named watches done =
         let t : Standing = with_peer s key (Some q) in
         let here = subst (λ (x : Peer). Comes told registry_of passes alone (for_peer s key (Some x) (closing key cause.MonitorSent)) w t v) rest (for_some s key r q (closing key cause.MonitorSent) w v done) in
         let x : Peer = record p { unread = r.unread } in
         let same : p.watches ≡ true = sym (ap (λ (y : Peer). y.watches) rest) ∙ watches in
         let chosen : Comes told registry_of passes alone (serve_at s key (said message) x (Named conn)) w t v =
         subst (λ (b : Bool). Comes told registry_of passes alone (serve_named s key (said message) x conn b) w t v) (sym same) here in
-        (Whole message r.unread, front, subst (λ (stage : Stage). Comes told registry_of passes alone (serve_at s key (said message) x stage) w t v) (sym named) chosen)
+        (Whole message r.unread, incoming, subst (λ (stage : Stage). Comes told registry_of passes alone (serve_at s key (said message) x stage) w t v) (sym named) chosen)
 
     -- so it is served coming_next
     pub next_unnamed : (s : Standing) (q : Peer) (old : Option Peer) (privileged : Bool) → old ≡ Some p → p.stage ≡ Unnamed privileged → Reads s q → Comes told registry_of passes alone (coming_next s key old) w (with_peer s key (Some q)) v

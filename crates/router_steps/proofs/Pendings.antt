@@ -3,7 +3,7 @@ use Rattle.std.proofs.Common.{◌≡◌, ◌≢◌, ℕ, ◌<◌, Bool, List, []
 use Rattle.std.proofs.lemmas.List.{append-nil}
 use Rattle.std.specs.Option.{option_to_list}
 use Rattle.message_core.specs.declared.fault.FrameFault.{FrameFault}
-use Rattle.router_core.specs.Fronts.{Front, Waits, Whole, Faulty, IsFront}
+use Rattle.router_core.specs.Incoming.{Incoming, Waits, Whole, Faulty, IsIncoming}
 use Rattle.router_core.specs.Standing.{Peer, SpeaksDBus}
 use Rattle.router_steps.specs.declared.peer.Stage.{Stage}
 use Rattle.router_steps.specs.Pending.{AreWithin, pending_bytes}
@@ -23,14 +23,14 @@ bytes_read old room new message unread rest same pushed taken =
 
 -- The first is taken off.
 pub record Taken (old new : List (List ℕ)) (message rest : List ℕ) : Type 0 where
-  pub front : IsFront (pending_bytes old ++ rest) (Whole message (pending_bytes new ++ rest))
+  pub incoming : IsIncoming (pending_bytes old ++ rest) (Whole message (pending_bytes new ++ rest))
   pub within : AreWithin new
 
 pub taken : (old new : List (List ℕ)) (message rest : List ℕ) → old ≡ message ∷ new → AreWithin old → Taken old new message rest
 taken old new message rest split within =
     let both : AreWithin (message ∷ new) = subst AreWithin split within in
     record {
-      front = (both.0.is_message, both.0.within, ap (λ (p : List (List ℕ)). pending_bytes p ++ rest) split ∙ append_assoc message (pending_bytes new) rest);
+      incoming = (both.0.is_message, both.0.within, ap (λ (p : List (List ℕ)). pending_bytes p ++ rest) split ∙ append_assoc message (pending_bytes new) rest);
       within = both.1;
     }
 
@@ -57,21 +57,21 @@ module _ (at : Stage) (bytes : List ℕ) (serial : ℕ) (watches : Bool) (p : Pe
   all_unread : p.unread ≡ bytes
   all_unread = sym (ap (λ (x : Peer). x.unread) is) ∙ messages_unread at bytes begun_at
 
-  pub front_is : (now : List ℕ) (front : Front) → now ≡ bytes → IsFront now front → IsFront p.unread front
-  front_is now front same h = subst (λ (l : List ℕ). IsFront l front) (same ∙ sym all_unread) h
+  pub incoming_is : (now : List ℕ) (incoming : Incoming) → now ≡ bytes → IsIncoming now incoming → IsIncoming p.unread incoming
+  incoming_is now incoming same h = subst (λ (l : List ℕ). IsIncoming l incoming) (same ∙ sym all_unread) h
 
-  pub front_taken : (old new : List (List ℕ)) (message rest : List ℕ) → pending_bytes old ++ rest ≡ bytes → old ≡ message ∷ new → AreWithin old → IsFront p.unread (Whole message (unread_at at (pending_bytes new ++ rest)))
-  front_taken old new message rest same split within =
+  pub incoming_taken : (old new : List (List ℕ)) (message rest : List ℕ) → pending_bytes old ++ rest ≡ bytes → old ≡ message ∷ new → AreWithin old → IsIncoming p.unread (Whole message (unread_at at (pending_bytes new ++ rest)))
+  incoming_taken old new message rest same split within =
       let left : List ℕ = pending_bytes new ++ rest in
-      front_is (pending_bytes old ++ rest) (Whole message (unread_at at left)) same
-      (subst (λ (l : List ℕ). IsFront (pending_bytes old ++ rest) (Whole message l)) (sym (messages_unread at left begun_at)) (taken old new message rest split within).front)
+      incoming_is (pending_bytes old ++ rest) (Whole message (unread_at at left)) same
+      (subst (λ (l : List ℕ). IsIncoming (pending_bytes old ++ rest) (Whole message l)) (sym (messages_unread at left begun_at)) (taken old new message rest split within).incoming)
 
   -- some are pending
-  pub front_pending : (pending : List (List ℕ)) (rest : List ℕ) → pending_bytes pending ++ rest ≡ bytes → AreWithin pending → 0 < length pending → (front : Front) × IsFront p.unread front × (front ≢ Waits)
-  front_pending [] rest same within some = absurd (omega (arith, some))
-  front_pending (message ∷ messages) rest same within some =
+  pub incoming_pending : (pending : List (List ℕ)) (rest : List ℕ) → pending_bytes pending ++ rest ≡ bytes → AreWithin pending → 0 < length pending → (incoming : Incoming) × IsIncoming p.unread incoming × (incoming ≢ Waits)
+  incoming_pending [] rest same within some = absurd (omega (arith, some))
+  incoming_pending (message ∷ messages) rest same within some =
       let behind : List ℕ = unread_at at (pending_bytes messages ++ rest) in
-      (Whole message behind, front_taken (message ∷ messages) messages message rest same refl within, whole_is_there message behind)
+      (Whole message behind, incoming_taken (message ∷ messages) messages message rest same refl within, whole_is_there message behind)
 
   pub rest_is : (left : List ℕ) → record { stage = stage_of at; unread = left; serial = serial; watches = watches } ≡ record p { unread = left }
   rest_is left = ap (λ (x : Peer). record x { unread = left }) is

@@ -2,7 +2,7 @@
 use Rattle.std.proofs.Common.{ℕ, Bool, subst}
 use Rattle.seq_bus_core.specs.Histories.{History}
 use Rattle.router_core.specs.Deeds.{GatedCall}
-use Rattle.router_core.specs.Scripts.{Script, Gives, Changing, ChangingAll, Asking, Routing, AskingPresence, Noting, Fronting, Calling, Gating, Wanting, Requiring, Doing, Announcing, and_then, World, Comes}
+use Rattle.router_core.specs.Scripts.{Script, Gives, Changing, ChangingAll, Asking, Routing, AskingPresence, Noting, Framing, Calling, Gating, Wanting, Requiring, Doing, Announcing, and_then, World, Comes}
 
 module _ {N G : Type 0} (told : N → History) (registry_of : N → ℕ) (passes : G → GatedCall → G → Type 0) (alone : Bool) {X Y : Type 0} (next : X → Script Y) (x : X) (m : World N G) (y : Y) (v : World N G) (later : Comes told registry_of passes alone (next x) m y v) where
   -- what comes of the one, then of the other
@@ -15,7 +15,7 @@ module _ {N G : Type 0} (told : N → History) (registry_of : N → ℕ) (passes
   comes_then (Routing from facts goes_on) w p = (p.0, p.1, p.2, comes_then (goes_on p.0) p.1 p.3)
   comes_then (AskingPresence number goes_on) w p = (p.0, p.1, p.2, comes_then (goes_on p.0) p.1 p.3)
   comes_then (Noting history s) w p = (p.0, p.1, comes_then s p.0 p.2)
-  comes_then (Fronting bytes goes_on) w p = (p.0, p.1, comes_then (goes_on p.0) w p.2)
+  comes_then (Framing bytes goes_on) w p = (p.0, p.1, comes_then (goes_on p.0) w p.2)
   comes_then (Calling message goes_on) w p = (p.0, p.1, comes_then (goes_on p.0) w p.2)
   comes_then (Gating call s) w p = (p.0, p.1, comes_then s p.0 p.2)
   comes_then (Wanting goes_on) w p = (p.0, comes_then (goes_on p.0) w p.1)

@@ -2,7 +2,7 @@
 
 ghost use Rattle.std.specs.Prelude.{◌≡◌, ◌<◌, Some, None, IfOk, IfSome, OnOk, OnErr};
 ghost use Rattle.router_core.specs.Standing.{Unnamed, SpeaksDBus};
-ghost use Rattle.router_steps.specs.Reading.{HasFront, HasFirst, IsRest, ComesOfNext};
+ghost use Rattle.router_steps.specs.Reading.{HasIncoming, HasFirst, IsRest, ComesOfNext};
 
 use crate::context::Context;
 use crate::hello_errors::HelloErrors;
@@ -44,7 +44,8 @@ impl Peer {
     #[tactic(auto, using(crate::proofs::Stages::messages_unread, crate::proofs::Stages::messages_silent))]
     pub fn take_next(&mut self) -> Result<Incoming, AllocError>
         requires { SpeaksDBus self.old.stage }
-        ensures front { IfOk result (λ front. HasFront front self.old.unread self.new.unread) }
+        ensures incoming { IfOk result
+            (λ incoming. HasIncoming incoming self.old.unread self.new.unread) }
         ensures rest { OnOk result (IsRest self.old self.new) }
         ensures err { OnErr result (self.new ≡ self.old) }
     {

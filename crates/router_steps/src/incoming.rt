@@ -2,7 +2,7 @@
 
 ghost use Rattle.std.specs.Prelude.{◌≡◌, ◌++◌, None, IfOk, OnOk, OnErr};
 ghost use Rattle.router_steps.specs.Pending.{AreWithin, pending_bytes};
-ghost use Rattle.router_steps.specs.Reading.{HasFront, HasMore, OnlyPends};
+ghost use Rattle.router_steps.specs.Reading.{HasIncoming, HasMore, OnlyPends};
 
 use message::Framer;
 use message_core::{FrameFault, Message};
@@ -41,8 +41,8 @@ pub(crate) fn take_incoming(
 ) -> Result<Incoming, AllocError>
     requires fine { unread.old.fault ≡ None }
     requires within { AreWithin pending.old.items }
-    ensures front { IfOk result (λ front.
-        HasFront front (pending_bytes pending.old.items ++ unread.old.bytes)
+    ensures incoming { IfOk result (λ incoming.
+        HasIncoming incoming (pending_bytes pending.old.items ++ unread.old.bytes)
         (pending_bytes pending.new.items ++ unread.new.bytes)) }
     ensures within { AreWithin pending.new.items }
     ensures fine { unread.new.fault ≡ None }

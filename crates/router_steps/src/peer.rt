@@ -2,7 +2,7 @@
 
 ghost use Rattle.std.specs.Prelude.{◌≡◌, ◌<◌, ◌≤◌, ◌+◌, [], true, false, OnOk, OnErr};
 ghost use Rattle.router_core.specs.Events.{closing, fed, checking_presence};
-ghost use Rattle.router_core.specs.Fronts.{Waits, IsFront};
+ghost use Rattle.router_core.specs.Incoming.{Waits, IsIncoming};
 ghost use Rattle.router_core.specs.Scripts.{RunsTo};
 ghost use Rattle.router_core.specs.Standing.{Named, SpeaksDBus, newcomer, next_serial, conn_of, closing_peer};
 ghost use Rattle.router_steps.specs.Hearing.{heard_present};
@@ -152,17 +152,17 @@ impl Peer {
     {
         match self.stage {
             Stage::Authenticating(_) | Stage::Closing(_) => false,
-            Stage::Unnamed { privileged: _ } => self.has_front(),
-            Stage::Named(_) => self.has_front(),
+            Stage::Unnamed { privileged: _ } => self.has_incoming(),
+            Stage::Named(_) => self.has_incoming(),
         }
     }
 
     /// Whether a message stands at the front of its bytes, or what is none.
     #[tactic(auto, using(crate::proofs::Waiting::pending_is_whole, crate::proofs::Stages::messages_unread))]
-    fn has_front(&self) -> bool
+    fn has_incoming(&self) -> bool
         requires { SpeaksDBus self.now.stage }
-        ensures waits { result ≡ false → IsFront self.now.unread Waits }
-        ensures there { result ≡ true → IsFront self.now.unread Waits → ⊥ }
+        ensures waits { result ≡ false → IsIncoming self.now.unread Waits }
+        ensures there { result ≡ true → IsIncoming self.now.unread Waits → ⊥ }
     {
         !self.pending.is_empty() || !self.unread.is_waiting()
     }

@@ -6,8 +6,8 @@ use Rattle.router_steps.proofs.Judging.{judged}
 use Rattle.router_steps.proofs.Pendings.{none_taken}
 use Rattle.router_steps.proofs.incoming.take_incoming.Goals as goal
 
-pub returns-in_default-fault-clause-front : goal.returns-in_default-fault-clause-front
-returns-in_default-fault-clause-front c =
+pub returns-in_default-fault-clause-incoming : goal.returns-in_default-fault-clause-incoming
+returns-in_default-fault-clause-incoming c =
     let bytes = c.args.unread.now.bytes in
     let none = none_taken c.args.pending.now.items c.pop_front.new.self.items c.pop_front.result c.in_default.not-Some c.pop_front.ensures.items c.pop_front.ensures.rest in
     let other = c.in_default-fault.not-NoMemory in

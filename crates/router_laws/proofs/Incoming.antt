@@ -11,8 +11,8 @@ use Rattle.message_core.proofs.NoMessages.{announced_message, refused_none}
 use Rattle.message.specs.Framing.{IsWaiting, IsJudged}
 use Rattle.message.proofs.Front.{announced_append}
 use Rattle.message.proofs.Once.{one_message}
-use Rattle.router_core.specs.Fronts.{Waits, Whole, Faulty, IsFront}
-use Rattle.router_laws.specs.Readings.{FrontsAreOne, FrontsStay}
+use Rattle.router_core.specs.Incoming.{Waits, Whole, Faulty, IsIncoming}
+use Rattle.router_laws.specs.Readings.{IncomingIsOne, IncomingStays}
 use Rattle.router_laws.proofs.Faults.{one_judgement, same_number, not_both}
 
 -- what bytes that announce no message, or one that is refused, are refused for
@@ -52,28 +52,28 @@ not_waiting limit fault bytes long (inr why) (inr waits) =
 
 -- ## One front
 
-whole_waits : (bytes message rest : List ℕ) → IsFront bytes (Whole message rest) → IsFront bytes Waits → ⊥
+whole_waits : (bytes message rest : List ℕ) → IsIncoming bytes (Whole message rest) → IsIncoming bytes Waits → ⊥
 whole_waits bytes message rest is waits = not_short MAXIMUM_LENGTH message rest is.0 is.1 (subst (λ (b : List ℕ). IsWaiting MAXIMUM_LENGTH b) is.2 waits)
 
-faulty_waits : (bytes : List ℕ) (fault : FrameFault) → IsFront bytes (Faulty fault) → IsFront bytes Waits → ⊥
+faulty_waits : (bytes : List ℕ) (fault : FrameFault) → IsIncoming bytes (Faulty fault) → IsIncoming bytes Waits → ⊥
 faulty_waits bytes fault is waits = not_waiting MAXIMUM_LENGTH fault bytes is.0.0 is.0.1 waits
 
-whole_faulty : (bytes message rest : List ℕ) (fault : FrameFault) → IsFront bytes (Whole message rest) → IsFront bytes (Faulty fault) → ⊥
+whole_faulty : (bytes message rest : List ℕ) (fault : FrameFault) → IsIncoming bytes (Whole message rest) → IsIncoming bytes (Faulty fault) → ⊥
 whole_faulty bytes message rest fault is wrong =
     not_refused MAXIMUM_LENGTH fault message rest is.0 is.1 (subst (λ (b : List ℕ). IsJudged MAXIMUM_LENGTH fault b) is.2 wrong.0).1
 
-pub fronts_are_one : FrontsAreOne
-fronts_are_one bytes Waits Waits is so = refl
-fronts_are_one bytes Waits (Whole message rest) is so = absurd (whole_waits bytes message rest so is)
-fronts_are_one bytes Waits (Faulty fault) is so = absurd (faulty_waits bytes fault so is)
-fronts_are_one bytes (Whole message rest) Waits is so = absurd (whole_waits bytes message rest is so)
-fronts_are_one bytes (Whole message rest) (Whole other later) is so =
+pub incoming_is_one : IncomingIsOne
+incoming_is_one bytes Waits Waits is so = refl
+incoming_is_one bytes Waits (Whole message rest) is so = absurd (whole_waits bytes message rest so is)
+incoming_is_one bytes Waits (Faulty fault) is so = absurd (faulty_waits bytes fault so is)
+incoming_is_one bytes (Whole message rest) Waits is so = absurd (whole_waits bytes message rest is so)
+incoming_is_one bytes (Whole message rest) (Whole other later) is so =
     let one = one_message message other rest later (said message) (said other) is.0 so.0 (sym is.2 ∙ so.2) in
     ap (λ (m : List ℕ). Whole m rest) one.0 ∙ ap (λ (r : List ℕ). Whole other r) one.2
-fronts_are_one bytes (Whole message rest) (Faulty fault) is so = absurd (whole_faulty bytes message rest fault is so)
-fronts_are_one bytes (Faulty fault) Waits is so = absurd (faulty_waits bytes fault is so)
-fronts_are_one bytes (Faulty fault) (Whole message rest) is so = absurd (whole_faulty bytes message rest fault so is)
-fronts_are_one bytes (Faulty fault) (Faulty other) is so = ap (λ (f : FrameFault). Faulty f) (one_judgement MAXIMUM_LENGTH bytes fault other is.0 so.0)
+incoming_is_one bytes (Whole message rest) (Faulty fault) is so = absurd (whole_faulty bytes message rest fault is so)
+incoming_is_one bytes (Faulty fault) Waits is so = absurd (faulty_waits bytes fault is so)
+incoming_is_one bytes (Faulty fault) (Whole message rest) is so = absurd (whole_faulty bytes message rest fault so is)
+incoming_is_one bytes (Faulty fault) (Faulty other) is so = ap (λ (f : FrameFault). Faulty f) (one_judgement MAXIMUM_LENGTH bytes fault other is.0 so.0)
 
 -- ## More bytes
 
@@ -87,8 +87,8 @@ refused_more limit fault bytes more long (inr why) =
       subst (λ (whole : List ℕ). IsRefused whole fault) (sym (take-append-le why.0 bytes more why.2)) why.3,
     )
 
-pub fronts_stay : FrontsStay
-fronts_stay bytes piece Waits not_so is = absurd (not_so refl)
-fronts_stay bytes piece (Whole message rest) not_so is = (is.0, is.1, ap (λ (b : List ℕ). b ++ piece) is.2 ∙ append_assoc message rest piece)
-fronts_stay bytes piece (Faulty fault) not_so is =
+pub incoming_stays : IncomingStays
+incoming_stays bytes piece Waits not_so is = absurd (not_so refl)
+incoming_stays bytes piece (Whole message rest) not_so is = (is.0, is.1, ap (λ (b : List ℕ). b ++ piece) is.2 ∙ append_assoc message rest piece)
+incoming_stays bytes piece (Faulty fault) not_so is =
     ((omega (arith, is.0.0, length-append bytes piece), refused_more MAXIMUM_LENGTH fault bytes piece is.0.0 is.0.1), is.1)

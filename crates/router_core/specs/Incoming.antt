@@ -7,16 +7,16 @@ use Rattle.message_core.specs.Messages.{IsMessage}
 use Rattle.message_core.specs.Said.{said}
 use Rattle.message.specs.Framing.{IsWaiting, IsJudged}
 
-pub data Front : Type 0 where
+pub data Incoming : Type 0 where
   -- more bytes are wanted
-  Waits : Front
+  Waits : Incoming
   -- the bytes of a message, and those behind it
-  Whole : (message rest : List ℕ) → Front
+  Whole : (message rest : List ℕ) → Incoming
   -- no message
-  Faulty : FrameFault → Front
+  Faulty : FrameFault → Incoming
 
 -- The bytes have this front, and no other.
-abbrev pub IsFront : List ℕ → Front → Type 0
-IsFront bytes Waits = IsWaiting MAXIMUM_LENGTH bytes
-IsFront bytes (Whole message rest) = IsMessage message (said message) × (length message ≤ MAXIMUM_LENGTH) × (bytes ≡ message ++ rest)
-IsFront bytes (Faulty fault) = IsJudged MAXIMUM_LENGTH fault bytes × (fault ≢ NoMemory)
+abbrev pub IsIncoming : List ℕ → Incoming → Type 0
+IsIncoming bytes Waits = IsWaiting MAXIMUM_LENGTH bytes
+IsIncoming bytes (Whole message rest) = IsMessage message (said message) × (length message ≤ MAXIMUM_LENGTH) × (bytes ≡ message ++ rest)
+IsIncoming bytes (Faulty fault) = IsJudged MAXIMUM_LENGTH fault bytes × (fault ≢ NoMemory)
