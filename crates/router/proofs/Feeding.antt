@@ -28,7 +28,7 @@ use Rattle.router_core.specs.declared.fate.PeerFate.{PeerFate}
 use Rattle.router_core.specs.declared.fate.PeerFate.TheVariants as fate
 use Rattle.router_core.specs.Answers.{Heard, Says, Refuses, error_for}
 use Rattle.router_core.specs.Deeds.{Deed, Closes, Sends}
-use Rattle.router_core.specs.Events.{Bytes, Mail, Next, OfPeer, Stands, hearing, closing, fated, send, writing, for_slot, for_peer, fed, refuse, refuse_with, close_found, close_former, welcome, turn_away, after_hello_by, after_hello, serving_hello, serve_named, serve_at, read, next_at, coming_next, mail_found}
+use Rattle.router_core.specs.Events.{Bytes, Mail, Next, OfPeer, Stands, hearing, closing, fated, send, writing, for_entry, for_peer, fed, refuse, refuse_with, close_found, close_former, welcome, turn_away, after_hello_by, after_hello, serving_hello, serve_named, serve_at, read, next_at, coming_next, mail_found}
 use Rattle.router_core.specs.Incoming.{Incoming, Waits, Whole, Faulty}
 use Rattle.router_core.specs.OneThread.{Readers, Rest, Course, alone, given, rest_of}
 use Rattle.router_core.specs.Scripts.{Script, Gives, Changing, ChangingAll, Asking, Routing, AskingPresence, Noting, Framing, Calling, Gating, Wanting, Requiring, Doing, Announcing, and_then, putting}
@@ -285,8 +285,8 @@ module _ (piece : List ℕ) (key : ℕ) where
 
   there : (s : Standing) (k : ℕ) → (k ≡ key → ⊥) → (w : Peer → OfPeer) (o : Option Peer) → for_peer (with_more s) k o w ≡ seen_as with_more (for_peer s k o w)
   there s k apart w o =
-      after_same (for_slot o w) (λ q. Gives (with_peer (with_more s) k q)) (λ q. Gives (with_more (with_peer s k q))) (λ q. ap (λ (t : Standing). Gives t) (more_apart s k q apart))
-      ∙ sym (and_then_assoc (for_slot o w) (λ q. Gives (with_peer s k q)) (λ t. Gives (with_more t)))
+      after_same (for_entry o w) (λ q. Gives (with_peer (with_more s) k q)) (λ q. Gives (with_more (with_peer s k q))) (λ q. ap (λ (t : Standing). Gives t) (more_apart s k q apart))
+      ∙ sym (and_then_assoc (for_entry o w) (λ q. Gives (with_peer s k q)) (λ t. Gives (with_more t)))
 
   at_key : (s : Standing) (k : ℕ) (w : Peer → OfPeer) → Natural w → (k ≡ key) ⊎ (k ≡ key → ⊥) → for_peer (with_more s) k (peer_at (with_more s) k) w ≡ seen_as with_more (for_peer s k (peer_at s k) w)
   at_key s k w natural (inl same) =

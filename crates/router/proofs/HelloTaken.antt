@@ -16,7 +16,7 @@ use Rattle.outbox_core.specs.Contents.{UniqueName}
 use Rattle.router_core.specs.declared.cause.CloseCause.TheVariants as cause
 use Rattle.router_core.specs.Answers.{Heard, Says, Refuses, error_for}
 use Rattle.router_core.specs.Deeds.{GatedCall, Closes}
-use Rattle.router_core.specs.Events.{OfPeer, Stands, closing, for_slot, for_peer, close_found, welcome, turn_away, refuse_with, after_hello_by, after_hello, serving_hello, serve_at, next_at, coming_next}
+use Rattle.router_core.specs.Events.{OfPeer, Stands, closing, for_entry, for_peer, close_found, welcome, turn_away, refuse_with, after_hello_by, after_hello, serving_hello, serve_at, next_at, coming_next}
 use Rattle.router_core.specs.Incoming.{Whole, IsIncoming}
 use Rattle.router_core.specs.Scripts.{Gives, Doing, Announcing, World, Comes, and_then}
 use Rattle.router_core.specs.Serving.{replying}
@@ -53,7 +53,7 @@ module _ (s : Standing) (key : ℕ) (left : Option Peer) where
   there_too k other = get_or-set_other s.peers key k left None other
 
   for_it : (p : Peer) (work : Peer → OfPeer) → for_peer taken key (Some p) work ≡ for_peer s key (Some p) work
-  for_it p work = λ i. and_then (for_slot (Some p) work) (λ q. Gives (filled q i))
+  for_it p work = λ i. and_then (for_entry (Some p) work) (λ q. Gives (filled q i))
 
   module _ (m : Message) (p : Peer) (o : Outcome) where
     module _ (conn : Conn) where

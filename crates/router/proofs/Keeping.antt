@@ -26,7 +26,7 @@ use Rattle.router_core.specs.declared.fate.PeerFate.{PeerFate}
 use Rattle.router_core.specs.declared.fate.PeerFate.TheVariants as fate
 use Rattle.router_core.specs.Answers.{Heard, Says, Refuses, error_for}
 use Rattle.router_core.specs.Deeds.{GatedCall}
-use Rattle.router_core.specs.Events.{OfPeer, closing, fated, close_at, close_found, close_former, writing, for_slot, for_peer, hearing, answering, conversed_to, converse_if, refuse, refuse_with, turn_away, welcome, after_hello, after_hello_by, serving_hello, serve_named, serve_at, read, coming_next, next_at, after_check, checking_presence, checking_each}
+use Rattle.router_core.specs.Events.{OfPeer, closing, fated, close_at, close_found, close_former, writing, for_entry, for_peer, hearing, answering, conversed_to, converse_if, refuse, refuse_with, turn_away, welcome, after_hello, after_hello_by, serving_hello, serve_named, serve_at, read, coming_next, next_at, after_check, checking_presence, checking_each}
 use Rattle.router_core.specs.Incoming.{Incoming, Waits, Whole, Faulty}
 use Rattle.router_core.specs.Scripts.{Gives, Routing, Announcing, World, Comes, and_then}
 use Rattle.router_core.specs.Serving.{monitors_in, replying, serving}
@@ -64,30 +64,30 @@ hear_keeps key piece p = in_stage p.stage
     in_stage (Named conn) = λ slot has. has
     in_stage (Closing conn) = λ slot has. has
 
-pub feeding : (key : ℕ) (piece : List ℕ) (old : Option Peer) → AllGive (λ new. Keeps old new) (for_slot old (λ p. hearing key piece p p.stage))
+pub feeding : (key : ℕ) (piece : List ℕ) (old : Option Peer) → AllGive (λ new. Keeps old new) (for_entry old (λ p. hearing key piece p p.stage))
 feeding key piece None = λ slot has. has
 feeding key piece (Some p) = then_give (λ q. Keeps (Some p) (Some q)) (λ new. Keeps (Some p) new) (λ q. Gives (Some q)) (λ q keeps. keeps) (hearing key piece p p.stage) (hear_keeps key piece p)
 
 -- one that is closed has no slot
-pub leaving : (key : ℕ) (why : CloseCause) (old : Option Peer) → AllGive (λ new. Keeps None new) (for_slot old (λ p. closing key why p))
+pub leaving : (key : ℕ) (why : CloseCause) (old : Option Peer) → AllGive (λ new. Keeps None new) (for_entry old (λ p. closing key why p))
 leaving key why None = λ slot has. has
 leaving key why (Some p) = λ slot has. has
 
-writing_there : (key : ℕ) (said : Said) (p : Peer) → AllGive (λ new. Keeps (Some p) new) (for_slot (Some p) (writing key said))
+writing_there : (key : ℕ) (said : Said) (p : Peer) → AllGive (λ new. Keeps (Some p) new) (for_entry (Some p) (writing key said))
 writing_there key (Relays bytes) p = λ slot has. has
 writing_there key (Tells own) p = λ slot has. has
 
-writing_keeps : (key : ℕ) (said : Said) (old : Option Peer) → AllGive (λ new. Keeps old new) (for_slot old (writing key said))
+writing_keeps : (key : ℕ) (said : Said) (old : Option Peer) → AllGive (λ new. Keeps old new) (for_entry old (writing key said))
 writing_keeps key said None = λ slot has. has
 writing_keeps key said (Some p) = writing_there key said p
 
-pub bringing : (held : Option History) (key : ℕ) (said : Said) (old : Option Peer) → AllGive (λ new. Keeps old new) (once_noted held (for_slot old (writing key said)))
+pub bringing : (held : Option History) (key : ℕ) (said : Said) (old : Option Peer) → AllGive (λ new. Keeps old new) (once_noted held (for_entry old (writing key said)))
 bringing None key said old = writing_keeps key said old
 bringing (Some told) key said old = writing_keeps key said old
 
 -- ---- all connections, as time passes
 
-check_keeps : (key : ℕ) (old : Option Peer) → AllGive (λ new. Keeps old new) (for_slot old (λ p. checking_presence key p p.stage))
+check_keeps : (key : ℕ) (old : Option Peer) → AllGive (λ new. Keeps old new) (for_entry old (λ p. checking_presence key p p.stage))
 check_keeps key None = λ slot has. has
 check_keeps key (Some p) = in_stage p.stage
   where
@@ -118,7 +118,7 @@ checking done (x ∷ xs) =
     weaker_give (λ all. KeepsRest (done ++ y ∷ []) xs all) (λ all. KeepsRest done (x ∷ xs) all)
     (λ all rest. (y ∷ rest.0, rest.1 ∙ append_assoc done (y ∷ []) rest.0, keeps_more x y xs rest.0 here rest.2))
     (checking_each (done ++ y ∷ []) xs) (checking (done ++ y ∷ []) xs))
-    (for_slot x (λ p. checking_presence (length done) p p.stage)) (check_keeps (length done) x)
+    (for_entry x (λ p. checking_presence (length done) p p.stage)) (check_keeps (length done) x)
 
 -- ---- the next message
 
@@ -169,7 +169,7 @@ written_keeps (y ∷ ys) (suc k) x = written_keeps ys k x
 module _ (u : Standing) (key : ℕ) (p : Peer) (work : Peer → OfPeer) (Q : Peer → Type 0) (P : Standing → Type 0) (later : (q : Peer) → Q q → P (with_peer u key (Some q))) where
   for_give : AllGive Q (work p) → AllGive P (for_peer u key (Some p) work)
   for_give all =
-      then_give (λ o. P (with_peer u key o)) P (λ o. Gives (with_peer u key o)) (λ o done. done) (for_slot (Some p) work)
+      then_give (λ o. P (with_peer u key o)) P (λ o. Gives (with_peer u key o)) (λ o done. done) (for_entry (Some p) work)
       (then_give Q (λ o. P (with_peer u key o)) (λ q. Gives (Some q)) later (work p) all)
 
 -- An error leaves a connection at its stage.
@@ -190,12 +190,12 @@ module _ (key : ℕ) (m : Message) (p : Peer) where
   turning_away =
       then_give IsLike (λ q. Keeps None (Some q)) (λ q. closing key cause.LimitsExceeded q) (λ q like. λ slot has. has) (refuse_with key m error.LimitsExceeded p) (refusing error.LimitsExceeded)
 
-refusing_in : (key : ℕ) (m : Message) (kind : ErrorKind) (old : Option Peer) → AllGive (λ new. Keeps old new) (for_slot old (refuse_with key m kind))
+refusing_in : (key : ℕ) (m : Message) (kind : ErrorKind) (old : Option Peer) → AllGive (λ new. Keeps old new) (for_entry old (refuse_with key m kind))
 refusing_in key m kind None = λ slot has. has
 refusing_in key m kind (Some p) =
     then_give (IsLike key m p) (λ new. Keeps (Some p) new) (λ q. Gives (Some q)) (λ q like. like_keeps p q like) (refuse_with key m kind p) (refusing key m p kind)
 
-turning_away_in : (key : ℕ) (m : Message) (old : Option Peer) → AllGive (λ new. Keeps None new) (for_slot old (turn_away key m))
+turning_away_in : (key : ℕ) (m : Message) (old : Option Peer) → AllGive (λ new. Keeps None new) (for_entry old (turn_away key m))
 turning_away_in key m None = λ slot has. has
 turning_away_in key m (Some p) =
     then_give (λ q. Keeps None (Some q)) (λ new. Keeps None new) (λ q. Gives (Some q)) (λ q keeps. keeps) (turn_away key m p) (turning_away key m p)
@@ -325,25 +325,25 @@ module _ (slot key : ℕ) where
 -- ---- what came
 
 module _ {N G : Type 0} (told : N → History) (registry_of : N → ℕ) (passes : G → GatedCall → G → Type 0) (alone : Bool) (w v : World N G) where
-  pub feed_keeps : (key : ℕ) (piece : List ℕ) (old new : Option Peer) → Comes told registry_of passes alone (for_slot old (λ p. hearing key piece p p.stage)) w new v → Keeps old new
-  feed_keeps key piece old new came = given told registry_of passes alone (λ o. Keeps old o) new v (for_slot old (λ p. hearing key piece p p.stage)) w (feeding key piece old) came
+  pub feed_keeps : (key : ℕ) (piece : List ℕ) (old new : Option Peer) → Comes told registry_of passes alone (for_entry old (λ p. hearing key piece p p.stage)) w new v → Keeps old new
+  feed_keeps key piece old new came = given told registry_of passes alone (λ o. Keeps old o) new v (for_entry old (λ p. hearing key piece p p.stage)) w (feeding key piece old) came
 
-  pub closed_has_none : (key : ℕ) (why : CloseCause) (old new : Option Peer) → Comes told registry_of passes alone (for_slot old (λ p. closing key why p)) w new v → Keeps None new
-  closed_has_none key why old new came = given told registry_of passes alone (λ o. Keeps None o) new v (for_slot old (λ p. closing key why p)) w (leaving key why old) came
+  pub closed_has_none : (key : ℕ) (why : CloseCause) (old new : Option Peer) → Comes told registry_of passes alone (for_entry old (λ p. closing key why p)) w new v → Keeps None new
+  closed_has_none key why old new came = given told registry_of passes alone (λ o. Keeps None o) new v (for_entry old (λ p. closing key why p)) w (leaving key why old) came
 
-  pub brought_keeps : (held : Option History) (key : ℕ) (said : Said) (old new : Option Peer) → Comes told registry_of passes alone (once_noted held (for_slot old (writing key said))) w new v → Keeps old new
-  brought_keeps held key said old new came = given told registry_of passes alone (λ o. Keeps old o) new v (once_noted held (for_slot old (writing key said))) w (bringing held key said old) came
+  pub brought_keeps : (held : Option History) (key : ℕ) (said : Said) (old new : Option Peer) → Comes told registry_of passes alone (once_noted held (for_entry old (writing key said))) w new v → Keeps old new
+  brought_keeps held key said old new came = given told registry_of passes alone (λ o. Keeps old o) new v (once_noted held (for_entry old (writing key said))) w (bringing held key said old) came
 
   pub checks_keep : (old new : List (Option Peer)) → Comes told registry_of passes alone (checking_each [] old) w new v → KeepsAll old new
   checks_keep old new came =
       let rest = given told registry_of passes alone (λ all. KeepsRest [] old all) new v (checking_each [] old) w (checking [] old) came in
       subst (λ xs. KeepsAll old xs) (sym rest.1) rest.2
 
-  pub refused_keeps : (key : ℕ) (m : Message) (kind : ErrorKind) (old new : Option Peer) → Comes told registry_of passes alone (for_slot old (refuse_with key m kind)) w new v → Keeps old new
-  refused_keeps key m kind old new came = given told registry_of passes alone (λ o. Keeps old o) new v (for_slot old (refuse_with key m kind)) w (refusing_in key m kind old) came
+  pub refused_keeps : (key : ℕ) (m : Message) (kind : ErrorKind) (old new : Option Peer) → Comes told registry_of passes alone (for_entry old (refuse_with key m kind)) w new v → Keeps old new
+  refused_keeps key m kind old new came = given told registry_of passes alone (λ o. Keeps old o) new v (for_entry old (refuse_with key m kind)) w (refusing_in key m kind old) came
 
-  pub turned_away_has_none : (key : ℕ) (m : Message) (old new : Option Peer) → Comes told registry_of passes alone (for_slot old (turn_away key m)) w new v → Keeps None new
-  turned_away_has_none key m old new came = given told registry_of passes alone (λ o. Keeps None o) new v (for_slot old (turn_away key m)) w (turning_away_in key m old) came
+  pub turned_away_has_none : (key : ℕ) (m : Message) (old new : Option Peer) → Comes told registry_of passes alone (for_entry old (turn_away key m)) w new v → Keeps None new
+  turned_away_has_none key m old new came = given told registry_of passes alone (λ o. Keeps None o) new v (for_entry old (turn_away key m)) w (turning_away_in key m old) came
 
 -- A connection whose next message is served where it stands gets no slot, whoever else is there.
 pub next_keeps : {N G : Type 0} (told : N → History) (registry_of : N → ℕ) (passes : G → GatedCall → G → Type 0) (alone : Bool) (key : ℕ) (old new : Option Peer) (w v : World N G) →

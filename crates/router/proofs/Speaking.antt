@@ -18,7 +18,7 @@ use Rattle.router_core.specs.declared.cause.CloseCause.TheVariants as cause
 use Rattle.router_core.specs.declared.fate.PeerFate.{PeerFate}
 use Rattle.router_core.specs.declared.fate.PeerFate.TheVariants as fate
 use Rattle.router_core.specs.Answers.{Heard, Says, Refuses, error_for}
-use Rattle.router_core.specs.Events.{Mail, Next, OfPeer, fed, closing, fated, close_found, close_former, writing, for_slot, for_peer, refuse_with, turn_away, welcome, after_hello, after_hello_by, serving_hello, serve_named, serve_at, read, next_at, coming_next, mail_found}
+use Rattle.router_core.specs.Events.{Mail, Next, OfPeer, fed, closing, fated, close_found, close_former, writing, for_entry, for_peer, refuse_with, turn_away, welcome, after_hello, after_hello_by, serving_hello, serve_named, serve_at, read, next_at, coming_next, mail_found}
 use Rattle.router_core.specs.Incoming.{Incoming, Waits, Whole, Faulty}
 use Rattle.router_core.specs.OneThread.{Readers, Rest, Course, alone, given}
 use Rattle.router_core.specs.Scripts.{Script, Gives, Changing, ChangingAll, Asking, Routing, AskingPresence, Noting, Framing, Calling, Gating, Wanting, Requiring, Doing, Announcing, and_then}
@@ -68,7 +68,7 @@ module _ (key : ℕ) where
   for_speaks : (s : Standing) (k : ℕ) (o : Option Peer) (work : Peer → OfPeer) → SpeaksAt key s → ((p : Peer) → o ≡ Some p → AllGive Speaks (work p)) → AllGive (SpeaksAt key) (for_peer s k o work)
   for_speaks s k None work speaks each = with_speaks s k None speaks tt
   for_speaks s k (Some p) work speaks each =
-      then_give (λ q. IfSome q Speaks) (SpeaksAt key) (λ q. Gives (with_peer s k q)) (λ q new. with_speaks s k q speaks new) (for_slot (Some p) work)
+      then_give (λ q. IfSome q Speaks) (SpeaksAt key) (λ q. Gives (with_peer s k q)) (λ q new. with_speaks s k q speaks new) (for_entry (Some p) work)
       (then_give Speaks (λ q. IfSome q Speaks) (λ q. Gives (Some q)) (λ q new. new) (work p) (each p refl))
 
   closing_speaks : (s : Standing) (k : ℕ) (o : Option Peer) (why : CloseCause) → SpeaksAt key s → AllGive (SpeaksAt key) (for_peer s k o (λ p. closing k why p))
@@ -160,7 +160,7 @@ module _ (key : ℕ) where
           (writing k said p) (of_peer p))
       by_key (inr apart) =
           then_give (λ q. Unit {0}) (SpeaksAt key) (λ q. Gives (with_peer s k q)) (λ q done. subst (λ (o : Option Peer). IfSome o Speaks) (sym (get_or-set_other s.peers k key q None apart)) speaks)
-          (for_slot (peer_at s k) (writing k said)) (all_give (λ q. Unit {0}) (λ q. tt) (for_slot (peer_at s k) (writing k said)))
+          (for_entry (peer_at s k) (writing k said)) (all_give (λ q. Unit {0}) (λ q. tt) (for_entry (peer_at s k) (writing k said)))
 
 module _ (readers : Readers) (key : ℕ) where
   pub next_speaks : (r : Rest) → SpeaksAt key r.standing → SpeaksAt key (given readers r (Next key)).1.standing

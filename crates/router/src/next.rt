@@ -16,11 +16,11 @@ use router_steps::{HelloCall, Peer};
 use std::alloc::AllocError;
 
 /// Whether there is something of a connection to be served, if it is there.
-fn has_next(slot: &Option<Peer>) -> bool
-    ensures quiet { result ≡ false → IfSome slot.now IsQuiet }
-    ensures ready { result ≡ true → IfSome slot.now IsQuiet → ⊥ }
+fn has_next(entry: &Option<Peer>) -> bool
+    ensures quiet { result ≡ false → IfSome entry.now IsQuiet }
+    ensures ready { result ≡ true → IfSome entry.now IsQuiet → ⊥ }
 {
-    match slot {
+    match entry {
         None => false,
         Some(peer) => peer.has_next(),
     }

@@ -199,6 +199,6 @@ impl<V: BusView, G: Gate> Peers<V, G> {
             return Ok(());
         }
         self.context.reserve(2)?;
-        self.context.hear_slot(key, &mut self.peers[key], piece)
+        self.context.hear_entry(key, &mut self.peers[key], piece)
     }
 }

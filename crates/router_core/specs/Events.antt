@@ -90,12 +90,12 @@ writing key (Relays bytes) p = Doing (Writes key bytes) (Gives p)
 writing key (Tells own) p = send key own p
 
 -- what is done for a connection, if it is there
-abbrev pub for_slot : Option Peer → (Peer → OfPeer) → Script (Option Peer)
-for_slot None work = Gives None
-for_slot (Some p) work = and_then (work p) (λ q. Gives (Some q))
+abbrev pub for_entry : Option Peer → (Peer → OfPeer) → Script (Option Peer)
+for_entry None work = Gives None
+for_entry (Some p) work = and_then (work p) (λ q. Gives (Some q))
 
 abbrev pub for_peer : Standing → ℕ → Option Peer → (Peer → OfPeer) → Stands
-for_peer s key peer work = and_then (for_slot peer work) (λ q. Gives (with_peer s key q))
+for_peer s key peer work = and_then (for_entry peer work) (λ q. Gives (with_peer s key q))
 
 -- bytes behind those that it sent; none once it was closed
 abbrev pub fed : List ℕ → Peer → Stage → Peer
@@ -417,7 +417,7 @@ checking_presence key p (Closing conn) = Gives p
 -- by rising key; those so far are as they are then
 abbrev pub checking_each : List (Option Peer) → List (Option Peer) → Script (List (Option Peer))
 checking_each done [] = Gives done
-checking_each done (peer ∷ peers) = and_then (for_slot peer (λ p. checking_presence (length done) p p.stage)) (λ q. checking_each (done ++ q ∷ []) peers)
+checking_each done (peer ∷ peers) = and_then (for_entry peer (λ p. checking_presence (length done) p p.stage)) (λ q. checking_each (done ++ q ∷ []) peers)
 
 abbrev pub checking_all : Standing → Stands
 checking_all s = and_then (checking_each [] s.peers) (λ peers. Gives (record s { peers = peers }))

@@ -11,7 +11,7 @@ use Rattle.outbox_core.specs.Contents.{Said, Own, Tells, Errs, bus_message}
 use Rattle.outbox_core.specs.Deliveries.{deliveries_of}
 use Rattle.router_core.specs.Answers.{Heard}
 use Rattle.router_core.specs.Deeds.{GatedCall, Sends}
-use Rattle.router_core.specs.Events.{OfPeer, for_slot, refuse, refuse_with}
+use Rattle.router_core.specs.Events.{OfPeer, for_entry, refuse, refuse_with}
 use Rattle.router_core.specs.Scripts.{Gives, Routing, World, Routes, Does, Comes, putting}
 use Rattle.router_core.specs.Serving.{nothing, monitors_in}
 use Rattle.router_core.specs.Standing.{Peer, next_serial}
@@ -39,5 +39,5 @@ module _ {N G : Type 0} (told : N → History) (registry_of : N → ℕ) (passes
       subst (λ (b : Bool). Comes told registry_of passes alone (if b then Routing 0 (facts_of (bus_message 1 (Errs (hello_of m) error))) (λ (h : Heard Verdict). refuse key (Errs (hello_of m) error) p h) else Gives p) w q n) (sym wants)
       (subst (λ (o : Own). Comes told registry_of passes alone (Routing 0 (facts_of (bus_message 1 o)) (λ (h : Heard Verdict). refuse key o p h)) w q n) is done)
 
-  pub for_there : (p q : Peer) (work : Peer → OfPeer) (w n : World N G) → Comes told registry_of passes alone (work p) w q n → Comes told registry_of passes alone (for_slot (Some p) work) w (Some q) n
+  pub for_there : (p q : Peer) (work : Peer → OfPeer) (w n : World N G) → Comes told registry_of passes alone (work p) w q n → Comes told registry_of passes alone (for_entry (Some p) work) w (Some q) n
   for_there p q work w n done = comes_then told registry_of passes alone (λ (r : Peer). Gives (Some r)) q n (Some q) n (refl, refl) (work p) w done

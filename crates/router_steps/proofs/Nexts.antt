@@ -9,7 +9,7 @@ use Rattle.driver.specs.Calls.{is_hello}
 use Rattle.router_core.specs.declared.fate.PeerFate.{PeerFate}
 use Rattle.router_core.specs.declared.cause.CloseCause.TheVariants as cause
 use Rattle.router_core.specs.Deeds.{GatedCall}
-use Rattle.router_core.specs.Events.{OfPeer, closing, fated, for_slot, for_peer, serving_hello, serve_named, serve_at, read, next_at, coming_next}
+use Rattle.router_core.specs.Events.{OfPeer, closing, fated, for_entry, for_peer, serving_hello, serve_named, serve_at, read, next_at, coming_next}
 use Rattle.router_core.specs.Incoming.{Waits, Whole, Faulty, IsIncoming}
 use Rattle.router_core.specs.Scripts.{Gives, Framing, World, Comes, and_then}
 use Rattle.router_core.specs.Serving.{serving}
@@ -22,7 +22,7 @@ module _ {N G : Type 0} (told : N → History) (registry_of : N → ℕ) (passes
   -- what is done for a connection that is there
   pub for_some : (s : Standing) (key : ℕ) (p q : Peer) (work : Peer → OfPeer) (w n : World N G) → Comes told registry_of passes alone (work p) w q n → Comes told registry_of passes alone (for_peer s key (Some p) work) w (with_peer s key (Some q)) n
   for_some s key p q work w n done =
-      comes_then told registry_of passes alone (λ (o : Option Peer). Gives (with_peer s key o)) (Some q) n (with_peer s key (Some q)) n (refl, refl) (for_slot (Some p) work) w
+      comes_then told registry_of passes alone (λ (o : Option Peer). Gives (with_peer s key o)) (Some q) n (with_peer s key (Some q)) n (refl, refl) (for_entry (Some p) work) w
       (for_there told registry_of passes alone p q work w n done)
 
   module _ (key : ℕ) (p : Peer) (w v : World N G) where

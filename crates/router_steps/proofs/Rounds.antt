@@ -6,7 +6,7 @@ use Rattle.seq_bus_core.specs.declared.connection.Conn.{Conn}
 use Rattle.seq_bus_core.specs.declared.error_kind.ErrorKind.{ErrorKind}
 use Rattle.seq_bus_core.specs.declared.ticket.SettledTicket.{SettledTicket}
 use Rattle.router_core.specs.Deeds.{GatedCall}
-use Rattle.router_core.specs.Events.{leaving, leaving_each, for_slot, checking_presence, checking_each}
+use Rattle.router_core.specs.Events.{leaving, leaving_each, for_entry, checking_presence, checking_each}
 use Rattle.router_core.specs.Scripts.{World, Comes}
 use Rattle.router_core.specs.Serving.{failing, failing_all, releasing, releasing_all}
 use Rattle.router_core.specs.Standing.{Peer, Standing}
@@ -39,14 +39,14 @@ module _ {N G : Type 0} (told : N → History) (registry_of : N → ℕ) (passes
 
   -- the next connection is asked for, then the rest
   pub checks_more : (xs : List (Option Peer)) (k : ℕ) → k < length xs → (q : Option Peer) (ys : List (Option Peer)) →
-      Comes told registry_of passes alone (for_slot (get_or xs k None) (λ p. checking_presence k p p.stage)) w q m →
+      Comes told registry_of passes alone (for_entry (get_or xs k None) (λ p. checking_presence k p p.stage)) w q m →
       Comes told registry_of passes alone (checking_each (take (k + 1) (set xs k q)) (drop (k + 1) (set xs k q))) m ys v →
       Comes told registry_of passes alone (checking_each (take k xs) (drop k xs)) w ys v
   checks_more xs k inside q ys this later =
       let within : k ≤ length xs = omega arith in
       let next : k < k + 1 = omega arith in
-      let here = subst (λ n. Comes told registry_of passes alone (for_slot (get_or xs k None) (λ p. checking_presence n p p.stage)) w q m) (sym (length-take-le k xs within)) this in
+      let here = subst (λ n. Comes told registry_of passes alone (for_entry (get_or xs k None) (λ p. checking_presence n p p.stage)) w q m) (sym (length-take-le k xs within)) this in
       let done = subst (λ ds. Comes told registry_of passes alone (checking_each ds (drop (k + 1) (set xs k q))) m ys v) (take_more_set xs k q inside) later in
       let rest = subst (λ ds. Comes told registry_of passes alone (checking_each (take k xs ++ q ∷ []) ds) m ys v) (drop-set-lt (k + 1) xs k q next) done in
       subst (λ ds. Comes told registry_of passes alone (checking_each (take k xs) ds) w ys v) (sym (drop_more xs k None inside))
-      (comes_then told registry_of passes alone (λ o. checking_each (take k xs ++ o ∷ []) (drop (k + 1) xs)) q m ys v rest (for_slot (get_or xs k None) (λ p. checking_presence (length (take k xs)) p p.stage)) w here)
+      (comes_then told registry_of passes alone (λ o. checking_each (take k xs ++ o ∷ []) (drop (k + 1) xs)) q m ys v rest (for_entry (get_or xs k None) (λ p. checking_presence (length (take k xs)) p p.stage)) w here)

@@ -5,7 +5,7 @@ ghost use Rattle.message_core.specs.Said.{said};
 ghost use Rattle.outbox_core.specs.Contents.{said_of};
 ghost use Rattle.router_core.specs.Answers.{error_for, refusal_of};
 ghost use Rattle.router_core.specs.Deeds.{IsOwnNote};
-ghost use Rattle.router_core.specs.Events.{closing, hearing, for_slot, checking_presence, checking_each, refuse_with, turn_away, writing};
+ghost use Rattle.router_core.specs.Events.{closing, hearing, for_entry, checking_presence, checking_each, refuse_with, turn_away, writing};
 ghost use Rattle.router_core.specs.Scripts.{RunsTo};
 ghost use Rattle.router_core.specs.Standing.{next_serial};
 ghost use Rattle.router_steps.specs.Noting.{once_noted};
@@ -24,7 +24,7 @@ use std::alloc::{AllocError, Global};
 impl<V: BusView, G: Gate> Context<V, G> {
     /// Takes a piece of the bytes of a connection, if it is there. Without memory nothing changes,
     /// and the piece stays where it was.
-    pub fn hear_slot(
+    pub fn hear_entry(
         &mut self,
         key: usize,
         entry: &mut Option<Peer>,
@@ -32,7 +32,7 @@ impl<V: BusView, G: Gate> Context<V, G> {
     ) -> Result<(), AllocError>
         requires { 1 < self.old.room }
         ensures comes { OnOk result (RunsTo V.BusView G.Gate
-            (for_slot entry.old (λ p. hearing key piece.old.items p p.stage))
+            (for_entry entry.old (λ p. hearing key piece.old.items p p.stage))
             self.old.world entry.new self.new.world) }
         ensures err { OnErr result (entry.new ≡ entry.old) }
         ensures world { OnErr result (self.new.world ≡ self.old.world) }
@@ -57,7 +57,7 @@ impl<V: BusView, G: Gate> Context<V, G> {
         requires own { IsOwnNote V.registry_of self.old.world.view.registry envelope.now.note }
         ensures comes { OnOk result (RunsTo V.BusView G.Gate
             (once_noted (option_map V.told envelope.now.note)
-            (for_slot entry.old (writing key (said_of envelope.now.content))))
+            (for_entry entry.old (writing key (said_of envelope.now.content))))
             self.old.world entry.new self.new.world) }
         ensures err { OnErr result (entry.new ≡ entry.old) }
         ensures world { OnErr result (self.new.world ≡ self.old.world) }
@@ -85,7 +85,7 @@ impl<V: BusView, G: Gate> Context<V, G> {
         requires written { IfSome entry.old
             (λ p. AreRefusals (said hello.now) (next_serial p.serial) errors) }
         ensures { RunsTo V.BusView G.Gate
-            (for_slot entry.old (refuse_with key (said hello.now) (error_for (refusal_of why))))
+            (for_entry entry.old (refuse_with key (said hello.now) (error_for (refusal_of why))))
             self.old.world entry.new self.new.world }
     {
         match entry {
@@ -107,7 +107,7 @@ impl<V: BusView, G: Gate> Context<V, G> {
         requires spare_verdicts { 0 < self.old.spare_verdicts }
         requires written { IfSome entry.old (λ p. IsRefusal (said hello.now)
             ErrorKind.LimitsExceeded (next_serial p.serial) bytes) }
-        ensures { RunsTo V.BusView G.Gate (for_slot entry.old (turn_away key (said hello.now)))
+        ensures { RunsTo V.BusView G.Gate (for_entry entry.old (turn_away key (said hello.now)))
             self.old.world entry.new self.new.world }
     {
         match entry {
@@ -120,7 +120,7 @@ impl<V: BusView, G: Gate> Context<V, G> {
     pub fn close_left(&mut self, key: usize, entry: &mut Option<Peer>)
         requires { 0 < self.old.room }
         ensures comes { RunsTo V.BusView G.Gate
-            (for_slot entry.old (λ p. closing key CloseCause.Left p))
+            (for_entry entry.old (λ p. closing key CloseCause.Left p))
             self.old.world entry.new self.new.world }
         ensures room { self.old.room ≤ self.new.room + 1 }
         ensures spare_verdicts { self.new.spare_verdicts ≡ self.old.spare_verdicts }
@@ -134,7 +134,7 @@ impl<V: BusView, G: Gate> Context<V, G> {
     fn check_entry(&mut self, key: usize, entry: &mut Option<Peer>)
         requires { 0 < self.old.room }
         ensures comes { RunsTo V.BusView G.Gate
-            (for_slot entry.old (λ p. checking_presence key p p.stage))
+            (for_entry entry.old (λ p. checking_presence key p p.stage))
             self.old.world entry.new self.new.world }
         ensures room { self.old.room ≤ self.new.room + 1 }
     {

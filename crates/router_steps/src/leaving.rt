@@ -34,51 +34,53 @@ fn leaves_of(alloc: Global, numbers: &[u64]) -> Result<Vec<Change>, AllocError>
 
 impl<V: BusView, G: Gate> Context<V, G> {
     /// Makes the Leave of a number and announces it. A Leave that is refused is kept.
-    pub fn leave(&mut self, right: &V::Right, number: u64, leaves: &mut Vec<u64>)
+    pub fn leave(&mut self, right: &V::Right, number: u64, due_leaves: &mut Vec<u64>)
         requires room { MAX_SIGNALS ≤ self.old.room }
-        requires spare { vec_len leaves.old < vec_capacity leaves.old }
+        requires spare { vec_len due_leaves.old < vec_capacity due_leaves.old }
         ensures comes { (s : Standing) →
-            RunsTo V.BusView G.Gate (leaving (record s { due_leaves = leaves.old.items }) number)
-            self.old.world (record s { due_leaves = leaves.new.items }) self.new.world }
+            RunsTo V.BusView G.Gate
+            (leaving (record s { due_leaves = due_leaves.old.items }) number)
+            self.old.world (record s { due_leaves = due_leaves.new.items }) self.new.world }
         ensures room { self.old.room ≤ self.new.room + MAX_SIGNALS }
-        ensures len { vec_len leaves.new ≤ vec_len leaves.old + 1 }
-        ensures capacity { vec_capacity leaves.old ≤ vec_capacity leaves.new }
+        ensures len { vec_len due_leaves.new ≤ vec_len due_leaves.old + 1 }
+        ensures capacity { vec_capacity due_leaves.old ≤ vec_capacity due_leaves.new }
     {
         match self.change(right, Change::Leave { connection: number }) {
             Ok(outcome) => self.announce(outcome.signals),
-            Err(_) => push_reserved(leaves, number),
+            Err(_) => push_reserved(due_leaves, number),
         }
     }
 
     /// Makes the Leave of a connection that has a number.
-    pub fn leave_of(&mut self, right: &V::Right, conn: Option<Conn>, leaves: &mut Vec<u64>)
+    pub fn leave_of(&mut self, right: &V::Right, conn: Option<Conn>, due_leaves: &mut Vec<u64>)
         requires room { MAX_SIGNALS ≤ self.old.room }
-        requires spare { vec_len leaves.old < vec_capacity leaves.old }
+        requires spare { vec_len due_leaves.old < vec_capacity due_leaves.old }
         ensures comes { (s : Standing) →
-            RunsTo V.BusView G.Gate (leaving_of (record s { due_leaves = leaves.old.items }) conn)
-            self.old.world (record s { due_leaves = leaves.new.items }) self.new.world }
+            RunsTo V.BusView G.Gate
+            (leaving_of (record s { due_leaves = due_leaves.old.items }) conn)
+            self.old.world (record s { due_leaves = due_leaves.new.items }) self.new.world }
     {
         match conn {
             None => {}
-            Some(conn) => self.leave(right, conn.number, leaves),
+            Some(conn) => self.leave(right, conn.number, due_leaves),
         }
     }
 
     /// Makes the Leaves of these numbers, in order, each by itself. Those that are refused are
     /// kept.
-    fn leave_each(&mut self, right: &V::Right, numbers: &[u64], leaves: &mut Vec<u64>)
+    fn leave_each(&mut self, right: &V::Right, numbers: &[u64], due_leaves: &mut Vec<u64>)
         requires room { MAX_SIGNALS * length numbers.now ≤ self.old.room }
-        requires spare { vec_len leaves.old + length numbers.now ≤ vec_capacity leaves.old }
+        requires spare { vec_len due_leaves.old + length numbers.now ≤ vec_capacity due_leaves.old }
         ensures comes { (s : Standing) →
             RunsTo V.BusView G.Gate
-            (leaving_each numbers.now (record s { due_leaves = leaves.old.items }))
-            self.old.world (record s { due_leaves = leaves.new.items }) self.new.world }
+            (leaving_each numbers.now (record s { due_leaves = due_leaves.old.items }))
+            self.old.world (record s { due_leaves = due_leaves.new.items }) self.new.world }
         ensures room { self.old.room ≤ self.new.room + MAX_SIGNALS * length numbers.now }
-        ensures len { vec_len leaves.new ≤ vec_len leaves.old + length numbers.now }
-        ensures capacity { vec_capacity leaves.old ≤ vec_capacity leaves.new }
+        ensures len { vec_len due_leaves.new ≤ vec_len due_leaves.old + length numbers.now }
+        ensures capacity { vec_capacity due_leaves.old ≤ vec_capacity due_leaves.new }
     {
         for number in numbers {
-            self.leave(right, *number, leaves);
+            self.leave(right, *number, due_leaves);
         }
     }
 
@@ -102,46 +104,46 @@ impl<V: BusView, G: Gate> Context<V, G> {
         right: &V::Right,
         numbers: &[u64],
         changes: Vec<Change>,
-        leaves: &mut Vec<u64>,
+        due_leaves: &mut Vec<u64>,
     )
         requires leaves { changes.items ≡ map Leave numbers.now }
         requires batch { IsBatch changes.items }
         requires room { MAX_SIGNALS * length numbers.now ≤ self.old.room }
-        requires spare { vec_len leaves.old + length numbers.now ≤ vec_capacity leaves.old }
+        requires spare { vec_len due_leaves.old + length numbers.now ≤ vec_capacity due_leaves.old }
         ensures comes { (s : Standing) →
             RunsTo V.BusView G.Gate
-            (leaving_if (record s { due_leaves = leaves.old.items }) numbers.now true)
-            self.old.world (record s { due_leaves = leaves.new.items }) self.new.world }
+            (leaving_if (record s { due_leaves = due_leaves.old.items }) numbers.now true)
+            self.old.world (record s { due_leaves = due_leaves.new.items }) self.new.world }
         ensures room { self.old.room ≤ self.new.room + MAX_SIGNALS * length numbers.now }
-        ensures len { vec_len leaves.new ≤ vec_len leaves.old + length numbers.now }
-        ensures capacity { vec_capacity leaves.old ≤ vec_capacity leaves.new }
+        ensures len { vec_len due_leaves.new ≤ vec_len due_leaves.old + length numbers.now }
+        ensures capacity { vec_capacity due_leaves.old ≤ vec_capacity due_leaves.new }
     {
         match self.change_all(right, changes) {
             Ok(outcomes) => self.announce_all(outcomes),
-            Err(_) => self.leave_each(right, numbers, leaves),
+            Err(_) => self.leave_each(right, numbers, due_leaves),
         }
     }
 
     /// Makes the Leaves of 64 numbers at most together, if there are any. Those that are refused
     /// are kept.
-    fn leave_together(&mut self, right: &V::Right, numbers: &[u64], leaves: &mut Vec<u64>)
+    fn leave_together(&mut self, right: &V::Right, numbers: &[u64], due_leaves: &mut Vec<u64>)
         requires few { length numbers.now ≤ max_batch }
         requires room { MAX_SIGNALS * length numbers.now ≤ self.old.room }
-        requires spare { vec_len leaves.old + length numbers.now ≤ vec_capacity leaves.old }
+        requires spare { vec_len due_leaves.old + length numbers.now ≤ vec_capacity due_leaves.old }
         ensures comes { (s : Standing) →
             RunsTo V.BusView G.Gate
-            (leaving_together (record s { due_leaves = leaves.old.items }) numbers.now)
-            self.old.world (record s { due_leaves = leaves.new.items }) self.new.world }
+            (leaving_together (record s { due_leaves = due_leaves.old.items }) numbers.now)
+            self.old.world (record s { due_leaves = due_leaves.new.items }) self.new.world }
         ensures room { self.old.room ≤ self.new.room + MAX_SIGNALS * length numbers.now }
-        ensures len { vec_len leaves.new ≤ vec_len leaves.old + length numbers.now }
-        ensures capacity { vec_capacity leaves.old ≤ vec_capacity leaves.new }
+        ensures len { vec_len due_leaves.new ≤ vec_len due_leaves.old + length numbers.now }
+        ensures capacity { vec_capacity due_leaves.old ≤ vec_capacity due_leaves.new }
     {
         if numbers.is_empty() {
             return;
         }
         match leaves_of(self.alloc, numbers) {
-            Ok(changes) => self.leave_batch(right, numbers, changes, leaves),
-            Err(_) => self.leave_each(right, numbers, leaves),
+            Ok(changes) => self.leave_batch(right, numbers, changes, due_leaves),
+            Err(_) => self.leave_each(right, numbers, due_leaves),
         }
     }
 
@@ -153,51 +155,52 @@ impl<V: BusView, G: Gate> Context<V, G> {
         numbers: &[u64],
         start: usize,
         place: usize,
-        leaves: &mut Vec<u64>,
+        due_leaves: &mut Vec<u64>,
     ) -> usize
         requires there { place < length numbers.now }
         requires within { start ≤ place }
         requires few { place ≤ start + max_batch }
         requires room { MAX_SIGNALS * length numbers.now ≤ self.old.room + MAX_SIGNALS * start }
-        requires spare { vec_len leaves.old + length numbers.now ≤ vec_capacity leaves.old + start }
+        requires spare { vec_len due_leaves.old + length numbers.now
+            ≤ vec_capacity due_leaves.old + start }
         ensures comes { (s end : Standing) (v : World V.Note G) →
             RunsTo V.BusView G.Gate
             (leaving_by (part numbers.now result (place + 1)) (drop (place + 1) numbers.now)
-            (record s { due_leaves = leaves.new.items }))
+            (record s { due_leaves = due_leaves.new.items }))
             self.new.world end v →
             RunsTo V.BusView G.Gate
             (leaving_by (part numbers.now start place) (drop place numbers.now)
-            (record s { due_leaves = leaves.old.items }))
+            (record s { due_leaves = due_leaves.old.items }))
             self.old.world end v }
         ensures start { start ≤ result }
         ensures within { result ≤ place }
         ensures few { place + 1 ≤ result + max_batch }
         ensures room { self.old.room + MAX_SIGNALS * start ≤ self.new.room + MAX_SIGNALS * result }
-        ensures len { vec_len leaves.new + start ≤ vec_len leaves.old + result }
-        ensures capacity { vec_capacity leaves.old ≤ vec_capacity leaves.new }
+        ensures len { vec_len due_leaves.new + start ≤ vec_len due_leaves.old + result }
+        ensures capacity { vec_capacity due_leaves.old ≤ vec_capacity due_leaves.new }
     {
         if place - start < MAX_BATCH {
             return start;
         }
-        self.leave_together(right, &numbers[start..place], leaves);
+        self.leave_together(right, &numbers[start..place], due_leaves);
         place
     }
 
     /// Makes the Leaves of these numbers, in order, 64 at most together. Those that are refused are
     /// kept.
-    pub fn leave_all(&mut self, right: &V::Right, numbers: &[u64], leaves: &mut Vec<u64>)
+    pub fn leave_all(&mut self, right: &V::Right, numbers: &[u64], due_leaves: &mut Vec<u64>)
         requires room { MAX_SIGNALS * length numbers.now ≤ self.old.room }
-        requires spare { vec_len leaves.old + length numbers.now ≤ vec_capacity leaves.old }
+        requires spare { vec_len due_leaves.old + length numbers.now ≤ vec_capacity due_leaves.old }
         ensures comes { (s : Standing) →
             RunsTo V.BusView G.Gate
-            (leaving_all numbers.now (record s { due_leaves = leaves.old.items }))
-            self.old.world (record s { due_leaves = leaves.new.items }) self.new.world }
+            (leaving_all numbers.now (record s { due_leaves = due_leaves.old.items }))
+            self.old.world (record s { due_leaves = due_leaves.new.items }) self.new.world }
         ensures room { self.old.room ≤ self.new.room + MAX_SIGNALS * length numbers.now }
     {
         let mut start = 0;
         for place in 0..numbers.len() {
-            start = self.leave_full(right, numbers, start, place, leaves);
+            start = self.leave_full(right, numbers, start, place, due_leaves);
         }
-        self.leave_together(right, &numbers[start..], leaves);
+        self.leave_together(right, &numbers[start..], due_leaves);
     }
 }

@@ -23,7 +23,7 @@ returns-clause-comes g c =
     let p : Peer = c.in-Some.peer in
     let s : Standing = record { peers = c.self.inside.peers.items; due_leaves = c.self.inside.due_leaves.items; login = c.self.inside.login } in
     let n : Standing = record s { peers = c.take_peer.new.peers.items } in
-    let t : Standing = record n { due_leaves = c.leave_of.new.leaves.items } in
+    let t : Standing = record n { due_leaves = c.leave_of.new.due_leaves.items } in
     let w = c.self.inside.context.world in
     let v = c.leave_of.new.self.world in
     let conn : c.conn.result ≡ conn_of p.stage = c.conn.ensures ∙ ap conn_of c.stage.ensures in

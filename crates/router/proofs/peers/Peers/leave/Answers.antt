@@ -12,7 +12,7 @@ returns-clause-comes g c =
     let passes = g.G.Gate.passes in
     let alone = g.V.BusView.alone in
     let s : Standing = record { peers = c.self.inside.peers.items; due_leaves = c.self.inside.due_leaves.items; login = c.self.inside.login } in
-    let t : Standing = record s { due_leaves = c.leave.new.leaves.items } in
+    let t : Standing = record s { due_leaves = c.leave.new.due_leaves.items } in
     let v = c.leave.new.self.world in
     let of_leaves = subst (λ leaves. Comes told registry_of passes alone (leaving (record s { due_leaves = leaves }) c.args.number) c.reserve.new.self.world t v) c.reserve-2.ensures.items (c.leave.ensures.comes s) in
     let made = subst (λ k. Comes told registry_of passes alone (leaving s c.args.number) k t v) c.reserve.ensures.world of_leaves in

@@ -3,7 +3,7 @@ use Rattle.std.proofs.lemmas.List.{get_or_read}
 use Rattle.std.proofs.lemmas.List.Quantifiers.{position-Some}
 use Rattle.std.proofs.lemmas.Result.{on_ok_weaker}
 use Rattle.outbox_core.specs.Contents.{said_of}
-use Rattle.router_core.specs.Events.{writing, for_slot, mail_found, noted}
+use Rattle.router_core.specs.Events.{writing, for_entry, mail_found, noted}
 use Rattle.router_core.specs.Scripts.{Comes}
 use Rattle.router_core.specs.Standing.{Standing, is_conn, peer_at}
 use Rattle.router_steps.specs.Noting.{once_noted, IsNoteTaken}
@@ -48,8 +48,8 @@ returns-in-Some-clause-comes g c =
     let there : c.index_mut.result.now ≡ peer_at s key = get_or_read s.peers key c.index_mut.result.now (position-Some test s.peers key None some).0 c.index_mut.ensures.value None in
     on_ok_weaker c.deliver_to.result
     (λ brought.
-    let here = subst (λ k. Comes told registry_of passes alone (once_noted held (for_slot c.index_mut.result.now (writing key said))) k q v) c.reserve.ensures.world brought in
-    let found = subst (λ o. Comes told registry_of passes alone (once_noted held (for_slot o (writing key said))) w q v) there here in
+    let here = subst (λ k. Comes told registry_of passes alone (once_noted held (for_entry c.index_mut.result.now (writing key said))) k q v) c.reserve.ensures.world brought in
+    let found = subst (λ o. Comes told registry_of passes alone (once_noted held (for_entry o (writing key said))) w q v) there here in
     subst (λ (k : Table g.row.V-Note.Denot g.row.G.Denot). Comes told registry_of passes alone (noted held (mail_found k.standing said (position test k.standing.peers))) k.work.world t v) c.self.view_is
     (delivered told registry_of passes alone w v held s said (position test s.peers) key q some found))
     c.deliver_to.ensures.comes

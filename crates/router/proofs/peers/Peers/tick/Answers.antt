@@ -17,7 +17,7 @@ returns-clause-comes g c =
     let passes = g.G.Gate.passes in
     let alone = g.V.BusView.alone in
     let s : Standing = record { peers = c.self.inside.peers.items; due_leaves = c.self.inside.due_leaves.items; login = c.self.inside.login } in
-    let kept = c.leave_all.new.leaves.items in
+    let kept = c.leave_all.new.due_leaves.items in
     let ys = c.check_all.new.peers in
     let w = c.self.inside.context.world in
     let m = c.leave_all.new.self.world in

@@ -1,6 +1,6 @@
 use Rattle.std.proofs.Common.{◌<◌, None, length, subst, arith}
 use Rattle.std.proofs.lemmas.List.{get_or_default}
-use Rattle.router_core.specs.Events.{for_slot, checking_presence}
+use Rattle.router_core.specs.Events.{for_entry, checking_presence}
 use Rattle.router_core.specs.Scripts.{Comes}
 use Rattle.router_steps.proofs.Rounds.{checks_more}
 use Rattle.router_steps.proofs.context.Context.check_all.Goals as goal
@@ -22,5 +22,5 @@ loop-key-preserved g c =
       room = omega arith;
       comes = λ ys v later.
           c.loop-key.invariant.comes ys v
-          (checks_more told registry_of passes alone w m v peers key inside q ys (subst (λ o. Comes told registry_of passes alone (for_slot o (λ p. checking_presence key p p.stage)) w q m) read c.check_entry.ensures.comes) later);
+          (checks_more told registry_of passes alone w m v peers key inside q ys (subst (λ o. Comes told registry_of passes alone (for_entry o (λ p. checking_presence key p p.stage)) w q m) read c.check_entry.ensures.comes) later);
     }

@@ -11,9 +11,9 @@ invariant-loop-place g l = record {
   within : l.start ≤ l.place;
   few : l.place ≤ l.start + max_batch;
   room : l.initial.self.room ≤ l.self.room + 194 * l.start;
-  len : vec_len l.leaves ≤ vec_len l.initial.leaves + l.start;
-  capacity : vec_capacity l.initial.leaves ≤ vec_capacity l.leaves;
+  len : vec_len l.due_leaves ≤ vec_len l.initial.due_leaves + l.start;
+  capacity : vec_capacity l.initial.due_leaves ≤ vec_capacity l.due_leaves;
   comes : (s : Standing) (end : Standing) (v : World g.row.V-Note.Denot g.row.G.Denot) →
-      Comes g.V.BusView.told g.V.BusView.registry_of g.G.Gate.passes g.V.BusView.alone (leaving_by (part l.numbers l.start l.place) (drop l.place l.numbers) (record s { due_leaves = l.leaves.items })) l.self.world end v →
-      Comes g.V.BusView.told g.V.BusView.registry_of g.G.Gate.passes g.V.BusView.alone (leaving_by [] l.numbers (record s { due_leaves = l.initial.leaves.items })) l.initial.self.world end v;
+      Comes g.V.BusView.told g.V.BusView.registry_of g.G.Gate.passes g.V.BusView.alone (leaving_by (part l.numbers l.start l.place) (drop l.place l.numbers) (record s { due_leaves = l.due_leaves.items })) l.self.world end v →
+      Comes g.V.BusView.told g.V.BusView.registry_of g.G.Gate.passes g.V.BusView.alone (leaving_by [] l.numbers (record s { due_leaves = l.initial.due_leaves.items })) l.initial.self.world end v;
 }

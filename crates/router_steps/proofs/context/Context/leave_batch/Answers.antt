@@ -22,7 +22,7 @@ returns-in-Ok-clause-comes g c s =
     let registry_of = g.V.BusView.registry_of in
     let passes = g.G.Gate.passes in
     let alone = g.V.BusView.alone in
-    let kept : Standing = record s { due_leaves = c.args.leaves.now.items } in (
+    let kept : Standing = record s { due_leaves = c.args.due_leaves.now.items } in (
       Says c.in-Ok.outcomes.items,
       c.change_all.new.self.world,
       subst (λ (cs : List Change). ChangesAll alone cs c.args.self.now.world (Says c.in-Ok.outcomes.items) c.change_all.new.self.world) c.requires.leaves c.in-Ok.ensures.changes,

@@ -13,8 +13,8 @@ loop-number-preserved g c =
       len = omega arith;
       capacity = omega arith;
       comes = λ s end v later.
-          let before : Standing = record s { due_leaves = c.loop-number.leaves.items } in
-          let after : Standing = record s { due_leaves = c.leave.new.leaves.items } in
+          let before : Standing = record s { due_leaves = c.loop-number.due_leaves.items } in
+          let after : Standing = record s { due_leaves = c.leave.new.due_leaves.items } in
           c.loop-number.invariant.comes s end v
           (leaves_more g.V.BusView.told g.V.BusView.registry_of g.G.Gate.passes g.V.BusView.alone c.loop-number.self.world c.leave.new.self.world v numbers c.loop-number.number-index inside before after end (c.leave.ensures.comes s) later);
     }

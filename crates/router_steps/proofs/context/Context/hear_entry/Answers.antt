@@ -1,7 +1,7 @@
 use Rattle.std.proofs.lemmas.Result.{on_ok_weaker}
 use Rattle.router_core.specs.Events.{hearing}
 use Rattle.router_steps.proofs.Receiving.{for_one}
-use Rattle.router_steps.proofs.context.Context.hear_slot.Goals as goal
+use Rattle.router_steps.proofs.context.Context.hear_entry.Goals as goal
 
 pub returns-in-Some-clause-comes : goal.returns-in-Some-clause-comes
 returns-in-Some-clause-comes g c =
