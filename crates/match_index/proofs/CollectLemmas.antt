@@ -24,7 +24,7 @@ use Rattle.match_index.specs.Near.{is_near, near_rules}
 use Rattle.match_index.specs.PlaceIndexes.{places_in}
 use Rattle.match_index.specs.Sets.{AreRising, is_in, with_number}
 use Rattle.match_index.specs.declared.entries.Entry.{Entry}
-use Rattle.match_index.specs.declared.place_index.Place.{Place}
+use Rattle.match_index.specs.declared.place_index.KeyedPlace.{KeyedPlace}
 use Rattle.match_index.proofs.Lists.{each_weaker}
 use Rattle.match_index.proofs.NearLemmas.{fits_near, near_parts, shape_few}
 use Rattle.match_index.proofs.SetLemmas.{each_with, in_with, rising_with}
@@ -111,11 +111,11 @@ entries_at_positions k (e ∷ es) = by_test (has_key by_code k e) (flat_map-map 
     by_test false rest = rest
 
 -- one place more
-pub entries_more : (es : List Entry) (ps : List Place) (i : ℕ) (q : Place) (d : Entry) → i < length ps → (get_or ps i q).place < length es →
+pub entries_more : (es : List Entry) (ps : List KeyedPlace) (i : ℕ) (q : KeyedPlace) (d : Entry) → i < length ps → (get_or ps i q).place < length es →
     entries_at es (places_in (take (i + 1) ps)) ≡ entries_at es (places_in (take i ps)) ++ get_or es (get_or ps i q).place d ∷ []
 entries_more es ps i q d lt there =
     let p = get_or ps i q in
-    ap (λ qs. entries_at es (places_in qs)) (take_more ps i q lt) ∙ ap (entries_at es) (map-append (λ (x : Place). x.place) (take i ps) (p ∷ []))
+    ap (λ qs. entries_at es (places_in qs)) (take_more ps i q lt) ∙ ap (entries_at es) (map-append (λ (x : KeyedPlace). x.place) (take i ps) (p ∷ []))
     ∙ flat_map-append (entry_at es) (places_in (take i ps)) (p.place ∷ []) ∙ ap (λ xs. entries_at es (places_in (take i ps)) ++ xs) (append-nil (entry_at es p.place) ∙ entry_at_is es p.place d there)
 
 each_right : {X : Type 0} (P : X → Type 0) (xs ys : List X) → Each P (xs ++ ys) → Each P ys
@@ -123,7 +123,7 @@ each_right P [] ys h = h
 each_right P (x ∷ xs) ys h = each_right P xs ys h.1
 
 -- what holds of the entries at places holds of each
-pub each_entry : (P : Entry → Type 0) (es : List Entry) (ps : List Place) (i : ℕ) (q : Place) (d : Entry) → Each P (entries_at es (places_in ps)) → i < length ps → (get_or ps i q).place < length es → P (get_or es (get_or ps i q).place d)
+pub each_entry : (P : Entry → Type 0) (es : List Entry) (ps : List KeyedPlace) (i : ℕ) (q : KeyedPlace) (d : Entry) → Each P (entries_at es (places_in ps)) → i < length ps → (get_or ps i q).place < length es → P (get_or es (get_or ps i q).place d)
 each_entry P es [] i q d h lt there = absurd (omega (arith, lt))
 each_entry P es (p ∷ ps) zero q d h lt there = (subst (λ xs. Each P (xs ++ entries_at es (places_in ps))) (entry_at_is es p.place d there) h).0
 each_entry P es (p ∷ ps) (suc i) q d h lt there = each_entry P es ps i q d (each_right P (entry_at es p.place) (entries_at es (places_in ps)) h) (omega (arith, lt)) there

@@ -10,7 +10,7 @@ use Rattle.match_index.specs.Indexed.{OwnedRule, count_of, is_of, is_rule_of, ru
 use Rattle.match_index.specs.Entries.{Key, by_connection, has_key, has_rule, is_there, live, marked, new_places, owned_rule, positions, rule_at}
 use Rattle.match_index.specs.PlaceIndexes.{places_in}
 use Rattle.match_index.specs.declared.entries.Entry.{Entry}
-use Rattle.match_index.specs.declared.place_index.Place.{Place}
+use Rattle.match_index.specs.declared.place_index.KeyedPlace.{KeyedPlace}
 use Rattle.match_index.proofs.Lists.{first_place, list_any-map, one_done}
 
 -- ## The entry at a place
@@ -111,7 +111,7 @@ positions_within key c (e ∷ es) = by_test (has_key key c e) (each_suc (length 
     by_test true h = (omega arith, h)
     by_test false h = h
 
-pub each_place : (n : ℕ) (xs : List Place) → Each (λ k. k < n) (places_in xs) → Each (λ p. p.place < n) xs
+pub each_place : (n : ℕ) (xs : List KeyedPlace) → Each (λ k. k < n) (places_in xs) → Each (λ p. p.place < n) xs
 each_place n [] h = tt
 each_place n (x ∷ xs) h = (h.0, each_place n xs h.1)
 

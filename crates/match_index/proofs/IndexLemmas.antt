@@ -9,7 +9,7 @@ use Rattle.match_index.specs.Indexed.{OwnedRule, rules_without}
 use Rattle.match_index.specs.Indexes.{AreFiled, AreIndexed, AreShaped}
 use Rattle.match_index.specs.PlaceIndexes.{places_in, places_of}
 use Rattle.match_index.specs.declared.entries.Entry.{Entry}
-use Rattle.match_index.specs.declared.place_index.Place.{Place}
+use Rattle.match_index.specs.declared.place_index.KeyedPlace.{KeyedPlace}
 use Rattle.match_index.proofs.EntryLemmas.{IsAmong, IsNth, among, live_added, nth_position, position_added, positions_within, swept_live, swept_places, taken_all, taken_other, taken_own}
 use Rattle.match_index.proofs.Lists.{each_at, first_place, place_passes, position_is}
 
@@ -17,7 +17,7 @@ use Rattle.match_index.proofs.Lists.{each_at, first_place, place_passes, positio
 pub written_back : {X : Type 0} (n : ℕ) (xs ys : List X) → length ys ≡ n → take n (ys ++ drop (length ys) xs) ≡ ys
 written_back n xs ys size = take_at ys (drop (length ys) xs) n size
 
-pub place_at : (ps : List Place) (i : ℕ) (d : Place) → get_or (places_in ps) i d.place ≡ (get_or ps i d).place
+pub place_at : (ps : List KeyedPlace) (i : ℕ) (d : KeyedPlace) → get_or (places_in ps) i d.place ≡ (get_or ps i d).place
 place_at [] i d = refl
 place_at (p ∷ ps) zero d = refl
 place_at (p ∷ ps) (suc i) d = place_at ps i d
@@ -25,7 +25,7 @@ place_at (p ∷ ps) (suc i) d = place_at ps i d
 -- ## Where they are
 
 -- the others are where they were, and one key has other places
-changed : (key : Key) (n : ℕ) (ps qs : List Place) (es fs : List Entry) → ((k : ℕ) → places_of k ps ≡ positions key k es) → places_of n qs ≡ positions key n fs →
+changed : (key : Key) (n : ℕ) (ps qs : List KeyedPlace) (es fs : List Entry) → ((k : ℕ) → places_of k ps ≡ positions key k es) → places_of n qs ≡ positions key n fs →
     ((k : ℕ) → (n == k) ≡ false → places_of k qs ≡ places_of k ps) → ((k : ℕ) → (n == k) ≡ false → positions key k fs ≡ positions key k es) → (k : ℕ) → places_of k qs ≡ positions key k fs
 changed key n ps qs es fs placed own others same k = by_test (n == k) refl
   where
@@ -33,7 +33,7 @@ changed key n ps qs es fs placed own others same k = by_test (n == k) refl
     by_test true is = subst (λ c. places_of c qs ≡ positions key c fs) (eqb-true n k is) own
     by_test false is = others k is ∙ placed k ∙ sym (same k is)
 
-pub placed_added : (key : Key) (n : ℕ) (ps qs : List Place) (es : List Entry) (e : Entry) → ArePlaced key es ps → is_there e ≡ true → ((k : ℕ) → has_key key k e ≡ (n == k)) → places_of n qs ≡ places_of n ps ++ length es ∷ [] →
+pub placed_added : (key : Key) (n : ℕ) (ps qs : List KeyedPlace) (es : List Entry) (e : Entry) → ArePlaced key es ps → is_there e ≡ true → ((k : ℕ) → has_key key k e ≡ (n == k)) → places_of n qs ≡ places_of n ps ++ length es ∷ [] →
     ((k : ℕ) → (n == k) ≡ false → places_of k qs ≡ places_of k ps) → length qs ≡ length ps + 1 → ArePlaced key (es ++ e ∷ []) qs
 placed_added key n ps qs es e placed there its own others all =
     let behind : (k : ℕ) (b : Bool) → (n == k) ≡ b → positions key k (es ++ e ∷ []) ≡ positions key k es ++ (if b then length es ∷ [] else []) =
@@ -46,14 +46,14 @@ placed_added key n ps qs es e placed there its own others all =
           omega (arith, all, placed.all, more, two);
     }
 
-pub placed_taken : (key : Key) (n j p : ℕ) (ps qs : List Place) (es : List Entry) → ArePlaced key es ps → IsNth key n j es p → places_of n qs ≡ remove (places_of n ps) j → ((k : ℕ) → (n == k) ≡ false → places_of k qs ≡ places_of k ps) →
+pub placed_taken : (key : Key) (n j p : ℕ) (ps qs : List KeyedPlace) (es : List Entry) → ArePlaced key es ps → IsNth key n j es p → places_of n qs ≡ remove (places_of n ps) j → ((k : ℕ) → (n == k) ≡ false → places_of k qs ≡ places_of k ps) →
     length qs + 1 ≡ length ps → ArePlaced key (marked es p) qs
 placed_taken key n j p ps qs es placed nth own others all = record {
   places_are = changed key n ps qs es (marked es p) placed.places_are (own ∙ ap (λ ks. remove ks j) (placed.places_are n) ∙ sym (taken_own key n j es p nth)) others (λ k other. taken_other key k n j es p nth other);
   all = let less = taken_all key n j es p nth in omega (arith, all, placed.all, less);
 }
 
-pub placed_swept : (key : Key) (ps qs : List Place) (es : List Entry) → ArePlaced key es ps → ((k : ℕ) → places_of k qs ≡ map (λ place. get_or (new_places 0 es) place 0) (places_of k ps)) → length qs ≡ length ps → ArePlaced key (filter is_there es) qs
+pub placed_swept : (key : Key) (ps qs : List KeyedPlace) (es : List Entry) → ArePlaced key es ps → ((k : ℕ) → places_of k qs ≡ map (λ place. get_or (new_places 0 es) place 0) (places_of k ps)) → length qs ≡ length ps → ArePlaced key (filter is_there es) qs
 placed_swept key ps qs es placed places all = record {
   places_are = λ k. places k ∙ ap (map (λ place. get_or (new_places 0 es) place 0)) (placed.places_are k) ∙ swept_places key k es;
   all = all ∙ placed.all ∙ ap length (sym (swept_live es));
@@ -80,7 +80,7 @@ filed_swept (e ∷ es) h = by_test (is_there e) (filed_swept es h.1)
 
 -- ## All of them
 
-pub indexed_taken : (c j p k : ℕ) (es : List Entry) (cs codes ds others : List Place) → AreIndexed es cs codes → IsNth by_connection c j es p → (its : IsAmong by_code k es p) →
+pub indexed_taken : (c j p k : ℕ) (es : List Entry) (cs codes ds others : List KeyedPlace) → AreIndexed es cs codes → IsNth by_connection c j es p → (its : IsAmong by_code k es p) →
     places_of c ds ≡ remove (places_of c cs) j → ((x : ℕ) → (c == x) ≡ false → places_of x ds ≡ places_of x cs) → length ds + 1 ≡ length cs →
     places_of k others ≡ remove (places_of k codes) its.place → ((x : ℕ) → (k == x) ≡ false → places_of x others ≡ places_of x codes) → length others + 1 ≡ length codes →
     AreIndexed (marked es p) ds others
@@ -90,7 +90,7 @@ indexed_taken c j p k es cs codes ds others indexed nth its own_c other_c all_c 
   filed = filed_marked es p indexed.filed;
 }
 
-pub indexed_swept : (es : List Entry) (cs codes ds others : List Place) → AreIndexed es cs codes →
+pub indexed_swept : (es : List Entry) (cs codes ds others : List KeyedPlace) → AreIndexed es cs codes →
     ((k : ℕ) → places_of k ds ≡ map (λ place. get_or (new_places 0 es) place 0) (places_of k cs)) → length ds ≡ length cs →
     ((k : ℕ) → places_of k others ≡ map (λ place. get_or (new_places 0 es) place 0) (places_of k codes)) → length others ≡ length codes →
     AreIndexed (filter is_there es) ds others
@@ -117,14 +117,14 @@ chosen c n es d lt =
       below = each_at (λ k. k < length es) (positions by_connection c es) n 0 (positions_within by_connection c es) lt;
     }
 
-pub chosen_place : (c n : ℕ) (es : List Entry) (cs codes ps : List Place) (d : Place) → AreIndexed es cs codes → places_in ps ≡ places_of c cs → d.place ≡ 0 → (get_or ps n d).place ≡ get_or (positions by_connection c es) n 0
+pub chosen_place : (c n : ℕ) (es : List Entry) (cs codes ps : List KeyedPlace) (d : KeyedPlace) → AreIndexed es cs codes → places_in ps ≡ places_of c cs → d.place ≡ 0 → (get_or ps n d).place ≡ get_or (positions by_connection c es) n 0
 chosen_place c n es cs codes ps d indexed is none = sym (place_at ps n d) ∙ ap (get_or (places_in ps) n) none ∙ ap (λ ks. get_or ks n 0) (is ∙ indexed.owned.places_are c)
 
 -- its number among the places of its bucket
-pub chosen_number : (k p m : ℕ) (es : List Entry) (cs codes : List Place) → AreIndexed es cs codes → (its : IsAmong by_code k es p) → ((i : ℕ) → position (λ q. q == p) (places_of k codes) ≡ Some i → m ≡ i) → m ≡ its.place
+pub chosen_number : (k p m : ℕ) (es : List Entry) (cs codes : List KeyedPlace) → AreIndexed es cs codes → (its : IsAmong by_code k es p) → ((i : ℕ) → position (λ q. q == p) (places_of k codes) ≡ Some i → m ≡ i) → m ≡ its.place
 chosen_number k p m es cs codes indexed its given = given its.place (position_is (λ q. q == p) (places_of k codes) ∙ ap (first_place (λ q. q == p)) (indexed.coded.places_are k) ∙ its.found)
 
-pub number_below : (k p m : ℕ) (es : List Entry) (cs codes : List Place) → AreIndexed es cs codes → (its : IsAmong by_code k es p) → m ≡ its.place → m < length (places_of k codes)
+pub number_below : (k p m : ℕ) (es : List Entry) (cs codes : List KeyedPlace) → AreIndexed es cs codes → (its : IsAmong by_code k es p) → m ≡ its.place → m < length (places_of k codes)
 number_below k p m es cs codes indexed its is =
     let below = (place_passes (λ q. q == p) (positions by_code k es) its.place its.found).0 in
     let same = ap length (indexed.coded.places_are k) in

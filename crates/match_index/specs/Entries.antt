@@ -4,7 +4,7 @@ use Rattle.match_rules.specs.Rules.{Rule, same_rule}
 use Rattle.match_index.specs.Indexed.{OwnedRule}
 use Rattle.match_index.specs.PlaceIndexes.{places_of}
 use Rattle.match_index.specs.declared.entries.Entry.{Entry}
-use Rattle.match_index.specs.declared.place_index.Place.{Place}
+use Rattle.match_index.specs.declared.place_index.KeyedPlace.{KeyedPlace}
 
 abbrev pub owned_rule : Entry → OwnedRule
 owned_rule e = record { connection = e.connection; rule = e.rule }
@@ -59,6 +59,6 @@ new_places n [] = []
 new_places n (e ∷ entries) = n ∷ new_places (if e.is_gone then n else suc n) entries
 
 -- an index by a key has the place of each rule that is there, and no other
-pub record ArePlaced (key : Key) (entries : List Entry) (places : List Place) : Type 0 where
+pub record ArePlaced (key : Key) (entries : List Entry) (places : List KeyedPlace) : Type 0 where
   pub places_are : (k : ℕ) → places_of k places ≡ positions key k entries
   pub all : length places ≡ length (live entries)

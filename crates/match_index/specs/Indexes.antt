@@ -6,7 +6,7 @@ use Rattle.match_index.specs.Entries.{ArePlaced, by_code, by_connection, live}
 use Rattle.match_index.specs.Indexed.{max_rules}
 use Rattle.match_index.specs.PlaceIndexes.{PlacesInRoom}
 use Rattle.match_index.specs.declared.entries.Entry.{Entry}
-use Rattle.match_index.specs.declared.place_index.Place.{Place}
+use Rattle.match_index.specs.declared.place_index.KeyedPlace.{KeyedPlace}
 
 -- as many rules that are gone may stand there as rules, and so many more
 abbrev pub max_gone : ℕ
@@ -21,7 +21,7 @@ abbrev pub AreShaped : List Bool → List Entry → Type 0
 AreShaped shapes entries = AllByRecursion (λ e. slice_index_or shapes e.bucket.shape false ≡ true) entries
 
 -- the rules that are there are found by their connections and by their buckets
-pub record AreIndexed (entries : List Entry) (connections codes : List Place) : Type 0 where
+pub record AreIndexed (entries : List Entry) (connections codes : List KeyedPlace) : Type 0 where
   pub owned : ArePlaced by_connection entries connections
   pub coded : ArePlaced by_code entries codes
   pub filed : AreFiled entries

@@ -1,7 +1,7 @@
 -- Where things stand, by a key of each.
 use Rattle.std.specs.Prelude.{◌≤◌, ◌==◌, ℕ, List, [], ◌∷◌, map, filter}
 use Rattle.std.specs.List.{AllByRecursion}
-use Rattle.match_index.specs.declared.place_index.Place.{Place}
+use Rattle.match_index.specs.declared.place_index.KeyedPlace.{KeyedPlace}
 
 abbrev pub Pairwise : {X : Type 0} → (X → X → Type 0) → List X → Type 0
 Pairwise R [] = Unit {0}
@@ -10,16 +10,16 @@ Pairwise R (x ∷ xs) = AllByRecursion (R x) xs × Pairwise R xs
 -- places, and how many have room
 pub record PlacesInRoom : Type 0 where
   pub room : ℕ
-  pub places : List Place
+  pub places : List KeyedPlace
 
-abbrev pub places_in : List Place → List ℕ
+abbrev pub places_in : List KeyedPlace → List ℕ
 places_in places = map (λ p. p.place) places
 
 -- those of a key, in order
-abbrev pub places_of : ℕ → List Place → List ℕ
+abbrev pub places_of : ℕ → List KeyedPlace → List ℕ
 places_of key places = places_in (filter (λ p. p.key == key) places)
 
-abbrev pub ByKey : List Place → Type 0
+abbrev pub ByKey : List KeyedPlace → Type 0
 ByKey places = Pairwise (λ a b. a.key ≤ b.key) places
 
 -- an index that has so much room

@@ -14,7 +14,7 @@ ghost use Rattle.match_index.specs.Sets.{AreRising, is_in};
 use crate::buckets::{Parts, SHAPES, is_near};
 use crate::conn_set::ConnSet;
 use crate::entries::Entry;
-use crate::place_index::{Place, PlaceIndex};
+use crate::place_index::{KeyedPlace, PlaceIndex};
 use crate::steps::Steps;
 use match_rules::laws::rules_are_read_again;
 use match_rules::{Facts, Owners};
@@ -58,7 +58,7 @@ pub(crate) fn collect<O: Owners, L: Ledger>(
 /// is found, its other rules are passed over. The sender has this unique name.
 pub(crate) fn collect_at<O: Owners, L: Ledger>(
     entries: &[Entry],
-    places: &[Place],
+    places: &[KeyedPlace],
     shape: usize,
     facts: &Facts<'_>,
     sender: &str,

@@ -5,7 +5,7 @@ ghost use Rattle.std.specs.List.{AllByRecursion, position};
 ghost use Rattle.match_index.specs.Entries.{has_rule, is_there, marked, new_places};
 
 use crate::buckets::Bucket;
-use crate::place_index::Place;
+use crate::place_index::KeyedPlace;
 use match_rules::Rule;
 
 /// A rule that a connection added.
@@ -20,7 +20,7 @@ pub(crate) struct Entry {
 }
 
 /// Which of these places is the first where a rule equal to this one stands.
-pub(crate) fn place_of(entries: &[Entry], places: &[Place], rule: &Rule) -> Option<usize>
+pub(crate) fn place_of(entries: &[Entry], places: &[KeyedPlace], rule: &Rule) -> Option<usize>
     ensures { result ≡ position (λ p. has_rule rule.now entries.now p.place) places.now }
 {
     places

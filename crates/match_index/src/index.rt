@@ -13,7 +13,7 @@ use crate::buckets::{SHAPES, bucket_of};
 use crate::collecting::collect;
 use crate::conn_set::ConnSet;
 use crate::entries::{Entry, place_of};
-use crate::place_index::{Place, PlaceIndex};
+use crate::place_index::{KeyedPlace, PlaceIndex};
 use crate::steps::Steps;
 use crate::tables::{MAX_GONE, sweep_if_due, take_out, take_out_all};
 use match_rules::{Facts, Owners, Rule};
@@ -247,7 +247,7 @@ fn copy_entries(entries: &mut Vec<Entry>, others: &[Entry])
 /// Rules of one connection, lent out of an index in order of arrival.
 #[derive(Clone, Copy)]
 pub struct RulesOf<'a> {
-    places: &'a [Place],
+    places: &'a [KeyedPlace],
     entries: &'a [Entry],
 }
 

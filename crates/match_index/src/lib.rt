@@ -39,5 +39,5 @@ mod tables;
 
 pub use conn_set::ConnSet;
 pub use index::{Index, RulesOf};
-pub use place_index::{Place, PlaceIndex};
+pub use place_index::{KeyedPlace, PlaceIndex};
 pub use steps::Steps;

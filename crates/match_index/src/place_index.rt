@@ -9,7 +9,7 @@ use std::marker::Model;
 
 /// The place of what has a key.
 #[derive(Clone, Copy, Drop)]
-pub struct Place {
+pub struct KeyedPlace {
     pub key: u64,
     pub place: usize,
 }
@@ -20,7 +20,7 @@ pub struct Place {
 #[derive(Drop)]
 pub struct PlaceIndex {
     room: usize,
-    places: Vec<Place>,
+    places: Vec<KeyedPlace>,
 }
 
 impl Model for PlaceIndex {
@@ -54,7 +54,7 @@ impl PlaceIndex {
     }
 
     /// The places of a key, in order.
-    pub fn of(&self, key: u64) -> &[Place]
+    pub fn of(&self, key: u64) -> &[KeyedPlace]
         ensures { places_in result.now ≡ places_of key self.now.places }
     {
         let places = self.places.as_slice();
@@ -81,7 +81,7 @@ impl PlaceIndex {
         ensures room { self.new.room ≡ self.old.room }
     {
         let end = end_of(self.places.as_slice(), key);
-        insert_reserved(&mut self.places, end, Place { key, place });
+        insert_reserved(&mut self.places, end, KeyedPlace { key, place });
     }
 
     /// One more place of a key, at this number among its others, counted from 0.
@@ -96,7 +96,7 @@ impl PlaceIndex {
         ensures room { self.new.room ≡ self.old.room }
     {
         let start = start_of(self.places.as_slice(), key);
-        insert_reserved(&mut self.places, start + n, Place { key, place });
+        insert_reserved(&mut self.places, start + n, KeyedPlace { key, place });
     }
 
     /// Takes out one of the places of a key, counted from 0.
@@ -137,7 +137,7 @@ impl PlaceIndex {
 }
 
 /// Which of these places is the first that is this one, or 0.
-fn number_in(places: &[Place], place: usize) -> usize
+fn number_in(places: &[KeyedPlace], place: usize) -> usize
     ensures { (n : ℕ) → position (λ p. p.place == place) places.now ≡ Some n → result ≡ n }
 {
     match position_in(places, place) {
@@ -146,7 +146,7 @@ fn number_in(places: &[Place], place: usize) -> usize
     }
 }
 
-fn position_in(places: &[Place], place: usize) -> Option<usize>
+fn position_in(places: &[KeyedPlace], place: usize) -> Option<usize>
     ensures { result ≡ position (λ p. p.place == place) places.now }
 {
     places.iter().position(|other| other.place == place)
@@ -160,7 +160,7 @@ fn next_place(moves: &[usize], place: usize) -> usize
 }
 
 /// Puts a place into an index, where there is room for it.
-fn insert_reserved(places: &mut Vec<Place>, at: usize, place: Place)
+fn insert_reserved(places: &mut Vec<KeyedPlace>, at: usize, place: KeyedPlace)
     requires there { at ≤ length places.old.items }
     requires has_room { length places.old.items < vec_capacity places.old }
     ensures items { places.new.items ≡ insert places.old.items at place }
@@ -170,7 +170,7 @@ fn insert_reserved(places: &mut Vec<Place>, at: usize, place: Place)
 }
 
 /// How many places come before those of a key.
-fn start_of(places: &[Place], key: u64) -> usize
+fn start_of(places: &[KeyedPlace], key: u64) -> usize
     requires { ByKey places.now }
     ensures bound { result ≤ length places.now }
     ensures before { AllByRecursion (λ p. p.key < key) (take result places.now) }
@@ -180,7 +180,7 @@ fn start_of(places: &[Place], key: u64) -> usize
 }
 
 /// How many places there are up to the last of a key.
-fn end_of(places: &[Place], key: u64) -> usize
+fn end_of(places: &[KeyedPlace], key: u64) -> usize
     requires { ByKey places.now }
     ensures bound { result ≤ length places.now }
     ensures before { AllByRecursion (λ p. p.key ≤ key) (take result places.now) }

@@ -7,7 +7,7 @@ use Rattle.std.proofs.lemmas.List.Sums.{sum_by-cons, sum_by-remove}
 use Rattle.names.specs.Texts.{Text, text_eq, text_lt}
 use Rattle.seq_bus_core.proofs.TextLemmas.{text_lt-trans, text_eq-true, text_lt-back, text_lt-other}
 use Rattle.match_index.specs.PlaceIndexes.{Pairwise, places_in, places_of}
-use Rattle.match_index.specs.declared.place_index.Place.{Place}
+use Rattle.match_index.specs.declared.place_index.KeyedPlace.{KeyedPlace}
 use Rattle.match_index.proofs.Lists.{each_weaker, pairs_inserted, pairs_removed, first_place, position_is}
 use Rattle.registry_core.specs.NameIndexes.{held, name_at, AreByName, AreSorted}
 
@@ -21,20 +21,20 @@ before_too a b name not_below below = by_test (text_eq a b) refl
     by_test true same = subst (λ t. text_lt t name ≡ true) (sym (text_eq-true a b same)) below
     by_test false other = text_lt-trans a b name (text_lt-other b a not_below other) below
 
-each_place : (P : ℕ → Type 0) (ps : List Place) → Each P (places_in ps) → Each (λ p. P p.place) ps
+each_place : (P : ℕ → Type 0) (ps : List KeyedPlace) → Each P (places_in ps) → Each (λ p. P p.place) ps
 each_place P [] h = tt
 each_place P (p ∷ ps) h = (h.0, each_place P ps h.1)
 
-pub pairs_of_places : (R : ℕ → ℕ → Type 0) (ps : List Place) → Pairwise R (places_in ps) → Pairwise (λ a b. R a.place b.place) ps
+pub pairs_of_places : (R : ℕ → ℕ → Type 0) (ps : List KeyedPlace) → Pairwise R (places_in ps) → Pairwise (λ a b. R a.place b.place) ps
 pairs_of_places R [] h = tt
 pairs_of_places R (p ∷ ps) h = (each_place (R p.place) ps h.0, pairs_of_places R ps h.1)
 
-pub before_number : (P : ℕ → Type 0) (ps : List Place) (n : ℕ) → Each (λ p. P p.place) (take n ps) → Each P (take n (places_in ps))
+pub before_number : (P : ℕ → Type 0) (ps : List KeyedPlace) (n : ℕ) → Each (λ p. P p.place) (take n ps) → Each P (take n (places_in ps))
 before_number P ps zero h = tt
 before_number P [] (suc n) h = tt
 before_number P (p ∷ ps) (suc n) h = (h.0, before_number P ps n h.1)
 
-pub behind_number : (P : ℕ → Type 0) (ps : List Place) (n : ℕ) → Each (λ p. P p.place) (drop n ps) → Each P (drop n (places_in ps))
+pub behind_number : (P : ℕ → Type 0) (ps : List KeyedPlace) (n : ℕ) → Each (λ p. P p.place) (drop n ps) → Each P (drop n (places_in ps))
 behind_number P [] zero h = tt
 behind_number P [] (suc n) h = tt
 behind_number P (p ∷ ps) zero h = (h.0, behind_number P ps zero h.1)
@@ -43,7 +43,7 @@ behind_number P (p ∷ ps) (suc n) h = behind_number P ps n h
 -- ## The order
 
 -- the names of one connection changed
-pub sorted_own : (names : List Text) (c : ℕ) (xs ys : List Place) → AreSorted names xs → AreByName names (places_of c ys) → ((k : ℕ) → (c == k) ≡ false → places_of k ys ≡ places_of k xs) → AreSorted names ys
+pub sorted_own : (names : List Text) (c : ℕ) (xs ys : List KeyedPlace) → AreSorted names xs → AreByName names (places_of c ys) → ((k : ℕ) → (c == k) ≡ false → places_of k ys ≡ places_of k xs) → AreSorted names ys
 sorted_own names c xs ys h its others k = by_test (c == k) refl
   where
     by_test : (t : Bool) → (c == k) ≡ t → AreByName names (places_of k ys)
@@ -97,12 +97,12 @@ by_name_renamed names id name (i ∷ ids) unused h = (each ids unused.1 h.0, by_
       each js others.1 k.1,
     )
 
-pub sorted_renamed : (names : List Text) (id : ℕ) (name : Text) (xs : List Place) → ((c : ℕ) → held c id xs ≡ 0) → AreSorted names xs → AreSorted (set names id name) xs
+pub sorted_renamed : (names : List Text) (id : ℕ) (name : Text) (xs : List KeyedPlace) → ((c : ℕ) → held c id xs ≡ 0) → AreSorted names xs → AreSorted (set names id name) xs
 sorted_renamed names id name xs unused h c = by_name_renamed names id name (places_of c xs) (unused_each id (places_of c xs) (unused c)) (h c)
 
 -- ## One name of a connection less
 
-pub held_less : (xs ys : List Place) (c n id : ℕ) → places_of c ys ≡ remove (places_of c xs) n → ((k : ℕ) → (c == k) ≡ false → places_of k ys ≡ places_of k xs) → n < length (places_of c xs) → get_or (places_of c xs) n 0 ≡ id → (k : ℕ) →
+pub held_less : (xs ys : List KeyedPlace) (c n id : ℕ) → places_of c ys ≡ remove (places_of c xs) n → ((k : ℕ) → (c == k) ≡ false → places_of k ys ≡ places_of k xs) → n < length (places_of c xs) → get_or (places_of c xs) n 0 ≡ id → (k : ℕ) →
     held k id ys + (if c == k then 1 else 0) ≡ held k id xs
 held_less xs ys c n id its others lt is k = by_test (c == k) refl
   where
@@ -114,7 +114,7 @@ held_less xs ys c n id its others lt is k = by_test (c == k) refl
         subst (λ m. held m id ys + 1 ≡ held m id xs) (eqb-true c k same) (omega (arith, fewer, whole, one))
     by_test false other = let same : held k id ys ≡ held k id xs = ap (times id) (others k other) in omega (arith, same)
 
-pub held_still : (xs ys : List Place) (c n id : ℕ) → places_of c ys ≡ remove (places_of c xs) n → ((k : ℕ) → (c == k) ≡ false → places_of k ys ≡ places_of k xs) → n < length (places_of c xs) → get_or (places_of c xs) n 0 ≡ id → (k i : ℕ) →
+pub held_still : (xs ys : List KeyedPlace) (c n id : ℕ) → places_of c ys ≡ remove (places_of c xs) n → ((k : ℕ) → (c == k) ≡ false → places_of k ys ≡ places_of k xs) → n < length (places_of c xs) → get_or (places_of c xs) n 0 ≡ id → (k i : ℕ) →
     (id == i) ≡ false → held k i ys ≡ held k i xs
 held_still xs ys c n id its others lt is k i differs = by_test (c == k) refl
   where

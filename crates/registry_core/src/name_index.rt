@@ -7,7 +7,7 @@ ghost use Rattle.owner_queues.specs.Queues.{is_in};
 ghost use Rattle.match_index.specs.PlaceIndexes.{places_in, places_of};
 ghost use Rattle.registry_core.specs.NameIndexes.{held, name_at, AreByName, AreSorted};
 
-use match_index::{Place, PlaceIndex};
+use match_index::{KeyedPlace, PlaceIndex};
 use names::BusName;
 use owner_queues::{Queue, QueuedOwner};
 use seq_bus_core::limits::{MAX_NAMES, MAX_QUEUED};
@@ -182,7 +182,7 @@ fn name_of(names: &[BusName], id: usize) -> &str
 }
 
 /// How many of the names of a connection come before this one.
-fn place_among(places: &[Place], names: &[BusName], name: &str) -> usize
+fn place_among(places: &[KeyedPlace], names: &[BusName], name: &str) -> usize
     requires { AreByName names.now (places_in places.now) }
     ensures bound { result ≤ length places.now }
     ensures before { AllByRecursion (λ id. text_lt (name_at names.now id) name.now

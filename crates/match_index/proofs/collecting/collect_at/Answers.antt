@@ -6,7 +6,7 @@ use Rattle.match_index.specs.Entries.{live}
 use Rattle.match_index.specs.PlaceIndexes.{places_in}
 use Rattle.match_index.specs.Sets.{is_in}
 use Rattle.match_index.specs.declared.entries.Entry.{Entry}
-use Rattle.match_index.specs.declared.place_index.Place.{Place}
+use Rattle.match_index.specs.declared.place_index.KeyedPlace.{KeyedPlace}
 use Rattle.match_index.proofs.CollectLemmas.{among_with, any_more, count_more, each_entry, entries_more, found_here, none_here, room_for, wanted_here}
 use Rattle.match_index.proofs.Lists.{each_at}
 use Rattle.match_index.proofs.SetLemmas.{in_with}
@@ -14,14 +14,14 @@ use Rattle.match_index.proofs.collecting.collect_at.Goals.{then-not-contains+the
 use Rattle.match_index.proofs.collecting.collect_at.Goals.{else-not-contains-via-then-not-contains+else-is_wanted, else-not-contains-via-else-not-contains}
 use Rattle.match_index.proofs.collecting.collect_at.Goals as goal
 
-nowhere : Place
+nowhere : KeyedPlace
 nowhere = record { key = 0; place = 0 }
 
 pub insert-requires : goal.insert-requires
 unfolding nowhere
 insert-requires g c = λ fresh.
     let es : List Entry = c.args.entries.now in
-    let ps : List Place = c.args.places.now in
+    let ps : List KeyedPlace = c.args.places.now in
     let e : Entry = c.index-entries-place.result in
     let i = c.loop-place.place-index in
     let there = each_at (λ p. p.place < length es) ps i nowhere c.requires.there c.loop-place-test.true in
@@ -37,7 +37,7 @@ loop-place-preserved g c =
     let facts = c.args.facts.now in
     let shape = c.args.shape in
     let es : List Entry = c.args.entries.now in
-    let ps : List Place = c.args.places.now in
+    let ps : List KeyedPlace = c.args.places.now in
     let e : Entry = c.index-entries-place.result in
     let i = c.loop-place.place-index in
     let done = entries_at es (places_in (take i ps)) in

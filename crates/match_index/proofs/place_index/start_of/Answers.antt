@@ -1,6 +1,6 @@
 use Rattle.std.proofs.Common.{rules, ◌≡◌, ◌<◌, ◌≤◌, nat_lt, true, false}
 use Rattle.std.proofs.lemmas.List.Sorted.{IsPartitionPoint-from_clause}
-use Rattle.match_index.specs.declared.place_index.Place.{Place}
+use Rattle.match_index.specs.declared.place_index.KeyedPlace.{KeyedPlace}
 use Rattle.match_index.proofs.PlaceIndexLemmas.{lower_too}
 use Rattle.match_index.proofs.Lists.{partitioned, before_place, behind_place, within_weaker, is_lt, not_lt}
 use Rattle.match_index.proofs.place_index.start_of.Goals as goal
@@ -11,7 +11,7 @@ returns-clause-before c =
     let number = c.args.key in
     let place = c.partition_point.result in
     before_place (λ h. h.key < number) entries place c.partition_point.ensures.bound
-    (within_weaker (λ (h : Place). nat_lt h.key number ≡ true) (λ h. h.key < number) (λ h k. is_lt h.key number k) entries 0 place
+    (within_weaker (λ (h : KeyedPlace). nat_lt h.key number ≡ true) (λ h. h.key < number) (λ h k. is_lt h.key number k) entries 0 place
     (IsPartitionPoint-from_clause (λ b. nat_lt b.key number) entries place c.partition_point.ensures.partitioned (partitioned (λ a b. a.key ≤ b.key) (λ b. nat_lt b.key number) (lower_too number) entries c.requires) (λ a r f k. search rules)).0)
 
 pub returns-clause-behind : goal.returns-clause-behind
@@ -20,5 +20,5 @@ returns-clause-behind c =
     let number = c.args.key in
     let place = c.partition_point.result in
     behind_place (λ h. number ≤ h.key) entries place
-    (within_weaker (λ (h : Place). nat_lt h.key number ≡ false) (λ h. number ≤ h.key) (λ h k. not_lt h.key number k) entries place _
+    (within_weaker (λ (h : KeyedPlace). nat_lt h.key number ≡ false) (λ h. number ≤ h.key) (λ h k. not_lt h.key number k) entries place _
     (IsPartitionPoint-from_clause (λ b. nat_lt b.key number) entries place c.partition_point.ensures.partitioned (partitioned (λ a b. a.key ≤ b.key) (λ b. nat_lt b.key number) (lower_too number) entries c.requires) (λ a r f k. search rules)).1)

@@ -4,14 +4,14 @@ use Rattle.match_index.specs.Entries.{by_code, by_connection, marked, positions}
 use Rattle.match_index.specs.Indexes.{AreIndexed}
 use Rattle.match_index.specs.PlaceIndexes.{places_of}
 use Rattle.match_index.specs.declared.entries.Entry.{Entry}
-use Rattle.match_index.specs.declared.place_index.Place.{Place}
+use Rattle.match_index.specs.declared.place_index.KeyedPlace.{KeyedPlace}
 use Rattle.match_index.proofs.EntryLemmas.{IsAmong, length_marked, positions_within}
 use Rattle.match_index.proofs.Lists.{each_at}
 use Rattle.match_index.proofs.IndexLemmas.{chosen, chosen_number, chosen_place, indexed_taken, number_below, written_back}
 use Rattle.match_index.proofs.tables.take_out.Goals.{After-mark}
 use Rattle.match_index.proofs.tables.take_out.Goals as goal
 
-nowhere : Place
+nowhere : KeyedPlace
 nowhere = record { key = 0; place = 0 }
 
 -- the place of the rule

@@ -4,13 +4,13 @@ use Rattle.match_index.specs.Entries.{by_connection, live, positions}
 use Rattle.match_index.specs.Indexed.{rules_without}
 use Rattle.match_index.specs.Indexes.{AreShaped}
 use Rattle.match_index.specs.declared.entries.Entry.{Entry}
-use Rattle.match_index.specs.declared.place_index.Place.{Place}
+use Rattle.match_index.specs.declared.place_index.KeyedPlace.{KeyedPlace}
 use Rattle.match_index.proofs.EntryLemmas.{length_marked, none_left, nth_position, others_stay, taken_own}
 use Rattle.match_index.proofs.IndexLemmas.{length_removed, shaped_marked}
 use Rattle.match_index.proofs.tables.take_out_all.Goals as goal
 
 -- how many rules the connection has
-counted : (c : ℕ) (ps : List Place) (ks : List ℕ) → Rattle.match_index.specs.PlaceIndexes.places_in ps ≡ ks → length ps ≡ length ks
+counted : (c : ℕ) (ps : List KeyedPlace) (ks : List ℕ) → Rattle.match_index.specs.PlaceIndexes.places_in ps ≡ ks → length ps ≡ length ks
 counted c ps ks is = sym (length-map ps (λ p. p.place)) ∙ ap length is
 
 pub take_out-requires-clause-there : goal.take_out-requires-clause-there

@@ -1,13 +1,13 @@
 use Rattle.std.proofs.Common.{rules, ◌≡◌, List, Bool, true, false}
 use Rattle.std.proofs.lemmas.List.Sorted.{IsPartitionPoint-from_clause}
 use Rattle.names.specs.Texts.{Text, text_lt}
-use Rattle.match_index.specs.declared.place_index.Place.{Place}
+use Rattle.match_index.specs.declared.place_index.KeyedPlace.{KeyedPlace}
 use Rattle.match_index.proofs.Lists.{partitioned, before_place, behind_place}
 use Rattle.registry_core.specs.NameIndexes.{name_at}
 use Rattle.registry_core.proofs.IndexLemmas.{before_too, before_number, behind_number, pairs_of_places}
 use Rattle.registry_core.proofs.name_index.place_among.Goals as goal
 
-abbrev comes_before : List Text → Text → Place → Bool
+abbrev comes_before : List Text → Text → KeyedPlace → Bool
 comes_before names name p = text_lt (name_at names p.place) name
 
 pub returns-clause-before : goal.returns-clause-before

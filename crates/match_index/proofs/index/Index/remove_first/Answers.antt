@@ -4,7 +4,7 @@ use Rattle.match_index.specs.Entries.{by_connection, has_rule, live, positions}
 use Rattle.match_index.specs.Indexed.{is_rule_of, without_first}
 use Rattle.match_index.specs.Indexes.{AreShaped}
 use Rattle.match_index.specs.declared.entries.Entry.{Entry}
-use Rattle.match_index.specs.declared.place_index.Place.{Place}
+use Rattle.match_index.specs.declared.place_index.KeyedPlace.{KeyedPlace}
 use Rattle.match_index.proofs.EntryLemmas.{first_place-map, length_marked, none_taken, nth_position, taken_all, taken_first}
 use Rattle.match_index.proofs.IndexLemmas.{shaped_marked}
 use Rattle.match_index.proofs.Lists.{first_place, place_passes, position_is}
@@ -17,9 +17,9 @@ found c =
     let entries : List Entry = c.self.inside.entries.items in
     let n = c.args.connection in
     let rule = c.args.rule.now in
-    let places : List Place = c.of-places.result.now in
-    let test : Place → Bool = λ p. has_rule rule entries p.place in
-    ap (first_place (has_rule rule entries)) (sym (c.of-places.ensures ∙ c.self.invariant.indexed.owned.places_are n)) ∙ first_place-map (has_rule rule entries) (λ (p : Place). p.place) places ∙ sym (position_is test places)
+    let places : List KeyedPlace = c.of-places.result.now in
+    let test : KeyedPlace → Bool = λ p. has_rule rule entries p.place in
+    ap (first_place (has_rule rule entries)) (sym (c.of-places.ensures ∙ c.self.invariant.indexed.owned.places_are n)) ∙ first_place-map (has_rule rule entries) (λ (p : KeyedPlace). p.place) places ∙ sym (position_is test places)
     ∙ ap (λ (es : List Entry). position (λ p. has_rule rule es p.place) places) (sym c.deref.ensures.value) ∙ sym c.place_of.ensures ∙ c.in-Some.is
 
 its_length : (c : In-Some) → c.in-Some.n < length (positions by_connection c.args.connection c.self.inside.entries.items)
@@ -65,9 +65,9 @@ returns-in_default c =
     let entries : List Entry = c.self.inside.entries.items in
     let n = c.args.connection in
     let rule = c.args.rule.now in
-    let places : List Place = c.of-places.result.now in
-    let test : Place → Bool = λ p. has_rule rule entries p.place in
+    let places : List KeyedPlace = c.of-places.result.now in
+    let test : KeyedPlace → Bool = λ p. has_rule rule entries p.place in
     let none : ◌≡◌ {A = Option ℕ} (first_place (has_rule rule entries) (positions by_connection n entries)) None =
-    ap (first_place (has_rule rule entries)) (sym (c.of-places.ensures ∙ c.self.invariant.indexed.owned.places_are n)) ∙ first_place-map (has_rule rule entries) (λ (p : Place). p.place) places ∙ sym (position_is test places)
+    ap (first_place (has_rule rule entries)) (sym (c.of-places.ensures ∙ c.self.invariant.indexed.owned.places_are n)) ∙ first_place-map (has_rule rule entries) (λ (p : KeyedPlace). p.place) places ∙ sym (position_is test places)
     ∙ ap (λ (es : List Entry). position (λ p. has_rule rule es p.place) places) (sym c.deref.ensures.value) ∙ sym c.place_of.ensures ∙ c.in_default.is in
     sym c.self.view_is ∙ sym (none_taken n rule entries none) ∙ ap (without_first (is_rule_of n rule)) c.self.view_is

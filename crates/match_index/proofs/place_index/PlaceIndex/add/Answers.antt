@@ -4,7 +4,7 @@ use Rattle.std.proofs.lemmas.Bool.{true≢false, eq-eqb}
 use Rattle.std.proofs.lemmas.List.{map-append}
 use Rattle.match_index.specs.PlaceIndexes.{places_in}
 use Rattle.match_index.specs.PlaceIndexes.{PlacesInRoom, ByKey, places_of}
-use Rattle.match_index.specs.declared.place_index.Place.{Place}
+use Rattle.match_index.specs.declared.place_index.KeyedPlace.{KeyedPlace}
 use Rattle.match_index.proofs.PlaceIndexLemmas.{own, added_own, added_other, sorted_added}
 use Rattle.match_index.proofs.place_index.PlaceIndex.add.Goals as goal
 
@@ -13,7 +13,7 @@ invariant_of-self c =
     let r = c.self.inside in
     let items = r.places.items in
     let end = c.end_of-end.result in
-    let new : Place = record { key = c.args.key; place = c.args.place } in
+    let new : KeyedPlace = record { key = c.args.key; place = c.args.place } in
     let enough : r.room ≤ vec_capacity r.places = c.self.invariant.has_room in
     let before : Each (λ p. p.key ≤ c.args.key) (take end items) = subst (λ ps. Each (λ p. p.key ≤ c.args.key) (take end ps)) c.as_slice.ensures.value c.end_of-end.ensures.before in
     let behind : Each (λ p. c.args.key < p.key) (drop end items) = subst (λ ps. Each (λ p. c.args.key < p.key) (drop end ps)) c.as_slice.ensures.value c.end_of-end.ensures.behind in
@@ -27,9 +27,9 @@ returns-clause-own c =
     let items = c.self.inside.places.items in
     let end = c.end_of-end.result in
     let n = c.args.key in
-    let new : Place = record { key = n; place = c.args.place } in
+    let new : KeyedPlace = record { key = n; place = c.args.place } in
     let behind : Each (λ p. n < p.key) (drop end items) = subst (λ ps. Each (λ p. n < p.key) (drop end ps)) c.as_slice.ensures.value c.end_of-end.ensures.behind in
-    ap (places_of n) c.insert_reserved.ensures.items ∙ ap places_in (added_own n end items new refl behind) ∙ map-append (λ (p : Place). p.place) (own n items) (new ∷ [])
+    ap (places_of n) c.insert_reserved.ensures.items ∙ ap places_in (added_own n end items new refl behind) ∙ map-append (λ (p : KeyedPlace). p.place) (own n items) (new ∷ [])
     ∙ ap (λ (x : PlacesInRoom). places_of n x.places ++ c.args.place ∷ []) c.self.view_is
 
 pub returns-clause-others : goal.returns-clause-others

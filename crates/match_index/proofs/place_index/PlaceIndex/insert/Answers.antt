@@ -3,19 +3,19 @@ use Rattle.std.specs.List.{AllByRecursion as Each}
 use Rattle.std.proofs.lemmas.Bool.{true≢false, eq-eqb}
 use Rattle.std.proofs.lemmas.List.{length-map}
 use Rattle.match_index.specs.PlaceIndexes.{PlacesInRoom, ByKey, places_in, places_of}
-use Rattle.match_index.specs.declared.place_index.Place.{Place}
+use Rattle.match_index.specs.declared.place_index.KeyedPlace.{KeyedPlace}
 use Rattle.match_index.proofs.PlaceIndexLemmas.{IsOwnPart, own, own_from, own_length, places_inserted, inserted_own, added_other, sorted_inserted}
 use Rattle.match_index.proofs.place_index.PlaceIndex.insert.Goals.{After-start_of-start}
 use Rattle.match_index.proofs.place_index.PlaceIndex.insert.Goals as goal
 
 -- the new place comes so far behind the start
-record IsAmong (n c start : ℕ) (places : List Place) : Type 0 where
+record IsAmong (n c start : ℕ) (places : List KeyedPlace) : Type 0 where
   high : ℕ
   part : IsOwnPart c places start high
   few : n ≤ length (own c places)
   there : start + n ≤ length places
 
-among : (n c start : ℕ) (places now low : List Place) → low ≡ places → places ≡ now → ByKey places → start ≤ length low → Each (λ p. p.key < c) (take start low) → Each (λ p. c ≤ p.key) (drop start low) → n ≤ length (places_of c now) →
+among : (n c start : ℕ) (places now low : List KeyedPlace) → low ≡ places → places ≡ now → ByKey places → start ≤ length low → Each (λ p. p.key < c) (take start low) → Each (λ p. c ≤ p.key) (drop start low) → n ≤ length (places_of c now) →
     IsAmong n c start places
 among n c start places now low low_is now_is sorted bound below not_below le =
     let from =
@@ -44,7 +44,7 @@ invariant_of-self c =
     let r = c.self.inside in
     let items = r.places.items in
     let start = c.start_of-start.result in
-    let new : Place = record { key = c.args.key; place = c.args.place } in
+    let new : KeyedPlace = record { key = c.args.key; place = c.args.place } in
     let it = at (goal.at.invariant_of-self c).After-start_of-start in
     let enough : r.room ≤ vec_capacity r.places = c.self.invariant.has_room in
     record {
@@ -56,7 +56,7 @@ pub returns-clause-own : goal.returns-clause-own
 returns-clause-own c =
     let items = c.self.inside.places.items in
     let start = c.start_of-start.result in
-    let new : Place = record { key = c.args.key; place = c.args.place } in
+    let new : KeyedPlace = record { key = c.args.key; place = c.args.place } in
     let it = at (goal.at.returns-clause-own c).After-start_of-start in
     ap (places_of c.args.key) c.insert_reserved.ensures.items ∙ ap places_in (inserted_own c.args.key c.args.n (start + c.args.n) items new start it.high it.part refl it.few refl)
     ∙ places_inserted c.args.n (own c.args.key items) new ∙ ap (λ (x : PlacesInRoom). insert (places_of c.args.key x.places) c.args.n c.args.place) c.self.view_is

@@ -3,19 +3,19 @@ use Rattle.std.specs.List.{AllByRecursion as Each}
 use Rattle.std.proofs.lemmas.List.{length-map}
 use Rattle.match_index.specs.PlaceIndexes.{places_in}
 use Rattle.match_index.specs.PlaceIndexes.{PlacesInRoom, ByKey, places_of}
-use Rattle.match_index.specs.declared.place_index.Place.{Place}
+use Rattle.match_index.specs.declared.place_index.KeyedPlace.{KeyedPlace}
 use Rattle.match_index.proofs.PlaceIndexLemmas.{IsOwnPart, own, own_from, own_length, places_removed, taken_own, taken_other, sorted_taken}
 use Rattle.match_index.proofs.place_index.PlaceIndex.take.Goals.{After-start_of-start}
 use Rattle.match_index.proofs.place_index.PlaceIndex.take.Goals as goal
 
 -- the place that is taken out stands so far behind the start
-record IsFound (n c start : ℕ) (places : List Place) : Type 0 where
+record IsFound (n c start : ℕ) (places : List KeyedPlace) : Type 0 where
   high : ℕ
   part : IsOwnPart c places start high
   its : n < length (own c places)
   there : start + n < length places
 
-found : (n c start : ℕ) (places now low : List Place) → low ≡ places → places ≡ now → ByKey places → start ≤ length low → Each (λ p. p.key < c) (take start low) → Each (λ p. c ≤ p.key) (drop start low) → n < length (places_of c now) →
+found : (n c start : ℕ) (places now low : List KeyedPlace) → low ≡ places → places ≡ now → ByKey places → start ≤ length low → Each (λ p. p.key < c) (take start low) → Each (λ p. c ≤ p.key) (drop start low) → n < length (places_of c now) →
     IsFound n c start places
 found n c start places now low low_is now_is sorted bound below not_below less =
     let from =
