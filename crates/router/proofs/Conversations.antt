@@ -12,7 +12,7 @@ use Rattle.sasl.proofs.Runs.{conversation_goes_on}
 use Rattle.sasl.proofs.Outcomes.{outcome, outcome_is}
 use Rattle.router_core.specs.declared.cause.CloseCause.TheVariants as cause
 use Rattle.router_core.specs.Deeds.{Deed, Writes, Closes}
-use Rattle.router_core.specs.Events.{Bytes, Stands, for_peer, fed, is_user, answering, conversed_to, hearing}
+use Rattle.router_core.specs.Events.{Bytes, Stands, for_peer, with_bytes, is_user, answering, conversed_to, hearing}
 use Rattle.router_core.specs.OneThread.{Readers, Rest, given, bytes_if, opening_of, written_to}
 use Rattle.router_core.specs.Scripts.{Gives, and_then}
 use Rattle.router_core.specs.Standing.{Stage, Authenticating, Unnamed, Closing, Peer, SpeaksDBus, peer_at, with_peer, conn_of, closing_peer}
@@ -204,11 +204,11 @@ module _ (readers : Readers) (key : ℕ) where
           alike (Closed fault) = ap (λ (stage : Stage). let x : Peer = record p { stage = Closing (conn_of stage); unread = [] } in x) (sym is)
 
       -- one that speaks D-Bus from then on, or was closed
-      quiet_after : (phase : Phase) (q : Peer) → SpeaksDBus q.stage → more.sent ≡ [] → fed second q q.stage ≡ peer_after setting p (joined said more) more.state.phase → Joins (writes key said.sent ++ closes key phase, peer_so r q)
+      quiet_after : (phase : Phase) (q : Peer) → SpeaksDBus q.stage → more.sent ≡ [] → with_bytes second q q.stage ≡ peer_after setting p (joined said more) more.state.phase → Joins (writes key said.sent ++ closes key phase, peer_so r q)
       quiet_after phase q begun none same =
           let speaks : IfSome (peer_at (peer_so r q).standing key) (λ x. SpeaksDBus x.stage) = subst (λ (o : Option Peer). IfSome o (λ x. SpeaksDBus x.stage)) (sym (there q)) begun in
-          let fed_so : rest_more second key (peer_so r q) ≡ peer_so r (fed second q q.stage) =
-          ap (λ (o : Option Peer). standing_so (peer_so r q) (with_peer (peer_so r q).standing key (more_if second key o))) (there q) ∙ over q (fed second q q.stage) in
+          let fed_so : rest_more second key (peer_so r q) ≡ peer_so r (with_bytes second q q.stage) =
+          ap (λ (o : Option Peer). standing_so (peer_so r q) (with_peer (peer_so r q).standing key (more_if second key o))) (there q) ∙ over q (with_bytes second q q.stage) in
           joins_by phase q [] (rest_more second key (peer_so r q)) (bytes_given readers second key (peer_so r q) speaks) (nothing_to_it ∙ ap to_it (sym none)) (fed_so ∙ ap (λ (x : Peer). peer_so r x) same)
 
       joins : (phase : Phase) → said.state.phase ≡ phase → Joins (writes key said.sent ++ closes key phase, peer_so r (peer_after setting p said phase))

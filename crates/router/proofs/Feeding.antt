@@ -28,7 +28,7 @@ use Rattle.router_core.specs.declared.fate.PeerFate.{PeerFate}
 use Rattle.router_core.specs.declared.fate.PeerFate.TheVariants as fate
 use Rattle.router_core.specs.Answers.{Heard, Says, Refuses, error_for}
 use Rattle.router_core.specs.Deeds.{Deed, Closes, Sends}
-use Rattle.router_core.specs.Events.{Bytes, Mail, Next, OfPeer, Stands, hearing, closing, fated, send, writing, for_entry, for_peer, fed, refuse, refuse_with, close_found, close_former, welcome, turn_away, after_hello_by, after_hello, serving_hello, serve_named, serve_at, read, next_at, coming_next, mail_found}
+use Rattle.router_core.specs.Events.{Bytes, Mail, Next, OfPeer, Stands, hearing, closing, after_serving, send, writing, for_entry, for_peer, with_bytes, refuse, refuse_with, close_found, close_former, welcome, turn_away, after_hello_by, after_hello, serving_hello, serve_named, serve_at, read, next_at, coming_next, mail_found}
 use Rattle.router_core.specs.Incoming.{Incoming, Waits, Whole, Faulty}
 use Rattle.router_core.specs.OneThread.{Readers, Rest, Course, alone, given, rest_of}
 use Rattle.router_core.specs.Scripts.{Script, Gives, Changing, ChangingAll, Asking, Routing, AskingPresence, Noting, Framing, Calling, Gating, Wanting, Requiring, Doing, Announcing, and_then, putting}
@@ -126,7 +126,7 @@ module _ {A : Type 0} (d : A) (f : A → A) (of_default : f d ≡ d) where
 
 module _ (piece : List ℕ) (key : ℕ) where
   abbrev pub more : Peer → Peer
-  more p = fed piece p p.stage
+  more p = with_bytes piece p p.stage
 
   abbrev pub more_if : Option Peer → Option Peer
   more_if None = None
@@ -157,7 +157,7 @@ module _ (piece : List ℕ) (key : ℕ) where
   slot_same slot None = refl
   slot_same slot (Some p) = by_stage p.stage
     where
-      by_stage : (stage : Stage) → has_slot slot (Some (fed piece p stage)) ≡ has_slot slot (Some p)
+      by_stage : (stage : Stage) → has_slot slot (Some (with_bytes piece p stage)) ≡ has_slot slot (Some p)
       by_stage (Authenticating setting state) = refl
       by_stage (Unnamed privileged) = refl
       by_stage (Named conn) = refl
@@ -167,26 +167,26 @@ module _ (piece : List ℕ) (key : ℕ) where
   conn_same slot number None = refl
   conn_same slot number (Some p) = by_stage p.stage
     where
-      by_stage : (stage : Stage) → is_conn slot number (Some (fed piece p stage)) ≡ is_conn slot number (Some p)
+      by_stage : (stage : Stage) → is_conn slot number (Some (with_bytes piece p stage)) ≡ is_conn slot number (Some p)
       by_stage (Authenticating setting state) = refl
       by_stage (Unnamed privileged) = refl
       by_stage (Named conn) = refl
       by_stage (Closing conn) = refl
 
-  stage_same : (p : Peer) (stage : Stage) → (fed piece p stage).stage ≡ p.stage
+  stage_same : (p : Peer) (stage : Stage) → (with_bytes piece p stage).stage ≡ p.stage
   stage_same p (Authenticating setting state) = refl
   stage_same p (Unnamed privileged) = refl
   stage_same p (Named conn) = refl
   stage_same p (Closing conn) = refl
 
-  serial_same : (p : Peer) (stage : Stage) → (fed piece p stage).serial ≡ p.serial
+  serial_same : (p : Peer) (stage : Stage) → (with_bytes piece p stage).serial ≡ p.serial
   serial_same p (Authenticating setting state) = refl
   serial_same p (Unnamed privileged) = refl
   serial_same p (Named conn) = refl
   serial_same p (Closing conn) = refl
 
   -- a connection that is closed lets go of all
-  closing_same : (p : Peer) (stage : Stage) → closing_peer (fed piece p stage) ≡ closing_peer p
+  closing_same : (p : Peer) (stage : Stage) → closing_peer (with_bytes piece p stage) ≡ closing_peer p
   closing_same p (Authenticating setting state) = refl
   closing_same p (Unnamed privileged) = refl
   closing_same p (Named conn) = refl
@@ -203,13 +203,13 @@ module _ (piece : List ℕ) (key : ℕ) where
   abbrev watching : Peer → Peer
   watching p = record p { watches = true }
 
-  watching_more : (p : Peer) (stage : Stage) → watching (fed piece p stage) ≡ fed piece (watching p) stage
+  watching_more : (p : Peer) (stage : Stage) → watching (with_bytes piece p stage) ≡ with_bytes piece (watching p) stage
   watching_more p (Authenticating setting state) = refl
   watching_more p (Unnamed privileged) = refl
   watching_more p (Named conn) = refl
   watching_more p (Closing conn) = refl
 
-  fated_natural : (k : ℕ) (fate : PeerFate) → Natural (fated k fate)
+  fated_natural : (k : ℕ) (fate : PeerFate) → Natural (after_serving k fate)
   fated_natural k fate.Stays p = refl
   fated_natural k fate.Watches p = ap (λ (q : Peer). let done : OfPeer = Gives q in done) (watching_more p p.stage)
   fated_natural k (fate.Closes why) p = closing_natural k why p
@@ -217,7 +217,7 @@ module _ (piece : List ℕ) (key : ℕ) where
   abbrev numbered : Peer → ℕ → Peer
   numbered p n = record p { serial = n }
 
-  numbered_more : (p : Peer) (n : ℕ) (stage : Stage) → numbered (fed piece p stage) n ≡ fed piece (numbered p n) stage
+  numbered_more : (p : Peer) (n : ℕ) (stage : Stage) → numbered (with_bytes piece p stage) n ≡ with_bytes piece (numbered p n) stage
   numbered_more p n (Authenticating setting state) = refl
   numbered_more p n (Unnamed privileged) = refl
   numbered_more p n (Named conn) = refl
@@ -265,10 +265,10 @@ module _ (piece : List ℕ) (key : ℕ) where
   turn_away_natural : (k : ℕ) (m : Message) → Natural (turn_away k m)
   turn_away_natural k m = then_natural (refuse_with k m LimitsExceeded) (closing k cause.LimitsExceeded) (refuse_with_natural k m LimitsExceeded) (closing_natural k cause.LimitsExceeded)
 
-  serve_natural : (k : ℕ) (m : Message) (conn : Conn) → Natural (λ p. and_then (serving m conn) (λ fate. fated k fate p))
+  serve_natural : (k : ℕ) (m : Message) (conn : Conn) → Natural (λ p. and_then (serving m conn) (λ fate. after_serving k fate p))
   serve_natural k m conn p =
-      after_same (serving m conn) (λ fate. fated k fate (more p)) (λ fate. seen_as more (fated k fate p)) (λ fate. fated_natural k fate p)
-      ∙ sym (and_then_assoc (serving m conn) (λ fate. fated k fate p) (λ q. Gives (more q)))
+      after_same (serving m conn) (λ fate. after_serving k fate (more p)) (λ fate. seen_as more (after_serving k fate p)) (λ fate. fated_natural k fate p)
+      ∙ sym (and_then_assoc (serving m conn) (λ fate. after_serving k fate p) (λ q. Gives (more q)))
 
   -- ## What is done for the connection of a key among all
 
@@ -322,7 +322,7 @@ module _ (piece : List ℕ) (key : ℕ) where
     named q conn = record q { stage = Named conn }
 
     named_more : (conn : Conn) → named (more p) conn ≡ more (named p conn)
-    named_more conn = ap (λ (stage : Stage). named (fed piece p stage) conn) unnamed
+    named_more conn = ap (λ (stage : Stage). named (with_bytes piece p stage) conn) unnamed
 
     welcome_more : (o : Outcome) (conn : Conn) (t : Standing) → welcome key m (more p) o conn (with_more t) ≡ seen_as with_more (welcome key m p o conn t)
     welcome_more o conn t =
@@ -371,7 +371,7 @@ module _ (piece : List ℕ) (key : ℕ) where
 
   -- ## The coming_next message
 
-  watches_same : (p : Peer) (stage : Stage) → (fed piece p stage).watches ≡ p.watches
+  watches_same : (p : Peer) (stage : Stage) → (with_bytes piece p stage).watches ≡ p.watches
   watches_same p (Authenticating setting state) = refl
   watches_same p (Unnamed privileged) = refl
   watches_same p (Named conn) = refl
@@ -379,7 +379,7 @@ module _ (piece : List ℕ) (key : ℕ) where
 
   named_serve : (s : Standing) (m : Message) (p : Peer) (conn : Conn) (watches : Bool) → serve_named (with_more s) key m (more p) conn watches ≡ seen_as with_more (serve_named s key m p conn watches)
   named_serve s m p conn true = here s (closing key cause.MonitorSent) (closing_natural key cause.MonitorSent) (Some p)
-  named_serve s m p conn false = here s (λ q. and_then (serving m conn) (λ fate. fated key fate q)) (serve_natural key m conn) (Some p)
+  named_serve s m p conn false = here s (λ q. and_then (serving m conn) (λ fate. after_serving key fate q)) (serve_natural key m conn) (Some p)
 
   pub serve_more : (s : Standing) (m : Message) (p : Peer) (stage : Stage) → p.stage ≡ stage → serve_at (with_more s) key m (more p) stage ≡ seen_as with_more (serve_at s key m p stage)
   serve_more s m p (Authenticating setting state) is = refl
@@ -415,7 +415,7 @@ module _ (readers : Readers) (piece : List ℕ) (key : ℕ) where
       heard : Peer → Stage → Stands
       heard p stage = and_then (and_then (hearing key piece p stage) (λ q. Gives (Some q))) (λ q. Gives (with_peer r.standing key q))
 
-      by_stage : (p : Peer) (stage : Stage) → SpeaksDBus stage → come_to readers r (heard p stage) ≡ ([], standing_so r (with_peer r.standing key (Some (fed piece p stage))))
+      by_stage : (p : Peer) (stage : Stage) → SpeaksDBus stage → come_to readers r (heard p stage) ≡ ([], standing_so r (with_peer r.standing key (Some (with_bytes piece p stage))))
       by_stage p (Authenticating setting state) begun = absurd begun
       by_stage p (Unnamed privileged) begun = refl
       by_stage p (Named conn) begun = refl
@@ -436,15 +436,15 @@ module _ (readers : Readers) (piece : List ℕ) (key : ℕ) where
     left_with q bytes = record q { unread = bytes }
 
     -- a stage at which bytes are taken
-    turn : (stage : Stage) → p.stage ≡ stage → fed piece p stage ≡ left_with p (p.unread ++ piece) → fed piece (left_with p rest) stage ≡ left_with p (rest ++ piece) →
+    turn : (stage : Stage) → p.stage ≡ stage → with_bytes piece p stage ≡ left_with p (p.unread ++ piece) → with_bytes piece (left_with p rest) stage ≡ left_with p (rest ++ piece) →
         readers.incoming p.unread ≡ Whole message rest → readers.incoming (p.unread ++ piece) ≡ Whole message (rest ++ piece) → (c : Course) →
         alone readers (read (with_more piece key s) key (more piece key p) (readers.incoming (more piece key p).unread)) c ≡ alone readers (seen_as (with_more piece key) (read s key p (readers.incoming p.unread))) c
     turn stage is grows left incoming later c =
         let s2 : Standing = with_more piece key s in
-        let grown : more piece key p ≡ left_with p (p.unread ++ piece) = ap (λ (st : Stage). fed piece p st) is ∙ grows in
+        let grown : more piece key p ≡ left_with p (p.unread ++ piece) = ap (λ (st : Stage). with_bytes piece p st) is ∙ grows in
         ap (λ (q : Peer). alone readers (read s2 key q (readers.incoming q.unread)) c) grown
         ∙ ap (λ (f : Incoming). alone readers (read s2 key (left_with p (p.unread ++ piece)) f) c) later
-        ∙ ap (λ (q : Peer). alone readers (serve_at s2 key (message_said message) q p.stage) c) (sym (ap (λ (st : Stage). fed piece (left_with p rest) st) is ∙ left))
+        ∙ ap (λ (q : Peer). alone readers (serve_at s2 key (message_said message) q p.stage) c) (sym (ap (λ (st : Stage). with_bytes piece (left_with p rest) st) is ∙ left))
         ∙ ap (λ (x : Stands). alone readers x c) (serve_more piece key s (message_said message) (left_with p rest) p.stage refl)
         ∙ ap (λ (f : Incoming). alone readers (seen_as (with_more piece key) (read s key p f)) c) (sym incoming)
 
@@ -522,7 +522,7 @@ module _ (readers : Readers) (key : ℕ) where
 -- ## Pieces
 
 module _ (key : ℕ) where
-  fed_joined : (first second : List ℕ) (p : Peer) (stage : Stage) → fed second (fed first p stage) stage ≡ fed (first ++ second) p stage
+  fed_joined : (first second : List ℕ) (p : Peer) (stage : Stage) → with_bytes second (with_bytes first p stage) stage ≡ with_bytes (first ++ second) p stage
   fed_joined first second p (Authenticating setting state) = ap (λ (bytes : List ℕ). let q : Peer = record p { unread = bytes } in q) (append_assoc p.unread first second)
   fed_joined first second p (Unnamed privileged) = ap (λ (bytes : List ℕ). let q : Peer = record p { unread = bytes } in q) (append_assoc p.unread first second)
   fed_joined first second p (Named conn) = ap (λ (bytes : List ℕ). let q : Peer = record p { unread = bytes } in q) (append_assoc p.unread first second)
@@ -532,7 +532,7 @@ module _ (key : ℕ) where
   more_joined first second None = refl
   more_joined first second (Some p) =
       ap (λ (q : Peer). Some q)
-      (ap (λ (stage : Stage). fed second (fed first p p.stage) stage) (stage_same first key p p.stage) ∙ fed_joined first second p p.stage)
+      (ap (λ (stage : Stage). with_bytes second (with_bytes first p p.stage) stage) (stage_same first key p p.stage) ∙ fed_joined first second p p.stage)
 
   pub pieces_joined : (first second : List ℕ) (r : Rest) → rest_more second key (rest_more first key r) ≡ rest_more (first ++ second) key r
   pieces_joined first second r =
@@ -543,7 +543,7 @@ module _ (key : ℕ) where
   more_nothing None = refl
   more_nothing (Some p) = ap (λ (q : Peer). Some q) (by_stage p.stage)
     where
-      by_stage : (stage : Stage) → fed [] p stage ≡ p
+      by_stage : (stage : Stage) → with_bytes [] p stage ≡ p
       by_stage (Authenticating setting state) = ap (λ (bytes : List ℕ). let q : Peer = record p { unread = bytes } in q) (append-nil p.unread)
       by_stage (Unnamed privileged) = ap (λ (bytes : List ℕ). let q : Peer = record p { unread = bytes } in q) (append-nil p.unread)
       by_stage (Named conn) = ap (λ (bytes : List ℕ). let q : Peer = record p { unread = bytes } in q) (append-nil p.unread)

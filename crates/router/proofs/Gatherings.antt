@@ -9,7 +9,7 @@ use Rattle.driver.specs.declared.call.Call.{Call}
 use Rattle.router_core.specs.declared.joint.Joint.{Joint}
 use Rattle.router_core.specs.declared.joint.RuleCall.{RuleCall}
 use Rattle.router_core.specs.Deeds.{GatedCall}
-use Rattle.router_core.specs.Events.{Gathered, apart, gathering, joined}
+use Rattle.router_core.specs.Events.{Gathered, apart, gathering, after_joining}
 use Rattle.router_core.specs.Scripts.{World, Comes, and_then}
 use Rattle.router_core.specs.Standing.{Peer, Standing, has_slot, peer_at, with_peer}
 use Rattle.router_core.specs.Together.{joining, rule_call}
@@ -79,7 +79,7 @@ module _ {N G : Type 0} (told : N → History) (registry_of : N → ℕ) (passes
     -- it is a call that may joining the others
     pub gathers_call : (conn : Conn) (message : List ℕ) (call : Call) → IsDue (due.Rule conn message call) old new →
         ((c : RuleCall) → rule_call (Ok call) ≡ Some c →
-        Comes told registry_of passes alone (and_then (joining (said message) conn c) (λ it. joined joints (with_peer s key new) (record { key = key; message = message; caller = conn; call = c }) it)) w end v) →
+        Comes told registry_of passes alone (and_then (joining (said message) conn c) (λ it. after_joining joints (with_peer s key new) (record { key = key; message = message; caller = conn; call = c }) it)) w end v) →
         Comes told registry_of passes alone (gathering joints s key (peer_at s key)) w end v
     gathers_call conn message call is served =
         subst (λ (o : Option Peer). Comes told registry_of passes alone (gathering joints s key o) w end v) (sym there) (of_slot old is)
@@ -88,6 +88,6 @@ module _ {N G : Type 0} (told : N → History) (registry_of : N → ℕ) (passes
         of_slot None is = absurd is
         of_slot (Some p) is =
             let reads = is_there (rule_call (Ok call)) is.8 in
-            let joins = λ (o : Option Peer). and_then (joining (said message) conn reads.0) (λ it. joined joints (with_peer s key o) (record { key = key; message = message; caller = conn; call = reads.0 }) it) in
+            let joins = λ (o : Option Peer). and_then (joining (said message) conn reads.0) (λ it. after_joining joints (with_peer s key o) (record { key = key; message = message; caller = conn; call = reads.0 }) it) in
             gathers_rule told registry_of passes alone joints s key p is.0 conn message call reads.0 w v end is.2 is.3 is.4 is.5 is.6 is.7 reads.1
             (subst (λ (o : Option Peer). Comes told registry_of passes alone (joins o) w end v) is.1 (served reads.0 reads.1))

@@ -26,7 +26,7 @@ use Rattle.router_core.specs.declared.fate.PeerFate.{PeerFate}
 use Rattle.router_core.specs.declared.fate.PeerFate.TheVariants as fate
 use Rattle.router_core.specs.Answers.{Heard, Says, Refuses, error_for}
 use Rattle.router_core.specs.Deeds.{GatedCall}
-use Rattle.router_core.specs.Events.{OfPeer, closing, fated, close_at, close_found, close_former, writing, for_entry, for_peer, hearing, answering, conversed_to, converse_if, refuse, refuse_with, turn_away, welcome, after_hello, after_hello_by, serving_hello, serve_named, serve_at, read, coming_next, next_at, after_check, checking_presence, checking_each}
+use Rattle.router_core.specs.Events.{OfPeer, closing, after_serving, close_at, close_found, close_former, writing, for_entry, for_peer, hearing, answering, conversed_to, converse_if, refuse, refuse_with, turn_away, welcome, after_hello, after_hello_by, serving_hello, serve_named, serve_at, read, coming_next, next_at, after_check, checking_presence, checking_each}
 use Rattle.router_core.specs.Incoming.{Incoming, Waits, Whole, Faulty}
 use Rattle.router_core.specs.Scripts.{Gives, Routing, Announcing, World, Comes, and_then}
 use Rattle.router_core.specs.Serving.{monitors_in, replying, serving}
@@ -296,7 +296,7 @@ module _ (slot key : ℕ) where
         q : Peer
         q = record p { stage = Named conn; unread = rest }
 
-        by_fate : (fate : PeerFate) → AllGive (λ r. HasNot (Some r)) (fated key fate q)
+        by_fate : (fate : PeerFate) → AllGive (λ r. HasNot (Some r)) (after_serving key fate q)
         by_fate fate.Stays = λ has. false≢true (sym isnt ∙ has)
         by_fate fate.Watches = λ has. false≢true (sym isnt ∙ has)
         by_fate (fate.Closes why) = λ has. false≢true has
@@ -304,8 +304,8 @@ module _ (slot key : ℕ) where
         if_watches : (watches : Bool) → AllGive NotBoth (serve_named s key m q conn watches)
         if_watches true = not_first s (Some (closing_peer q)) (λ has. false≢true has)
         if_watches false =
-            for_give s key q (λ r. and_then (serving m conn) (λ fate. fated key fate r)) (λ r. HasNot (Some r)) NotBoth (λ r hasnt. not_first s (Some r) hasnt)
-            (then_give (λ fate. Unit {0}) (λ r. HasNot (Some r)) (λ fate. fated key fate q) (λ fate done. by_fate fate) (serving m conn) (all_give (λ fate. Unit {0}) (λ fate. tt) (serving m conn)))
+            for_give s key q (λ r. and_then (serving m conn) (λ fate. after_serving key fate r)) (λ r. HasNot (Some r)) NotBoth (λ r hasnt. not_first s (Some r) hasnt)
+            (then_give (λ fate. Unit {0}) (λ r. HasNot (Some r)) (λ fate. after_serving key fate q) (λ fate done. by_fate fate) (serving m conn) (all_give (λ fate. Unit {0}) (λ fate. tt) (serving m conn)))
 
     reading : (p : Peer) (stage : Stage) → has_slot slot (Some (record p { stage = stage })) ≡ false → (incoming : Incoming) → AllGive NotBoth (read (standing_of (Some (record p { stage = stage }))) key (record p { stage = stage }) incoming)
     reading p stage isnt Waits = as_it_was (Some (record p { stage = stage })) isnt

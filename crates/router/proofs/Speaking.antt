@@ -18,12 +18,12 @@ use Rattle.router_core.specs.declared.cause.CloseCause.TheVariants as cause
 use Rattle.router_core.specs.declared.fate.PeerFate.{PeerFate}
 use Rattle.router_core.specs.declared.fate.PeerFate.TheVariants as fate
 use Rattle.router_core.specs.Answers.{Heard, Says, Refuses, error_for}
-use Rattle.router_core.specs.Events.{Mail, Next, OfPeer, fed, closing, fated, close_found, close_former, writing, for_entry, for_peer, refuse_with, turn_away, welcome, after_hello, after_hello_by, serving_hello, serve_named, serve_at, read, next_at, coming_next, mail_found}
+use Rattle.router_core.specs.Events.{Mail, Next, OfPeer, with_bytes, closing, after_serving, close_found, close_former, writing, for_entry, for_peer, refuse_with, turn_away, welcome, after_hello, after_hello_by, serving_hello, serve_named, serve_at, read, next_at, coming_next, mail_found}
 use Rattle.router_core.specs.Incoming.{Incoming, Waits, Whole, Faulty}
 use Rattle.router_core.specs.OneThread.{Readers, Rest, Course, alone, given}
 use Rattle.router_core.specs.Scripts.{Script, Gives, Changing, ChangingAll, Asking, Routing, AskingPresence, Noting, Framing, Calling, Gating, Wanting, Requiring, Doing, Announcing, and_then}
 use Rattle.router_core.specs.Serving.{replying, serving}
-use Rattle.router_core.specs.Standing.{Stage, Authenticating, Unnamed, Named, Closing, Peer, Standing, SpeaksDBus, first_stage, newcomer, opened, peer_at, with_peer, is_conn}
+use Rattle.router_core.specs.Standing.{Stage, Authenticating, Unnamed, Named, Closing, Peer, Standing, SpeaksDBus, first_stage, newcomer, with_newcomer, peer_at, with_peer, is_conn}
 use Rattle.router.proofs.Endings.{AllGive, then_give, all_give, weaker_give, if_give}
 use Rattle.router.proofs.Feeding.{more_if, peer_with_more, rest_more}
 use Rattle.router.proofs.Keeping.{IsLike, refusing}
@@ -106,7 +106,7 @@ module _ (key : ℕ) where
         of_it : (q : Peer) → ◌≡◌ {A = Option Peer} (Some p) (Some q) → Speaks q
         of_it q is = subst (λ (o : Option Peer). IfSome o Speaks) is begun
 
-    fated_speaks : (fate : PeerFate) (q : Peer) → Speaks q → AllGive Speaks (fated key fate q)
+    fated_speaks : (fate : PeerFate) (q : Peer) → Speaks q → AllGive Speaks (after_serving key fate q)
     fated_speaks fate.Stays q speaks = speaks
     fated_speaks fate.Watches q speaks = speaks
     fated_speaks (fate.Closes why) q speaks = tt
@@ -114,8 +114,8 @@ module _ (key : ℕ) where
     named_speaks : (s : Standing) (conn : Conn) (watches : Bool) → SpeaksAt key s → AllGive (SpeaksAt key) (serve_named s key m p conn watches)
     named_speaks s conn true speaks = closing_speaks s key (Some p) cause.MonitorSent speaks
     named_speaks s conn false speaks =
-        for_speaks s key (Some p) (λ q. and_then (serving m conn) (λ fate. fated key fate q)) speaks
-        (λ q is. then_give (λ fate. Unit {0}) Speaks (λ fate. fated key fate q) (λ fate done. fated_speaks fate q (subst (λ (o : Option Peer). IfSome o Speaks) is begun)) (serving m conn)
+        for_speaks s key (Some p) (λ q. and_then (serving m conn) (λ fate. after_serving key fate q)) speaks
+        (λ q is. then_give (λ fate. Unit {0}) Speaks (λ fate. after_serving key fate q) (λ fate done. fated_speaks fate q (subst (λ (o : Option Peer). IfSome o Speaks) is begun)) (serving m conn)
         (all_give (λ fate. Unit {0}) (λ fate. tt) (serving m conn)))
 
     serve_speaks : (s : Standing) (stage : Stage) → SpeaksAt key s → AllGive (SpeaksAt key) (serve_at s key m p stage)
@@ -173,7 +173,7 @@ module _ (readers : Readers) (key : ℕ) where
 
 -- ## Bytes, and a connection that comes
 
-more_stage : (piece : List ℕ) (p : Peer) (stage : Stage) → Speaks p → Speaks (fed piece p stage)
+more_stage : (piece : List ℕ) (p : Peer) (stage : Stage) → Speaks p → Speaks (with_bytes piece p stage)
 more_stage piece p (Authenticating setting state) begun = begun
 more_stage piece p (Unnamed privileged) begun = begun
 more_stage piece p (Named conn) begun = begun
@@ -187,7 +187,7 @@ more_speaks piece key r speaks = subst (λ (o : Option Peer). IfSome o Speaks) (
     of_peer (Some p) begun = more_stage piece p p.stage begun
 
 -- A connection that nobody challenges speaks D-Bus from its first byte on.
-pub comes_speaking : (s : Standing) (key : ℕ) → SpeaksAt key (opened s key None)
+pub comes_speaking : (s : Standing) (key : ℕ) → SpeaksAt key (with_newcomer s key None)
 comes_speaking s key = by_test (key == length s.peers) refl
   where
     new : Option Peer

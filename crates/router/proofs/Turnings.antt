@@ -20,10 +20,10 @@ use Rattle.bus_view.specs.declared.view.BusView.{Ghosts as BusView}
 use Rattle.router_core.specs.declared.gate.Gate.{Ghosts as Gate}
 use Rattle.router_core.specs.Answers.{Says}
 use Rattle.router_core.specs.Deeds.{GatedCall}
-use Rattle.router_core.specs.Events.{Gathered, Stands, answering_each, apart, done_at, done_for, done_in, fated, gathering, gather_at, apart_incoming, gather_incoming, gather_message, gathered, join_call, join_if, join_read, making_all, making_each, making_if, coming_next, parted, turning}
+use Rattle.router_core.specs.Events.{Gathered, Stands, answering_each, apart, done_at, done_for, done_in, after_serving, gathering, gather_at, apart_incoming, gather_incoming, gather_message, gathered, join_call, join_if, join_read, making_all, making_each, making_if, coming_next, after_joints, turning}
 use Rattle.router_core.specs.Incoming.{Incoming, Waits, Whole, Faulty, IsIncoming}
 use Rattle.router_core.specs.Scripts.{Changing, Wanting, World, Comes, and_then}
-use Rattle.router_core.specs.Serving.{Fated, made}
+use Rattle.router_core.specs.Serving.{OfFate, after_change}
 use Rattle.router_core.specs.Standing.{Stage, Authenticating, Unnamed, Named, Closing, Peer, Standing, peer_at, with_peer}
 use Rattle.router_core.specs.Together.{change_of_joint, may_join, rule_call}
 use Rattle.router_steps.specs.Quiet.{IsQuiet, IsQuietAt}
@@ -41,7 +41,7 @@ module _ {N G : Type 0} (told : N → History) (registry_of : N → ℕ) (passes
   -- ---- one connection
 
   -- nothing is done for one that has no name
-  pub does_nothing : (s : Standing) (key : ℕ) (work : Fated) (w : World N G) → is_named (peer_at s key) ≡ false → Comes told registry_of passes alone (done_for s key work) w s w
+  pub does_nothing : (s : Standing) (key : ℕ) (work : OfFate) (w : World N G) → is_named (peer_at s key) ≡ false → Comes told registry_of passes alone (done_for s key work) w s w
   does_nothing s key work w isnt = in_slot (peer_at s key) isnt
     where
       in_stage : (p : Peer) (stage : Stage) → is_named (Some (record p { stage = stage })) ≡ false → Comes told registry_of passes alone (done_in s key p stage work) w s w
@@ -58,20 +58,20 @@ module _ {N G : Type 0} (told : N → History) (registry_of : N → ℕ) (passes
 
   -- the change of the coming_next, then those of the rest
   pub makes_more : (joints : List Joint) (i : ℕ) (j : Joint) → i < length joints → j ≡ get_or joints i j → (before after end : Standing) (w m v : World N G) →
-      Comes told registry_of passes alone (done_for before j.key (Changing (change_of_joint j) (λ heard. made (said j.message) j.caller heard))) w after m →
+      Comes told registry_of passes alone (done_for before j.key (Changing (change_of_joint j) (λ heard. after_change (said j.message) j.caller heard))) w after m →
       Comes told registry_of passes alone (making_each (drop (i + 1) joints) after) m end v → Comes told registry_of passes alone (making_each (drop i joints) before) w end v
   makes_more joints i j inside is before after end w m v this later =
       subst (λ (js : List Joint). Comes told registry_of passes alone (making_each js before) w end v) (sym (drop_more joints i j inside ∙ ap (λ (x : Joint). x ∷ drop (i + 1) joints) (sym is)))
-      (comes_then told registry_of passes alone (λ (t : Standing). making_each (drop (i + 1) joints) t) after m end v later (done_for before j.key (Changing (change_of_joint j) (λ heard. made (said j.message) j.caller heard))) w this)
+      (comes_then told registry_of passes alone (λ (t : Standing). making_each (drop (i + 1) joints) t) after m end v later (done_for before j.key (Changing (change_of_joint j) (λ heard. after_change (said j.message) j.caller heard))) w this)
 
   -- the coming_next is answered, then the rest
   pub answers_more : (joints : List Joint) (i : ℕ) (j : Joint) (outcomes rest : List Outcome) (o : Outcome) → i < length joints → j ≡ get_or joints i j → outcomes ≡ o ∷ rest → (before after end : Standing) (w m v : World N G) →
-      Comes told registry_of passes alone (done_for before j.key (made (said j.message) j.caller (Says o))) w after m →
+      Comes told registry_of passes alone (done_for before j.key (after_change (said j.message) j.caller (Says o))) w after m →
       Comes told registry_of passes alone (answering_each (drop (i + 1) joints) rest after) m end v → Comes told registry_of passes alone (answering_each (drop i joints) outcomes before) w end v
   answers_more joints i j outcomes rest o inside is steps before after end w m v this later =
       subst (λ (os : List Outcome). Comes told registry_of passes alone (answering_each (drop i joints) os before) w end v) (sym steps)
       (subst (λ (js : List Joint). Comes told registry_of passes alone (answering_each js (o ∷ rest) before) w end v) (sym (drop_more joints i j inside ∙ ap (λ (x : Joint). x ∷ drop (i + 1) joints) (sym is)))
-      (comes_then told registry_of passes alone (λ (t : Standing). answering_each (drop (i + 1) joints) rest t) after m end v later (done_for before j.key (made (said j.message) j.caller (Says o))) w this))
+      (comes_then told registry_of passes alone (λ (t : Standing). answering_each (drop (i + 1) joints) rest t) after m end v later (done_for before j.key (after_change (said j.message) j.caller (Says o))) w this))
 
   -- nobody is left to be answered, or nothing to be told
   pub answers_past : (joints : List Joint) (i : ℕ) (outcomes rest : List Outcome) → length joints ≤ i → (s end : Standing) (w v : World N G) →
@@ -103,19 +103,19 @@ module _ {N G : Type 0} (told : N → History) (registry_of : N → ℕ) (passes
 
   -- the changes before it are made first
   pub parts_from : (joints : List Joint) (s t u : Standing) (work : Standing → Stands) (w m v : World N G) → Comes told registry_of passes alone (making_all joints s) w t m → Comes told registry_of passes alone (work t) m u v →
-      Comes told registry_of passes alone (parted joints s work) w (record { joints = []; standing = u; served = true }) v
-  parts_from joints s t u work w m v made later =
+      Comes told registry_of passes alone (after_joints joints s work) w (record { joints = []; standing = u; served = true }) v
+  parts_from joints s t u work w m v making later =
       let end : Gathered = record { joints = []; standing = u; served = true } in
       comes_then told registry_of passes alone (λ (x : Standing). and_then (work x) (λ (y : Standing). gathered [] y)) t m end v
       (comes_then told registry_of passes alone (λ (y : Standing). gathered [] y) u v end v (refl, refl) (work t) m later)
-      (making_all joints s) w made
+      (making_all joints s) w making
 
   pub serves_apart : {T E : Type 0} (r : Result T E) (joints left : List Joint) (key : ℕ) (s t u : Standing) (w m v : World N G) → left ≡ [] → Comes told registry_of passes alone (making_all joints s) w t m →
       OnOk r (Comes told registry_of passes alone (coming_next t key (peer_at t key)) m u v) → OnOk r (Comes told registry_of passes alone (apart joints s key) w (record { joints = left; standing = u; served = true }) v)
-  serves_apart (Err e) joints left key s t u w m v none made served = tt
-  serves_apart (Ok x) joints left key s t u w m v none made served =
+  serves_apart (Err e) joints left key s t u w m v none making served = tt
+  serves_apart (Ok x) joints left key s t u w m v none making served =
       subst (λ (js : List Joint). let end : Gathered = record { joints = js; standing = u; served = true } in Comes told registry_of passes alone (apart joints s key) w end v) (sym none)
-      (parts_from joints s t u (λ (y : Standing). coming_next y key (peer_at y key)) w m v made served)
+      (parts_from joints s t u (λ (y : Standing). coming_next y key (peer_at y key)) w m v making served)
 
   -- nothing is coming_next
   pub gathers_none : (joints : List Joint) (s : Standing) (key : ℕ) (p : Peer) (w : World N G) → IsQuiet p → Comes told registry_of passes alone (gathering joints s key (Some p)) w (record { joints = joints; standing = s; served = false }) w
@@ -186,8 +186,8 @@ module _ {N G : Type 0} (told : N → History) (registry_of : N → ℕ) (passes
   -- memory is refused before a later message: the turning ends
   pub turns_end : (keys : List ℕ) (i : ℕ) → i < length keys → (js : List Joint) (before end : Standing) (w v : World N G) → Comes told registry_of passes alone (making_all js before) w end v →
       Comes told registry_of passes alone (turning js (drop i keys) true before) w end v
-  turns_end keys i inside js before end w v made =
-      subst (λ ks. Comes told registry_of passes alone (turning js ks true before) w end v) (sym (drop_more keys i 0 inside)) (false, made)
+  turns_end keys i inside js before end w v making =
+      subst (λ ks. Comes told registry_of passes alone (turning js ks true before) w end v) (sym (drop_more keys i 0 inside)) (false, making)
 
 -- neither of two is
 pub neither : (a b : Bool) → (a || b) ≡ false → (a ≡ false) × (b ≡ false)
@@ -220,18 +220,18 @@ named_within peers key is =
 
 module _ {V N R G : Type 0} (view : BusView V N R) (gate : Gate G) where
   -- what is done for one that has a name
-  pub settles : (s : Standing) (key : ℕ) (work : Fated) (becomes : PeerFate) (old new : Option Peer) (w m v : World N G) → is_named old ≡ true → peer_at s key ≡ old → Comes view.told view.registry_of gate.passes view.alone work w becomes m →
+  pub settles : (s : Standing) (key : ℕ) (work : OfFate) (becomes : PeerFate) (old new : Option Peer) (w m v : World N G) → is_named old ≡ true → peer_at s key ≡ old → Comes view.told view.registry_of gate.passes view.alone work w becomes m →
       IsSettled view gate key becomes old m new v → Comes view.told view.registry_of gate.passes view.alone (done_for s key work) w (with_peer s key new) v
   settles s key work becomes None new w m v named there served settled = absurd settled
   settles s key work becomes (Some p) new w m v named there served settled =
       subst (λ (o : Option Peer). Comes view.told view.registry_of gate.passes view.alone (done_at s key o work) w (with_peer s key new) v) (sym there)
       (subst (λ (o : Option Peer). Comes view.told view.registry_of gate.passes view.alone (done_in s key p p.stage work) w (with_peer s key o) v) (sym settled.1) (in_stage p.stage named))
     where
-      done : Comes view.told view.registry_of gate.passes view.alone (and_then work (λ (f : PeerFate). fated key f p)) w settled.0 v
-      done = comes_then view.told view.registry_of gate.passes view.alone (λ (f : PeerFate). fated key f p) becomes m settled.0 v settled.2 work w served
+      done : Comes view.told view.registry_of gate.passes view.alone (and_then work (λ (f : PeerFate). after_serving key f p)) w settled.0 v
+      done = comes_then view.told view.registry_of gate.passes view.alone (λ (f : PeerFate). after_serving key f p) becomes m settled.0 v settled.2 work w served
 
       in_stage : (stage : Stage) → is_named (Some (record p { stage = stage })) ≡ true → Comes view.told view.registry_of gate.passes view.alone (done_in s key p stage work) w (with_peer s key (Some settled.0)) v
-      in_stage (Named conn) is = for_some view.told view.registry_of gate.passes view.alone s key p settled.0 (λ (x : Peer). and_then work (λ (f : PeerFate). fated key f x)) w v done
+      in_stage (Named conn) is = for_some view.told view.registry_of gate.passes view.alone s key p settled.0 (λ (x : Peer). and_then work (λ (f : PeerFate). after_serving key f x)) w v done
       in_stage (Authenticating setting state) is = absurd (false≢true is)
       in_stage (Unnamed privileged) is = absurd (false≢true is)
       in_stage (Closing conn) is = absurd (false≢true is)
@@ -240,9 +240,9 @@ module _ {V N R G : Type 0} (view : BusView V N R) (gate : Gate G) where
   pub settled_keeps : (key : ℕ) (becomes : PeerFate) (old new : Option Peer) (w v : World N G) → IsSettled view gate key becomes old w new v → Keeps old new
   settled_keeps key becomes None new w v settled = absurd settled
   settled_keeps key becomes (Some p) new w v settled =
-      subst (λ (o : Option Peer). Keeps (Some p) o) (sym settled.1) (given view.told view.registry_of gate.passes view.alone (λ (q : Peer). Keeps (Some p) (Some q)) settled.0 v (fated key becomes p) w (by_fate becomes) settled.2)
+      subst (λ (o : Option Peer). Keeps (Some p) o) (sym settled.1) (given view.told view.registry_of gate.passes view.alone (λ (q : Peer). Keeps (Some p) (Some q)) settled.0 v (after_serving key becomes p) w (by_fate becomes) settled.2)
     where
-      by_fate : (f : PeerFate) → AllGive (λ (q : Peer). Keeps (Some p) (Some q)) (fated key f p)
+      by_fate : (f : PeerFate) → AllGive (λ (q : Peer). Keeps (Some p) (Some q)) (after_serving key f p)
       by_fate fate.Stays = λ slot has. has
       by_fate fate.Watches = λ slot has. has
       by_fate (fate.Closes why) = λ slot has. absurd (false≢true has)

@@ -1,7 +1,7 @@
 //! Connections that are gone.
 
 ghost use Rattle.std.specs.Prelude.{◌≡◌, ◌≢◌, ◌↔◌, [], IsTrue, None, slice_index_or, slice_set, OnOk, OnErr};
-ghost use Rattle.router_core.specs.Events.{closed, leaving};
+ghost use Rattle.router_core.specs.Events.{removing, leaving};
 ghost use Rattle.router_core.specs.Scripts.{RunsTo};
 ghost use Rattle.router_core.specs.Standing.{peer_at};
 
@@ -30,7 +30,7 @@ impl<V: BusView, G: Gate> Peers<V, G> {
     #[tactic(auto, using(crate::proofs::Slots::set_same))]
     pub fn close(&mut self, right: &V::Right, key: usize) -> Result<(), AllocError>
         ensures comes { OnOk result (RunsTo V.BusView G.Gate
-            (closed self.old.standing key (peer_at self.old.standing key))
+            (removing self.old.standing key (peer_at self.old.standing key))
             self.old.work.world self.new.standing self.new.work.world) }
         ensures err { OnErr result (self.new.standing ≡ self.old.standing) }
         ensures world { OnErr result (self.new.work.world ≡ self.old.work.world) }

@@ -4,7 +4,7 @@ ghost use Rattle.std.specs.Prelude.{◌≡◌, ◌↔◌, IsTrue, [], is_some, i
 ghost use Rattle.std.specs.List.{position_or_len};
 ghost use Rattle.router_core.specs.Events.{hearing, for_peer, free_key, IsFree};
 ghost use Rattle.router_core.specs.Scripts.{RunsTo};
-ghost use Rattle.router_core.specs.Standing.{first_stage, fresh, opened, peer_at};
+ghost use Rattle.router_core.specs.Standing.{first_stage, fresh, with_newcomer, peer_at};
 ghost use Rattle.router_steps.specs.Stages.{stage_of, IsFirst};
 
 use crate::login::Login;
@@ -171,7 +171,8 @@ impl<V: BusView, G: Gate> Peers<V, G> {
     #[tactic(auto, using(crate::proofs::Slots::free_within))]
     pub fn open(&mut self, key: usize, challenge: Option<[u8; 16]>) -> Result<(), AllocError>
         requires { IsFree self.old.standing key }
-        ensures ok { OnOk result (self.new.standing ≡ opened self.old.standing key challenge) }
+        ensures ok { OnOk result (self.new.standing
+            ≡ with_newcomer self.old.standing key challenge) }
         ensures err { OnErr result (self.new.standing ≡ self.old.standing) }
         ensures work { self.new.work ≡ self.old.work }
     {

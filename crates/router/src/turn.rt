@@ -5,9 +5,9 @@ ghost use Rattle.std.specs.List.{AllByRecursion};
 ghost use Rattle.seq_bus_core.specs.Batches.{IsBatch, max_batch};
 ghost use Rattle.message_core.specs.Said.{said};
 ghost use Rattle.router_core.specs.Answers.{Says};
-ghost use Rattle.router_core.specs.Events.{answering_each, apart, done_for, gathering, joined, making_all, making_each, making_if, turning};
+ghost use Rattle.router_core.specs.Events.{answering_each, apart, done_for, gathering, after_joining, making_all, making_each, making_if, turning};
 ghost use Rattle.router_core.specs.Scripts.{Changing, RunsTo, World, and_then};
-ghost use Rattle.router_core.specs.Serving.{Fated, made};
+ghost use Rattle.router_core.specs.Serving.{OfFate, after_change};
 ghost use Rattle.router_core.specs.Standing.{peer_at};
 ghost use Rattle.router_core.specs.Together.{change_of_joint, joining, rule_call};
 ghost use Rattle.router_core.specs.declared.joint.RuleCall.{RuleCall as Rule_call};
@@ -175,7 +175,7 @@ impl<V: BusView, G: Gate> Peers<V, G> {
     fn settle(&mut self, key: usize, fate: PeerFate)
         requires named { is_named (peer_at self.old.standing key) ≡ true }
         requires room { 0 < self.old.work.room }
-        ensures comes { (work : Fated) (w : World V.Note G) →
+        ensures comes { (work : OfFate) (w : World V.Note G) →
             RunsTo V.BusView G.Gate work w fate self.old.work.world →
             RunsTo V.BusView G.Gate (done_for self.old.standing key work)
             w self.new.standing self.new.work.world }
@@ -192,7 +192,7 @@ impl<V: BusView, G: Gate> Peers<V, G> {
         ensures comes { RunsTo V.BusView G.Gate
             (done_for self.old.standing joint.now.key
             (Changing (change_of_joint joint.now)
-            (λ heard. made (said joint.now.message) joint.now.caller heard)))
+            (λ heard. after_change (said joint.now.message) joint.now.caller heard)))
             self.old.work.world self.new.standing self.new.work.world }
         ensures room { self.old.work.room ≤ self.new.work.room + 2 }
         ensures spare_verdicts { self.old.work.spare_verdicts ≤ self.new.work.spare_verdicts + 1 }
@@ -211,7 +211,7 @@ impl<V: BusView, G: Gate> Peers<V, G> {
         requires alone { RepliesAlone outcome }
         ensures comes { RunsTo V.BusView G.Gate
             (done_for self.old.standing joint.now.key
-            (made (said joint.now.message) joint.now.caller (Says outcome)))
+            (after_change (said joint.now.message) joint.now.caller (Says outcome)))
             self.old.work.world self.new.standing self.new.work.world }
         ensures room { self.old.work.room ≤ self.new.work.room + 2 }
         ensures spare_verdicts { self.old.work.spare_verdicts ≤ self.new.work.spare_verdicts + 1 }
@@ -391,7 +391,7 @@ impl<V: BusView, G: Gate> Peers<V, G> {
         requires rule { is_some (rule_call (Ok call)) ≡ true }
         ensures comes { (c : Rule_call) → rule_call (Ok call) ≡ Some c →
             RunsTo V.BusView G.Gate (and_then (joining (said message) conn c)
-            (λ it. joined joints.old.items self.old.standing
+            (λ it. after_joining joints.old.items self.old.standing
             (record { key = key; message = message; caller = conn; call = c }) it))
             self.old.work.world (record {
               joints = joints.new.items;

@@ -8,7 +8,7 @@ use Rattle.outbox_core.specs.Contents.{Tells, Signals}
 use Rattle.outbox_core.specs.Deliveries.{deliveries_of}
 use Rattle.router_core.specs.declared.action.Action.{Action}
 use Rattle.router_core.specs.Acts.{Exchange, Changed, ChangedAll, Asked, Routed, AskedPresence, Noted, Framed, Called, Gated, Wanted, Goes, IsLawful, gated_in, world_of}
-use Rattle.router_core.specs.Deeds.{Deed, GatedCall, PassesAll, Puts, announced, announcement, put_of, put_to, AreDoneBy}
+use Rattle.router_core.specs.Deeds.{Deed, GatedCall, PassesAll, Puts, puts_of_signals, announcement, put_of, put_to, AreDoneBy}
 use Rattle.router_core.specs.Events.{script, occasion_of}
 use Rattle.bus_view.specs.declared.view.BusView.{Ghosts as BusView}
 use Rattle.router_core.specs.declared.gate.Gate.{Ghosts as Gate}
@@ -23,14 +23,14 @@ more_put : {N : Type 0} (note : Option N) (s : AddressedSignal) (conns : List Co
 more_put note s [] is actions later done = done
 more_put note s (conn ∷ conns) is actions later done = (Puts (conn ∷ conns) (Tells (Signals s.signal)), later, ap (λ (all : List Conn). Puts all (Tells (Signals s.signal))) is, done, refl)
 
-more_announced : {N : Type 0} (signals : List AddressedSignal) (note : Option N) (actions : List (Action N)) (later : List Deed) → AreDoneBy actions later → AreDoneBy (announcement signals note ++ actions) (announced signals ++ later)
+more_announced : {N : Type 0} (signals : List AddressedSignal) (note : Option N) (actions : List (Action N)) (later : List Deed) → AreDoneBy actions later → AreDoneBy (announcement signals note ++ actions) (puts_of_signals signals ++ later)
 more_announced [] carried actions later done = done
 more_announced {N = N} (s ∷ signals) carried actions later done =
     let first = put_of carried s (deliveries_of s.to s.monitors) in
     let put = put_to (deliveries_of s.to s.monitors) (Tells (Signals s.signal)) in
-    subst (λ (all : List (Action N)). AreDoneBy all ((put ++ announced signals) ++ later)) (sym (append_assoc first (announcement signals carried) actions))
-    (subst (λ (all : List Deed). AreDoneBy (first ++ (announcement signals carried ++ actions)) all) (sym (append_assoc put (announced signals) later))
-    (more_put carried s (deliveries_of s.to s.monitors) refl (announcement signals carried ++ actions) (announced signals ++ later) (more_announced signals carried actions later done)))
+    subst (λ (all : List (Action N)). AreDoneBy all ((put ++ puts_of_signals signals) ++ later)) (sym (append_assoc first (announcement signals carried) actions))
+    (subst (λ (all : List Deed). AreDoneBy (first ++ (announcement signals carried ++ actions)) all) (sym (append_assoc put (puts_of_signals signals) later))
+    (more_put carried s (deliveries_of s.to s.monitors) refl (announcement signals carried ++ actions) (puts_of_signals signals ++ later) (more_announced signals carried actions later done)))
 
 -- ## Scripts
 
@@ -217,7 +217,7 @@ listed {N = N} {G = G} told registry_of passes alone (Announcing signals s) w x 
     let l = listed told registry_of passes alone s p.0 x v p.2 in
     record {
       asked = l.asked;
-      deeds = announced signals ++ l.deeds;
+      deeds = puts_of_signals signals ++ l.deeds;
       actions = announcement signals p.1.note ++ l.actions;
       goes = (l.deeds, refl, l.goes);
       lawful = subst (λ (z : World N G). IsLawful alone z.view l.asked v.view) p.1.rest l.lawful;

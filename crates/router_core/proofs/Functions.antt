@@ -14,7 +14,7 @@ use Rattle.seq_bus_core.specs.declared.verdict.Verdict.{Verdict}
 use Rattle.bus_view.specs.Views.{Knowledge, bus_seen, next_entry, having_made, having_changed}
 use Rattle.router_core.specs.Acts.{Exchange, Changed, ChangedAll, Asked, Routed, AskedPresence, Wanted, Goes, IsLawful, IsGranted}
 use Rattle.router_core.specs.Answers.{Heard, Says, Refuses}
-use Rattle.router_core.specs.Deeds.{Deed, announced}
+use Rattle.router_core.specs.Deeds.{Deed, puts_of_signals}
 use Rattle.router_core.specs.Events.{script}
 use Rattle.router_core.specs.Laws.{OneThreadIsAFunction, BytesAreAFunction}
 use Rattle.router_core.specs.OneThread.{Readers, AreReadBy, Course, learning, doing, alone, given, rest_after, keys_after, written_to, bus_bytes}
@@ -135,8 +135,8 @@ module _ (readers : Readers) {X : Type 0} where
       record { result = here.result; view = here.view; done = here.done ∙ append_assoc w.deeds (deed ∷ []) p.0 })
   ends (Announcing signals s) asked deeds x k p =
       subst (λ ds. Goes_on (Announcing signals s) asked ds x k) (sym p.1) (λ w lawful granted read.
-      let here = ends s asked p.0 x k p.2 (doing w (announced signals)) lawful granted read in
-      record { result = here.result; view = here.view; done = here.done ∙ append_assoc w.deeds (announced signals) p.0 })
+      let here = ends s asked p.0 x k p.2 (doing w (puts_of_signals signals)) lawful granted read in
+      record { result = here.result; view = here.view; done = here.done ∙ append_assoc w.deeds (puts_of_signals signals) p.0 })
 
 pub one_thread_is_a_function : OneThreadIsAFunction
 one_thread_is_a_function readers before after occasion asked deeds served granted read =

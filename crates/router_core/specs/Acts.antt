@@ -16,7 +16,7 @@ use Rattle.router_core.specs.declared.action.Action.{Action}
 use Rattle.router_core.specs.declared.event.Event.{Event}
 use Rattle.router_core.specs.declared.gate.Gate.{Ghosts as Gate}
 use Rattle.router_core.specs.Answers.{Heard, Refuses, HearsChange, HearsChanges, HearsAnswer, HearsVerdict, HearsPresent}
-use Rattle.router_core.specs.Deeds.{Deed, GatedCall, PassesAll, announced, AreDoneBy}
+use Rattle.router_core.specs.Deeds.{Deed, GatedCall, PassesAll, puts_of_signals, AreDoneBy}
 use Rattle.router_core.specs.Events.{Occasion, occasion_of, script}
 use Rattle.router_core.specs.Incoming.{Incoming, IsIncoming}
 use Rattle.router_core.specs.Scripts.{Script, Gives, Changing, ChangingAll, Asking, Routing, AskingPresence, Noting, Framing, Calling, Gating, Wanting, Requiring, Doing, Announcing, World, Comes}
@@ -51,7 +51,7 @@ Goes (Gating call s) asked deeds x = (later : List Exchange) × (asked ≡ Gated
 Goes (Wanting goes_on) asked deeds x = (granted : Bool) × (later : List Exchange) × (asked ≡ Wanted granted ∷ later) × Goes (goes_on granted) later deeds x
 Goes (Requiring holds s) asked deeds x = (holds ≡ true) × Goes s asked deeds x
 Goes (Doing deed s) asked deeds x = (later : List Deed) × (deeds ≡ deed ∷ later) × Goes s asked later x
-Goes (Announcing signals s) asked deeds x = (later : List Deed) × (deeds ≡ announced signals ++ later) × Goes s asked later x
+Goes (Announcing signals s) asked deeds x = (later : List Deed) × (deeds ≡ puts_of_signals signals ++ later) × Goes s asked later x
 
 -- The bus may answer so, one after the other, from what the view knew before to what it knows then.
 abbrev pub IsLawful : Bool → Knowledge → List Exchange → Knowledge → Type 0

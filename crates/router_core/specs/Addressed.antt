@@ -9,7 +9,7 @@ pub record Addressed : Type 0 where
   pub to : List Conn
   pub monitors : List Conn
 
-abbrev pub addressed : Held → Addressed
-addressed (One conn) = record { to = conn ∷ []; monitors = [] }
-addressed (Shown verdict) = record { to = verdict.value.to; monitors = verdict.value.monitors }
-addressed (Told to monitors) = record { to = to; monitors = monitors }
+abbrev pub addressees_of : Held → Addressed
+addressees_of (One conn) = record { to = conn ∷ []; monitors = [] }
+addressees_of (Shown verdict) = record { to = verdict.value.to; monitors = verdict.value.monitors }
+addressees_of (Told to monitors) = record { to = to; monitors = monitors }

@@ -42,9 +42,9 @@ put_to [] said = []
 put_to (conn ∷ conns) said = Puts (conn ∷ conns) said ∷ []
 
 -- the signals of a change, in order
-abbrev pub announced : List AddressedSignal → List Deed
-announced [] = []
-announced (s ∷ signals) = put_to (deliveries_of s.to s.monitors) (Tells (Signals s.signal)) ++ announced signals
+abbrev pub puts_of_signals : List AddressedSignal → List Deed
+puts_of_signals [] = []
+puts_of_signals (s ∷ signals) = put_to (deliveries_of s.to s.monitors) (Tells (Signals s.signal)) ++ puts_of_signals signals
 
 -- ## What an action does
 

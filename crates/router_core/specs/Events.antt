@@ -43,9 +43,9 @@ use Rattle.router_core.specs.Answers.{Heard, Says, Refuses, error_for, is_final}
 use Rattle.router_core.specs.Deeds.{Writes, Sends, Closes, IsOwnNote}
 use Rattle.router_core.specs.Incoming.{Incoming, Waits, Whole, Faulty}
 use Rattle.router_core.specs.Scripts.{Script, Gives, Changing, ChangingAll, Routing, AskingPresence, Noting, Framing, Calling, Gating, Wanting, Requiring, Doing, Announcing, and_then, putting}
-use Rattle.router_core.specs.Serving.{Work, Fated, nothing, monitors_in, replying, made, failing_all, serving}
+use Rattle.router_core.specs.Serving.{Work, OfFate, nothing, monitors_in, replying, after_change, failing_all, serving}
 use Rattle.router_core.specs.Together.{Joining, Joins, Parts, change_of_joint, joining, may_join, rule_call}
-use Rattle.router_core.specs.Standing.{Stage, Authenticating, Unnamed, Named, Closing, Peer, Standing, peer_at, with_peer, opened, conn_of, next_serial, closing_peer, has_slot, is_conn}
+use Rattle.router_core.specs.Standing.{Stage, Authenticating, Unnamed, Named, Closing, Peer, Standing, peer_at, with_peer, with_newcomer, conn_of, next_serial, closing_peer, has_slot, is_conn}
 
 -- what happens, in the terms of the definitions; a note is there by the history that it tells
 pub data Occasion : Type 0 where
@@ -76,10 +76,10 @@ abbrev pub closing : ℕ → CloseCause → Peer → OfPeer
 closing key cause p = Doing (Closes key cause) (Gives (closing_peer p))
 
 -- what becomes of it once a message of it was served
-abbrev pub fated : ℕ → PeerFate → Peer → OfPeer
-fated key fate.Stays p = Gives p
-fated key fate.Watches p = Gives (record p { watches = true })
-fated key (fate.Closes cause) p = closing key cause p
+abbrev pub after_serving : ℕ → PeerFate → Peer → OfPeer
+after_serving key fate.Stays p = Gives p
+after_serving key fate.Watches p = Gives (record p { watches = true })
+after_serving key (fate.Closes cause) p = closing key cause p
 
 -- a message of the bus, numbered and written
 abbrev pub send : ℕ → Own → Peer → OfPeer
@@ -98,9 +98,9 @@ abbrev pub for_peer : Standing → ℕ → Option Peer → (Peer → OfPeer) →
 for_peer s key peer work = and_then (for_entry peer work) (λ q. Gives (with_peer s key q))
 
 -- bytes behind those that it sent; none once it was closed
-abbrev pub fed : List ℕ → Peer → Stage → Peer
-fed piece p (Closing conn) = p
-fed piece p stage = record p { unread = p.unread ++ piece }
+abbrev pub with_bytes : List ℕ → Peer → Stage → Peer
+with_bytes piece p (Closing conn) = p
+with_bytes piece p stage = record p { unread = p.unread ++ piece }
 
 -- ## Authentication
 
@@ -128,7 +128,7 @@ converse_if key setting said p false = closing key (cause.Unauthenticated NoMemo
 -- Bytes of a connection come. While it says who it is, each line that is whole by them is answered.
 abbrev pub hearing : ℕ → List ℕ → Peer → Stage → OfPeer
 hearing key piece p (Authenticating setting state) = Wanting (λ granted. converse_if key setting (conversed setting state [] (p.unread ++ piece)) p granted)
-hearing key piece p stage = Gives (fed piece p stage)
+hearing key piece p stage = Gives (with_bytes piece p stage)
 
 -- ## Hello
 
@@ -190,7 +190,7 @@ serving_hello s key m p privileged = Gating call.Hello (Changing (Hello privileg
 -- A monitor that sends is closed.
 abbrev pub serve_named : Standing → ℕ → Message → Peer → Conn → (watches : Bool) → Stands
 serve_named s key m p conn true = for_peer s key (Some p) (closing key cause.MonitorSent)
-serve_named s key m p conn false = for_peer s key (Some p) (λ q. and_then (serving m conn) (λ fate. fated key fate q))
+serve_named s key m p conn false = for_peer s key (Some p) (λ q. and_then (serving m conn) (λ fate. after_serving key fate q))
 
 abbrev pub serve_at : Standing → ℕ → Message → Peer → Stage → Stands
 serve_at s key m p (Authenticating setting state) = Gives s
@@ -215,37 +215,37 @@ coming_next s key (Some p) = next_at s key p p.stage
 -- ## Several messages, one after the other
 
 -- what is done for a message of the connection of a key, unless it was closed in the meantime
-abbrev pub done_in : Standing → ℕ → Peer → Stage → Fated → Stands
-done_in s key p (Named conn) work = for_peer s key (Some p) (λ q. and_then work (λ fate. fated key fate q))
+abbrev pub done_in : Standing → ℕ → Peer → Stage → OfFate → Stands
+done_in s key p (Named conn) work = for_peer s key (Some p) (λ q. and_then work (λ fate. after_serving key fate q))
 done_in s key p (Authenticating setting state) work = Gives s
 done_in s key p (Unnamed privileged) work = Gives s
 done_in s key p (Closing conn) work = Gives s
 
-abbrev pub done_at : Standing → ℕ → Option Peer → Fated → Stands
+abbrev pub done_at : Standing → ℕ → Option Peer → OfFate → Stands
 done_at s key None work = Gives s
 done_at s key (Some p) work = done_in s key p p.stage work
 
-abbrev pub done_for : Standing → ℕ → Fated → Stands
+abbrev pub done_for : Standing → ℕ → OfFate → Stands
 done_for s key work = done_at s key (peer_at s key) work
 
 -- the changes of calls that joined, each by itself
 abbrev pub making_each : List Joint → Standing → Stands
 making_each [] s = Gives s
-making_each (j ∷ joints) s = and_then (done_for s j.key (Changing (change_of_joint j) (λ heard. made (message_said j.message) j.caller heard))) (λ t. making_each joints t)
+making_each (j ∷ joints) s = and_then (done_for s j.key (Changing (change_of_joint j) (λ heard. after_change (message_said j.message) j.caller heard))) (λ t. making_each joints t)
 
 -- They were made together. Each call is answered, in order.
 abbrev pub answering_each : List Joint → List Outcome → Standing → Stands
 answering_each [] outcomes s = Gives s
 answering_each (j ∷ joints) [] s = Gives s
-answering_each (j ∷ joints) (o ∷ outcomes) s = and_then (done_for s j.key (made (message_said j.message) j.caller (Says o))) (λ t. answering_each joints outcomes t)
+answering_each (j ∷ joints) (o ∷ outcomes) s = and_then (done_for s j.key (after_change (message_said j.message) j.caller (Says o))) (λ t. answering_each joints outcomes t)
 
 -- What is refused together is asked for by itself.
-abbrev pub made_together : List Joint → Standing → Heard (List Outcome) → Stands
-made_together joints s (Says outcomes) = answering_each joints outcomes s
-made_together joints s (Refuses refusal) = making_each joints s
+abbrev pub after_changes : List Joint → Standing → Heard (List Outcome) → Stands
+after_changes joints s (Says outcomes) = answering_each joints outcomes s
+after_changes joints s (Refuses refusal) = making_each joints s
 
 abbrev pub making_if : List Joint → Standing → Bool → Stands
-making_if joints s true = ChangingAll (map change_of_joint joints) (λ heard. made_together joints s heard)
+making_if joints s true = ChangingAll (map change_of_joint joints) (λ heard. after_changes joints s heard)
 making_if joints s false = making_each joints s
 
 -- the changes of calls that joined, in one publication where they are several
@@ -269,22 +269,22 @@ abbrev pub none_gathered : List Joint → Standing → Script Gathered
 none_gathered joints s = Gives (record { joints = joints; standing = s; served = false })
 
 -- what is done for a message that does not join: the changes before it are made first
-abbrev pub parted : List Joint → Standing → (Standing → Stands) → Script Gathered
-parted joints s work = and_then (making_all joints s) (λ t. and_then (work t) (λ u. gathered [] u))
+abbrev pub after_joints : List Joint → Standing → (Standing → Stands) → Script Gathered
+after_joints joints s work = and_then (making_all joints s) (λ t. and_then (work t) (λ u. gathered [] u))
 
 -- it is served as any message is
 abbrev pub apart : List Joint → Standing → ℕ → Script Gathered
-apart joints s key = parted joints s (λ t. coming_next t key (peer_at t key))
+apart joints s key = after_joints joints s (λ t. coming_next t key (peer_at t key))
 
 -- The call has come to this before its change.
-abbrev pub joined : List Joint → Standing → Joint → Joining → Script Gathered
-joined joints s j Joins = gathered (joints ++ j ∷ []) s
-joined joints s j (Parts work) = parted joints s (λ t. done_for t j.key work)
+abbrev pub after_joining : List Joint → Standing → Joint → Joining → Script Gathered
+after_joining joints s j Joins = gathered (joints ++ j ∷ []) s
+after_joining joints s j (Parts work) = after_joints joints s (λ t. done_for t j.key work)
 
 abbrev pub join_call : List Joint → Standing → ℕ → (message : List ℕ) → Peer → Conn → RuleCall → Script Gathered
 join_call joints s key message p conn c =
     and_then (joining (message_said message) conn c)
-    (λ it. joined joints (with_peer s key (Some p)) (record { key = key; message = message; caller = conn; call = c }) it)
+    (λ it. after_joining joints (with_peer s key (Some p)) (record { key = key; message = message; caller = conn; call = c }) it)
 
 -- One that does not read well is served as any message is.
 abbrev pub join_read : List Joint → Standing → ℕ → (message : List ℕ) → Peer → Conn → Option RuleCall → Script Gathered
@@ -343,27 +343,27 @@ mail_found s said None = Gives s
 mail_found s said (Some key) = for_peer s key (peer_at s key) (writing key said)
 
 -- what came with a note is served once the note was taken
-abbrev pub noted : Option History → Stands → Stands
-noted None script = script
-noted (Some told) script = Noting told script
+abbrev pub after_note : Option History → Stands → Stands
+after_note None script = script
+after_note (Some told) script = Noting told script
 
 -- ## Leaves
 
 -- A Leave that was refused is made later.
-abbrev pub left : Standing → ℕ → Heard Outcome → Stands
-left s number (Says o) = Announcing o.signals (Gives s)
-left s number (Refuses refusal) = Gives (record s { due_leaves = s.due_leaves ++ number ∷ [] })
+abbrev pub after_leave : Standing → ℕ → Heard Outcome → Stands
+after_leave s number (Says o) = Announcing o.signals (Gives s)
+after_leave s number (Refuses refusal) = Gives (record s { due_leaves = s.due_leaves ++ number ∷ [] })
 
 abbrev pub leaving : Standing → ℕ → Stands
-leaving s number = Changing (Leave number) (λ heard. left s number heard)
+leaving s number = Changing (Leave number) (λ heard. after_leave s number heard)
 
 abbrev pub leaving_of : Standing → Option Conn → Stands
 leaving_of s None = Gives s
 leaving_of s (Some conn) = leaving s conn.number
 
-abbrev pub closed : Standing → ℕ → Option Peer → Stands
-closed s key None = Gives s
-closed s key (Some p) = leaving_of (with_peer s key None) (conn_of p.stage)
+abbrev pub removing : Standing → ℕ → Option Peer → Stands
+removing s key None = Gives s
+removing s key (Some p) = leaving_of (with_peer s key None) (conn_of p.stage)
 
 -- ## Time
 
@@ -378,12 +378,12 @@ announcing_all [] = nothing
 announcing_all (o ∷ outcomes) = Announcing o.signals (announcing_all outcomes)
 
 -- What is refused together is asked for by itself.
-abbrev pub left_together : Standing → List ℕ → Heard (List Outcome) → Stands
-left_together s numbers (Says outcomes) = and_then (announcing_all outcomes) (λ done. Gives s)
-left_together s numbers (Refuses refusal) = leaving_each numbers s
+abbrev pub after_leaves : Standing → List ℕ → Heard (List Outcome) → Stands
+after_leaves s numbers (Says outcomes) = and_then (announcing_all outcomes) (λ done. Gives s)
+after_leaves s numbers (Refuses refusal) = leaving_each numbers s
 
 abbrev pub leaving_if : Standing → List ℕ → Bool → Stands
-leaving_if s numbers true = ChangingAll (map Leave numbers) (λ heard. left_together s numbers heard)
+leaving_if s numbers true = ChangingAll (map Leave numbers) (λ heard. after_leaves s numbers heard)
 leaving_if s numbers false = leaving_each numbers s
 
 -- in one publication, if there are any
@@ -446,22 +446,22 @@ error_of_end (how.Program ending) = error_by ending
 error_of_end how.TimedOut = error.TimedOut
 
 -- Without memory for the change the end is refused, and comes back. Where the bus is lost nothing is done.
-abbrev pub ended : Standing → HowEnded → Heard Outcome → Stands
-ended s how (Refuses refusal) = Requiring (is_final refusal) (Gives s)
-ended s how (Says o) = Announcing o.signals (and_then (failing_all (error_of_end how) o.tickets) (λ done. Gives s))
+abbrev pub after_end : Standing → HowEnded → Heard Outcome → Stands
+after_end s how (Refuses refusal) = Requiring (is_final refusal) (Gives s)
+after_end s how (Says o) = Announcing o.signals (and_then (failing_all (error_of_end how) o.tickets) (λ done. Gives s))
 
 abbrev pub ending_child : Standing → StartEnd → Stands
-ending_child s e = Changing (change_of e) (λ heard. ended s e.how heard)
+ending_child s e = Changing (change_of e) (λ heard. after_end s e.how heard)
 
 -- ## Events
 
 abbrev pub script : Standing → Occasion → Stands
-script s (Opened key challenge) = Gives (opened s key challenge)
+script s (Opened key challenge) = Gives (with_newcomer s key challenge)
 script s (Bytes key piece) = for_peer s key (peer_at s key) (λ p. hearing key piece p p.stage)
 script s (Next key) = coming_next s key (peer_at s key)
 script s (Turn keys) = turning [] keys false s
-script s (Mail slot number told said) = noted told (mail_found s said (position (is_conn slot number) s.peers))
-script s (Closed key) = closed s key (peer_at s key)
+script s (Mail slot number told said) = after_note told (mail_found s said (position (is_conn slot number) s.peers))
+script s (Closed key) = removing s key (peer_at s key)
 script s (Full number) = leaving s number
 script s (Child e) = ending_child s e
 script s Tick = ticking s
@@ -475,7 +475,7 @@ occasion_of told (event.Turn keys) = Turn keys.items
 occasion_of told (event.Mail slot envelope) = Mail slot envelope.number (option_map told envelope.note) (said_of envelope.content)
 occasion_of told (event.Closed key) = Closed key
 occasion_of told (event.Full number) = Full number
-occasion_of told (event.Child ended) = Child ended.value
+occasion_of told (event.Child end) = Child end.value
 occasion_of told event.Tick = Tick
 
 -- ## What can happen

@@ -21,7 +21,7 @@ use Rattle.router_core.specs.Events.{Occasion, Bytes, Next, Turn, IsFree, hearin
 use Rattle.router_core.specs.OneThread.{Readers, Rest, given, rest_after, bus_bytes, AreReadBy, IsRun}
 use Rattle.router_core.specs.Scripts.{Gives, World, having_done, RunsTo}
 use Rattle.router_core.specs.Serving.{serving, is_unknown, stays_open}
-use Rattle.router_core.specs.Standing.{Authenticating, Unnamed, Named, Closing, Peer, Standing, peer_at, with_peer, opened, closing_peer, is_conn}
+use Rattle.router_core.specs.Standing.{Authenticating, Unnamed, Named, Closing, Peer, Standing, peer_at, with_peer, with_newcomer, closing_peer, is_conn}
 
 -- the bus closed the connection of this key, and it is not gone yet
 abbrev pub IsClosing : Standing → ℕ → Peer → Type 0
@@ -81,8 +81,8 @@ MonitorsSendNothing {N = N} {G = G} view gate = (s t : Standing) (key : ℕ) (m 
 
 -- The table of connections grows only where each of its keys has its connection, and then each has.
 abbrev pub OnlyFullTablesGrow : Type 0
-OnlyFullTablesGrow = (s : Standing) (key : ℕ) (challenge : Option (List ℕ)) → IsFree s key → length s.peers < length (opened s key challenge).peers →
-    count_by is_some (opened s key challenge).peers ≡ length (opened s key challenge).peers
+OnlyFullTablesGrow = (s : Standing) (key : ℕ) (challenge : Option (List ℕ)) → IsFree s key → length s.peers < length (with_newcomer s key challenge).peers →
+    count_by is_some (with_newcomer s key challenge).peers ≡ length (with_newcomer s key challenge).peers
 
 -- What an event brings it brings for some answers that the bus may give, one after the other, and the gate is shown the calls among
 -- them, each once.

@@ -12,7 +12,7 @@ use Rattle.driver.specs.Calls.{Reading}
 use Rattle.bus_view.specs.Views.{Knowledge, bus_seen, next_entry, having_made, having_changed}
 use Rattle.router_core.specs.Acts.{Exchange, Framed, Called, IsGranted, IsServedBy}
 use Rattle.router_core.specs.Answers.{Says}
-use Rattle.router_core.specs.Deeds.{Deed, Writes, Sends, announced}
+use Rattle.router_core.specs.Deeds.{Deed, Writes, Sends, puts_of_signals}
 use Rattle.router_core.specs.Events.{Occasion, Opened, script}
 use Rattle.router_core.specs.Incoming.{Incoming}
 use Rattle.router_core.specs.Scripts.{Script, Gives, Changing, ChangingAll, Asking, Routing, AskingPresence, Noting, Framing, Calling, Gating, Wanting, Requiring, Doing, Announcing}
@@ -61,7 +61,7 @@ alone readers (Gating call s) c = alone readers s c
 alone readers (Wanting goes_on) c = alone readers (goes_on true) c
 alone readers (Requiring holds s) c = alone readers s c
 alone readers (Doing deed s) c = alone readers s (doing c (deed ∷ []))
-alone readers (Announcing signals s) c = alone readers s (doing c (announced signals))
+alone readers (Announcing signals s) c = alone readers s (doing c (puts_of_signals signals))
 
 -- the connections, and what the view knows
 pub record Rest : Type 0 where

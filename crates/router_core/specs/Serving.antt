@@ -52,21 +52,21 @@ abbrev pub Work : Type 0
 Work = Script (Unit {0})
 
 -- what becomes of the connection once its message was served
-abbrev pub Fated : Type 0
-Fated = Script PeerFate
+abbrev pub OfFate : Type 0
+OfFate = Script PeerFate
 
 abbrev pub nothing : Work
 nothing = Gives tt
 
-abbrev pub stays_open : Fated
+abbrev pub stays_open : OfFate
 stays_open = Gives fate.Stays
 
 -- the bus closes the connection
-abbrev pub closes_for : CloseCause → Fated
+abbrev pub closes_for : CloseCause → OfFate
 closes_for cause = Gives (fate.Closes cause)
 
 -- a piece of work, after which the connection stays open
-abbrev pub and_stays : Work → Fated
+abbrev pub and_stays : Work → OfFate
 and_stays work = and_then work (λ done. stays_open)
 
 -- ## Messages of the bus
@@ -105,31 +105,31 @@ abbrev pub call_of_ticket : Ticket → ReplyTo
 call_of_ticket t = record { caller = Some t.caller.number; call = t.call.serial }
 
 -- StartServiceByName is answered 1: the service was started.
-abbrev pub started : Carried
-started = Number 1
+abbrev pub start_reply : Carried
+start_reply = Number 1
 
 -- Without memory the reply is dropped whole.
-abbrev pub started_if : Conn → ReplyTo → Bool → Work
-started_if caller call true = telling caller (Replies call started)
-started_if caller call false = nothing
+abbrev pub start_reply_if : Conn → ReplyTo → Bool → Work
+start_reply_if caller call true = telling caller (Replies call start_reply)
+start_reply_if caller call false = nothing
 
 -- A call that waited is delivered to the owner of the name; StartServiceByName is answered.
 abbrev pub releasing : Conn → Ticket → Option (List ℕ) → Work
 releasing owner t (Some bytes) = putting (owner ∷ []) (Relays bytes) nothing
-releasing owner t None = if ticket_wants_reply t then Wanting (λ granted. started_if t.caller (call_of_ticket t) granted) else nothing
+releasing owner t None = if ticket_wants_reply t then Wanting (λ granted. start_reply_if t.caller (call_of_ticket t) granted) else nothing
 
 abbrev pub releasing_all : Conn → List SettledTicket → Work
 releasing_all owner [] = nothing
 releasing_all owner (t ∷ tickets) = and_then (releasing owner t.ticket t.ticket.message) (λ done. releasing_all owner tickets)
 
 -- Without memory the error is dropped whole.
-abbrev pub failed_if : ErrorKind → Conn → ReplyTo → Bool → Work
-failed_if error caller call true = telling caller (Errs call error)
-failed_if error caller call false = nothing
+abbrev pub failing_if : ErrorKind → Conn → ReplyTo → Bool → Work
+failing_if error caller call true = telling caller (Errs call error)
+failing_if error caller call false = nothing
 
 -- A call that waited is answered why the service did not come.
 abbrev pub failing : ErrorKind → Ticket → Work
-failing error t = if ticket_wants_reply t then Wanting (λ granted. failed_if error t.caller (call_of_ticket t) granted) else nothing
+failing error t = if ticket_wants_reply t then Wanting (λ granted. failing_if error t.caller (call_of_ticket t) granted) else nothing
 
 abbrev pub failing_all : ErrorKind → List SettledTicket → Work
 failing_all error [] = nothing
@@ -163,20 +163,20 @@ request_of number (call.StartServiceByName name) = Ok (Starts name)
 request_of number (call.BecomeMonitor rules) = Ok (Watches rules)
 
 -- the answer to a call whose change was told so
-abbrev pub answer_told : Reply → Result Carried ErrorKind
-answer_told reply.Done = Ok Nothing
-answer_told (reply.OfQueue r) = Ok (Number (code_of r))
-answer_told reply.InvalidName = Err error.InvalidArgs
-answer_told reply.RuleNotFound = Err error.MatchRuleNotFound
-answer_told reply.LimitsExceeded = Err error.LimitsExceeded
-answer_told reply.ServiceUnknown = Err error.ServiceUnknown
-answer_told reply.AccessDenied = Err error.AccessDenied
-answer_told reply.AlreadyRunning = Ok (Number 2)
-answer_told reply.Gone = Err error.Failed
-answer_told (reply.Welcome conn) = Err error.Failed
-answer_told (reply.Held ticket) = Err error.Failed
-answer_told (reply.Pass owner) = Err error.Failed
-answer_told reply.Ignored = Err error.Failed
+abbrev pub answer_of_reply : Reply → Result Carried ErrorKind
+answer_of_reply reply.Done = Ok Nothing
+answer_of_reply (reply.OfQueue r) = Ok (Number (code_of r))
+answer_of_reply reply.InvalidName = Err error.InvalidArgs
+answer_of_reply reply.RuleNotFound = Err error.MatchRuleNotFound
+answer_of_reply reply.LimitsExceeded = Err error.LimitsExceeded
+answer_of_reply reply.ServiceUnknown = Err error.ServiceUnknown
+answer_of_reply reply.AccessDenied = Err error.AccessDenied
+answer_of_reply reply.AlreadyRunning = Ok (Number 2)
+answer_of_reply reply.Gone = Err error.Failed
+answer_of_reply (reply.Welcome conn) = Err error.Failed
+answer_of_reply (reply.Held ticket) = Err error.Failed
+answer_of_reply (reply.Pass owner) = Err error.Failed
+answer_of_reply reply.Ignored = Err error.Failed
 
 abbrev pub answering_with : Message → Conn → Result Carried ErrorKind → Work
 answering_with m caller (Ok carried) = replying m caller carried
@@ -184,28 +184,28 @@ answering_with m caller (Err error) = erring m caller error
 
 -- The signals come first, then the reply, then the calls that waited for the name.
 abbrev pub telling_change : Message → Conn → Outcome → Work
-telling_change m caller o = Announcing o.signals (and_then (answering_with m caller (answer_told o.reply)) (λ done. releasing_all caller o.tickets))
+telling_change m caller o = Announcing o.signals (and_then (answering_with m caller (answer_of_reply o.reply)) (λ done. releasing_all caller o.tickets))
 
 -- A change of a connection that left in the meantime is made by nobody: the connection is closed.
-abbrev pub made_by : Message → Conn → Outcome → Reply → Fated
-made_by m caller o reply.Gone = closes_for Left
-made_by m caller o reply.Done = and_stays (telling_change m caller o)
-made_by m caller o (reply.OfQueue r) = and_stays (telling_change m caller o)
-made_by m caller o reply.InvalidName = and_stays (telling_change m caller o)
-made_by m caller o reply.RuleNotFound = and_stays (telling_change m caller o)
-made_by m caller o reply.LimitsExceeded = and_stays (telling_change m caller o)
+abbrev pub after_change_by : Message → Conn → Outcome → Reply → OfFate
+after_change_by m caller o reply.Gone = closes_for Left
+after_change_by m caller o reply.Done = and_stays (telling_change m caller o)
+after_change_by m caller o (reply.OfQueue r) = and_stays (telling_change m caller o)
+after_change_by m caller o reply.InvalidName = and_stays (telling_change m caller o)
+after_change_by m caller o reply.RuleNotFound = and_stays (telling_change m caller o)
+after_change_by m caller o reply.LimitsExceeded = and_stays (telling_change m caller o)
 -- these are no replies to such a change
-made_by m caller o reply.ServiceUnknown = and_stays (telling_change m caller o)
-made_by m caller o reply.AccessDenied = and_stays (telling_change m caller o)
-made_by m caller o reply.AlreadyRunning = and_stays (telling_change m caller o)
-made_by m caller o (reply.Welcome conn) = and_stays (telling_change m caller o)
-made_by m caller o (reply.Held ticket) = and_stays (telling_change m caller o)
-made_by m caller o (reply.Pass owner) = and_stays (telling_change m caller o)
-made_by m caller o reply.Ignored = and_stays (telling_change m caller o)
+after_change_by m caller o reply.ServiceUnknown = and_stays (telling_change m caller o)
+after_change_by m caller o reply.AccessDenied = and_stays (telling_change m caller o)
+after_change_by m caller o reply.AlreadyRunning = and_stays (telling_change m caller o)
+after_change_by m caller o (reply.Welcome conn) = and_stays (telling_change m caller o)
+after_change_by m caller o (reply.Held ticket) = and_stays (telling_change m caller o)
+after_change_by m caller o (reply.Pass owner) = and_stays (telling_change m caller o)
+after_change_by m caller o reply.Ignored = and_stays (telling_change m caller o)
 
-abbrev pub made : Message → Conn → Heard Outcome → Fated
-made m caller (Refuses refusal) = and_stays (erring m caller (error_for refusal))
-made m caller (Says o) = made_by m caller o o.reply
+abbrev pub after_change : Message → Conn → Heard Outcome → OfFate
+after_change m caller (Refuses refusal) = and_stays (erring m caller (error_for refusal))
+after_change m caller (Says o) = after_change_by m caller o o.reply
 
 -- a start that is asked for
 abbrev pub running : Text → Option ℕ → Work
@@ -217,7 +217,7 @@ abbrev pub waiting_call : Message → CallHead
 waiting_call m = record { serial = m.serial; flags = m.flags }
 
 -- A call that waits is answered once its service runs, or does not.
-abbrev pub start_by : Message → Conn → Text → Outcome → Reply → Fated
+abbrev pub start_by : Message → Conn → Text → Outcome → Reply → OfFate
 start_by m caller name o reply.Gone = closes_for Left
 start_by m caller name o (reply.Held ticket) = and_stays (running name o.start)
 start_by m caller name o reply.AlreadyRunning = and_stays (replying m caller (Number 2))
@@ -233,16 +233,16 @@ start_by m caller name o (reply.Welcome conn) = and_stays (erring m caller error
 start_by m caller name o (reply.Pass owner) = and_stays (erring m caller error.Failed)
 start_by m caller name o reply.Ignored = and_stays (erring m caller error.Failed)
 
-abbrev pub start_told : Message → Conn → Text → Heard Outcome → Fated
-start_told m caller name (Refuses refusal) = and_stays (erring m caller (error_for refusal))
-start_told m caller name (Says o) = start_by m caller name o o.reply
+abbrev pub after_start : Message → Conn → Text → Heard Outcome → OfFate
+after_start m caller name (Refuses refusal) = and_stays (erring m caller (error_for refusal))
+after_start m caller name (Says o) = start_by m caller name o o.reply
 
-abbrev pub start_if : Message → Conn → Text → Bool → Fated
-start_if m caller name true = Changing (change.Start caller.number name (waiting_call m)) (λ heard. start_told m caller name heard)
+abbrev pub start_if : Message → Conn → Text → Bool → OfFate
+start_if m caller name true = Changing (change.Start caller.number name (waiting_call m)) (λ heard. after_start m caller name heard)
 start_if m caller name false = and_stays (erring m caller error.NoMemory)
 
 -- Whoever became a monitor is told so as one.
-abbrev pub watch_by : Message → Conn → Outcome → Reply → Fated
+abbrev pub watch_by : Message → Conn → Outcome → Reply → OfFate
 watch_by m caller o reply.Gone = closes_for Left
 watch_by m caller o reply.Done = and_then (telling_change m caller o) (λ done. Gives fate.Watches)
 watch_by m caller o reply.AccessDenied = and_stays (telling_change m caller o)
@@ -258,113 +258,113 @@ watch_by m caller o (reply.Held ticket) = and_stays (telling_change m caller o)
 watch_by m caller o (reply.Pass owner) = and_stays (telling_change m caller o)
 watch_by m caller o reply.Ignored = and_stays (telling_change m caller o)
 
-abbrev pub watch_told : Message → Conn → Heard Outcome → Fated
-watch_told m caller (Refuses refusal) = and_stays (erring m caller (error_for refusal))
-watch_told m caller (Says o) = watch_by m caller o o.reply
+abbrev pub after_watch : Message → Conn → Heard Outcome → OfFate
+after_watch m caller (Refuses refusal) = and_stays (erring m caller (error_for refusal))
+after_watch m caller (Says o) = watch_by m caller o o.reply
 
-abbrev pub watch_if : Message → Conn → List Rule → Bool → Fated
-watch_if m caller rules true = Changing (change.BecomeMonitor caller.number rules) (λ heard. watch_told m caller heard)
+abbrev pub watch_if : Message → Conn → List Rule → Bool → OfFate
+watch_if m caller rules true = Changing (change.BecomeMonitor caller.number rules) (λ heard. after_watch m caller heard)
 watch_if m caller rules false = and_stays (erring m caller error.NoMemory)
 
-abbrev pub answered_if : Message → Conn → Answer → Bool → Work
-answered_if m caller told true = replying m caller (Answered told)
-answered_if m caller told false = erring m caller error.NoMemory
+abbrev pub answering_if : Message → Conn → Answer → Bool → Work
+answering_if m caller told true = replying m caller (Answered told)
+answering_if m caller told false = erring m caller error.NoMemory
 
-abbrev pub answered : Message → Conn → Heard (Option Answer) → Work
-answered m caller (Refuses refusal) = erring m caller (error_for refusal)
-answered m caller (Says None) = erring m caller error.NameHasNoOwner
-answered m caller (Says (Some told)) = Wanting (λ granted. answered_if m caller told granted)
+abbrev pub after_answer : Message → Conn → Heard (Option Answer) → Work
+after_answer m caller (Refuses refusal) = erring m caller (error_for refusal)
+after_answer m caller (Says None) = erring m caller error.NameHasNoOwner
+after_answer m caller (Says (Some told)) = Wanting (λ granted. answering_if m caller told granted)
 
-abbrev pub serving_request : Message → Conn → Result Request ErrorKind → Fated
+abbrev pub serving_request : Message → Conn → Result Request ErrorKind → OfFate
 serving_request m caller (Err error) = and_stays (erring m caller error)
-serving_request m caller (Ok (Asks q)) = Asking q (λ heard. and_stays (answered m caller heard))
-serving_request m caller (Ok (Makes c)) = Changing c (λ heard. made m caller heard)
+serving_request m caller (Ok (Asks q)) = Asking q (λ heard. and_stays (after_answer m caller heard))
+serving_request m caller (Ok (Makes c)) = Changing c (λ heard. after_change m caller heard)
 serving_request m caller (Ok (Starts name)) = Wanting (λ granted. start_if m caller name granted)
 serving_request m caller (Ok (Watches rules)) = Wanting (λ granted. watch_if m caller rules granted)
 
 -- Each call that reads well is shown to the gate before it is served.
-abbrev pub serving_reading : Message → Conn → Reading Call → Fated
+abbrev pub serving_reading : Message → Conn → Reading Call → OfFate
 serving_reading m caller (Err fault) = and_stays (erring m caller (error_of fault))
 serving_reading m caller (Ok c) = Gating c (serving_request m caller (request_of caller.number c))
 
-abbrev pub read_if : Message → Conn → Bool → Fated
+abbrev pub read_if : Message → Conn → Bool → OfFate
 read_if m caller true = Calling m (λ reading. serving_reading m caller reading)
 read_if m caller false = and_stays (erring m caller error.NoMemory)
 
-abbrev pub serving_call : Message → Conn → Fated
+abbrev pub serving_call : Message → Conn → OfFate
 serving_call m caller = Wanting (λ granted. read_if m caller granted)
 
 -- Other messages to the bus are ignored.
-abbrev pub serving_bus : Message → Conn → Fated
+abbrev pub serving_bus : Message → Conn → OfFate
 serving_bus m caller = if is_method_call m then serving_call m caller else stays_open
 
 -- ## Messages to others
 
 -- the message with its sender's name
-abbrev pub signed : Message → Conn → Message
-signed m sender = sent_by (unique_text sender.number) m
+abbrev pub with_sender : Message → Conn → Message
+with_sender m sender = sent_by (unique_text sender.number) m
 
 -- Without memory the message is dropped whole, and a call is answered so.
-abbrev pub copied_if : Message → Conn → List Conn → Fated → Bool → Fated
-copied_if m sender to goes_on true = Doing (Puts to (Relays (message_bytes (signed m sender)))) goes_on
-copied_if m sender to goes_on false = and_stays (erring_if_call m sender error.NoMemory)
+abbrev pub putting_copies_if : Message → Conn → List Conn → OfFate → Bool → OfFate
+putting_copies_if m sender to goes_on true = Doing (Puts to (Relays (message_bytes (with_sender m sender)))) goes_on
+putting_copies_if m sender to goes_on false = and_stays (erring_if_call m sender error.NoMemory)
 
 -- The message is put to these connections.
-abbrev pub copied : Message → Conn → List Conn → Fated → Fated
-copied m sender [] goes_on = goes_on
-copied m sender (conn ∷ conns) goes_on = Wanting (λ granted. copied_if m sender (conn ∷ conns) goes_on granted)
+abbrev pub putting_copies : Message → Conn → List Conn → OfFate → OfFate
+putting_copies m sender [] goes_on = goes_on
+putting_copies m sender (conn ∷ conns) goes_on = Wanting (λ granted. putting_copies_if m sender (conn ∷ conns) goes_on granted)
 
 -- Whoever sends a message that is too long once it has its sender's name is closed.
-abbrev pub relayed : Message → Conn → List Conn → Fated → Fated
-relayed m sender to goes_on = if is_too_long (signed m sender) then closes_for TooLong else copied m sender to goes_on
+abbrev pub relaying_to : Message → Conn → List Conn → OfFate → OfFate
+relaying_to m sender to goes_on = if is_too_long (with_sender m sender) then closes_for TooLong else putting_copies m sender to goes_on
 
 -- A message to the bus is measured only where a monitor is shown it.
-abbrev pub shown : Message → Conn → List Conn → Fated → Fated
-shown m sender [] goes_on = goes_on
-shown m sender (conn ∷ conns) goes_on = relayed m sender (conn ∷ conns) goes_on
+abbrev pub showing : Message → Conn → List Conn → OfFate → OfFate
+showing m sender [] goes_on = goes_on
+showing m sender (conn ∷ conns) goes_on = relaying_to m sender (conn ∷ conns) goes_on
 
 -- ## Calls that wait for a service
 
 -- By now the name has an owner, to which the call goes, or the call waits; or there is no service.
-abbrev pub held_by : Message → Conn → Text → Outcome → Reply → Fated
-held_by m caller name o reply.Gone = closes_for Left
-held_by m caller name o (reply.Pass owner) = Doing (Puts (owner ∷ []) (Relays (message_bytes (signed m caller)))) stays_open
-held_by m caller name o (reply.Held ticket) = and_stays (running name o.start)
-held_by m caller name o reply.ServiceUnknown = and_stays (erring m caller error.ServiceUnknown)
-held_by m caller name o reply.LimitsExceeded = and_stays (erring m caller error.LimitsExceeded)
+abbrev pub after_hold_by : Message → Conn → Text → Outcome → Reply → OfFate
+after_hold_by m caller name o reply.Gone = closes_for Left
+after_hold_by m caller name o (reply.Pass owner) = Doing (Puts (owner ∷ []) (Relays (message_bytes (with_sender m caller)))) stays_open
+after_hold_by m caller name o (reply.Held ticket) = and_stays (running name o.start)
+after_hold_by m caller name o reply.ServiceUnknown = and_stays (erring m caller error.ServiceUnknown)
+after_hold_by m caller name o reply.LimitsExceeded = and_stays (erring m caller error.LimitsExceeded)
 -- these are no replies to a call that is to wait
-held_by m caller name o reply.Done = stays_open
-held_by m caller name o (reply.OfQueue r) = stays_open
-held_by m caller name o reply.InvalidName = stays_open
-held_by m caller name o reply.RuleNotFound = stays_open
-held_by m caller name o reply.AccessDenied = stays_open
-held_by m caller name o reply.AlreadyRunning = stays_open
-held_by m caller name o (reply.Welcome conn) = stays_open
-held_by m caller name o reply.Ignored = stays_open
+after_hold_by m caller name o reply.Done = stays_open
+after_hold_by m caller name o (reply.OfQueue r) = stays_open
+after_hold_by m caller name o reply.InvalidName = stays_open
+after_hold_by m caller name o reply.RuleNotFound = stays_open
+after_hold_by m caller name o reply.AccessDenied = stays_open
+after_hold_by m caller name o reply.AlreadyRunning = stays_open
+after_hold_by m caller name o (reply.Welcome conn) = stays_open
+after_hold_by m caller name o reply.Ignored = stays_open
 
-abbrev pub held : Message → Conn → Text → Heard Outcome → Fated
-held m caller name (Refuses refusal) = and_stays (erring m caller (error_for refusal))
-held m caller name (Says o) = held_by m caller name o o.reply
+abbrev pub after_hold : Message → Conn → Text → Heard Outcome → OfFate
+after_hold m caller name (Refuses refusal) = and_stays (erring m caller (error_for refusal))
+after_hold m caller name (Says o) = after_hold_by m caller name o o.reply
 
-abbrev pub hold_if : Message → Conn → Text → Bool → Fated
+abbrev pub hold_if : Message → Conn → Text → Bool → OfFate
 hold_if m caller name true =
-    Changing (change.Hold caller.number name (waiting_call m) (message_bytes (signed m caller))) (λ heard. held m caller name heard)
+    Changing (change.Hold caller.number name (waiting_call m) (message_bytes (with_sender m caller))) (λ heard. after_hold m caller name heard)
 hold_if m caller name false = and_stays (erring m caller error.NoMemory)
 
-abbrev pub holding : Message → Conn → Option Text → Fated
+abbrev pub holding : Message → Conn → Option Text → OfFate
 holding m caller None = stays_open
 holding m caller (Some name) = Wanting (λ granted. hold_if m caller name granted)
 
 -- ## Where the message goes
 
-abbrev pub relaying : Message → Conn → Verdict → VerdictKind → Fated
+abbrev pub relaying : Message → Conn → Verdict → VerdictKind → OfFate
 relaying m sender v verdict.Absent = closes_for Left
-relaying m sender v verdict.Bus = shown m sender v.monitors (serving_bus m sender)
-relaying m sender v verdict.Plain = relayed m sender (deliveries_of v.to v.monitors) stays_open
-relaying m sender v verdict.Nobody = relayed m sender v.monitors (and_stays (erring_if_call m sender error.ServiceUnknown))
-relaying m sender v verdict.Start = relayed m sender v.monitors (holding m sender (text_field field.Destination m.fields))
+relaying m sender v verdict.Bus = showing m sender v.monitors (serving_bus m sender)
+relaying m sender v verdict.Plain = relaying_to m sender (deliveries_of v.to v.monitors) stays_open
+relaying m sender v verdict.Nobody = relaying_to m sender v.monitors (and_stays (erring_if_call m sender error.ServiceUnknown))
+relaying m sender v verdict.Start = relaying_to m sender v.monitors (holding m sender (text_field field.Destination m.fields))
 
-abbrev pub routing : Message → Conn → Heard Verdict → Fated
+abbrev pub routing : Message → Conn → Heard Verdict → OfFate
 routing m sender (Refuses refusal) = and_stays (erring_if_call m sender (error_for refusal))
 routing m sender (Says v) = relaying m sender v v.kind
 
@@ -374,7 +374,7 @@ is_unknown (Unknown number) = true
 is_unknown other = false
 
 -- A message of a type that the standard does not define is dropped.
-abbrev pub serving : Message → Conn → Fated
+abbrev pub serving : Message → Conn → OfFate
 serving m sender =
     if is_unknown (kind_of m.kind) then stays_open
     else Routing sender.number (facts_of m) (λ heard. routing m sender heard)

@@ -48,8 +48,8 @@ first_stage (Some login) (Some challenge) = Authenticating (record { login = log
 abbrev pub newcomer : Stage → Peer
 newcomer stage = record { stage = stage; unread = []; serial = 0; watches = false }
 
-abbrev pub opened : Standing → ℕ → (challenge : Option (List ℕ)) → Standing
-opened s key challenge =
+abbrev pub with_newcomer : Standing → ℕ → (challenge : Option (List ℕ)) → Standing
+with_newcomer s key challenge =
     let new : Option Peer = Some (newcomer (first_stage s.login challenge)) in
     if key == length s.peers then record s { peers = s.peers ++ new ∷ [] } else with_peer s key new
 

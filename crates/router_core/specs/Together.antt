@@ -26,7 +26,7 @@ use Rattle.router_core.specs.declared.joint.RuleCall.TheVariants.{Adds, Removes}
 use Rattle.router_core.specs.Answers.{Heard, Says, Refuses}
 use Rattle.router_core.specs.Deeds.{Puts}
 use Rattle.router_core.specs.Scripts.{Script, Gives, Routing, Gating, Wanting, Doing}
-use Rattle.router_core.specs.Serving.{Fated, and_stays, closes_for, erring_if_call, routing, signed}
+use Rattle.router_core.specs.Serving.{OfFate, and_stays, closes_for, erring_if_call, routing, with_sender}
 
 -- ## Which they are
 
@@ -62,23 +62,23 @@ change_of_joint j = change_of_rule j.caller.number j.call
 -- The call joins the others, or this is done for it once their changes are made.
 pub data Joining : Type 0 where
   Joins : Joining
-  Parts : Fated → Joining
+  Parts : OfFate → Joining
 
 -- The gate is shown it.
 abbrev pub joins : RuleCall → Script Joining
 joins c = Gating (call_of_rule c) (Gives Joins)
 
-abbrev pub parts : Fated → Script Joining
+abbrev pub parts : OfFate → Script Joining
 parts work = Gives (Parts work)
 
 -- Without memory the message is dropped whole, and the call is answered so.
 abbrev pub join_copied_if : Message → Conn → List Conn → RuleCall → Bool → Script Joining
-join_copied_if m caller monitors c true = Doing (Puts monitors (Relays (message_bytes (signed m caller)))) (joins c)
+join_copied_if m caller monitors c true = Doing (Puts monitors (Relays (message_bytes (with_sender m caller)))) (joins c)
 join_copied_if m caller monitors c false = parts (and_stays (erring_if_call m caller error.NoMemory))
 
 -- Whoever sends a message that is too long once it has its sender's name is closed.
 abbrev pub join_relayed : Message → Conn → List Conn → RuleCall → Script Joining
-join_relayed m caller monitors c = if is_too_long (signed m caller) then parts (closes_for TooLong) else Wanting (λ granted. join_copied_if m caller monitors c granted)
+join_relayed m caller monitors c = if is_too_long (with_sender m caller) then parts (closes_for TooLong) else Wanting (λ granted. join_copied_if m caller monitors c granted)
 
 -- The monitors are shown it.
 abbrev pub joining_shown : Message → Conn → List Conn → RuleCall → Script Joining

@@ -20,11 +20,11 @@ enum Held {
 }
 
 impl Model for Addressees {
-    ghost use Rattle.router_core.specs.Addressed.{Addressed, addressed};
+    ghost use Rattle.router_core.specs.Addressed.{Addressed, addressees_of};
 
     ghost Value = { Addressed };
 
-    ghost view = { λ a. addressed a.held };
+    ghost view = { λ a. addressees_of a.held };
 }
 
 impl Addressees {

@@ -3,7 +3,7 @@ use Rattle.std.proofs.Common.{◌≡◌, ◌≢◌, ℕ, Option, Some, List, [],
 use Rattle.message_core.specs.declared.fault.FrameFault.{FrameFault}
 use Rattle.router_core.specs.declared.cause.CloseCause.TheVariants as cause
 use Rattle.router_core.specs.Deeds.{Deed, Closes}
-use Rattle.router_core.specs.Events.{Next, fed}
+use Rattle.router_core.specs.Events.{Next, with_bytes}
 use Rattle.router_core.specs.Incoming.{Incoming, Waits, Whole, Faulty}
 use Rattle.router_core.specs.OneThread.{Readers, Rest, given}
 use Rattle.router_core.specs.Standing.{Peer, Stage, Authenticating, Unnamed, Named, Closing, peer_at}
@@ -18,9 +18,9 @@ module _ (readers : Readers) where
   more_taken : (key : ℕ) (piece : List ℕ) (p : Peer) → TakesBytes p.stage → TakesBytes (more piece key p).stage × ((more piece key p).unread ≡ p.unread ++ piece)
   more_taken key piece p takes = by_stage p.stage refl takes
     where
-      grown : (stage : Stage) → p.stage ≡ stage → TakesBytes stage → TakesBytes (fed piece p stage).stage × ((fed piece p stage).unread ≡ p.unread ++ piece) →
+      grown : (stage : Stage) → p.stage ≡ stage → TakesBytes stage → TakesBytes (with_bytes piece p stage).stage × ((with_bytes piece p stage).unread ≡ p.unread ++ piece) →
           TakesBytes (more piece key p).stage × ((more piece key p).unread ≡ p.unread ++ piece)
-      grown stage is takes h = subst (λ (st : Stage). TakesBytes (fed piece p st).stage × ((fed piece p st).unread ≡ p.unread ++ piece)) (sym is) h
+      grown stage is takes h = subst (λ (st : Stage). TakesBytes (with_bytes piece p st).stage × ((with_bytes piece p st).unread ≡ p.unread ++ piece)) (sym is) h
 
       by_stage : (stage : Stage) → p.stage ≡ stage → TakesBytes stage → TakesBytes (more piece key p).stage × ((more piece key p).unread ≡ p.unread ++ piece)
       by_stage (Authenticating setting state) is takes = absurd takes
@@ -44,12 +44,12 @@ module _ (readers : Readers) where
 
       by_stage : (stage : Stage) → p.stage ≡ stage → Commutes key piece r
       by_stage (Authenticating setting state) is =
-          authenticating_given readers key (rest_more piece key r) (more piece key p) setting state there (ap (λ (st : Stage). (fed piece p st).stage) is ∙ is)
+          authenticating_given readers key (rest_more piece key r) (more piece key p) setting state there (ap (λ (st : Stage). (with_bytes piece p st).stage) is ∙ is)
           ∙ ap (λ (end : List Deed × Rest). end_more piece key end) (sym (authenticating_given readers key r p setting state here is))
       by_stage (Unnamed privileged) is = taken (subst (λ (st : Stage). TakesBytes st) (sym is) tt)
       by_stage (Named conn) is = taken (subst (λ (st : Stage). TakesBytes st) (sym is) tt)
       by_stage (Closing conn) is =
-          closing_given readers key (rest_more piece key r) (more piece key p) conn there (ap (λ (st : Stage). (fed piece p st).stage) is ∙ is)
+          closing_given readers key (rest_more piece key r) (more piece key p) conn there (ap (λ (st : Stage). (with_bytes piece p st).stage) is ∙ is)
           ∙ ap (λ (end : List Deed × Rest). end_more piece key end) (sym (closing_given readers key r p conn here is))
 
   pub commutes : (key : ℕ) (piece : List ℕ) (r : Rest) (p : Peer) (incoming : Incoming) → incoming ≢ Waits → peer_at r.standing key ≡ Some p → readers.incoming p.unread ≡ incoming →

@@ -9,7 +9,7 @@ use Rattle.message_core.specs.Said.{said as message_said}
 use Rattle.bus_view.specs.Views.{Knowledge}
 use Rattle.router_core.specs.Acts.{Exchange, Framed, Wanted, Goes, IsGranted, IsLawful, IsServedBy}
 use Rattle.router_core.specs.Deeds.{Deed}
-use Rattle.router_core.specs.Events.{Occasion, Bytes, Next, Stands, answering, conversed_to, fed, for_peer, hearing, coming_next, next_at, read, serve_at}
+use Rattle.router_core.specs.Events.{Occasion, Bytes, Next, Stands, answering, conversed_to, with_bytes, for_peer, hearing, coming_next, next_at, read, serve_at}
 use Rattle.router_core.specs.Incoming.{Incoming, Waits, Whole, Faulty, IsIncoming}
 use Rattle.router_core.specs.OneThread.{Course, Readers, Rest, alone, doing, given, written_to}
 use Rattle.router_core.specs.Scripts.{Script, Gives, Changing, ChangingAll, Asking, Routing, AskingPresence, Noting, Framing, Calling, Gating, Wanting, Requiring, Doing, Announcing, and_then}
@@ -309,18 +309,18 @@ module _ (key : ℕ) (piece : List ℕ) (r : Rest) (p : Peer) where
   -- bytes are taken at this stage
   record Takes (stage : Stage) : Type 0 where
     is : p.stage ≡ stage
-    grows : fed piece p stage ≡ left_with p (p.unread ++ piece)
-    left : (rest : List ℕ) → fed piece (left_with p rest) stage ≡ left_with p (rest ++ piece)
+    grows : with_bytes piece p stage ≡ left_with p (p.unread ++ piece)
+    left : (rest : List ℕ) → with_bytes piece (left_with p rest) stage ≡ left_with p (rest ++ piece)
 
   grown : (stage : Stage) → Takes stage → later_peer ≡ left_with p (p.unread ++ piece)
-  grown stage t = ap (λ (st : Stage). fed piece p st) t.is ∙ t.grows
+  grown stage t = ap (λ (st : Stage). with_bytes piece p st) t.is ∙ t.grows
 
   -- what is read goes on in the same way
   read_more : (stage : Stage) → Takes stage → (incoming : Incoming) → incoming ≢ Waits → (asked : List Exchange) (deeds : List Deed) (x : Standing) → Goes (read r.standing key p incoming) asked deeds x →
       Goes (read later_standing key later_peer (with_behind piece incoming)) asked deeds (with_more piece key x)
   read_more stage t Waits not_so asked deeds x goes = absurd (not_so refl)
   read_more stage t (Whole message rest) not_so asked deeds x goes =
-      let here : more piece key (left_with p rest) ≡ left_with p (rest ++ piece) = ap (λ (st : Stage). fed piece (left_with p rest) st) t.is ∙ t.left rest in
+      let here : more piece key (left_with p rest) ≡ left_with p (rest ++ piece) = ap (λ (st : Stage). with_bytes piece (left_with p rest) st) t.is ∙ t.left rest in
       let same : read later_standing key later_peer (Whole message (rest ++ piece)) ≡ seen_as (with_more piece key) (read r.standing key p (Whole message rest)) =
       ap (λ (q : Peer). read later_standing key q (Whole message (rest ++ piece))) (grown stage t)
       ∙ ap (λ (q : Peer). serve_at later_standing key (message_said message) q p.stage) (sym here)
@@ -365,7 +365,7 @@ module _ (key : ℕ) (piece : List ℕ) (r : Rest) (p : Peer) where
     next_again (Closing conn) is goes lawful =
         record { again = asked; goes = (goes.0, goes.1, ap (λ (standing : Standing). with_more piece key standing) goes.2); lawful = lawful; granted = λ granted. granted }
 
-  kept_stage : (stage : Stage) → (fed piece p stage).stage ≡ p.stage
+  kept_stage : (stage : Stage) → (with_bytes piece p stage).stage ≡ p.stage
   kept_stage (Authenticating setting state) = refl
   kept_stage (Unnamed privileged) = refl
   kept_stage (Named conn) = refl

@@ -24,7 +24,7 @@ use Rattle.router_core.specs.declared.fate.PeerFate.TheVariants.{Stays}
 use Rattle.router_core.specs.Answers.{Heard, Says, Refuses, error_for, unanswered_for}
 use Rattle.router_core.specs.Deeds.{GatedCall}
 use Rattle.router_core.specs.Scripts.{Asking, World, Asks, Passes, Announces, Comes}
-use Rattle.router_core.specs.Serving.{Work, and_stays, stays_open, answer_told, answering_with, answered, erring, made_by, releasing_all, request_of, serving_call, serving_reading, serving_request, telling_change}
+use Rattle.router_core.specs.Serving.{Work, and_stays, stays_open, answer_of_reply, answering_with, after_answer, erring, after_change_by, releasing_all, request_of, serving_call, serving_reading, serving_request, telling_change}
 use Rattle.router_steps.specs.Hearing.{IsTold}
 use Rattle.router_steps.proofs.Sequels.{comes_then}
 
@@ -35,40 +35,40 @@ module _ {N G : Type 0} (told : N → History) (registry_of : N → ℕ) (passes
 
   module _ (m : Message) (caller : Conn) where
     -- the signals come first, then the answer, then the calls that waited
-    pub tells_change : (o : Outcome) (answered_so : Result Carried ErrorKind) (w n k v : World N G) → Announces told registry_of alone o.signals w n → answered_so ≡ answer_told o.reply →
+    pub tells_change : (o : Outcome) (answered_so : Result Carried ErrorKind) (w n k v : World N G) → Announces told registry_of alone o.signals w n → answered_so ≡ answer_of_reply o.reply →
         Comes told registry_of passes alone (answering_with m caller answered_so) n tt k → Comes told registry_of passes alone (releasing_all caller o.tickets) k tt v → Comes told registry_of passes alone (telling_change m caller o) w tt v
     tells_change o answered_so w n k v announces is comes last =
         let first = subst (λ (a : Result Carried ErrorKind). Comes told registry_of passes alone (answering_with m caller a) n tt k) is comes in
-        (n, announces, comes_then told registry_of passes alone (λ done. releasing_all caller o.tickets) tt k tt v last (answering_with m caller (answer_told o.reply)) n first)
+        (n, announces, comes_then told registry_of passes alone (λ done. releasing_all caller o.tickets) tt k tt v last (answering_with m caller (answer_of_reply o.reply)) n first)
 
     pub made_still : (o : Outcome) (told_so : Reply) (w v : World N G) → (told_so ≡ reply.Gone → ⊥) →
-        Comes told registry_of passes alone (telling_change m caller o) w tt v → Comes told registry_of passes alone (made_by m caller o told_so) w Stays v
+        Comes told registry_of passes alone (telling_change m caller o) w tt v → Comes told registry_of passes alone (after_change_by m caller o told_so) w Stays v
     made_still o reply.Gone w v there comes = absurd (there refl)
     made_still o other w v there comes = stays (telling_change m caller o) w v comes
 
     module _ (query : Query) (r : Result Asked AskFault) (bytes : List ℕ) (w n v : World N G) (asks : (heard : Heard (Option Answer)) × Asks alone query w heard n × IsTold r heard bytes) where
       pub asked_body : r ≡ Ok Body →
-          ((a : Answer) → IsAnswerTo query bytes a → Comes told registry_of passes alone (answered m caller (Says (Some a))) n tt v) →
-          Comes told registry_of passes alone (Asking query (λ heard. and_stays (answered m caller heard))) w Stays v
+          ((a : Answer) → IsAnswerTo query bytes a → Comes told registry_of passes alone (after_answer m caller (Says (Some a))) n tt v) →
+          Comes told registry_of passes alone (Asking query (λ heard. and_stays (after_answer m caller heard))) w Stays v
       asked_body is comes =
           let so : IsTold (Ok Body) asks.0 bytes = subst (λ (x : Result Asked AskFault). IsTold x asks.0 bytes) is asks.2 in
           let says : Asks alone query w (Says (Some so.0)) n = subst (λ (h : Heard (Option Answer)). Asks alone query w h n) so.1 asks.1 in
           let carries : IsAnswerTo query bytes so.0 = record { state = (bus_seen n.view).state; told_so = sym says.hears.1; is_body = so.2 } in
-          (Says (Some so.0), n, says, stays (answered m caller (Says (Some so.0))) n v (comes so.0 carries))
+          (Says (Some so.0), n, says, stays (after_answer m caller (Says (Some so.0))) n v (comes so.0 carries))
 
       pub asked_none : (fate : PeerFate) → r ≡ Ok NameHasNoOwner → Comes told registry_of passes alone (and_stays (erring m caller error.NameHasNoOwner)) n fate v →
-          Comes told registry_of passes alone (Asking query (λ heard. and_stays (answered m caller heard))) w fate v
+          Comes told registry_of passes alone (Asking query (λ heard. and_stays (after_answer m caller heard))) w fate v
       asked_none fate is comes =
           let so : IsTold (Ok NameHasNoOwner) asks.0 bytes = subst (λ (x : Result Asked AskFault). IsTold x asks.0 bytes) is asks.2 in
           let says : Asks alone query w (Says None) n = subst (λ (h : Heard (Option Answer)). Asks alone query w h n) so.0 asks.1 in
           (Says None, n, says, comes)
 
       pub asked_fault : (fate : PeerFate) (why : AskFault) (told_so : ErrorKind) → r ≡ Err why → told_so ≡ error_for (unanswered_for why) → Comes told registry_of passes alone (and_stays (erring m caller told_so)) n fate v →
-          Comes told registry_of passes alone (Asking query (λ heard. and_stays (answered m caller heard))) w fate v
+          Comes told registry_of passes alone (Asking query (λ heard. and_stays (after_answer m caller heard))) w fate v
       asked_fault fate why told_so is errs comes =
           let so : IsTold (Err why) asks.0 bytes = subst (λ (x : Result Asked AskFault). IsTold x asks.0 bytes) is asks.2 in
           let says : Asks alone query w (Refuses (unanswered_for why)) n = subst (λ (h : Heard (Option Answer)). Asks alone query w h n) so.0 asks.1 in
-          let first : Comes told registry_of passes alone (and_stays (answered m caller (Refuses (unanswered_for why)))) n fate v = subst (λ (e : ErrorKind). Comes told registry_of passes alone (and_stays (erring m caller e)) n fate v) errs comes in
+          let first : Comes told registry_of passes alone (and_stays (after_answer m caller (Refuses (unanswered_for why)))) n fate v = subst (λ (e : ErrorKind). Comes told registry_of passes alone (and_stays (erring m caller e)) n fate v) errs comes in
           (Refuses (unanswered_for why), n, says, first)
 
     pub reads_call : (reading : Reading Call) (call : Call) (w n v : World N G) (fate : PeerFate) → reading ≡ Ok call → Passes passes call w n →

@@ -13,7 +13,7 @@ use Rattle.outbox_core.specs.Contents.{Relays}
 use Rattle.router_core.specs.declared.joint.RuleCall.{RuleCall}
 use Rattle.router_core.specs.Deeds.{GatedCall}
 use Rattle.router_core.specs.Scripts.{Script, Wanting, World, Passes, Comes, putting}
-use Rattle.router_core.specs.Serving.{closes_for, nothing, signed}
+use Rattle.router_core.specs.Serving.{closes_for, nothing, with_sender}
 use Rattle.router_core.specs.Together.{Joining, Joins, Parts, call_of_rule, join_copied_if, joining_shown, joins, parts, rule_call}
 use Rattle.router_core.specs.declared.cause.CloseCause.TheVariants.{TooLong as For_length}
 use Rattle.router_steps.specs.OncePut.{is_for_length, not_put}
@@ -33,8 +33,8 @@ module _ {N G : Type 0} (told : N → History) (registry_of : N → ℕ) (passes
     passes_rule = subst (λ (x : Call). Passes passes x n v) (sym (call_is call c is)) passed
 
     -- the monitors were shown it, if there are any
-    pub joins_shown : (monitors : List Conn) → (monitors ≢ [] → is_too_long (signed m caller) ≡ false) →
-        Comes told registry_of passes alone (putting monitors (Relays (message_bytes (signed m caller))) nothing) w tt n → Comes told registry_of passes alone (joining_shown m caller monitors c) w Joins v
+    pub joins_shown : (monitors : List Conn) → (monitors ≢ [] → is_too_long (with_sender m caller) ≡ false) →
+        Comes told registry_of passes alone (putting monitors (Relays (message_bytes (with_sender m caller))) nothing) w tt n → Comes told registry_of passes alone (joining_shown m caller monitors c) w Joins v
     joins_shown [] short put = subst (λ (k : World N G). Comes told registry_of passes alone (joining_shown m caller [] c) k Joins v) put.1 (v, passes_rule, (refl, refl))
     joins_shown (conn ∷ conns) short put =
         let ends : n ≡ put.0 = put.2.1 in
@@ -43,7 +43,7 @@ module _ {N G : Type 0} (told : N → History) (registry_of : N → ℕ) (passes
         (true, (put.0, put.1, joined))
 
   -- it was not put to them
-  pub parts_unput : (fault : RelayFault) (monitors : List Conn) (w : World N G) → monitors ≢ [] → (monitors ≢ [] → is_too_long (signed m caller) ≡ is_for_length fault) →
+  pub parts_unput : (fault : RelayFault) (monitors : List Conn) (w : World N G) → monitors ≢ [] → (monitors ≢ [] → is_too_long (with_sender m caller) ≡ is_for_length fault) →
       Comes told registry_of passes alone (joining_shown m caller monitors c) w (Parts (not_put fault m caller)) w
   parts_unput fault [] w some long = absurd (some refl)
   parts_unput NoMemory (conn ∷ conns) w some long =

@@ -13,7 +13,7 @@ use Rattle.router_core.specs.declared.fate.PeerFate.{PeerFate}
 use Rattle.router_core.specs.declared.fate.PeerFate.TheVariants.{Stays}
 use Rattle.router_core.specs.Deeds.{GatedCall}
 use Rattle.router_core.specs.Scripts.{World, Comes}
-use Rattle.router_core.specs.Serving.{answer_told, answering_with, holding, hold_if, start_by, telling_change, watch_by}
+use Rattle.router_core.specs.Serving.{answer_of_reply, answering_with, holding, hold_if, start_by, telling_change, watch_by}
 use Rattle.router_serving.proofs.Answering.{stays}
 
 module _ {N G : Type 0} (told : N → History) (registry_of : N → ℕ) (passes : G → GatedCall → G → Type 0) (alone : Bool) (m : Message) (sender : Conn) where
@@ -32,10 +32,10 @@ module _ {N G : Type 0} (told : N → History) (registry_of : N → ℕ) (passes
 
   -- what is answered at once
   pub start_still : (name : Text) (o : Outcome) (told_so : Reply) (w v : World N G) → (told_so ≡ reply.Gone → ⊥) → ((ticket : ℕ) → told_so ≡ reply.Held ticket → ⊥) →
-      Comes told registry_of passes alone (answering_with m sender (answer_told told_so)) w tt v → Comes told registry_of passes alone (start_by m sender name o told_so) w Stays v
+      Comes told registry_of passes alone (answering_with m sender (answer_of_reply told_so)) w tt v → Comes told registry_of passes alone (start_by m sender name o told_so) w Stays v
   start_still name o reply.Gone w v there known comes = absurd (there refl)
   start_still name o (reply.Held ticket) w v there known comes = absurd (known ticket refl)
-  start_still name o other w v there known comes = stays told registry_of passes alone (answering_with m sender (answer_told other)) w v comes
+  start_still name o other w v there known comes = stays told registry_of passes alone (answering_with m sender (answer_of_reply other)) w v comes
 
   pub watch_still : (o : Outcome) (told_so : Reply) (w v : World N G) → (told_so ≡ reply.Gone → ⊥) → (told_so ≡ reply.Done → ⊥) →
       Comes told registry_of passes alone (telling_change m sender o) w tt v → Comes told registry_of passes alone (watch_by m sender o told_so) w Stays v

@@ -3,7 +3,7 @@ use Rattle.std.specs.Prelude.{◌≡◌, []}
 use Rattle.message_core.specs.Messages.{Message}
 use Rattle.seq_bus_core.specs.declared.connection.Conn.{Conn}
 use Rattle.seq_bus_core.specs.declared.outcome.Outcome.{Outcome}
-use Rattle.router_core.specs.Serving.{Fated, routing}
+use Rattle.router_core.specs.Serving.{OfFate, routing}
 use Rattle.router_core.specs.Together.{Joining as Joins_in, Joins, Parts}
 use Rattle.router_steps.specs.Hearing.{heard_verdict}
 use Rattle.router_steps.specs.OncePut.{not_put}
@@ -13,7 +13,7 @@ use Rattle.router_serving.specs.declared.joining.Parting.{Parting}
 use Rattle.router_serving.specs.declared.joining.Parting.TheVariants as parting
 
 -- what is done for it instead
-abbrev pub parting_of : Message → Conn → Parting → Fated
+abbrev pub parting_of : Message → Conn → Parting → OfFate
 parting_of m caller (parting.Routed heard verdict) = routing m caller (heard_verdict heard verdict.value)
 parting_of m caller (parting.NotPut fault) = not_put fault m caller
 

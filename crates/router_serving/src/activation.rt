@@ -8,7 +8,7 @@ ghost use Rattle.message_core.specs.declared.header_field.HeaderField.TheVariant
 ghost use Rattle.message.specs.MessageBytes.{message_bytes};
 ghost use Rattle.router_core.specs.Answers.{Says};
 ghost use Rattle.router_core.specs.Scripts.{RunsTo};
-ghost use Rattle.router_core.specs.Serving.{held as held_in, holding, hold_if, signed, waiting_call};
+ghost use Rattle.router_core.specs.Serving.{after_hold, holding, hold_if, with_sender, waiting_call};
 
 use crate::calls::{error_for, refuse};
 use bus_view::BusView;
@@ -50,9 +50,9 @@ fn pack<V: BusView, G: Gate>(
 ) -> Result<Parcel, AllocError>
     ensures name { IfOk result (λ parcel. parcel.name.value ≡ destination.now) }
     ensures held { IfOk result
-        (λ parcel. parcel.held ≡ message_bytes (signed (said message.now) sender)) }
+        (λ parcel. parcel.held ≡ message_bytes (with_sender (said message.now) sender)) }
     ensures passed { IfOk result
-        (λ parcel. parcel.passed ≡ message_bytes (signed (said message.now) sender)) }
+        (λ parcel. parcel.passed ≡ message_bytes (with_sender (said message.now) sender)) }
 {
     let Ok(name) = BusName::parse(destination) else {
         return Err(AllocError);
@@ -79,9 +79,9 @@ fn held<V: BusView, G: Gate>(
 ) -> PeerFate
     requires room { 0 < context.old.room }
     requires spare_verdicts { 0 < context.old.spare_verdicts }
-    requires bytes { passed ≡ message_bytes (signed (said message.now) sender) }
+    requires bytes { passed ≡ message_bytes (with_sender (said message.now) sender) }
     ensures comes { RunsTo V.BusView G.Gate
-        (held_in (said message.now) sender name.value (Says outcome))
+        (after_hold (said message.now) sender name.value (Says outcome))
         context.old.world result context.new.world }
     ensures room { context.old.room ≤ context.new.room + 1 }
 {
@@ -118,8 +118,8 @@ fn wait<V: BusView, G: Gate>(
 ) -> PeerFate
     requires room { 0 < context.old.room }
     requires spare_verdicts { 0 < context.old.spare_verdicts }
-    requires held { parcel.held ≡ message_bytes (signed (said message.now) sender) }
-    requires passed { parcel.passed ≡ message_bytes (signed (said message.now) sender) }
+    requires held { parcel.held ≡ message_bytes (with_sender (said message.now) sender) }
+    requires passed { parcel.passed ≡ message_bytes (with_sender (said message.now) sender) }
     ensures comes { RunsTo V.BusView G.Gate
         (hold_if (said message.now) sender parcel.name.value true)
         context.old.world result context.new.world }

@@ -9,7 +9,7 @@ ghost use Rattle.driver.specs.declared.call.Call.TheVariants.{RequestName, Relea
 ghost use Rattle.outbox_core.specs.Answers.{IsAnswerTo};
 ghost use Rattle.router_core.specs.Answers.{Says, error_for, refusal_of, unanswered_for};
 ghost use Rattle.router_core.specs.Scripts.{RunsTo};
-ghost use Rattle.router_core.specs.Serving.{Asks, Makes, and_stays, answered, answer_told, erring, made, request_of, serving_bus, serving_call, serving_reading, serving_request, telling_change};
+ghost use Rattle.router_core.specs.Serving.{Asks, Makes, and_stays, after_answer, answer_of_reply, erring, after_change, request_of, serving_bus, serving_call, serving_reading, serving_request, telling_change};
 ghost use Rattle.router_steps.specs.Carrying.{answer_of};
 ghost use Rattle.router_steps.specs.Hearing.{heard_change};
 
@@ -30,7 +30,7 @@ use std::sync::Arc;
 
 /// What the call is answered that asked for a change, where the bus replied so.
 pub(crate) fn answer_told(reply: Reply) -> Result<ReplyContent, ErrorKind>
-    ensures { answer_of result ≡ answer_told reply }
+    ensures { answer_of result ≡ answer_of_reply reply }
 {
     match reply {
         Reply::Done => Ok(ReplyContent::Empty),
@@ -117,7 +117,7 @@ fn made_by<V: BusView, G: Gate>(
 ) -> PeerFate
     requires room { length outcome.signals + length outcome.tickets < context.old.room }
     requires spare_verdicts { 0 < context.old.spare_verdicts }
-    ensures comes { RunsTo V.BusView G.Gate (made (said call.now) caller (Says outcome))
+    ensures comes { RunsTo V.BusView G.Gate (after_change (said call.now) caller (Says outcome))
         context.old.world result context.new.world }
     ensures room { context.old.room
         ≤ context.new.room + length outcome.signals + length outcome.tickets + 1 }
@@ -141,7 +141,8 @@ fn made<V: BusView, G: Gate>(
     requires room { MAX_EFFECTS < context.old.room }
     requires spare_verdicts { 0 < context.old.spare_verdicts }
     requires few { IfOk told IsBounded }
-    ensures comes { RunsTo V.BusView G.Gate (made (said call.now) caller (heard_change told))
+    ensures comes { RunsTo V.BusView G.Gate
+        (after_change (said call.now) caller (heard_change told))
         context.old.world result context.new.world }
     ensures room { context.old.room ≤ context.new.room + MAX_EFFECTS + 1 }
 {
@@ -164,7 +165,7 @@ fn reply_body<V: BusView, G: Gate>(
     requires spare_verdicts { 0 < context.old.spare_verdicts }
     requires answered { (told : Answer) × IsAnswerTo query.now body.items told }
     ensures comes { (told : Answer) → IsAnswerTo query.now body.items told →
-        RunsTo V.BusView G.Gate (answered (said call.now) caller (Says (Some told)))
+        RunsTo V.BusView G.Gate (after_answer (said call.now) caller (Says (Some told)))
         context.old.world tt context.new.world }
     ensures room { context.old.room ≤ context.new.room + 1 }
 {

@@ -6,7 +6,7 @@ ghost use Rattle.message_core.specs.Said.{said};
 ghost use Rattle.router_core.specs.declared.limits.TheConstants.{MAX_EFFECTS};
 ghost use Rattle.router_core.specs.Answers.{Says};
 ghost use Rattle.router_core.specs.Scripts.{Changing, RunsTo};
-ghost use Rattle.router_core.specs.Serving.{made};
+ghost use Rattle.router_core.specs.Serving.{after_change};
 ghost use Rattle.router_core.specs.Together.{change_of_joint, joining, joining_shown, joining_to, rule_call};
 ghost use Rattle.router_core.specs.declared.joint.RuleCall.{RuleCall as Rule_call};
 ghost use Rattle.router_serving.specs.Joinings.{RepliesAlone, joining_of, parting_of};
@@ -174,7 +174,7 @@ pub fn answer<V: BusView, G: Gate>(
     requires spare_verdicts { 0 < context.old.spare_verdicts }
     requires alone { RepliesAlone outcome }
     ensures comes { RunsTo V.BusView G.Gate
-        (made (said joint.now.message) joint.now.caller (Says outcome))
+        (after_change (said joint.now.message) joint.now.caller (Says outcome))
         context.old.world result context.new.world }
     ensures room { context.old.room ≤ context.new.room + 1 }
     ensures spare_verdicts { context.old.spare_verdicts ≤ context.new.spare_verdicts + 1 }
@@ -199,7 +199,7 @@ pub fn make<V: BusView, G: Gate>(
     requires spare_verdicts { 0 < context.old.spare_verdicts }
     ensures comes { RunsTo V.BusView G.Gate
         (Changing (change_of_joint joint.now)
-        (λ heard. made (said joint.now.message) joint.now.caller heard))
+        (λ heard. after_change (said joint.now.message) joint.now.caller heard))
         context.old.world result context.new.world }
     ensures room { context.old.room ≤ context.new.room + 1 }
     ensures spare_verdicts { context.old.spare_verdicts ≤ context.new.spare_verdicts + 1 }

@@ -4,7 +4,7 @@ ghost use Rattle.std.specs.Prelude.{◌≡◌, ◌<◌, ◌≤◌, ◌+◌, Ok};
 ghost use Rattle.message_core.specs.Said.{said};
 ghost use Rattle.router_core.specs.Answers.{Says};
 ghost use Rattle.router_core.specs.Scripts.{RunsTo};
-ghost use Rattle.router_core.specs.Serving.{Starts, serving_request, start_told};
+ghost use Rattle.router_core.specs.Serving.{Starts, serving_request, after_start};
 
 use crate::activation::waiting_call;
 use crate::calls::{answer_told, error_for, refuse};
@@ -27,7 +27,7 @@ fn started<V: BusView, G: Gate>(
     requires room { 0 < context.old.room }
     requires spare_verdicts { 0 < context.old.spare_verdicts }
     ensures comes { RunsTo V.BusView G.Gate
-        (start_told (said call.now) caller name.value (Says outcome))
+        (after_start (said call.now) caller name.value (Says outcome))
         context.old.world result context.new.world }
     ensures room { context.old.room ≤ context.new.room + 1 }
 {

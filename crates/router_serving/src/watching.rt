@@ -5,7 +5,7 @@ ghost use Rattle.message_core.specs.Said.{said};
 ghost use Rattle.router_core.specs.declared.limits.TheConstants.{MAX_EFFECTS};
 ghost use Rattle.router_core.specs.Answers.{Says};
 ghost use Rattle.router_core.specs.Scripts.{RunsTo};
-ghost use Rattle.router_core.specs.Serving.{Watches, serving_request, watch_told};
+ghost use Rattle.router_core.specs.Serving.{Watches, serving_request, after_watch};
 
 use crate::calls::{error_for, refuse, tell_change};
 use bus_view::BusView;
@@ -25,7 +25,7 @@ fn watched<V: BusView, G: Gate>(
 ) -> PeerFate
     requires room { length outcome.signals + length outcome.tickets < context.old.room }
     requires spare_verdicts { 0 < context.old.spare_verdicts }
-    ensures comes { RunsTo V.BusView G.Gate (watch_told (said call.now) caller (Says outcome))
+    ensures comes { RunsTo V.BusView G.Gate (after_watch (said call.now) caller (Says outcome))
         context.old.world result context.new.world }
     ensures room { context.old.room
         ≤ context.new.room + length outcome.signals + length outcome.tickets + 1 }

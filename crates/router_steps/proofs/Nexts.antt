@@ -9,7 +9,7 @@ use Rattle.driver.specs.Calls.{is_hello}
 use Rattle.router_core.specs.declared.fate.PeerFate.{PeerFate}
 use Rattle.router_core.specs.declared.cause.CloseCause.TheVariants as cause
 use Rattle.router_core.specs.Deeds.{GatedCall}
-use Rattle.router_core.specs.Events.{OfPeer, closing, fated, for_entry, for_peer, serving_hello, serve_named, serve_at, read, next_at, coming_next}
+use Rattle.router_core.specs.Events.{OfPeer, closing, after_serving, for_entry, for_peer, serving_hello, serve_named, serve_at, read, next_at, coming_next}
 use Rattle.router_core.specs.Incoming.{Waits, Whole, Faulty, IsIncoming}
 use Rattle.router_core.specs.Scripts.{Gives, Framing, World, Comes, and_then}
 use Rattle.router_core.specs.Serving.{serving}
@@ -52,11 +52,11 @@ module _ {N G : Type 0} (told : N → History) (registry_of : N → ℕ) (passes
         (Whole message r.unread, incoming, subst (λ (stage : Stage). Comes told registry_of passes alone (serve_at s key (said message) x stage) w t v) (sym unnamed) chosen)
 
     pub reads_named : (s : Standing) (message : List ℕ) (r q : Peer) (conn : Conn) (fate : PeerFate) (m : World N G) → IsIncoming p.unread (Whole message r.unread) → IsRest p r → p.stage ≡ Named conn → r.watches ≡ false →
-        Comes told registry_of passes alone (serving (said message) conn) w fate m → Comes told registry_of passes alone (fated key fate r) m q v → Reads s q
+        Comes told registry_of passes alone (serving (said message) conn) w fate m → Comes told registry_of passes alone (after_serving key fate r) m q v → Reads s q
     reads_named s message r q conn fate m incoming rest named speaks served closes =
         let t : Standing = with_peer s key (Some q) in
-        let work = λ (x : Peer). and_then (serving (said message) conn) (λ (f : PeerFate). fated key f x) in
-        let done = comes_then told registry_of passes alone (λ (f : PeerFate). fated key f r) fate m q v closes (serving (said message) conn) w served in
+        let work = λ (x : Peer). and_then (serving (said message) conn) (λ (f : PeerFate). after_serving key f x) in
+        let done = comes_then told registry_of passes alone (λ (f : PeerFate). after_serving key f r) fate m q v closes (serving (said message) conn) w served in
         let here = subst (λ (x : Peer). Comes told registry_of passes alone (for_peer s key (Some x) work) w t v) rest (for_some s key r q work w v done) in
         let x : Peer = record p { unread = r.unread } in
         let same : p.watches ≡ false = sym (ap (λ (y : Peer). y.watches) rest) ∙ speaks in

@@ -13,7 +13,7 @@ use Rattle.router_core.specs.declared.cause.CloseCause.TheVariants as cause
 use Rattle.seq_bus_core.specs.declared.error_kind.ErrorKind.TheVariants as error
 use Rattle.router_core.specs.Deeds.{GatedCall}
 use Rattle.router_core.specs.Scripts.{World, Comes, putting}
-use Rattle.router_core.specs.Serving.{Fated, nothing, closes_for, signed, copied, relayed, and_stays, erring_if_call}
+use Rattle.router_core.specs.Serving.{OfFate, nothing, closes_for, with_sender, putting_copies, relaying_to, and_stays, erring_if_call}
 use Rattle.router_steps.specs.OncePut.{is_for_length, is_long, not_put}
 
 pub long_is : {A : Type 0} (r : Result A RelayFault) (b : Bool) → (IsErrOf r relay.TooLong ↔ IsTrue b) → b ≡ is_long r
@@ -33,25 +33,25 @@ deliveries_of_none (conn ∷ conns) = ap (λ rest. conn ∷ rest) (deliveries_of
 pub deliveries_of_one : (to monitors : List Conn) (conn : Conn) → (to ≡ conn ∷ []) × (monitors ≡ []) → conn ∷ [] ≡ deliveries_of to monitors
 deliveries_of_one to monitors conn is = sym (ap (λ (conns : List Conn). deliveries_of conns monitors) is.0 ∙ ap (λ (shown : List Conn). deliveries_of (conn ∷ []) shown) is.1)
 
-module _ {N G : Type 0} (told : N → History) (registry_of : N → ℕ) (passes : G → GatedCall → G → Type 0) (alone : Bool) (m : Message) (sender : Conn) (goes_on : Fated) (fate : PeerFate) (end : World N G) where
-  fits : (to : List Conn) (w : World N G) → is_too_long (signed m sender) ≡ false → Comes told registry_of passes alone (copied m sender to goes_on) w fate end → Comes told registry_of passes alone (relayed m sender to goes_on) w fate end
-  fits to w short p = subst (λ (b : Bool). Comes told registry_of passes alone (if b then closes_for cause.TooLong else copied m sender to goes_on) w fate end) (sym short) p
+module _ {N G : Type 0} (told : N → History) (registry_of : N → ℕ) (passes : G → GatedCall → G → Type 0) (alone : Bool) (m : Message) (sender : Conn) (goes_on : OfFate) (fate : PeerFate) (end : World N G) where
+  fits : (to : List Conn) (w : World N G) → is_too_long (with_sender m sender) ≡ false → Comes told registry_of passes alone (putting_copies m sender to goes_on) w fate end → Comes told registry_of passes alone (relaying_to m sender to goes_on) w fate end
+  fits to w short p = subst (λ (b : Bool). Comes told registry_of passes alone (if b then closes_for cause.TooLong else putting_copies m sender to goes_on) w fate end) (sym short) p
 
-  put : (to : List Conn) (w n : World N G) → Comes told registry_of passes alone (putting to (Relays (message_bytes (signed m sender))) nothing) w tt n → Comes told registry_of passes alone goes_on n fate end → Comes told registry_of passes alone (copied m sender to goes_on) w fate end
+  put : (to : List Conn) (w n : World N G) → Comes told registry_of passes alone (putting to (Relays (message_bytes (with_sender m sender))) nothing) w tt n → Comes told registry_of passes alone goes_on n fate end → Comes told registry_of passes alone (putting_copies m sender to goes_on) w fate end
   put [] w n p q = subst (λ (u : World N G). Comes told registry_of passes alone goes_on u fate end) p.1 q
   put (conn ∷ conns) w n p q = (true, (p.0, p.1, subst (λ (u : World N G). Comes told registry_of passes alone goes_on u fate end) p.2.1 q))
 
-  pub relays : (to : List Conn) (said : Said) (w n : World N G) → is_too_long (signed m sender) ≡ false → said ≡ Relays (message_bytes (signed m sender)) → Comes told registry_of passes alone (putting to said nothing) w tt n →
-      Comes told registry_of passes alone goes_on n fate end → Comes told registry_of passes alone (relayed m sender to goes_on) w fate end
+  pub relays : (to : List Conn) (said : Said) (w n : World N G) → is_too_long (with_sender m sender) ≡ false → said ≡ Relays (message_bytes (with_sender m sender)) → Comes told registry_of passes alone (putting to said nothing) w tt n →
+      Comes told registry_of passes alone goes_on n fate end → Comes told registry_of passes alone (relaying_to m sender to goes_on) w fate end
   relays to said w n short is p q = fits to w short (put to w n (subst (λ (s : Said). Comes told registry_of passes alone (putting to s nothing) w tt n) is p) q)
 
   dropped : (to monitors : List Conn) (w : World N G) → ((to ≡ []) × (monitors ≡ []) → ⊥) → Comes told registry_of passes alone (and_stays (erring_if_call m sender error.NoMemory)) w fate end →
-      Comes told registry_of passes alone (copied m sender (deliveries_of to monitors) goes_on) w fate end
+      Comes told registry_of passes alone (putting_copies m sender (deliveries_of to monitors) goes_on) w fate end
   dropped (conn ∷ conns) monitors w some p = (false, p)
   dropped [] (conn ∷ conns) w some p = (false, p)
   dropped [] [] w some p = absurd (some (refl, refl))
 
-  pub refuses : (fault : RelayFault) (to monitors : List Conn) (w : World N G) → is_too_long (signed m sender) ≡ is_for_length fault → ((to ≡ []) × (monitors ≡ []) → ⊥) →
-      Comes told registry_of passes alone (not_put fault m sender) w fate end → Comes told registry_of passes alone (relayed m sender (deliveries_of to monitors) goes_on) w fate end
+  pub refuses : (fault : RelayFault) (to monitors : List Conn) (w : World N G) → is_too_long (with_sender m sender) ≡ is_for_length fault → ((to ≡ []) × (monitors ≡ []) → ⊥) →
+      Comes told registry_of passes alone (not_put fault m sender) w fate end → Comes told registry_of passes alone (relaying_to m sender (deliveries_of to monitors) goes_on) w fate end
   refuses relay.NoMemory to monitors w long some p = fits (deliveries_of to monitors) w long (dropped to monitors w some p)
-  refuses relay.TooLong to monitors w long some p = subst (λ (b : Bool). Comes told registry_of passes alone (if b then closes_for cause.TooLong else copied m sender (deliveries_of to monitors) goes_on) w fate end) (sym long) p
+  refuses relay.TooLong to monitors w long some p = subst (λ (b : Bool). Comes told registry_of passes alone (if b then closes_for cause.TooLong else putting_copies m sender (deliveries_of to monitors) goes_on) w fate end) (sym long) p

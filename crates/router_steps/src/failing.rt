@@ -6,7 +6,7 @@ ghost use Rattle.router_core.specs.declared.limits.TheConstants.{MAX_EFFECTS};
 ghost use Rattle.router_core.specs.Answers.{is_final, refusal_of};
 ghost use Rattle.router_core.specs.Events.{change_of, ending_child, error_of_end};
 ghost use Rattle.router_core.specs.Scripts.{Wanting, RunsTo};
-ghost use Rattle.router_core.specs.Serving.{failing, failing_all, failed_if};
+ghost use Rattle.router_core.specs.Serving.{failing, failing_all, failing_if};
 ghost use Rattle.router_core.specs.Standing.{Standing};
 
 use crate::context::Context;
@@ -60,7 +60,7 @@ impl<V: BusView, G: Gate> Context<V, G> {
     fn tell_failed(&mut self, error: ErrorKind, caller: Conn, serial: u32)
         requires { 0 < self.old.room }
         ensures comes { RunsTo V.BusView G.Gate
-            (Wanting (λ granted. failed_if error caller
+            (Wanting (λ granted. failing_if error caller
             (record { caller = Some caller.number; call = serial }) granted))
             self.old.world tt self.new.world }
         ensures room { self.old.room ≤ self.new.room + 1 }

@@ -1,7 +1,7 @@
 //! One connection.
 
 ghost use Rattle.std.specs.Prelude.{◌≡◌, ◌<◌, ◌≤◌, ◌+◌, [], true, false, OnOk, OnErr};
-ghost use Rattle.router_core.specs.Events.{closing, fed, checking_presence};
+ghost use Rattle.router_core.specs.Events.{closing, with_bytes, checking_presence};
 ghost use Rattle.router_core.specs.Incoming.{Waits, IsIncoming};
 ghost use Rattle.router_core.specs.Scripts.{RunsTo};
 ghost use Rattle.router_core.specs.Standing.{Named, SpeaksDBus, newcomer, next_serial, conn_of, closing_peer};
@@ -117,7 +117,7 @@ impl Peer {
     /// nothing changes, and the piece stays where it was.
     pub(crate) fn feed(&mut self, piece: &mut Vec<u8>) -> Result<(), AllocError>
         requires { SpeaksDBus self.old.stage }
-        ensures ok { OnOk result (self.new ≡ fed piece.old.items self.old self.old.stage) }
+        ensures ok { OnOk result (self.new ≡ with_bytes piece.old.items self.old self.old.stage) }
         ensures err { OnErr result (self.new ≡ self.old) }
         ensures kept { OnErr result (piece.new ≡ piece.old) }
     {

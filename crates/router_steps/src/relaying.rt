@@ -6,7 +6,7 @@ ghost use Rattle.message.specs.MessageBytes.{message_bytes, is_too_long};
 ghost use Rattle.outbox_core.specs.Contents.{Relays};
 ghost use Rattle.outbox_core.specs.Deliveries.{deliveries_of};
 ghost use Rattle.router_core.specs.Scripts.{World, RunsTo, putting};
-ghost use Rattle.router_core.specs.Serving.{Fated, nothing, signed, relayed, shown};
+ghost use Rattle.router_core.specs.Serving.{OfFate, nothing, with_sender, relaying_to, showing};
 ghost use Rattle.router_core.specs.declared.fate.PeerFate.{PeerFate as Fate};
 ghost use Rattle.router_steps.specs.OncePut.{is_long, once_put};
 
@@ -26,8 +26,8 @@ impl<V: BusView, G: Gate> Context<V, G> {
     #[tactic(auto, using(crate::proofs::Signing::long_is))]
     pub fn sign(&self, message: &Message, sender: Conn) -> Result<SharedBytes, RelayFault>
         ensures bytes { IfOk result
-            (λ bytes. bytes ≡ message_bytes (signed (said message.now) sender)) }
-        ensures too_long { is_too_long (signed (said message.now) sender) ≡ is_long result }
+            (λ bytes. bytes ≡ message_bytes (with_sender (said message.now) sender)) }
+        ensures too_long { is_too_long (with_sender (said message.now) sender) ≡ is_long result }
     {
         let mut bytes = Vec::new(self.alloc);
         if let Err(fault) = relay(message, &ConnectionName::of(sender.number), &mut bytes) {
@@ -52,19 +52,19 @@ impl<V: BusView, G: Gate> Context<V, G> {
         verdict: Box<Verdict>,
     ) -> Result<(), RelayFault>
         requires { 0 < self.old.room }
-        ensures comes { (goes_on : Fated) (fate : Fate) (end : World V.Note G) →
+        ensures comes { (goes_on : OfFate) (fate : Fate) (end : World V.Note G) →
             RunsTo V.BusView G.Gate
             (once_put result (said message.now) sender goes_on) self.new.world fate end →
             RunsTo V.BusView G.Gate
-            (relayed (said message.now) sender
+            (relaying_to (said message.now) sender
             (deliveries_of verdict.value.to verdict.value.monitors) goes_on)
             self.old.world fate end }
         ensures put { OnOk result (RunsTo V.BusView G.Gate
             (putting (deliveries_of verdict.value.to verdict.value.monitors)
-            (Relays (message_bytes (signed (said message.now) sender))) nothing)
+            (Relays (message_bytes (with_sender (said message.now) sender))) nothing)
             self.old.world tt self.new.world) }
         ensures unput { OnErr result (self.new.world ≡ self.old.world) }
-        ensures too_long { is_too_long (signed (said message.now) sender) ≡ is_long result }
+        ensures too_long { is_too_long (with_sender (said message.now) sender) ≡ is_long result }
         ensures room { self.old.room ≤ self.new.room + 1 }
         ensures spare_verdicts { self.old.spare_verdicts ≤ self.new.spare_verdicts }
     {
@@ -97,18 +97,18 @@ impl<V: BusView, G: Gate> Context<V, G> {
         verdict: Box<Verdict>,
     ) -> Result<(), RelayFault>
         requires { 0 < self.old.room }
-        ensures comes { (goes_on : Fated) (fate : Fate) (end : World V.Note G) →
+        ensures comes { (goes_on : OfFate) (fate : Fate) (end : World V.Note G) →
             RunsTo V.BusView G.Gate
             (once_put result (said message.now) sender goes_on) self.new.world fate end →
             RunsTo V.BusView G.Gate
-            (relayed (said message.now) sender verdict.value.monitors goes_on)
+            (relaying_to (said message.now) sender verdict.value.monitors goes_on)
             self.old.world fate end }
         ensures put { OnOk result (RunsTo V.BusView G.Gate
             (putting verdict.value.monitors
-            (Relays (message_bytes (signed (said message.now) sender))) nothing)
+            (Relays (message_bytes (with_sender (said message.now) sender))) nothing)
             self.old.world tt self.new.world) }
         ensures unput { OnErr result (self.new.world ≡ self.old.world) }
-        ensures too_long { is_too_long (signed (said message.now) sender) ≡ is_long result }
+        ensures too_long { is_too_long (with_sender (said message.now) sender) ≡ is_long result }
         ensures room { self.old.room ≤ self.new.room + 1 }
         ensures spare_verdicts { self.old.spare_verdicts ≤ self.new.spare_verdicts }
     {
@@ -130,18 +130,19 @@ impl<V: BusView, G: Gate> Context<V, G> {
         verdict: Box<Verdict>,
     ) -> Result<(), RelayFault>
         requires { 0 < self.old.room }
-        ensures comes { (goes_on : Fated) (fate : Fate) (end : World V.Note G) →
+        ensures comes { (goes_on : OfFate) (fate : Fate) (end : World V.Note G) →
             RunsTo V.BusView G.Gate
             (once_put result (said message.now) sender goes_on) self.new.world fate end →
-            RunsTo V.BusView G.Gate (shown (said message.now) sender verdict.value.monitors goes_on)
+            RunsTo V.BusView G.Gate
+            (showing (said message.now) sender verdict.value.monitors goes_on)
             self.old.world fate end }
         ensures put { OnOk result (RunsTo V.BusView G.Gate
             (putting verdict.value.monitors
-            (Relays (message_bytes (signed (said message.now) sender))) nothing)
+            (Relays (message_bytes (with_sender (said message.now) sender))) nothing)
             self.old.world tt self.new.world) }
         ensures unput { OnErr result (self.new.world ≡ self.old.world) }
         ensures too_long { verdict.value.monitors ≢ [] →
-            is_too_long (signed (said message.now) sender) ≡ is_long result }
+            is_too_long (with_sender (said message.now) sender) ≡ is_long result }
         ensures unshown { verdict.value.monitors ≡ [] → IsOk result }
         ensures room { self.old.room ≤ self.new.room + 1 }
         ensures spare_verdicts { self.old.spare_verdicts ≤ self.new.spare_verdicts }

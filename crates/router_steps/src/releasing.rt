@@ -3,7 +3,7 @@
 
 ghost use Rattle.std.specs.Prelude.{◌≡◌, ◌<◌, ◌≤◌, ◌+◌, Some, length};
 ghost use Rattle.router_core.specs.Scripts.{Wanting, RunsTo};
-ghost use Rattle.router_core.specs.Serving.{releasing, releasing_all, started_if, ticket_wants_reply};
+ghost use Rattle.router_core.specs.Serving.{releasing, releasing_all, start_reply_if, ticket_wants_reply};
 
 use crate::context::Context;
 use bus_view::BusView;
@@ -26,7 +26,7 @@ impl<V: BusView, G: Gate> Context<V, G> {
     fn tell_started(&mut self, caller: Conn, serial: u32)
         requires { 0 < self.old.room }
         ensures comes { RunsTo V.BusView G.Gate
-            (Wanting (λ granted. started_if caller
+            (Wanting (λ granted. start_reply_if caller
             (record { caller = Some caller.number; call = serial }) granted))
             self.old.world tt self.new.world }
         ensures room { self.old.room ≤ self.new.room + 1 }

@@ -6,7 +6,7 @@ use Rattle.seq_bus_core.specs.declared.change.Change.TheVariants.{Start}
 use Rattle.seq_bus_core.specs.declared.error_kind.ErrorKind.{ErrorKind}
 use Rattle.router_core.specs.Answers.{Says, Refuses, refusal_of}
 use Rattle.router_core.specs.Scripts.{Changes, Comes}
-use Rattle.router_core.specs.Serving.{and_stays, erring, start_told}
+use Rattle.router_core.specs.Serving.{and_stays, erring, after_start}
 use Rattle.router_serving.proofs.starting.start_service.Goals as goal
 
 pub returns-in-Ok-change-clause-comes : goal.returns-in-Ok-change-clause-comes
@@ -21,7 +21,7 @@ returns-in-Ok-change-clause-comes g c =
     let n = c.change.new.self.world in
     let v = c.started.new.context.world in
     let changes = subst (λ (call : CallHead). Changes alone (Start c.args.caller.number c.args.name.now call) w (Says o) n) c.waiting_call.ensures c.in-Ok-change.ensures.changes in
-    let goes_on = subst (λ (name : Text). Comes told registry_of passes alone (start_told m c.args.caller name (Says o)) n c.started.result v) c.in-Ok.ensures.ok c.started.ensures.comes in
+    let goes_on = subst (λ (name : Text). Comes told registry_of passes alone (after_start m c.args.caller name (Says o)) n c.started.result v) c.in-Ok.ensures.ok c.started.ensures.comes in
     (true, (Says o, n, changes, goes_on))
 
 pub returns-in-Err-clause-comes : goal.returns-in-Err-clause-comes

@@ -3,7 +3,7 @@ use Rattle.message_core.specs.Said.{said}
 use Rattle.router_core.specs.Answers.{Says}
 use Rattle.router_core.specs.Events.{done_for}
 use Rattle.router_core.specs.Scripts.{Comes}
-use Rattle.router_core.specs.Serving.{made}
+use Rattle.router_core.specs.Serving.{after_change}
 use Rattle.router_core.specs.Standing.{peer_at}
 use Rattle.router.specs.Named.{is_named}
 use Rattle.router.specs.Tables.{Table}
@@ -14,7 +14,7 @@ pub returns-then-not-has_name-clause-comes : goal.returns-then-not-has_name-clau
 returns-then-not-has_name-clause-comes g c =
     let joint = c.args.joint.now in
     does_nothing g.V.BusView.told g.V.BusView.registry_of g.G.Gate.passes g.V.BusView.alone c.args.self.now.standing joint.key
-    (made (said joint.message) joint.caller (Says c.args.outcome)) c.args.self.now.work.world (sym c.has_name.ensures ∙ c.if-not-has_name.true)
+    (after_change (said joint.message) joint.caller (Says c.args.outcome)) c.args.self.now.work.world (sym c.has_name.ensures ∙ c.if-not-has_name.true)
 
 pub settle-requires-clause-named : goal.settle-requires-clause-named
 settle-requires-clause-named g c =
@@ -23,6 +23,6 @@ settle-requires-clause-named g c =
 pub returns-clause-comes : goal.returns-clause-comes
 returns-clause-comes g c =
     let joint = c.args.joint.now in
-    let work = made (said joint.message) joint.caller (Says c.args.outcome) in
+    let work = after_change (said joint.message) joint.caller (Says c.args.outcome) in
     subst (λ (k : Table g.row.V-Note.Denot g.row.G.Denot). Comes g.V.BusView.told g.V.BusView.registry_of g.G.Gate.passes g.V.BusView.alone (done_for k.standing joint.key work) k.work.world c.settle.new.self.standing c.settle.new.self.work.world) c.self.view_is
     (c.settle.ensures.comes work c.self.inside.context.world c.answer-fate.ensures.comes)

@@ -1,6 +1,6 @@
 use Rattle.std.proofs.Common.{◌≡◌, List, ℕ, Option, Some, None, sym, ap, ◌∙◌, subst}
 use Rattle.seq_bus_core.specs.declared.connection.Conn.{Conn}
-use Rattle.router_core.specs.Events.{leaving_of, closed}
+use Rattle.router_core.specs.Events.{leaving_of, removing}
 use Rattle.router_core.specs.Scripts.{World, Comes}
 use Rattle.router_core.specs.Standing.{Peer, Standing, peer_at, with_peer, conn_of}
 use Rattle.router.specs.Tables.{Table}
@@ -33,5 +33,5 @@ returns-clause-comes g c =
     let of_world = subst (λ (k : World g.row.V-Note.Denot g.row.G.Denot). Comes told registry_of passes alone (leaving_of n c.conn.result) k t v) c.reserve.ensures.world of_leaves in
     let of_conn = subst (λ (o : Option Conn). Comes told registry_of passes alone (leaving_of n o) w t v) conn of_world in
     let of_peers = subst (λ (x : Standing). Comes told registry_of passes alone (leaving_of x (conn_of p.stage)) w t v) gone of_conn in
-    let closes = subst (λ (o : Option Peer). Comes told registry_of passes alone (closed s key o) w t v) (sym there) of_peers in
-    subst (λ (k : Table g.row.V-Note.Denot g.row.G.Denot). Comes told registry_of passes alone (closed k.standing key (peer_at k.standing key)) k.work.world t v) c.self.view_is closes
+    let closes = subst (λ (o : Option Peer). Comes told registry_of passes alone (removing s key o) w t v) (sym there) of_peers in
+    subst (λ (k : Table g.row.V-Note.Denot g.row.G.Denot). Comes told registry_of passes alone (removing k.standing key (peer_at k.standing key)) k.work.world t v) c.self.view_is closes

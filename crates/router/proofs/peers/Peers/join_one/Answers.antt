@@ -2,7 +2,7 @@ use Rattle.std.proofs.Common.{◌≡◌, [], ◌∷◌, ◌++◌, Some, true, Li
 use Rattle.message_core.specs.Said.{said}
 use Rattle.router_core.specs.declared.joint.Joint.{Joint}
 use Rattle.router_core.specs.declared.joint.RuleCall.{RuleCall}
-use Rattle.router_core.specs.Events.{Gathered, done_for, joined}
+use Rattle.router_core.specs.Events.{Gathered, done_for, after_joining}
 use Rattle.router_core.specs.Scripts.{Comes, and_then}
 use Rattle.router_core.specs.Standing.{Standing}
 use Rattle.router_core.specs.Together.{Joins, Parts, joining}
@@ -34,10 +34,10 @@ returns-in-Joins-clause-comes g c call is =
     let all : c.push_reserved.new.joints.items ≡ joints ++ joint call ∷ [] = c.push_reserved.ensures.items ∙ ap (λ (r : RuleCall). joints ++ joint r ∷ []) (sym same) in
     let end : Gathered = record { joints = joints ++ joint call ∷ []; standing = s; served = true } in
     let came = subst (λ (r : Joining). Comes told registry_of passes alone (joining m conn call) w (joining_of m conn r) v) c.in-Joins.is (c.join.ensures.comes call is) in
-    let done = comes_then told registry_of passes alone (λ it. joined joints s (joint call) it) Joins v end v (refl, refl) (joining m conn call) w came in
-    let kept = subst (λ (js : List Joint). let x : Gathered = record { joints = js; standing = s; served = true } in Comes told registry_of passes alone (and_then (joining m conn call) (λ it. joined joints s (joint call) it)) w x v) (sym all) done in
+    let done = comes_then told registry_of passes alone (λ it. after_joining joints s (joint call) it) Joins v end v (refl, refl) (joining m conn call) w came in
+    let kept = subst (λ (js : List Joint). let x : Gathered = record { joints = js; standing = s; served = true } in Comes told registry_of passes alone (and_then (joining m conn call) (λ it. after_joining joints s (joint call) it)) w x v) (sym all) done in
     subst
-    (λ (k : Table g.row.V-Note.Denot g.row.G.Denot). let x : Gathered = record { joints = c.push_reserved.new.joints.items; standing = s; served = true } in Comes told registry_of passes alone (and_then (joining m conn call) (λ it. joined joints k.standing (joint call) it)) k.work.world x v)
+    (λ (k : Table g.row.V-Note.Denot g.row.G.Denot). let x : Gathered = record { joints = c.push_reserved.new.joints.items; standing = s; served = true } in Comes told registry_of passes alone (and_then (joining m conn call) (λ it. after_joining joints k.standing (joint call) it)) k.work.world x v)
     c.self.view_is kept
 
 pub returns-in-Parts-clause-comes : goal.returns-in-Parts-clause-comes
@@ -62,8 +62,8 @@ returns-in-Parts-clause-comes g c call is =
     let end : Gathered = record { joints = []; standing = u; served = true } in
     let came = subst (λ (r : Joining). Comes told registry_of passes alone (joining m conn call) w (joining_of m conn r) n) c.in-Parts.is (c.join.ensures.comes call is) in
     let later = parts_from told registry_of passes alone joints s t u (λ (x : Standing). done_for x key work) n q v c.make_all.ensures.comes c.part_one.ensures.comes in
-    let done = comes_then told registry_of passes alone (λ it. joined joints s joint it) (Parts work) n end v later (joining m conn call) w came in
-    let kept = subst (λ (js : List Joint). let x : Gathered = record { joints = js; standing = u; served = true } in Comes told registry_of passes alone (and_then (joining m conn call) (λ it. joined joints s joint it)) w x v) (sym c.make_all.ensures.none) done in
+    let done = comes_then told registry_of passes alone (λ it. after_joining joints s joint it) (Parts work) n end v later (joining m conn call) w came in
+    let kept = subst (λ (js : List Joint). let x : Gathered = record { joints = js; standing = u; served = true } in Comes told registry_of passes alone (and_then (joining m conn call) (λ it. after_joining joints s joint it)) w x v) (sym c.make_all.ensures.none) done in
     subst
-    (λ (k : Table g.row.V-Note.Denot g.row.G.Denot). let x : Gathered = record { joints = c.make_all.new.joints.items; standing = u; served = true } in Comes told registry_of passes alone (and_then (joining m conn call) (λ it. joined joints k.standing joint it)) k.work.world x v)
+    (λ (k : Table g.row.V-Note.Denot g.row.G.Denot). let x : Gathered = record { joints = c.make_all.new.joints.items; standing = u; served = true } in Comes told registry_of passes alone (and_then (joining m conn call) (λ it. after_joining joints k.standing joint it)) k.work.world x v)
     c.self.view_is kept

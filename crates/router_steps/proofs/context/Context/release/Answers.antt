@@ -1,7 +1,7 @@
 use Rattle.std.proofs.Common.{ℕ, Option, List, [], ◌∷◌, refl, sym, subst, ◌∙◌}
 use Rattle.outbox_core.specs.Contents.{Relays}
 use Rattle.router_core.specs.Scripts.{Wanting, putting, Comes}
-use Rattle.router_core.specs.Serving.{call_of_ticket, nothing, releasing, started_if, ticket_wants_reply}
+use Rattle.router_core.specs.Serving.{call_of_ticket, nothing, releasing, start_reply_if, ticket_wants_reply}
 use Rattle.router_steps.proofs.Choices.{chosen}
 use Rattle.router_steps.proofs.Tellings.{put_to_alone}
 use Rattle.router_steps.proofs.context.Context.release.Goals as goal
@@ -27,5 +27,5 @@ returns-then-wants_reply-clause-comes g c =
     let w = c.args.self.now.world in
     let v = c.tell_started.new.self.world in
     let t = c.args.ticket in
-    let answered = chosen told registry_of passes alone (Wanting (λ granted. started_if t.caller (call_of_ticket t) granted)) nothing w v tt (ticket_wants_reply t) (sym c.wants_reply-wants_reply.ensures ∙ c.if-wants_reply.true) c.tell_started.ensures.comes in
+    let answered = chosen told registry_of passes alone (Wanting (λ granted. start_reply_if t.caller (call_of_ticket t) granted)) nothing w v tt (ticket_wants_reply t) (sym c.wants_reply-wants_reply.ensures ∙ c.if-wants_reply.true) c.tell_started.ensures.comes in
     subst (λ (message : Option (List ℕ)). Comes told registry_of passes alone (releasing c.args.owner t message) w tt v) (sym c.in-None.is) answered
