@@ -10,6 +10,7 @@
 //! use bench_core::Work;
 //!
 //! /// Sums up so many bytes.
+//! #[derive(Drop)]
 //! struct Sums {
 //!     bytes: Vec<u8>,
 //! }
