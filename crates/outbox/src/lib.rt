@@ -7,6 +7,8 @@
 //! An envelope carries a note of the registry that the outboxes are of: its type says so.
 //!
 //! ```
+//! ghost use Rattle.std.specs.Prelude.{◌≡◌};
+//!
 //! use outbox::{EnvelopeOf, Outboxes};
 //! use registry_snapshots::{Naming, Shared};
 //! use std::alloc::{AllocError, Global};
@@ -19,6 +21,7 @@
 //!     shared: &Shared<J>,
 //!     envelope: EnvelopeOf<J>,
 //! ) -> Result<bool, AllocError>
+//!     requires { J.opening.state.routers ≡ 2 }
 //! {
 //!     let (mut lanes, mut routers) = Outboxes::new(alloc, shared)?;
 //!     let (Some(mut lane), Some(mut taps)) = (lanes.pop(), routers.pop()) else {
@@ -32,7 +35,11 @@
 //!     }
 //!     let number = envelope.number;
 //!     let put = lane.put(rt, 255, envelope).is_ok();
-//!     Ok(put && tap.take(rt).is_some_and(|envelope| envelope.number == number))
+//!     Ok(
+//!         put && tap
+//!             .take(rt)
+//!             .is_some_and(|envelope| envelope.number == number),
+//!     )
 //! }
 //! ```
 //!
