@@ -3,8 +3,8 @@
 //! stop or the system gives no more.
 //!
 //! ```
-//! use busd_serve::{Bus, DaemonRuntime};
 //! use busd_core::{Options, ServeFault};
+//! use busd_serve::{Bus, DaemonRuntime};
 //!
 //! /// Serves the clients of a socket, as long as the system gives what that takes.
 //! fn serve_clients<R: DaemonRuntime>(rt: &R, options: Options<'_>) -> Result<(), ServeFault>
