@@ -7,20 +7,21 @@
 //! ```
 //! use bus_view::BusView;
 //! use router_core::{Action, CloseCause, OpenGate};
-//! use router_steps::Context;
+//! use router_steps::{Context, Peer, Stage};
 //! use std::alloc::{AllocError, Global};
 //!
-//! /// The step that closes the connection of key 0, and the action that it makes.
+//! /// The step that closes a connection which began with no Hello, and the action that it makes.
 //! fn closes<V: BusView + Drop>(alloc: Global, bus: V) -> Result<bool, AllocError> {
 //!     let mut context = Context::new(alloc, bus, OpenGate)?;
+//!     let mut peer = Peer::new(alloc, Stage::Unnamed { privileged: false });
 //!     context.reserve(1)?;
-//!     context.close(0, CloseCause::Left);
+//!     context.close_peer(0, &mut peer, CloseCause::NotHello);
 //!     let actions = context.take_actions();
 //!     Ok(matches!(
 //!         actions.as_slice(),
 //!         [Action::Close {
 //!             key: 0,
-//!             cause: CloseCause::Left
+//!             cause: CloseCause::NotHello
 //!         }]
 //!     ))
 //! }
