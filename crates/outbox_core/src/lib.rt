@@ -2,7 +2,7 @@
 //! gets them.
 //!
 //! A relayed message is there in its bytes, which all who get it share. The bus's own messages are
-//! numbered by the router of the recipient, so they travel unwritten, as an [`BusMessage`], and are
+//! numbered by the router of the recipient, so they travel unwritten, as a [`BusMessage`], and are
 //! written where they arrive. An [`Envelope`] has such a [`Content`], the number of the connection
 //! that it is for, and what its sender knew of the bus. Who gets a content, and in which order, is
 //! said by [`Deliveries`]. Laws of who gets it, and of what rules see of a signal, stand in
