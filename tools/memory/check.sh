@@ -1,7 +1,8 @@
 #!/usr/bin/env bash
 # Refuses each allocation of `busd run`, of the start of `busd serve`, of bus-check and of test_scarce in turn, on all
-# processors, and fails where one answers otherwise than it should. What has passed on this machine is not tried again:
-# it is kept in the user's cache, by the checksum of all that was run and compared.
+# processors, and fails where one answers otherwise than it should. The first three are started for each allocation, of
+# test_scarce only the part runs again that makes it. What has passed on this machine is not tried again: it is kept in
+# the user's cache, by the checksum of all that was run and compared.
 set -euo pipefail
 cd "$(dirname "$0")/../.."
 crates=$PWD/crates
@@ -22,7 +23,8 @@ with() {
 }
 
 wrong() {
-    echo "allocation $number refused: status $status, $(wc -c < "$own/out") bytes, $(< "$own/err")"
+    echo "allocation $number${part:+ of the part $part} refused: status $status, $(wc -c < "$own/out") bytes," \
+        "$(< "$own/err")"
     exit 1
 }
 
@@ -81,13 +83,64 @@ judge_check() {
     said 0 "$crates/trace_check/stdout" "" || said 5 /dev/null "bus-check: memory"
 }
 
+scarce=$crates/test_scarce/out/test_scarce
+
 run_scarce() {
-    with "$1" "$crates/test_scarce/out/test_scarce"
+    with "$1" "$scarce" < /dev/null
 }
 
-# whichever allocation is refused, it writes what its file stdout has
-judge_scarce() {
-    said 0 "$crates/test_scarce/stdout" ""
+# The parts of test_scarce, each named as what it tells first; how many lines each tells, which stand in a file of its
+# number; and how many allocations it makes.
+parts=()
+lines=()
+counts=()
+part=
+
+# find_parts COUNT: finds them. Together they tell what a run of all tells, and make its COUNT allocations: so each of
+# those is one of one part.
+find_parts() {
+    local told sum=0 next=0
+    mapfile -t told < "$crates/test_scarce/stdout"
+    while [ "$next" -lt "${#told[@]}" ]; do
+        part=${told[next]%: *}
+        with 0 "$scarce" <<< "$part"
+        said 0 "$own/out" '' && [ -s "$own/out" ] || wrong
+        cp "$own/out" "$room/part${#parts[@]}"
+        cat "$own/out" >> "$room/told"
+        parts+=("$part")
+        lines+=("$(wc -l < "$own/out")")
+        counts+=("$(cut -d ' ' -f 1 "$own/count")")
+        sum=$((sum + counts[-1]))
+        next=$((next + lines[-1]))
+    done
+    cmp "$room/told" "$crates/test_scarce/stdout"
+    if [ "$sum" != "$1" ]; then
+        echo "test_scarce makes $1 allocations, and its parts by themselves $sum"
+        exit 1
+    fi
+}
+
+# rounds FIRST: a process runs a part again and again, and each time the next of this worker's allocations is refused.
+# Whichever it is, the part tells the same.
+rounds() {
+    local at times refused told
+    for at in "${!parts[@]}"; do
+        part=${parts[at]}
+        times=$(((counts[at] - $1 + workers) / workers))
+        [ "$times" != 0 ] || continue
+        ROUND=${lines[at]} STEP=$workers with "$1" "$scarce" <<< "$times times $part"
+        refused=$(cut -d ' ' -f 2 "$own/count")
+        told=$(< "$room/part$at")
+        if said 0 <(yes "$told" | head -n $((times * lines[at]))) '' && [ "$refused" = "$times" ]; then
+            continue
+        fi
+        number=$(awk -v first="$1" -v step="$workers" '
+            NR == FNR { told[NR] = $0; lines = NR; next }
+            $0 != told[(FNR - 1) % lines + 1] { exit }
+            { same = FNR }
+            END { print first + step * int(same / lines) }' "$room/part$at" "$own/out")
+        wrong
+    done
 }
 
 # worker NAME FIRST COUNT: refuses the allocations from FIRST to COUNT that are this worker's
@@ -95,6 +148,10 @@ worker() {
     local at
     own=$room/$2
     mkdir -p "$own"
+    if [ "$1" = scarce ]; then
+        rounds "$2"
+        return
+    fi
     for ((at = $2; at <= $3; at += workers)); do
         "run_$1" "$at"
         "judge_$1" || wrong
@@ -123,8 +180,9 @@ each() {
     own=$room
     "run_$name" 0
     said "$@" || wrong
-    count=$(< "$room/count")
+    count=$(cut -d ' ' -f 1 "$room/count")
     [[ $count =~ ^[1-9][0-9]*$ ]] || wrong
+    [ "$name" != scarce ] || find_parts "$count"
     for ((first = 1; first <= workers; first++)); do
         worker "$name" "$first" "$count" &
         running+=($!)

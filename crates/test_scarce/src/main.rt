@@ -7,8 +7,11 @@
 //! lets its clients go and the next say who it is, and as the host of a router serves clients and
 //! relays between them. It says of each whether the calls answered as they should: with what was
 //! wanted; or that memory ran out, all as it was before, and with what was wanted once they are
-//! made again. It prints the same whichever one allocation is refused: `make memory` refuses each
-//! in turn.
+//! made again.
+//!
+//! Each part stands for itself, and is named as what it tells first: `3 times mail` on standard
+//! input runs that one thrice, and empty input each once. It takes no memory but for its parts, and
+//! prints the same whichever one allocation is refused: `make memory` refuses each in turn.
 #![tactic(auto)]
 
 mod authentication;
@@ -29,8 +32,12 @@ mod turns;
 mod waiting;
 mod ways;
 
+use crate::engine::Served;
 use marshal::Order;
-use std::io;
+use std::alloc::Global;
+use std::io::Read;
+use std::sync::Wait;
+use std::{io, str};
 
 fn told(is_answered: bool) -> &'static str {
     if is_answered {
@@ -80,33 +87,106 @@ const BODIES: [(Order, &str, &[u8]); 8] = [
     ),
 ];
 
-fn main(rt: HostRuntime) -> io::Result<()> {
-    let alloc = rt.alloc();
-    for (order, signature, body) in BODIES {
-        let answer = told(codec::is_answered(alloc, order, signature, body));
-        println!(rt; "{signature}: {answer}")?;
-    }
-    let served = engine::serve(alloc);
+/// A part of the program, which does not touch what another one does.
+#[derive(Clone, Copy)]
+enum Part {
+    Framed,
+    Relayed,
+    Made,
+    PlainBus,
+    Batch,
+    Starts,
+    Seats,
+    Outboxes,
+    Authentication,
+    Engine,
+    Host,
+    Relays,
+}
+
+/// The parts behind the bodies, each by what it tells first.
+const PARTS: [(&str, Part); 12] = [
+    ("framed", Part::Framed),
+    ("relayed", Part::Relayed),
+    ("made", Part::Made),
+    ("plain bus", Part::PlainBus),
+    ("batch", Part::Batch),
+    ("starts", Part::Starts),
+    ("seats", Part::Seats),
+    ("outboxes", Part::Outboxes),
+    ("authentication", Part::Authentication),
+    ("mail", Part::Engine),
+    ("host", Part::Host),
+    ("relays of a host", Part::Relays),
+];
+
+/// What standard input asks for: how often, and which part. Empty input asks for each once.
+fn asked(input: &[u8]) -> (u32, &str) {
+    let input = str::from_utf8(input).unwrap_or("none").trim_end();
+    let (times, part) = input.split_once(" times ").unwrap_or(("1", input));
+    (times.parse().unwrap_or(0), part)
+}
+
+/// Whether a part is the one that is asked for, or each is.
+fn is_asked(part: &str, asked: &str) -> bool {
+    asked.is_empty() || part == asked
+}
+
+/// Tells what an engine did.
+fn tell_served<R: Print>(rt: &R, served: Served) -> io::Result<()> {
     for (what, is_answered) in [
-        ("framed", messages::are_framed(alloc)),
-        ("relayed", messages::is_relayed(alloc).unwrap_or(false)),
-        ("made", messages::is_made(alloc).unwrap_or(false)),
-        ("plain bus", plain::is_answered(alloc).unwrap_or(false)),
-        ("batch", batches::is_made(alloc).unwrap_or(false)),
-        ("starts", starts::are_made(alloc).unwrap_or(false)),
-        ("seats", seats::are_answered(&rt, alloc).unwrap_or(false)),
-        ("outboxes", ways::are_opened(&rt, alloc).unwrap_or(false)),
-        ("authentication", authentication::is_let_in(alloc)),
         ("mail", served.mail),
         ("calls that wait", served.waiting),
         ("messages in turn", served.in_turn),
         ("connections that leave", served.leaving),
         ("a client that says who it is", served.login),
         ("a tick over many connections", served.still),
-        ("host", hosts::are_served(alloc)),
-        ("relays of a host", relays::are_relayed(alloc)),
     ] {
         println!(rt; "{what}: {}", told(is_answered))?;
+    }
+    Ok(())
+}
+
+/// Runs the part that is asked for, or each, and tells of it.
+fn run<R: Print + Wait>(rt: &R, alloc: Global, asked: &str) -> io::Result<()> {
+    for (order, signature, body) in BODIES {
+        if is_asked(signature, asked) {
+            let answer = told(codec::is_answered(alloc, order, signature, body));
+            println!(rt; "{signature}: {answer}")?;
+        }
+    }
+    for (what, part) in PARTS {
+        if !is_asked(what, asked) {
+            continue;
+        }
+        let is_answered = match part {
+            Part::Framed => messages::are_framed(alloc),
+            Part::Relayed => messages::is_relayed(alloc).unwrap_or(false),
+            Part::Made => messages::is_made(alloc).unwrap_or(false),
+            Part::PlainBus => plain::is_answered(alloc).unwrap_or(false),
+            Part::Batch => batches::is_made(alloc).unwrap_or(false),
+            Part::Starts => starts::are_made(alloc).unwrap_or(false),
+            Part::Seats => seats::are_answered(rt, alloc).unwrap_or(false),
+            Part::Outboxes => ways::are_opened(rt, alloc).unwrap_or(false),
+            Part::Authentication => authentication::is_let_in(alloc),
+            Part::Engine => {
+                tell_served(rt, engine::serve(alloc))?;
+                continue;
+            }
+            Part::Host => hosts::are_served(alloc),
+            Part::Relays => relays::are_relayed(alloc),
+        };
+        println!(rt; "{what}: {}", told(is_answered))?;
+    }
+    Ok(())
+}
+
+fn main(rt: HostRuntime) -> io::Result<()> {
+    let mut input = [0; 40];
+    let length = rt.reader().read(&mut input)?;
+    let (times, part) = asked(&input[..length]);
+    for _time in 0..times {
+        run(&rt, rt.alloc(), part)?;
     }
     Ok(())
 }
