@@ -161,7 +161,7 @@ fn place_of(seat: u64) -> usize {
 }
 
 /// Does by a view what a line tells of. A change brings a note.
-fn done<V: BusView>(
+pub fn done<V: BusView>(
     view: &mut V,
     right: &V::Right,
     alloc: Global,

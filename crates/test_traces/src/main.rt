@@ -10,6 +10,8 @@
 //!   one seat: once a connection has come by another one, it is not asked any more.
 //! - `connection N => ..`: what the registry keeps of a connection, with its rules.
 //! - `monitors => ..`: the connections that are monitors.
+//! - `silent LINE ; LINE ..`: how many changes another plain bus makes of these lines, and what its
+//!   view keeps, which records nothing.
 //! - `each FIRST LAST OTHER LINE ; LINE ..`: all these lines once for each number from the first to
 //!   the last, which stands in the place of `#`; a number that rises with it from the other one on
 //!   stands in the place of `%`. The row is repeated where each line is answered by itself, else it
@@ -27,6 +29,7 @@ mod each;
 mod played;
 mod player;
 mod recorded;
+mod silent;
 mod traces;
 
 use std::io;

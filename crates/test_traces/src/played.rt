@@ -3,6 +3,7 @@
 use crate::batch::Batch;
 use crate::buses::Buses;
 use crate::player::{Player, answer};
+use crate::silent::silent_row;
 use names::WellKnown;
 use owner_queues::Profile;
 use std::alloc::{AllocError, Global};
@@ -106,6 +107,10 @@ impl Played {
         }
         if text.starts_with("monitors") {
             return Ok(Some(buses.monitors_row(alloc)?));
+        }
+        if let Some(lines) = text.strip_prefix("silent ") {
+            let head = &self.head;
+            return silent_row(alloc, &head.services, head.routers, head.profile, lines);
         }
         match read_line(alloc, self.head.routers, text)? {
             Some(line) => Ok(Some(buses.line(alloc, line)?)),
