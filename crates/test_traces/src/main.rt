@@ -19,6 +19,15 @@
 //! - `batch LINE ; LINE ..`: lines of changes by one seat, which its desk and the plain bus make at
 //!   once, and the registry one after the other.
 //! - Empty lines and headings (`#`) are repeated. Any other row is answered by `none`.
+//!
+//! Behind a row `verdicts` a trace is one case: its lines are not answered, but a row that ends it.
+//!
+//! - `check`: the verdict on it; `check cut`: the same without its last line feed. Behind a no for
+//!   its content stands what the bus tells there.
+//! - `check each`: the verdicts where each of its bytes in turn is made a `~`, each with how many
+//!   bytes in a row give it.
+//! - `empty` stands for an empty line of the trace, and `services N` for so many lines that name
+//!   services.
 #![tactic(auto)]
 
 mod answers;
@@ -31,9 +40,17 @@ mod player;
 mod recorded;
 mod silent;
 mod traces;
+mod verdicts;
 
 use std::io;
 use std::io::{BufRead, BufReader};
+
+/// The rows that are answered one by one, and those from the row `verdicts` on.
+fn parted(rows: &[String]) -> (&[String], &[String]) {
+    let place = rows.iter().position(|row| row.as_str() == "verdicts");
+    rows.split_at_checked(place.unwrap_or(rows.len()))
+        .unwrap_or((rows, rows))
+}
 
 fn main(rt: HostRuntime) -> io::Result<()> {
     let alloc = rt.alloc();
@@ -41,6 +58,8 @@ fn main(rt: HostRuntime) -> io::Result<()> {
     for row in BufReader::new(alloc, rt.reader())?.lines(alloc) {
         rows.push(row?)?;
     }
-    let answers = traces::answers(&rt, alloc, &rows)?;
-    print!(rt; "{answers}")
+    let (lines, whole) = parted(&rows);
+    let answers = traces::answers(&rt, alloc, lines)?;
+    let verdicts = verdicts::verdicts(alloc, whole)?;
+    print!(rt; "{answers}{verdicts}")
 }

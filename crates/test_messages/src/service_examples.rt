@@ -1,4 +1,4 @@
-//! The examples of the two libraries, word for word.
+//! The examples of the two libraries of services, word for word.
 
 use names::BusName;
 use seq_bus_core::Change;

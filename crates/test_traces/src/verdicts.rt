@@ -1,16 +1,6 @@
-//! Verdicts on traces.
-//!
-//! Standard input has the lines of traces. A line `check` ends a trace and is answered by the
-//! verdict on it; a line `check cut` takes its last line feed away before, and a line `check each`
-//! makes each of its bytes in turn a `~`: each verdict is told with how many bytes in a row give
-//! it. Behind a no for its content stands what the bus tells there. A line `empty` stands for an
-//! empty line of the trace, and a line `services N` for so many lines that name services. Headings
-//! (`#`) and empty lines are repeated.
-#![tactic(auto)]
+//! Verdicts on whole traces.
 
 use std::alloc::{AllocError, Global};
-use std::io;
-use std::io::{BufRead, BufReader};
 use trace_check_core::{Cause, Verdict, check, told_at};
 
 /// Appends lines that name so many services.
@@ -61,37 +51,47 @@ fn each_verdict_text(alloc: Global, file: &[u8]) -> Result<String, AllocError> {
     Ok(text)
 }
 
-fn main(rt: HostRuntime) -> io::Result<()> {
-    let alloc = rt.alloc();
+/// What is told of rows that are lines of traces, of which some end a trace: a line for each of
+/// these, and headings and empty lines as they stand.
+pub fn verdicts(alloc: Global, rows: &[String]) -> Result<String, AllocError> {
+    let mut told = String::new(alloc);
     let mut trace = String::new(alloc);
-    for line in BufReader::new(alloc, rt.reader())?.lines(alloc) {
-        let line = line?;
-        if line.is_empty() || line.as_str().starts_with('#') {
-            println!(rt; "{line}")?;
-            continue;
-        }
-        if let Some(count) = line.as_str().strip_prefix("services ") {
-            push_services(alloc, &mut trace, count.parse().unwrap_or(0))?;
-            continue;
-        }
-        match line.as_str() {
-            "check" | "check cut" => {
-                if line.len() > 5 {
-                    trace.pop();
-                }
-                println!(rt; "{}", verdict_text(alloc, trace.as_bytes())?)?;
-                trace.clear();
-            }
-            "check each" => {
-                println!(rt; "{}", each_verdict_text(alloc, trace.as_bytes())?)?;
-                trace.clear();
-            }
-            "empty" => trace.push('\n')?,
-            line => {
-                trace.push_str(line)?;
-                trace.push('\n')?;
-            }
+    for row in rows {
+        let row = row.as_str();
+        if let Some(line) = told_of(alloc, &mut trace, row)? {
+            told.push_str(line.as_str())?;
+            told.push('\n')?;
         }
     }
-    Ok(())
+    Ok(told)
+}
+
+/// What is told of a row, behind a trace so far; none where it goes on with the trace.
+fn told_of(alloc: Global, trace: &mut String, row: &str) -> Result<Option<String>, AllocError> {
+    if row.is_empty() || row.starts_with('#') || row == "verdicts" {
+        return Ok(Some(String::from_str(alloc, row)?));
+    }
+    if let Some(count) = row.strip_prefix("services ") {
+        push_services(alloc, trace, count.parse().unwrap_or(0))?;
+        return Ok(None);
+    }
+    let verdict = match row {
+        "check" => verdict_text(alloc, trace.as_bytes())?,
+        "check cut" => {
+            trace.pop();
+            verdict_text(alloc, trace.as_bytes())?
+        }
+        "check each" => each_verdict_text(alloc, trace.as_bytes())?,
+        "empty" => {
+            trace.push('\n')?;
+            return Ok(None);
+        }
+        line => {
+            trace.push_str(line)?;
+            trace.push('\n')?;
+            return Ok(None);
+        }
+    };
+    trace.clear();
+    Ok(Some(verdict))
 }

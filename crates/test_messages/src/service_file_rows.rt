@@ -115,7 +115,7 @@ fn long(alloc: Global, file: &[u8], length: u64) -> Result<String, AllocError> {
 }
 
 /// Rows that change the file of the last row `file`: `beginnings`, `left-out`, `doubled`, `cut` and
-/// `first` of each line, `long | LENGTH`.
+/// `first` of each line, `length | LENGTH`.
 pub fn changed(alloc: Global, row: &Row<'_>, file: &[u8]) -> Result<String, AllocError> {
     match row.text(0) {
         "beginnings" => beginnings(alloc, file),
