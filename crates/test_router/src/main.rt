@@ -13,7 +13,8 @@
 //! - `login`, in the next row: connections may be asked who they are, and the user is `alice`.
 //!   `login anonymous`: anybody may come in.
 //! - `watch`, in a later row: where a call is shown that requests or releases a name, it is told
-//!   whether the name has an owner then. Only the registry's first router looks.
+//!   whether the name has an owner then, and where it adds or removes a rule, whether a signal
+//!   `Ticked` has a listener. Only the registry's first router looks.
 //! - `again`: the scenario is played again byte by byte, and must answer the same. `again cut N`:
 //!   also by the plain bus with the bytes of each row in two pieces, for each length of the first
 //!   up to N.

@@ -4,6 +4,7 @@ use crate::journal::Journal;
 use anyhow::Result;
 use bus_view::BusView;
 use driver::Call;
+use match_rules::{Facts, MessageKind};
 use names::BusName;
 use registry_snapshots::{Desk, Naming};
 use router_core::Gate;
@@ -36,10 +37,12 @@ impl Findings {
         })
     }
 
-    fn note(&self, name: &BusName, has_owner: bool) -> Result<()> {
+    fn note(&self, found: &str) -> Result<()> {
         if let Ok(mut text) = self.text.try_borrow_mut() {
-            let so = if has_owner { "an" } else { "no" };
-            write!(text, "{name} has {so} owner")?;
+            if !text.is_empty() {
+                text.push_str("; ")?;
+            }
+            text.push_str(found)?;
         }
         Ok(())
     }
@@ -68,13 +71,37 @@ impl<'b, J: Naming, R: Wait> Lookout<'b, J, R> {
     fn look(&mut self, alloc: Global, name: &BusName) -> Result<()> {
         let mut body = Vec::new(alloc);
         let _told = self.desk.ask(&Query::NameHasOwner(*name), &mut body)?;
-        self.findings
-            .note(name, body.as_slice() == [1, 0, 0, 0].as_slice())
+        let has_owner = body.as_slice() == [1, 0, 0, 0].as_slice();
+        let so = if has_owner { "an" } else { "no" };
+        let found = format!(in alloc; "{name} has {so} owner")?;
+        self.findings.note(found.as_str())
+    }
+
+    /// Looks whether anybody hears a signal `Ticked`.
+    fn listen(&mut self) -> Result<()> {
+        let verdict = self.desk.route(0, &TICKED)?;
+        self.findings.note(if verdict.to.as_slice().is_empty() {
+            "Ticked has no listener"
+        } else {
+            "Ticked has a listener"
+        })
     }
 }
 
+/// What rules see of the signal that a gate looks for listeners of.
+const TICKED: Facts<'static> = Facts {
+    kind: MessageKind::Signal,
+    auto_start: true,
+    sender: 0,
+    path: Some("/"),
+    interface: Some("com.example.Clock"),
+    member: Some("Ticked"),
+    destination: None,
+    arguments: &[],
+};
+
 /// Lets each call pass. Where it has a lookout, it looks whether the name has an owner that a call
-/// requests or releases.
+/// requests or releases, and whether a signal has a listener where a call adds or removes a rule.
 #[derive(Drop)]
 pub struct Watch<'b, J: Naming, R: Wait> {
     pub alloc: Global,
@@ -85,13 +112,15 @@ impl<'b, J: Naming, R: Wait> Gate for Watch<'b, J, R> {
     ghost passes = { λ _ _ _. Unit {0} };
 
     fn before(&mut self, _seat: u8, call: &Call) {
-        let name = match call {
-            Call::RequestName { name, flags: _ } => name,
-            Call::ReleaseName { name } => name,
+        let Some(lookout) = &mut self.lookout else {
+            return;
+        };
+        let _unnoted = match call {
+            Call::RequestName { name, flags: _ } => lookout.look(self.alloc, name),
+            Call::ReleaseName { name } => lookout.look(self.alloc, name),
+            Call::AddMatch { rule: _ } => lookout.listen(),
+            Call::RemoveMatch { rule: _ } => lookout.listen(),
             _ => return,
         };
-        if let Some(lookout) = &mut self.lookout {
-            let _unnoted = lookout.look(self.alloc, name);
-        }
     }
 }
