@@ -3,15 +3,23 @@
 use sasl::{AuthenticationFault, Identity, KeyringFault, Progress, Server, read_keyring};
 use std::alloc::{AllocError, Global};
 use std::sync::ArcStr;
+use test_support::messages::HELLO;
 
-/// The pieces of a client, of which the second ends within a line and the last has a byte of a
-/// message.
-pub const PIECES: [&[u8]; 4] = [
-    b"\0AUTH EXTERNAL 31303030\r\nAUTH DBUS_COOKIE_SHA1\r\n",
-    b"DATA 616c696365\r\nDATA 61626364203332653731",
-    b"3435333039613434313531663962646234326364653933343537626138666432353164\r\nHELLO\r\n",
-    b"BEGIN\r\nl",
-];
+/// The first piece of a client, which asks for two mechanisms,
+const ASKS: &[u8] = b"\0AUTH EXTERNAL 31303030\r\nAUTH DBUS_COOKIE_SHA1\r\n";
+
+/// the second, which ends within a line,
+const NAMES: &[u8] = b"DATA 616c696365\r\nDATA 61626364203332653731";
+
+/// and the third, which ends that line, and has one that the server does not know.
+const ANSWERS: &[u8] =
+    b"3435333039613434313531663962646234326364653933343537626138666432353164\r\nHELLO\r\n";
+
+/// The pieces of a client, of which the last has a byte of a message.
+pub const PIECES: [&[u8]; 4] = [ASKS, NAMES, ANSWERS, b"BEGIN\r\nl"];
+
+/// The same, of a client whose first message comes in a piece of its own.
+pub const CONVERSATION: [&[u8]; 5] = [ASKS, NAMES, ANSWERS, b"BEGIN\r\n", HELLO];
 
 /// What the server sends in all.
 pub const SENT: &[u8] =

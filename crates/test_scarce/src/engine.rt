@@ -89,7 +89,8 @@ fn open(alloc: Global) -> Option<Plain> {
     Engine::new(alloc, bus, OpenGate, Some(login)).ok()
 }
 
-fn login(alloc: Global) -> Result<Login, AllocError> {
+/// Who may log in.
+pub fn login(alloc: Global) -> Result<Login, AllocError> {
     Ok(Login {
         guid: GUID,
         user: ArcStr::from_str(alloc, "alice")?,

@@ -1,5 +1,8 @@
-//! A host, and two connections to it whose other sides follow a script.
+//! A host, and connections to it whose other sides follow a script.
 
+use crate::authentication::{CHALLENGE, CONVERSATION, SENT};
+use crate::engine::login;
+use crate::relays::are_all;
 use bus_view::can_open;
 use owner_queues::Profile;
 use router::Engine;
@@ -21,14 +24,17 @@ const ROOM: usize = 2048;
 pub struct Script {
     pieces: &'static [&'static [u8]],
     next: usize,
+    /// How often it takes nothing yet.
+    blocks: u32,
     pub taken: Vec<u8>,
 }
 
 impl Script {
-    fn new(alloc: Global, pieces: &'static [&'static [u8]]) -> Result<Script, AllocError> {
+    fn new(alloc: Global, comer: &Comer) -> Result<Script, AllocError> {
         Ok(Script {
-            pieces,
+            pieces: comer.pieces,
             next: 0,
+            blocks: comer.blocks,
             taken: Vec::with_capacity(alloc, ROOM)?,
         })
     }
@@ -39,6 +45,10 @@ impl outgoing::Socket for Script {
         let Some(part) = parts.first() else {
             return Ok(0);
         };
+        if self.blocks > 0 {
+            self.blocks = self.blocks.saturating_sub(1);
+            return Err(io::Error::from(ErrorKind::WouldBlock));
+        }
         let bytes: &[u8] = part;
         if bytes.len() > ROOM - self.taken.len().min(ROOM) {
             return Err(io::Error::from(ErrorKind::BrokenPipe));
@@ -60,6 +70,17 @@ impl Socket for Script {
     }
 }
 
+/// A client that comes to a host.
+#[derive(Clone, Copy)]
+pub struct Comer {
+    /// What it sends.
+    pub pieces: &'static [&'static [u8]],
+    /// How often its socket takes nothing at first.
+    pub blocks: u32,
+    /// What it is asked, where it is to say who it is.
+    pub challenge: Option<[u8; 16]>,
+}
+
 pub type ScriptedHost = Host<SeqBus, OpenGate, LocalPost, Script>;
 
 /// A host of a bus without services.
@@ -69,22 +90,30 @@ pub fn open_host(alloc: Global) -> Result<ScriptedHost, AllocError> {
     }
     let post = LocalPost::new(alloc)?;
     let bus = SeqBus::new(alloc, &[], 1, Profile::Two)?;
-    let engine = Engine::new(alloc, bus, OpenGate, None)?;
+    let engine = Engine::new(alloc, bus, OpenGate, Some(login(alloc)?))?;
     Host::new(alloc, engine, post, 0, 256)
 }
 
+/// A client that is asked nothing, and whose socket takes all.
+pub fn plain(pieces: &'static [&'static [u8]]) -> Comer {
+    Comer {
+        pieces,
+        blocks: 0,
+        challenge: None,
+    }
+}
+
 /// Opens a connection, once more where there was no memory.
-pub fn open(
-    host: &mut ScriptedHost,
-    alloc: Global,
-    pieces: &'static [&'static [u8]],
-) -> Result<usize, AllocError> {
-    match host.open(&(), Script::new(alloc, pieces)?, None) {
+pub fn open(host: &mut ScriptedHost, alloc: Global, comer: &Comer) -> Result<usize, AllocError> {
+    let challenge = comer.challenge;
+    match host.open(&(), Script::new(alloc, comer)?, challenge) {
         Ok(key) => Ok(key),
-        Err(OpenFault::NoMemory) => match host.open(&(), Script::new(alloc, pieces)?, None) {
-            Ok(key) => Ok(key),
-            Err(_) => Err(AllocError),
-        },
+        Err(OpenFault::NoMemory) => {
+            match host.open(&(), Script::new(alloc, comer)?, challenge) {
+                Ok(key) => Ok(key),
+                Err(_) => Err(AllocError),
+            }
+        }
         Err(_) => Err(AllocError),
     }
 }
@@ -93,28 +122,30 @@ pub fn open(
 fn serve(host: &mut ScriptedHost, key: usize) {
     for _turn in 0..8 {
         host.readable(key, false);
+        host.writable(key);
         let _refused = host.turn(&());
     }
 }
 
-/// Whether a client without a fault got the replies that it is owed.
-fn is_served(host: &ScriptedHost, key: usize) -> bool {
-    let Some(socket) = host.socket(key) else {
-        return false;
-    };
-    let taken = socket.taken.as_slice();
-    let Some(rest) = taken.strip_prefix(WELCOME) else {
-        return false;
-    };
-    rest.strip_prefix(ACQUIRED) == Some(OWNER)
+/// Whether a client without a fault got what it is owed.
+fn is_served(host: &ScriptedHost, key: usize, owed: &[&[u8]]) -> bool {
+    match host.socket(key) {
+        Some(socket) => are_all(socket.taken.as_slice(), owed),
+        None => false,
+    }
 }
 
 /// Serves a client, and then another: whether the first got what it is owed, and the second too.
-fn serve_both(host: &mut ScriptedHost, alloc: Global) -> Result<(bool, bool), AllocError> {
-    let first = open(host, alloc, &[HELLO, GET_NAME_OWNER])?;
+fn serve_both(
+    host: &mut ScriptedHost,
+    alloc: Global,
+    comer: &Comer,
+    owed: &[&[u8]],
+) -> Result<(bool, bool), AllocError> {
+    let first = open(host, alloc, comer)?;
     serve(host, first);
-    let is_first_served = is_served(host, first);
-    let second = open(host, alloc, &[HELLO])?;
+    let is_first_served = is_served(host, first, owed);
+    let second = open(host, alloc, &plain(&[HELLO]))?;
     serve(host, second);
     let Some(socket) = host.socket(second) else {
         return Ok((is_first_served, false));
@@ -125,19 +156,49 @@ fn serve_both(host: &mut ScriptedHost, alloc: Global) -> Result<(bool, bool), Al
 }
 
 /// Opens a host that serves both.
-fn both_served(alloc: Global) -> Result<(bool, bool), AllocError> {
+fn both_served(alloc: Global, comer: &Comer, owed: &[&[u8]]) -> Result<(bool, bool), AllocError> {
     let mut host = open_host(alloc)?;
-    let served = serve_both(&mut host, alloc);
+    let served = serve_both(&mut host, alloc, comer, owed);
     drop(host);
     served
 }
 
 /// Whether a host serves two clients as it should: where memory is refused while it serves one,
 /// that one may be told so, and the other is served; and a host that is opened then serves both.
-pub fn are_served(alloc: Global) -> bool {
-    match both_served(alloc) {
+fn are_both_served(alloc: Global, comer: &Comer, owed: &[&[u8]]) -> bool {
+    match both_served(alloc, comer, owed) {
         Ok((true, true)) => true,
         Ok((false, false)) => false,
-        Ok(_) | Err(AllocError) => both_served(alloc) == Ok((true, true)),
+        Ok(_) | Err(AllocError) => both_served(alloc, comer, owed) == Ok((true, true)),
     }
+}
+
+/// What a client sends that calls the bus, and what it is owed.
+const CALLS: &[&[u8]] = &[HELLO, GET_NAME_OWNER];
+
+const OWED: &[&[u8]] = &[WELCOME, ACQUIRED, OWNER];
+
+/// Whether clients are served whose sockets take all.
+pub fn are_served(alloc: Global) -> bool {
+    are_both_served(alloc, &plain(CALLS), OWED)
+}
+
+/// The same, where nothing can be written to the first for a while.
+pub fn are_served_late(alloc: Global) -> bool {
+    let comer = Comer {
+        pieces: CALLS,
+        blocks: 3,
+        challenge: None,
+    };
+    are_both_served(alloc, &comer, OWED)
+}
+
+/// The same, where the first is to say who it is.
+pub fn are_let_in(alloc: Global) -> bool {
+    let comer = Comer {
+        pieces: &CONVERSATION,
+        blocks: 0,
+        challenge: Some(CHALLENGE),
+    };
+    are_both_served(alloc, &comer, &[SENT, WELCOME, ACQUIRED])
 }

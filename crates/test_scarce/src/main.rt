@@ -4,10 +4,11 @@
 //! registry of two routers with its outboxes, makes the same changes and a batch on both buses, and
 //! on a plain bus a batch of rules, calls that wait and monitors, starts services in a registry,
 //! lets calls wait for a service in an engine, brings it mail, serves messages in one turn of it,
-//! lets its clients go and the next say who it is, and as the host of a router serves clients and
-//! relays between them. It says of each whether the calls answered as they should: with what was
-//! wanted; or that memory ran out, all as it was before, and with what was wanted once they are
-//! made again.
+//! lets its clients go and the next say who it is, and as the host of a router serves clients, also
+//! such as take nothing yet or say who they are, and relays between them; by two routers that share
+//! a registry it puts a client out. It says of each whether the calls answered as they should: with
+//! what was wanted; or that memory ran out, all as it was before, and with what was wanted once
+//! they are made again.
 //!
 //! Each part stands for itself, and is named as what it tells first: `3 times mail` on standard
 //! input runs that one thrice, and empty input each once. It takes no memory but for its parts, and
@@ -16,6 +17,7 @@
 
 mod authentication;
 mod batches;
+mod beats;
 mod changes;
 mod codec;
 mod engine;
@@ -29,6 +31,7 @@ mod relays;
 mod seats;
 mod starts;
 mod turns;
+mod two_routers;
 mod waiting;
 mod ways;
 
@@ -101,11 +104,14 @@ enum Part {
     Authentication,
     Engine,
     Host,
+    BlockedHost,
+    AskingHost,
     Relays,
+    TwoRouters,
 }
 
 /// The parts behind the bodies, each by what it tells first.
-const PARTS: [(&str, Part); 12] = [
+const PARTS: [(&str, Part); 15] = [
     ("framed", Part::Framed),
     ("relayed", Part::Relayed),
     ("made", Part::Made),
@@ -117,7 +123,10 @@ const PARTS: [(&str, Part); 12] = [
     ("authentication", Part::Authentication),
     ("mail", Part::Engine),
     ("host", Part::Host),
+    ("a host that can't write yet", Part::BlockedHost),
+    ("a host that asks who comes", Part::AskingHost),
     ("relays of a host", Part::Relays),
+    ("two routers", Part::TwoRouters),
 ];
 
 /// What standard input asks for: how often, and which part. Empty input asks for each once.
@@ -174,7 +183,10 @@ fn run<R: Print + Wait>(rt: &R, alloc: Global, asked: &str) -> io::Result<()> {
                 continue;
             }
             Part::Host => hosts::are_served(alloc),
+            Part::BlockedHost => hosts::are_served_late(alloc),
+            Part::AskingHost => hosts::are_let_in(alloc),
             Part::Relays => relays::are_relayed(alloc),
+            Part::TwoRouters => two_routers::put_out(rt, alloc),
         };
         println!(rt; "{what}: {}", told(is_answered))?;
     }

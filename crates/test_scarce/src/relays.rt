@@ -1,7 +1,7 @@
 //! Two clients of a host, of which one sends the other a signal and a call, and the other answers
 //! and comes to its end.
 
-use crate::hosts::{ScriptedHost, open, open_host};
+use crate::hosts::{ScriptedHost, open, open_host, plain};
 use std::alloc::{AllocError, Global};
 use test_support::messages::{ACQUIRED, HELLO, WELCOME};
 
@@ -10,7 +10,7 @@ const ADD_TICKED: &[u8] =
     b"l\x01\0\x01\x14\0\0\0\x02\0\0\0\x7f\0\0\0\x01\x01o\0\x15\0\0\0/org/freedesktop/DBus\0\0\0\x02\x01s\0\x14\0\0\0org.freedesktop.DBus\0\0\0\0\x03\x01s\0\x08\0\0\0AddMatch\0\0\0\0\0\0\0\0\x06\x01s\0\x14\0\0\0org.freedesktop.DBus\0\0\0\0\x08\x01g\0\x01s\0\0\x0f\0\0\0member='Ticked'\0";
 
 /// AddMatch of `arg0=':1.1'`, serial 2.
-const ADD_FIRST: &[u8] =
+pub const ADD_FIRST: &[u8] =
     b"l\x01\0\x01\x10\0\0\0\x02\0\0\0\x7f\0\0\0\x01\x01o\0\x15\0\0\0/org/freedesktop/DBus\0\0\0\x02\x01s\0\x14\0\0\0org.freedesktop.DBus\0\0\0\0\x03\x01s\0\x08\0\0\0AddMatch\0\0\0\0\0\0\0\0\x06\x01s\0\x14\0\0\0org.freedesktop.DBus\0\0\0\0\x08\x01g\0\x01s\0\0\x0b\0\0\0arg0=':1.1'\0";
 
 /// A signal, serial 3.
@@ -22,7 +22,7 @@ const TICKED_BY_SECOND: &[u8] =
     b"l\x04\x01\x01\0\0\0\0\x03\0\0\0M\0\0\0\x01\x01o\0\x01\0\0\0/\0\0\0\0\0\0\0\x02\x01s\0\x11\0\0\0com.example.Clock\0\0\0\0\0\0\0\x03\x01s\0\x06\0\0\0Ticked\0\0\x07\x01s\0\x04\0\0\0:1.2\0\0\0\0";
 
 /// A call of the first, serial 4.
-const CALL: &[u8] =
+pub const CALL: &[u8] =
     b"l\x01\0\x01\0\0\0\0\x04\0\0\0-\0\0\0\x01\x01o\0\x01\0\0\0/\0\0\0\0\0\0\0\x03\x01s\0\x03\0\0\0Now\0\0\0\0\0\x06\x01s\0\x04\0\0\0:1.1\0\0\0\0";
 
 /// The same from `:1.2`.
@@ -42,19 +42,19 @@ const FIRST_LISTENS: &[u8] =
     b"l\x02\x01\x01\0\0\0\0\x03\0\0\05\0\0\0\x05\x01u\0\x02\0\0\0\x06\x01s\0\x04\0\0\0:1.1\0\0\0\0\x07\x01s\0\x14\0\0\0org.freedesktop.DBus\0\0\0\0";
 
 /// The reply to the second AddMatch, serial 3.
-const SECOND_LISTENS: &[u8] =
+pub const SECOND_LISTENS: &[u8] =
     b"l\x02\x01\x01\0\0\0\0\x03\0\0\05\0\0\0\x05\x01u\0\x02\0\0\0\x06\x01s\0\x04\0\0\0:1.2\0\0\0\0\x07\x01s\0\x14\0\0\0org.freedesktop.DBus\0\0\0\0";
 
 /// The reply to the second Hello: `:1.2`.
-const SECOND_WELCOME: &[u8] =
+pub const SECOND_WELCOME: &[u8] =
     b"l\x02\x01\x01\x09\0\0\0\x01\0\0\0?\0\0\0\x05\x01u\0\x01\0\0\0\x06\x01s\0\x04\0\0\0:1.2\0\0\0\0\x07\x01s\0\x14\0\0\0org.freedesktop.DBus\0\0\0\0\x08\x01g\0\x01s\0\0\x04\0\0\0:1.2\0";
 
 /// NameAcquired of `:1.2`, serial 2.
-const SECOND_ACQUIRED: &[u8] =
+pub const SECOND_ACQUIRED: &[u8] =
     b"l\x04\x01\x01\x09\0\0\0\x02\0\0\0\x8f\0\0\0\x01\x01o\0\x15\0\0\0/org/freedesktop/DBus\0\0\0\x02\x01s\0\x14\0\0\0org.freedesktop.DBus\0\0\0\0\x03\x01s\0\x0c\0\0\0NameAcquired\0\0\0\0\x06\x01s\0\x04\0\0\0:1.2\0\0\0\0\x07\x01s\0\x14\0\0\0org.freedesktop.DBus\0\0\0\0\x08\x01g\0\x01s\0\0\x04\0\0\0:1.2\0";
 
 /// NameOwnerChanged of `:1.1`, which nobody owns now, serial 4.
-const FIRST_LEFT: &[u8] =
+pub const FIRST_LEFT: &[u8] =
     b"l\x04\x01\x01\x1d\0\0\0\x04\0\0\0\x89\0\0\0\x01\x01o\0\x15\0\0\0/org/freedesktop/DBus\0\0\0\x02\x01s\0\x14\0\0\0org.freedesktop.DBus\0\0\0\0\x03\x01s\0\x10\0\0\0NameOwnerChanged\0\0\0\0\0\0\0\0\x07\x01s\0\x14\0\0\0org.freedesktop.DBus\0\0\0\0\x08\x01g\0\x03sss\0\0\0\0\0\0\0\0\x04\0\0\0:1.1\0\0\0\0\x04\0\0\0:1.1\0\0\0\0\0\0\0\0\0";
 
 /// What the first client sends: it listens, answers the call that comes, and sends no more.
@@ -98,7 +98,7 @@ const TURNS: u32 = 4;
 
 /// What came of a run, or of one client of it.
 #[derive(Clone, Copy, PartialEq, Eq)]
-enum Found {
+pub enum Found {
     /// All that was to come.
     All,
     /// A client was told that there is no memory, or was closed, or what nobody is told of was
@@ -128,7 +128,7 @@ fn turn(host: &mut ScriptedHost) -> u64 {
 }
 
 /// Whether these messages are all that was written.
-fn are_all(mut taken: &[u8], expected: &[&[u8]]) -> bool {
+pub fn are_all(mut taken: &[u8], expected: &[&[u8]]) -> bool {
     for message in expected {
         match taken.strip_prefix(*message) {
             Some(rest) => taken = rest,
@@ -139,7 +139,7 @@ fn are_all(mut taken: &[u8], expected: &[&[u8]]) -> bool {
 }
 
 /// Whether an error says that there is no memory.
-fn tells_of_memory(taken: &[u8]) -> bool {
+pub fn tells_of_memory(taken: &[u8]) -> bool {
     for at in 0..taken.len() {
         if taken[at..].starts_with(b"org.freedesktop.DBus.Error.NoMemory") {
             return true;
@@ -164,7 +164,7 @@ fn seen(host: &ScriptedHost, key: usize, expected: &[&[u8]], short: &[&[u8]]) ->
 }
 
 /// What came to both.
-fn together(first: Found, second: Found) -> Found {
+pub fn together(first: Found, second: Found) -> Found {
     match (first, second) {
         (Found::All, Found::All) => Found::All,
         (Found::Short, _) | (_, Found::Short) => Found::Short,
@@ -174,9 +174,9 @@ fn together(first: Found, second: Found) -> Found {
 
 /// Serves both clients, until the first is over.
 fn serve_both(host: &mut ScriptedHost, alloc: Global) -> Result<Found, AllocError> {
-    let first = open(host, alloc, FIRST)?;
+    let first = open(host, alloc, &plain(FIRST))?;
     let mut ticks = send(host, first, 2);
-    let second = open(host, alloc, SECOND)?;
+    let second = open(host, alloc, &plain(SECOND))?;
     if second == first {
         return Ok(Found::Short);
     }

@@ -1,0 +1,139 @@
+//! A client of a router, and what the router hears of it.
+
+use router_host::{EndCause, Ended, Socket};
+use routers::{Fault, Source, SourceEvent, Timeout};
+use std::alloc::{AllocError, Global};
+use std::cell::RefCell;
+use std::io;
+use std::io::{ErrorKind, IoSlice};
+use std::rc::Rc;
+use std::sync::Wait;
+
+/// How many bytes a client takes at most.
+const ROOM: usize = 2048;
+
+/// How many turns a router takes in one go, more than a client has pieces.
+const TURNS: u32 = 8;
+
+/// What became of a client.
+#[derive(Drop)]
+pub struct Fate {
+    /// What it was written.
+    pub taken: Vec<u8>,
+    /// Why its connection is over, if it is.
+    pub end: Option<EndCause>,
+}
+
+/// A client that sends these pieces, one a read, and takes what it is written without memory.
+#[derive(Drop)]
+pub struct Wire {
+    pieces: &'static [&'static [u8]],
+    next: usize,
+    fate: Rc<RefCell<Fate>>,
+}
+
+impl outgoing::Socket for Wire {
+    fn write_parts(&mut self, parts: &[IoSlice<'_>]) -> io::Result<usize> {
+        let Some(part) = parts.first() else {
+            return Ok(0);
+        };
+        let bytes: &[u8] = part;
+        let Ok(mut fate) = self.fate.try_borrow_mut() else {
+            return Err(io::Error::from(ErrorKind::WouldBlock));
+        };
+        let fate = &mut *fate;
+        if bytes.len() > ROOM - fate.taken.len().min(ROOM) {
+            return Err(io::Error::from(ErrorKind::BrokenPipe));
+        }
+        fate.taken.extend_from_slice(bytes)?;
+        Ok(bytes.len())
+    }
+}
+
+impl Socket for Wire {
+    fn read(&mut self, room: &mut [u8]) -> io::Result<usize> {
+        let Some(piece) = self.pieces.get(self.next) else {
+            return Err(io::Error::from(ErrorKind::WouldBlock));
+        };
+        self.next = self.next.saturating_add(1);
+        let count = piece.len().min(room.len());
+        room[..count].copy_from_slice(&piece[..count]);
+        Ok(count)
+    }
+}
+
+/// What happens to a router: its one client comes, and may be read before each of its turns.
+#[derive(Drop)]
+pub struct Beats {
+    comer: Option<Wire>,
+    fate: Rc<RefCell<Fate>>,
+    /// How many turns are left.
+    left: u32,
+    is_told: bool,
+}
+
+impl Beats {
+    /// A client that is to come, and what becomes of it.
+    pub fn new(
+        alloc: Global,
+        pieces: &'static [&'static [u8]],
+    ) -> Result<(Beats, Rc<RefCell<Fate>>), AllocError> {
+        let fate = Fate {
+            taken: Vec::with_capacity(alloc, ROOM)?,
+            end: None,
+        };
+        let fate = Rc::new(alloc, RefCell::new(fate))?;
+        let wire = Wire {
+            pieces,
+            next: 0,
+            fate: Rc::clone(&fate)?,
+        };
+        let beats = Beats {
+            comer: Some(wire),
+            fate: Rc::clone(&fate)?,
+            left: TURNS,
+            is_told: false,
+        };
+        Ok((beats, fate))
+    }
+}
+
+impl Source<Wire> for Beats {
+    fn wait(&mut self, _timeout: Timeout) -> Result<(), Fault> {
+        self.is_told = false;
+        Ok(())
+    }
+
+    fn next<R: Wait>(&mut self, _rt: &R) -> Option<SourceEvent<Wire>> {
+        if self.is_told {
+            return None;
+        }
+        self.is_told = true;
+        if self.left == 0 {
+            self.left = TURNS;
+            return Some(SourceEvent::Ended);
+        }
+        self.left = self.left.saturating_sub(1);
+        match self.comer.take() {
+            Some(socket) => Some(SourceEvent::Accepted {
+                socket,
+                challenge: None,
+            }),
+            None => Some(SourceEvent::Readable {
+                key: 0,
+                closing: false,
+            }),
+        }
+    }
+
+    fn watch(&mut self, _key: usize, _socket: &mut Wire) -> bool {
+        true
+    }
+
+    fn tell(&mut self, ended: Ended) {
+        if let Ok(mut fate) = self.fate.try_borrow_mut() {
+            let fate = &mut *fate;
+            fate.end = Some(ended.cause);
+        }
+    }
+}
