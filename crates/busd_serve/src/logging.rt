@@ -79,6 +79,20 @@ impl<'a, R: Eprint + Clock> AcceptErrors<'a, R> {
         }
     }
 
+    /// Writes why, if the last time is long ago.
+    fn write<T: fmt::Display>(&mut self, why: &T) {
+        if !self.is_wanted {
+            return;
+        }
+        let Ok(now) = Instant::now(self.rt) else {
+            return;
+        };
+        if self.is_due(now) {
+            self.last = Some(now);
+            let _unwritten = eprintln!(self.rt; "busd: accept: {why}");
+        }
+    }
+
     /// Whether the last one is long ago.
     fn is_due(&self, now: Instant) -> bool {
         match self.last {
@@ -90,12 +104,10 @@ impl<'a, R: Eprint + Clock> AcceptErrors<'a, R> {
 
 impl<R: Eprint + Clock> AcceptLog for AcceptErrors<'_, R> {
     fn tell(&mut self, error: &io::Error) {
-        let Ok(now) = Instant::now(self.rt) else {
-            return;
-        };
-        if self.is_wanted && self.is_due(now) {
-            self.last = Some(now);
-            let _unwritten = eprintln!(self.rt; "busd: accept: {error}");
-        }
+        self.write(error);
+    }
+
+    fn refuse(&mut self) {
+        self.write(&"too many connections wait for a router");
     }
 }

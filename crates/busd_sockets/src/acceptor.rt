@@ -23,6 +23,9 @@ const SHARE: usize = 64;
 /// Who is told that connections can't be accepted.
 pub trait AcceptLog {
     fn tell(&mut self, error: &io::Error);
+
+    /// A connection was closed, since as many wait for its router as may.
+    fn refuse(&mut self);
 }
 
 /// What the thread that accepts does besides.
@@ -129,7 +132,10 @@ impl<'a, F: Read + Drop, L: AcceptLog + Drop, C: Chores + Drop> Acceptor<'a, F, 
             self.next = 0;
         }
         if let Some(new_connections) = self.new_connections.get(self.next) {
-            let _closed = new_connections.push(rt, NewConnection { stream, challenge });
+            let handed = new_connections.push(rt, NewConnection { stream, challenge });
+            if handed.is_err() {
+                self.log.refuse();
+            }
             self.coordinator.tell_of_connection(self.next);
         }
         self.next = self.next.saturating_add(1);
