@@ -1,18 +1,20 @@
 //! Clients of a bus over real sockets. The program starts itself as a daemon, a process of its own,
-//! and plays two clients of it; further scenes it plays over buses that a thread of its own serves.
-//! It tells how each went.
+//! and plays two clients of it; further scenes it plays over buses that a thread of its own serves,
+//! and the last over a queue of connections alone. It tells how each went.
 #![tactic(auto)]
 
 mod client;
 mod crowd;
 mod daemon;
 mod half_messages;
+mod many_at_once;
 mod scene;
 mod served;
 mod two_clients;
 
 use crate::client::Wrong;
 use crate::daemon::{SERVE, serve, serve_two_clients};
+use crate::many_at_once::many_at_once;
 use crate::scene::Scene;
 use crate::served::{outcome, play};
 use std::process::ExitCode;
@@ -64,5 +66,5 @@ fn main(rt: HostRuntime) -> ExitCode {
             return status(false);
         }
     }
-    status(true)
+    status(tell(&rt, "many-at-once", many_at_once(&rt)).is_ok())
 }
