@@ -1,12 +1,12 @@
 //! What calls answer where memory is refused.
 //!
-//! The program reads and writes bodies and messages, lets a client in, opens a plain bus and a
-//! registry of two routers with its outboxes, makes the same changes and a batch on both buses, and
-//! on a plain bus a batch of rules, calls that wait and monitors, starts services in a registry,
-//! lets calls wait for a service in an engine, brings it mail, serves messages in one turn of it,
-//! lets its clients go and the next say who it is, and as the host of a router serves clients, also
-//! such as take nothing yet or say who they are, and relays between them; by two routers that share
-//! a registry it puts a client out. It says of each whether the calls answered as they should: with
+//! The program reads and writes bodies and messages, opens a plain bus and a registry of two
+//! routers with its outboxes, makes the same changes and a batch on both buses, and on a plain bus
+//! a batch of rules, calls that wait and monitors, starts services in a registry, lets a client in,
+//! and as the host of a router serves clients, also such as take nothing yet or say who they are,
+//! and relays between them. By two routers that share a registry it puts a client out. An engine it
+//! brings mail, lets calls wait there for a service, serves messages in one turn, lets its clients
+//! go and the next say who it is. It says of each whether the calls answered as they should: with
 //! what was wanted; or that memory ran out, all as it was before, and with what was wanted once
 //! they are made again.
 //!
@@ -102,7 +102,6 @@ enum Part {
     Seats,
     Outboxes,
     Authentication,
-    Engine,
     Host,
     BlockedHost,
     AskingHost,
@@ -110,8 +109,8 @@ enum Part {
     TwoRouters,
 }
 
-/// The parts behind the bodies, each by what it tells first.
-const PARTS: [(&str, Part); 15] = [
+/// The parts between the bodies and the engine, each by what it tells.
+const PARTS: [(&str, Part); 14] = [
     ("framed", Part::Framed),
     ("relayed", Part::Relayed),
     ("made", Part::Made),
@@ -121,7 +120,6 @@ const PARTS: [(&str, Part); 15] = [
     ("seats", Part::Seats),
     ("outboxes", Part::Outboxes),
     ("authentication", Part::Authentication),
-    ("mail", Part::Engine),
     ("host", Part::Host),
     ("a host that can't write yet", Part::BlockedHost),
     ("a host that asks who comes", Part::AskingHost),
@@ -156,6 +154,26 @@ fn tell_served<R: Print>(rt: &R, served: Served) -> io::Result<()> {
     Ok(())
 }
 
+/// What a part answers.
+fn is_answered<R: Wait>(rt: &R, alloc: Global, part: Part) -> bool {
+    match part {
+        Part::Framed => messages::are_framed(alloc),
+        Part::Relayed => messages::is_relayed(alloc) == Some(true),
+        Part::Made => messages::is_made(alloc) == Some(true),
+        Part::PlainBus => plain::is_answered(alloc) == Some(true),
+        Part::Batch => batches::is_made(alloc) == Some(true),
+        Part::Starts => starts::are_made(alloc) == Some(true),
+        Part::Seats => seats::are_answered(rt, alloc) == Some(true),
+        Part::Outboxes => ways::are_opened(rt, alloc) == Some(true),
+        Part::Authentication => authentication::is_let_in(alloc),
+        Part::Host => hosts::are_served(alloc),
+        Part::BlockedHost => hosts::are_served_late(alloc),
+        Part::AskingHost => hosts::are_let_in(alloc),
+        Part::Relays => relays::are_relayed(alloc),
+        Part::TwoRouters => two_routers::put_out(rt, alloc),
+    }
+}
+
 /// Runs the part that is asked for, or each, and tells of it.
 fn run<R: Print + Wait>(rt: &R, alloc: Global, asked: &str) -> io::Result<()> {
     for (order, signature, body) in BODIES {
@@ -165,30 +183,12 @@ fn run<R: Print + Wait>(rt: &R, alloc: Global, asked: &str) -> io::Result<()> {
         }
     }
     for (what, part) in PARTS {
-        if !is_asked(what, asked) {
-            continue;
+        if is_asked(what, asked) {
+            println!(rt; "{what}: {}", told(is_answered(rt, alloc, part)))?;
         }
-        let is_answered = match part {
-            Part::Framed => messages::are_framed(alloc),
-            Part::Relayed => messages::is_relayed(alloc).unwrap_or(false),
-            Part::Made => messages::is_made(alloc).unwrap_or(false),
-            Part::PlainBus => plain::is_answered(alloc).unwrap_or(false),
-            Part::Batch => batches::is_made(alloc).unwrap_or(false),
-            Part::Starts => starts::are_made(alloc).unwrap_or(false),
-            Part::Seats => seats::are_answered(rt, alloc).unwrap_or(false),
-            Part::Outboxes => ways::are_opened(rt, alloc).unwrap_or(false),
-            Part::Authentication => authentication::is_let_in(alloc),
-            Part::Engine => {
-                tell_served(rt, engine::serve(alloc))?;
-                continue;
-            }
-            Part::Host => hosts::are_served(alloc),
-            Part::BlockedHost => hosts::are_served_late(alloc),
-            Part::AskingHost => hosts::are_let_in(alloc),
-            Part::Relays => relays::are_relayed(alloc),
-            Part::TwoRouters => two_routers::put_out(rt, alloc),
-        };
-        println!(rt; "{what}: {}", told(is_answered))?;
+    }
+    if is_asked("mail", asked) {
+        tell_served(rt, engine::serve(alloc))?;
     }
     Ok(())
 }

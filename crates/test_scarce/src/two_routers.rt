@@ -12,12 +12,12 @@ use crate::relays::{
     tells_of_memory, together,
 };
 use bus_view::BusView;
-use outbox::{EnvelopeOf, Lane, Outboxes, open_queue};
+use outbox::{EnvelopeOf, Lane, Outboxes, Tap, open_queue};
 use outbox_core::{Content, Envelope};
 use registry_snapshots::{Desk, Naming, Seat, Serve, Shared, start};
 use router::{Engine, Traced};
 use router_core::{CloseCause, OpenGate};
-use router_host::{EndCause, Host, Post};
+use router_host::{EndCause, Host, Post, StartRequest};
 use routers::{Coordinator, Fault, LanePost, Recorder, Router, TraceSink, Wake};
 use seq_bus_core::SharedBytes;
 use std::alloc::{AllocError, Global};
@@ -101,17 +101,24 @@ impl<'a, J: Naming, R: Wait> Fill for MainLane<'a, J, R> {
     }
 }
 
-/// A router of the coordinator over a view, whose client is this one.
+/// What a router is made of: a view of the bus, and a way to the other router.
+#[derive(Drop)]
+struct Side<V, P> {
+    view: V,
+    post: P,
+}
+
+/// A router of the coordinator, whose client this is.
 fn router_of<'c, V: BusView + Drop, P: Post<V> + Drop, W: Wake + Drop>(
     alloc: Global,
     me: usize,
     coordinator: &'c Coordinator<W>,
-    view: V,
-    post: P,
+    side: Side<V, P>,
     source: Beats,
 ) -> Result<Router<'c, V, OpenGate, P, Wire, Beats, W>, AllocError>
-    requires { P.registry post ≡ (V.knows view).registry }
+    requires { P.registry side.post ≡ (V.knows side.view).registry }
 {
+    let Side { view, post } = side;
     let engine = Engine::new(alloc, view, OpenGate, None)?;
     let first = u16::try_from(me.saturating_mul(PLACES)).unwrap_or(u16::MAX);
     let host = Host::new(alloc, engine, post, first, PLACES as u16)?;
@@ -166,7 +173,7 @@ fn is_for_memory(end: Option<EndCause>) -> bool {
     end == Some(EndCause::NoMemory)
 }
 
-/// Serves by two routers over these views and posts, the first one's first.
+/// Serves by two routers, and tells what came of their clients.
 fn serve_both<
     V: BusView + Drop,
     P: Post<V> + Drop,
@@ -179,34 +186,62 @@ fn serve_both<
     right: &V::Right,
     alloc: Global,
     coordinator: &Coordinator<W>,
-    first: V,
-    first_post: P,
-    second: V,
-    second_post: P,
+    first: Side<V, P>,
+    second: Side<V, P>,
     recorder: &mut T,
     filler: &mut F,
 ) -> Result<Found, AllocError>
-    requires { (P.registry first_post ≡ (V.knows first).registry)
-        × (P.registry second_post ≡ (V.knows second).registry) }
+    requires { (P.registry first.post ≡ (V.knows first.view).registry)
+        × (P.registry second.post ≡ (V.knows second.view).registry) }
 {
     let (first_beats, first_fate) = Beats::new(alloc, FIRST)?;
     let (second_beats, second_fate) = Beats::new(alloc, SECOND)?;
-    let mut first = router_of(alloc, 0, coordinator, first, first_post, first_beats)?;
-    let made = router_of(alloc, 1, coordinator, second, second_post, second_beats);
-    let served = match made {
-        Ok(mut second) => {
-            let served = go_on(rt, right, &mut first, &mut second, recorder, filler);
-            drop(second);
-            served
-        }
-        Err(AllocError) => Err(AllocError),
-    };
+    let mut first = router_of(alloc, 0, coordinator, first, first_beats)?;
+    let served = serve_beside(
+        rt,
+        right,
+        alloc,
+        coordinator,
+        &mut first,
+        second,
+        second_beats,
+        recorder,
+        filler,
+    );
     drop(first);
     served?;
     let left = Some(EndCause::Closed(CloseCause::Left));
     let at_first = seen(&first_fate, &TO_FIRST, left);
     let at_second = seen(&second_fate, &TO_SECOND, None);
     Ok(together(at_first, at_second))
+}
+
+/// Serves by a second router, whose client this is, beside the first.
+fn serve_beside<
+    'c,
+    V: BusView + Drop,
+    P: Post<V> + Drop,
+    W: Wake + Drop,
+    T: Recorder<V, OpenGate, P, Wire>,
+    F: Fill,
+    R: Wait,
+>(
+    rt: &R,
+    right: &V::Right,
+    alloc: Global,
+    coordinator: &'c Coordinator<W>,
+    first: &mut Router<'c, V, OpenGate, P, Wire, Beats, W>,
+    second: Side<V, P>,
+    source: Beats,
+    recorder: &mut T,
+    filler: &mut F,
+) -> Result<(), AllocError>
+    requires { P.registry second.post ≡ (V.knows second.view).registry }
+{
+    let mut second = router_of(alloc, 1, coordinator, second, source)?;
+    let served = go_on(rt, right, first, &mut second, recorder, filler);
+    drop(second);
+    served
 }
 
 /// The registry that both are over.
@@ -236,41 +271,99 @@ impl<'a, R: Wait> Serve for Pair<'a, R> {
     }
 }
 
+/// What a router serves with.
+#[derive(Drop)]
+struct Ends<J: Naming> {
+    seat: Seat<J>,
+    lane: Lane<EnvelopeOf<J>>,
+    taps: Vec<Tap<EnvelopeOf<J>>>,
+    starts: Lane<StartRequest>,
+}
+
+/// What all serve with, the second router's last.
+#[derive(Drop)]
+struct Ways<J: Naming> {
+    seats: Vec<Seat<J>>,
+    lanes: Vec<Lane<EnvelopeOf<J>>>,
+    taps: Vec<Vec<Tap<EnvelopeOf<J>>>>,
+    starts: Vec<Lane<StartRequest>>,
+}
+
+impl<J: Naming> Ways<J> {
+    /// What the last router serves with.
+    fn pop(&mut self) -> Option<Ends<J>> {
+        let seat = self.seats.pop()?;
+        let lane = self.lanes.pop()?;
+        let taps = self.taps.pop()?;
+        let starts = self.starts.pop()?;
+        Some(Ends {
+            seat,
+            lane,
+            taps,
+            starts,
+        })
+    }
+}
+
 /// Makes what the routers put and take with, and serves.
 fn serve_over<J: Naming, R: Wait>(
     rt: &R,
     alloc: Global,
     shared: &Shared<J>,
-    mut seats: Vec<Seat<J>>,
+    seats: Vec<Seat<J>>,
 ) -> Option<Found> {
-    let (mut lanes, mut taps) = Outboxes::new(alloc, shared).ok()?;
-    let (mut starts, _requests) = open_queue(alloc, 3).ok()?;
-    let wakers = vec![in alloc; NoWaker, NoWaker].ok()?;
-    let coordinator = Coordinator::new(alloc, wakers, NoWaker).ok()?;
-    let bytes = SharedBytes::new(Arc::new(alloc, Vec::new(alloc)).ok()?);
-    let second: Desk<'_, J, R> = Desk::new(seats.pop()?, shared);
-    let first: Desk<'_, J, R> = Desk::new(seats.pop()?, shared);
-    let second_post = LanePost::new(1, lanes.pop()?, taps.pop()?, starts.pop()?, &coordinator);
-    let first_post = LanePost::new(0, lanes.pop()?, taps.pop()?, starts.pop()?, &coordinator);
+    let (lanes, taps) = Outboxes::new(alloc, shared).ok()?;
+    let (starts, _requests) = open_queue(alloc, 3).ok()?;
+    let mut ways = Ways {
+        seats,
+        lanes,
+        taps,
+        starts,
+    };
+    let second = ways.pop()?;
+    let first = ways.pop()?;
     let mut filler = MainLane {
         rt,
-        lane: lanes.pop()?,
-        bytes,
+        lane: ways.lanes.pop()?,
+        bytes: SharedBytes::new(Arc::new(alloc, Vec::new(alloc)).ok()?),
     };
-    let served = serve_both(
+    let found = serve_ends(rt, alloc, shared, first, second, &mut filler);
+    drop(filler);
+    found
+}
+
+/// Serves with what the two routers have.
+fn serve_ends<J: Naming, F: Fill, R: Wait>(
+    rt: &R,
+    alloc: Global,
+    shared: &Shared<J>,
+    first: Ends<J>,
+    second: Ends<J>,
+    filler: &mut F,
+) -> Option<Found> {
+    let wakers = vec![in alloc; NoWaker, NoWaker].ok()?;
+    let coordinator = Coordinator::new(alloc, wakers, NoWaker).ok()?;
+    let desk: Desk<'_, J, R> = Desk::new(first.seat, shared);
+    let first = Side {
+        view: Traced::silent(alloc, desk),
+        post: LanePost::new(0, first.lane, first.taps, first.starts, &coordinator),
+    };
+    let desk: Desk<'_, J, R> = Desk::new(second.seat, shared);
+    let second = Side {
+        view: Traced::silent(alloc, desk),
+        post: LanePost::new(1, second.lane, second.taps, second.starts, &coordinator),
+    };
+    serve_both(
         rt,
         rt,
         alloc,
         &coordinator,
-        Traced::silent(alloc, first),
-        first_post,
-        Traced::silent(alloc, second),
-        second_post,
+        first,
+        second,
         &mut NoTrace,
-        &mut filler,
-    );
-    drop(filler);
-    served.ok()
+        filler,
+    )
+    .ok()
 }
 
 /// What comes of a registry that is opened for it.
