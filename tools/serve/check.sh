@@ -334,18 +334,20 @@ told_to() {
     [ "$(timeout 60 "$client" "$address" "$@" 2>&1)" = "$answer" ] || wrong "a client: $* is not told $answer"
 }
 
-# Clients are let in who know the cookie, and nobody else. Whoever is closed for a fault is told of where that is wanted.
+# Clients are let in who know the cookie, and nobody else. Whoever is closed for a fault, or is one too many without a
+# name, is told of where that is wanted.
 logins() {
     local bus_name=org.freedesktop.DBus notice="busd: closed: 31: it didn't say who it is"
-    begin --verbose
+    begin routers=1 --verbose
     COOKIE=1000:c0ffee told_to "$bus_name :1.1" ask ListNames
     COOKIE=1000:decaf told_to "it isn't let in" ask ListNames
     COOKIE=1001:c0ffee told_to "it isn't let in" ask ListNames
     told_to "it isn't let in" ask ListNames
     told_to '' bytes 41
     waits grep -qx "$notice" said || wrong "tells of a client that was closed: $(< said)"
-    COOKIE=1000:c0ffee told_to "$bus_name :1.2" ask ListNames
-    finish "$notice"
+    COOKIE=1000:c0ffee told_to "$bus_name :1.2" crowd 65
+    finish "$notice
+busd: accept: too many connections without a name"
 }
 
 # serves_within N: with N open files at most it serves; else it has told what it could not open

@@ -37,32 +37,41 @@ impl fmt::Display for Notice {
     }
 }
 
-/// Writes of connections that were closed with a fault, where that is wanted.
+/// Writes of connections that were closed with a fault or are not served, where that is wanted.
 #[derive(Drop)]
-pub(crate) struct Log<'a, R: Eprint> {
+pub(crate) struct Log<'a, R: Eprint + Clock> {
     rt: &'a R,
     is_wanted: bool,
+    refusals: AcceptErrors<'a, R>,
 }
 
-impl<'a, R: Eprint> Log<'a, R> {
+impl<'a, R: Eprint + Clock> Log<'a, R> {
     pub(crate) fn new(rt: &'a R, is_wanted: bool) -> Log<'a, R> {
-        Log { rt, is_wanted }
+        Log {
+            rt,
+            is_wanted,
+            refusals: AcceptErrors::new(rt, is_wanted),
+        }
     }
 }
 
-impl<R: Eprint> EndLog for Log<'_, R> {
+impl<R: Eprint + Clock> EndLog for Log<'_, R> {
     fn note(&mut self, ended: Ended) {
         let is_fault = !matches!(ended.cause, EndCause::EndOfInput | EndCause::HungUp);
         if self.is_wanted && is_fault {
             let _unwritten = eprintln!(self.rt; "{}", Notice(ended));
         }
     }
+
+    fn refuse<T: fmt::Display>(&mut self, why: &T) {
+        self.refusals.write(why);
+    }
 }
 
-/// How often it is told at most that connections can't be accepted, in seconds.
+/// How often it is told at most that connections can't be accepted or served, in seconds.
 const SELDOM: u64 = 1;
 
-/// Writes why connections can't be accepted, where that is wanted, once a second at most.
+/// Writes why connections can't be accepted or served, where that is wanted, once a second at most.
 #[derive(Drop)]
 pub(crate) struct AcceptErrors<'a, R: Eprint + Clock> {
     rt: &'a R,

@@ -112,7 +112,7 @@ type Setup<'a, J, F, R> = RouterSetup<J, Sockets<'a, Log<'a, R>>, OpenGate, Trac
 type Setups<'a, J, F, R> = Vec<Setup<'a, J, F, R>>;
 
 /// What each router begins with. The seat of the main thread is left.
-fn setups<'a, J: Naming, F: Drop, R: Net + Eprint + AllocGlobal>(
+fn setups<'a, J: Naming, F: Drop, R: Net + Eprint + Clock + AllocGlobal>(
     rt: &'a R,
     bus: &'a Bus<'_>,
     parts: &mut Parts<J, F>,
@@ -127,7 +127,7 @@ fn setups<'a, J: Naming, F: Drop, R: Net + Eprint + AllocGlobal>(
 
 /// What the last router that is not taken yet begins with: its seat, its ways to the others, and
 /// the connections that come to it.
-fn setup<'a, J: Naming, F: Drop, R: Net + Eprint + AllocGlobal>(
+fn setup<'a, J: Naming, F: Drop, R: Net + Eprint + Clock + AllocGlobal>(
     rt: &'a R,
     bus: &'a Bus<'_>,
     new_connections: &'a NewConnections,

@@ -5,9 +5,10 @@ use crate::new_connection::{NewConnection, NewConnections};
 use crate::waker::WAKER;
 use mio::event::Event;
 use mio::{Events, Interest, Poll, Token};
-use router_host::Ended;
+use router_host::{Ended, OpenFault};
 use routers::{Fault, Source, SourceEvent, Timeout};
 use std::alloc::{AllocError, Global};
+use std::fmt::Display;
 use std::sync::Wait;
 use std::time::Duration;
 
@@ -20,9 +21,12 @@ const NEW: usize = 64;
 /// How long a short timeout is, in milliseconds.
 const SHORT: u64 = 100;
 
-/// Who writes down which connections ended.
+/// Who writes down which connections ended, or are not served.
 pub trait EndLog {
     fn note(&mut self, ended: Ended);
+
+    /// A connection that came was closed.
+    fn refuse<T: Display>(&mut self, why: &T);
 }
 
 /// What became of a socket, as far as it is not told yet.
@@ -149,9 +153,18 @@ impl<'a, L: EndLog + Drop> Source<ClientSocket> for Sockets<'a, L> {
     fn watch(&mut self, key: usize, socket: &mut ClientSocket) -> bool {
         let interest = Interest::READABLE | Interest::WRITABLE;
         let registry = self.poll.registry();
-        registry
-            .register(&mut socket.stream, Token(key), interest)
-            .is_ok()
+        let registered = registry.register(&mut socket.stream, Token(key), interest);
+        match registered {
+            Ok(()) => true,
+            Err(error) => {
+                self.log.refuse(&error);
+                false
+            }
+        }
+    }
+
+    fn refuse(&mut self, fault: OpenFault) {
+        self.log.refuse(&fault);
     }
 
     fn tell(&mut self, ended: Ended) {

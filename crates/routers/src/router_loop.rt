@@ -159,14 +159,17 @@ impl<'a, V: BusView, G: Gate, P: Post<V>, S: Socket, E: Source<S>, W: Wake + Dro
         }
     }
 
-    /// A connection came. It is dropped where there is no room for it.
+    /// A connection came. It is closed where it can't be served.
     fn open(&mut self, right: &V::Right, mut socket: S, challenge: Option<[u8; 16]>)
         ensures serves { WorksOnBy V.BusView G.Gate P.Post self.old self.new }
     {
         if !self.source.watch(self.host.free_key(), &mut socket) {
             return;
         }
-        let _refused = self.host.open(right, socket, challenge);
+        let opened = self.host.open(right, socket, challenge);
+        if let Err(fault) = opened {
+            self.source.refuse(fault);
+        }
     }
 
     /// Does what there is to do.

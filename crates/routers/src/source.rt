@@ -1,7 +1,7 @@
 //! What happens to a router.
 
 use crate::fault::Fault;
-use router_host::{Ended, Socket};
+use router_host::{Ended, OpenFault, Socket};
 use std::sync::Wait;
 
 /// How long a router waits for what happens next.
@@ -49,6 +49,9 @@ pub trait Source<S: Socket> {
     /// From now on it is told what happens to this socket, under its key. It is false where the
     /// system refuses that.
     fn watch(&mut self, key: usize, socket: &mut S) -> bool;
+
+    /// A connection that came is not served, and its socket is closed.
+    fn refuse(&mut self, fault: OpenFault);
 
     /// A connection is over.
     fn tell(&mut self, ended: Ended);

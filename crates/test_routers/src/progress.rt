@@ -2,7 +2,7 @@
 
 use crate::client::Client;
 use crate::scenario::{ClientIndex, ClientMessage, Condition};
-use router_host::Ended;
+use router_host::{Ended, OpenFault};
 use routers::Wake;
 use std::alloc::{AllocError, Global};
 use std::fmt::Write;
@@ -139,6 +139,13 @@ impl Progress {
         let endings = &mut *guard;
         endings.count = endings.count.saturating_add(1);
         let _short = writeln!(endings.causes, "over: {}", ended.cause);
+    }
+
+    /// A connection is not served.
+    pub(crate) fn note_refused<R: Wait>(&self, rt: &R, fault: OpenFault) {
+        let mut guard = self.endings.lock(rt);
+        let endings = &mut *guard;
+        let _short = writeln!(endings.causes, "refused: {fault}");
     }
 
     /// Lines of a router are kept behind the others. False where there is no memory for them.

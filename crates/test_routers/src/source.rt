@@ -3,7 +3,7 @@
 use crate::client::ClientSocket;
 use crate::progress::{LOOKS, Progress, pause};
 use crate::scenario::Step;
-use router_host::Ended;
+use router_host::{Ended, OpenFault};
 use routers::{Fault, Source, SourceEvent, Timeout};
 use std::rt::Clock;
 use std::sync::Wait;
@@ -139,6 +139,10 @@ impl<'a, R: Wait + Clock> Source<ClientSocket<'a, R>> for ScenarioSource<'a, R> 
             }
             None => false,
         }
+    }
+
+    fn refuse(&mut self, fault: OpenFault) {
+        self.progress.note_refused(self.rt, fault);
     }
 
     fn tell(&mut self, ended: Ended) {

@@ -1,6 +1,6 @@
 //! A client of a router, and what the router hears of it.
 
-use router_host::{EndCause, Ended, Socket};
+use router_host::{EndCause, Ended, OpenFault, Socket};
 use routers::{Fault, Source, SourceEvent, Timeout};
 use std::alloc::{AllocError, Global};
 use std::cell::RefCell;
@@ -96,6 +96,14 @@ impl Beats {
         };
         Ok((beats, fate))
     }
+
+    /// Its connection is over.
+    fn end(&mut self, cause: EndCause) {
+        if let Ok(mut fate) = self.fate.try_borrow_mut() {
+            let fate = &mut *fate;
+            fate.end = Some(cause);
+        }
+    }
 }
 
 impl Source<Wire> for Beats {
@@ -130,10 +138,13 @@ impl Source<Wire> for Beats {
         true
     }
 
-    fn tell(&mut self, ended: Ended) {
-        if let Ok(mut fate) = self.fate.try_borrow_mut() {
-            let fate = &mut *fate;
-            fate.end = Some(ended.cause);
+    fn refuse(&mut self, fault: OpenFault) {
+        if fault == OpenFault::NoMemory {
+            self.end(EndCause::NoMemory);
         }
+    }
+
+    fn tell(&mut self, ended: Ended) {
+        self.end(ended.cause);
     }
 }

@@ -10,6 +10,7 @@ use mio::net::UnixListener;
 use router_host::Ended;
 use routers::{Coordinator, Fault, MainTask, Source, SourceEvent, Timeout};
 use std::alloc::Global;
+use std::fmt::Display;
 use std::net::Net;
 use std::rt::Files;
 use std::sync::Wait;
@@ -45,6 +46,8 @@ impl AcceptLog for NoLog {
 
 impl EndLog for NoLog {
     fn note(&mut self, _ended: Ended) {}
+
+    fn refuse<T: Display>(&mut self, _why: &T) {}
 }
 
 /// Chores that see how many connections wait for the router.

@@ -1,7 +1,12 @@
 use Rattle.routers.proofs.Servings.{serves_coming}
 use Rattle.routers.proofs.router_loop.Router.open.Goals as goal
 
-pub returns : goal.returns
-returns g c = record {
-  serves = rw (← c.self.view_is) (serves_coming c.args.challenge c.open-refused.result c.open-refused.ensures.opens c.open-refused.ensures.err);
+pub returns-in-Err : goal.returns-in-Err
+returns-in-Err g c = record {
+  serves = rw (← c.self.view_is) (serves_coming c.args.challenge c.open-opened.result c.open-opened.ensures.opens c.open-opened.ensures.err);
+}
+
+pub returns-in_default : goal.returns-in_default
+returns-in_default g c = record {
+  serves = rw (← c.self.view_is) (serves_coming c.args.challenge c.open-opened.result c.open-opened.ensures.opens c.open-opened.ensures.err);
 }
