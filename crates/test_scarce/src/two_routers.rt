@@ -159,9 +159,12 @@ fn seen(fate: &Rc<RefCell<Fate>>, expected: &[&[u8]], end: Option<EndCause>) -> 
         return Found::Wrong;
     };
     let taken = fate.taken.as_slice();
-    if are_all(taken, expected) && fate.end == end {
+    let has_all = are_all(taken, expected);
+    // Nobody is told of an end that there was no memory to note.
+    let is_untold = has_all && fate.end.is_none();
+    if has_all && fate.end == end {
         Found::All
-    } else if tells_of_memory(taken) || taken.is_empty() || is_for_memory(fate.end) {
+    } else if is_untold || tells_of_memory(taken) || taken.is_empty() || is_for_memory(fate.end) {
         Found::Short
     } else {
         Found::Wrong
