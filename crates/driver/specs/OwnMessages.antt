@@ -24,6 +24,7 @@ use Rattle.driver.specs.declared.reply.BodyKind.{BodyKind}
 use Rattle.driver.specs.declared.reply.BodyKind.TheVariants as of_kind
 use Rattle.driver.specs.declared.reply.ReplyBody.{ReplyBody}
 use Rattle.driver.specs.declared.reply.ReplyBody.TheVariants as carries
+use Rattle.driver.specs.declared.reply.SpelledBody.{SpelledBody}
 
 -- ## Headers
 
@@ -94,12 +95,12 @@ types_for of_kind.String = one_type (basic of_type.String)
 types_for of_kind.Boolean = one_type (basic of_type.Boolean)
 types_for of_kind.Strings = one_type (array (basic of_type.String))
 
--- the body of a reply; some come spelled, as the bus answers a query
-abbrev pub IsReplyBody : ReplyBody → Tys → Vals → Type 0
+-- the body of a reply; the answer to a query comes spelled, as the bus appends it
+abbrev pub IsReplyBody : ReplyBody SpelledBody → Tys → Vals → Type 0
 IsReplyBody carries.Empty types values = (types ≡ no_types) × (values ≡ no_values)
 IsReplyBody (carries.Number n) types values = (types ≡ number_types) × (values ≡ number_values n)
 IsReplyBody (carries.UniqueName number) types values = (types ≡ string_types (unique_text number ∷ [])) × (values ≡ string_values (unique_text number ∷ []))
-IsReplyBody (carries.Spelled kind bytes) types values = (types ≡ types_for kind) × Spells Little 0 types values bytes.now
+IsReplyBody (carries.Answer answer) types values = (types ≡ types_for answer.kind) × Spells Little 0 types values answer.bytes.now
 
 -- ## Messages
 

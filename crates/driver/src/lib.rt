@@ -42,5 +42,5 @@ pub use call::{Call, expects_reply, is_call_to_bus, is_hello, read_call};
 pub use error_words::{error_name, error_text};
 pub use fault::DriverFault;
 pub use held_rule::HeldRule;
-pub use reply::{BodyKind, ReplyBody, ReplyTo, write_error, write_reply};
+pub use reply::{BodyKind, ReplyBody, ReplyTo, SpelledBody, write_error, write_reply};
 pub use signal::write_signal;

@@ -79,15 +79,23 @@ pub enum BodyKind {
     Strings,
 }
 
-/// What a reply carries.
-#[derive(Clone, Copy)]
-pub enum ReplyBody<'a> {
+/// A body in bytes, in little-endian order as from offset 0 on.
+#[derive(Clone, Copy, Debug)]
+pub struct SpelledBody<'a> {
+    pub kind: BodyKind,
+    pub bytes: &'a [u8],
+}
+
+/// What a reply carries. The answer to a query is a [`SpelledBody`] where it is written; on its way
+/// it may be a body that several share.
+#[derive(Debug, Drop)]
+pub enum ReplyBody<A: Drop> {
     Empty,
     Number(u32),
     /// The unique name of the connection of this number, as a string.
     UniqueName(u64),
-    /// A body in bytes, in little-endian order as from offset 0 on.
-    Spelled { kind: BodyKind, bytes: &'a [u8] },
+    /// The answer to a query.
+    Answer(A),
 }
 
 /// The signature of a body.
@@ -162,7 +170,7 @@ fn put_unique_name(
 pub fn write_reply(
     serial: u32,
     to: ReplyTo,
-    body: ReplyBody<'_>,
+    body: ReplyBody<SpelledBody<'_>>,
     out: &mut Vec<u8>,
 ) -> Result<(), AllocError>
     requires serial { 0 < serial }
@@ -175,8 +183,8 @@ pub fn write_reply(
         ReplyBody::Empty => put_reply(serial, to, "", &[], out),
         ReplyBody::Number(number) => put_number(serial, to, number, out),
         ReplyBody::UniqueName(number) => put_unique_name(serial, to, number, out),
-        ReplyBody::Spelled { kind, bytes } => {
-            put_reply(serial, to, signature_for(kind), bytes, out)
+        ReplyBody::Answer(answer) => {
+            put_reply(serial, to, signature_for(answer.kind), answer.bytes, out)
         }
     }
 }

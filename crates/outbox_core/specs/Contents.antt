@@ -15,8 +15,8 @@ use Rattle.outbox_core.specs.declared.content.Content.{Content}
 use Rattle.outbox_core.specs.declared.content.Content.TheVariants as content
 use Rattle.outbox_core.specs.declared.bus_message.BusMessage.{BusMessage}
 use Rattle.outbox_core.specs.declared.bus_message.BusMessage.TheVariants as message
-use Rattle.outbox_core.specs.declared.bus_message.ReplyContent.{ReplyContent}
-use Rattle.outbox_core.specs.declared.bus_message.ReplyContent.TheVariants as reply
+use Rattle.driver.specs.declared.reply.ReplyBody.{ReplyBody}
+use Rattle.driver.specs.declared.reply.ReplyBody.TheVariants as reply
 
 -- ## Messages of the bus, before they are numbered
 
@@ -59,7 +59,7 @@ bus_message serial (Errs to error) = error_message serial to error
 
 -- ## As they are held
 
-abbrev pub carried_of : ReplyContent → Carried
+abbrev pub carried_of : ReplyBody Answer → Carried
 carried_of reply.Empty = Nothing
 carried_of (reply.Number n) = Number n
 carried_of (reply.UniqueName number) = UniqueName number

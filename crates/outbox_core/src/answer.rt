@@ -6,7 +6,7 @@ ghost use Rattle.seq_bus_core.specs.BusState.{BusState};
 ghost use Rattle.bus_view.specs.Bodies.{IsBody};
 ghost use Rattle.outbox_core.specs.Answers.{IsAnswerTo, kind_of};
 
-use driver::BodyKind;
+use driver::{BodyKind, SpelledBody};
 use seq_bus_core::{Query, SharedBytes};
 use std::alloc::AllocError;
 use std::marker::Model;
@@ -68,6 +68,17 @@ impl AnswerBody {
         ensures { IsBody self.now result.now }
     {
         self.bytes.as_slice()
+    }
+
+    /// As it is written.
+    pub(crate) fn spelled(&self) -> SpelledBody<'_>
+        ensures kind { result.kind ≡ kind_of self.now }
+        ensures body { IsBody self.now result.bytes.now }
+    {
+        SpelledBody {
+            kind: self.kind(),
+            bytes: self.bytes(),
+        }
     }
 
     /// The same answer once more. No bytes are copied; it fails where too many share them already.

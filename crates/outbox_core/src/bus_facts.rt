@@ -14,10 +14,10 @@ ghost use Rattle.outbox_core.specs.Contents.{Signals, carried_of, carried_values
 ghost use Rattle.outbox_core.specs.Named.{names_of, number_in};
 
 use crate::answer::AnswerBody;
-use crate::bus_message::{BusMessage, ReplyContent};
+use crate::bus_message::BusMessage;
 use arrayvec::ArrayVec;
 use audience::SignalNames;
-use driver::{BodyKind, error_text};
+use driver::{BodyKind, ReplyBody, error_text};
 use marshal_check::{Argument as Read, Arguments, Types};
 use marshal_core::Order;
 use match_rules::{Argument, Facts, MessageKind};
@@ -130,34 +130,32 @@ fn answered(answer: &AnswerBody) -> Argument<'_>
     }
 }
 
-impl ReplyContent {
-    /// The number of the connection whose unique name it is.
-    fn number(&self) -> Option<u64>
-        ensures { result ≡ number_in (carried_of self.now) }
-    {
-        match self {
-            ReplyContent::UniqueName(number) => Some(*number),
-            ReplyContent::Empty | ReplyContent::Number(_) | ReplyContent::Answer(_) => None,
-        }
+/// The number of the connection whose unique name a reply carries.
+fn number_in(body: &ReplyBody<AnswerBody>) -> Option<u64>
+    ensures { result ≡ number_in (carried_of body.now) }
+{
+    match body {
+        ReplyBody::UniqueName(number) => Some(*number),
+        ReplyBody::Empty | ReplyBody::Number(_) | ReplyBody::Answer(_) => None,
     }
 }
 
 /// Puts what a reply carries.
 fn put_carried<'a>(
-    content: &'a ReplyContent,
+    body: &'a ReplyBody<AnswerBody>,
     name: &'a Option<ConnectionName>,
     arguments: &mut OwnArguments<'a>,
 )
-    requires name { name.now ≡ option_map unique_text (number_in (carried_of content.now)) }
+    requires name { name.now ≡ option_map unique_text (number_in (carried_of body.now)) }
     requires none { map argument_of arguments.old.items ≡ [] }
     ensures { map argument_of arguments.new.items
-        ≡ map as_argument (value_arguments (carried_values (carried_of content.now))) }
+        ≡ map as_argument (value_arguments (carried_values (carried_of body.now))) }
 {
-    match content {
-        ReplyContent::Empty => {}
-        ReplyContent::Number(_) => arguments.push(Argument::Other),
-        ReplyContent::UniqueName(_) => arguments.push(name_argument(name)),
-        ReplyContent::Answer(answer) => arguments.push(answered(answer)),
+    match body {
+        ReplyBody::Empty => {}
+        ReplyBody::Number(_) => arguments.push(Argument::Other),
+        ReplyBody::UniqueName(_) => arguments.push(name_argument(name)),
+        ReplyBody::Answer(answer) => arguments.push(answered(answer)),
     }
 }
 
@@ -185,10 +183,10 @@ impl BusMessage {
                 caller: None,
                 carried: None,
             },
-            BusMessage::Reply { to, content } => BusMessageNames {
+            BusMessage::Reply { to, body } => BusMessageNames {
                 signal: None,
                 caller: name_of(to.caller()),
-                carried: name_of(content.number()),
+                carried: name_of(number_in(body)),
             },
             BusMessage::Error { to, error: _ } => BusMessageNames {
                 signal: None,
@@ -208,9 +206,7 @@ impl BusMessage {
         let mut arguments = OwnArguments::new();
         match self {
             BusMessage::Signal(signal) => put_signal(signal.get(), names, &mut arguments),
-            BusMessage::Reply { to: _, content } => {
-                put_carried(content, &names.carried, &mut arguments)
-            }
+            BusMessage::Reply { to: _, body } => put_carried(body, &names.carried, &mut arguments),
             BusMessage::Error { to: _, error } => {
                 arguments.push(Argument::String(error_text(*error)))
             }

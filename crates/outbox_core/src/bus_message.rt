@@ -2,50 +2,37 @@
 
 ghost use Rattle.std.specs.Prelude.{◌≡◌, ◌<◌, IfOk, OnOk, OnErr};
 ghost use Rattle.driver.specs.OwnMessages.{IsReplyBody, Writes};
-ghost use Rattle.outbox_core.specs.Contents.{Answered, carried_of, own_of, carried_types, carried_values, bus_message};
+ghost use Rattle.outbox_core.specs.Contents.{carried_of, own_of, carried_types, carried_values, bus_message};
 
 use crate::answer::AnswerBody;
-use driver::{ReplyBody, ReplyTo, write_error, write_reply, write_signal};
+use driver::{ReplyBody, ReplyTo, SpelledBody, write_error, write_reply, write_signal};
 use seq_bus_core::{ErrorKind, SharedSignal};
 use std::alloc::AllocError;
 
-/// What a reply carries.
-#[derive(Debug, Drop)]
-pub enum ReplyContent {
-    Empty,
-    Number(u32),
-    /// The unique name of the connection of this number, as a string.
-    UniqueName(u64),
-    /// The answer to a query.
-    Answer(AnswerBody),
+/// What a reply carries, as it is written.
+fn lent(body: &ReplyBody<AnswerBody>) -> ReplyBody<SpelledBody<'_>>
+    ensures { IsReplyBody result (carried_types (carried_of body.now))
+        (carried_values (carried_of body.now)) }
+{
+    match body {
+        ReplyBody::Empty => ReplyBody::Empty,
+        ReplyBody::Number(number) => ReplyBody::Number(*number),
+        ReplyBody::UniqueName(number) => ReplyBody::UniqueName(*number),
+        ReplyBody::Answer(answer) => ReplyBody::Answer(answer.spelled()),
+    }
 }
 
-impl ReplyContent {
-    /// As it is written.
-    fn body(&self) -> ReplyBody<'_>
-        ensures { IsReplyBody result (carried_types (carried_of self.now))
-            (carried_values (carried_of self.now)) }
-    {
-        match self {
-            ReplyContent::Empty => ReplyBody::Empty,
-            ReplyContent::Number(number) => ReplyBody::Number(*number),
-            ReplyContent::UniqueName(number) => ReplyBody::UniqueName(*number),
-            ReplyContent::Answer(answer) => body_of(answer),
-        }
-    }
-
-    /// The same once more. No bytes are copied; it fails where too many share them already.
-    pub fn try_clone(&self) -> Result<ReplyContent, AllocError>
-        ensures { IfOk result (λ content. content ≡ self.now) }
-    {
-        match self {
-            ReplyContent::Empty => Ok(ReplyContent::Empty),
-            ReplyContent::Number(number) => Ok(ReplyContent::Number(*number)),
-            ReplyContent::UniqueName(number) => Ok(ReplyContent::UniqueName(*number)),
-            ReplyContent::Answer(answer) => {
-                let answer = answer.try_clone()?;
-                Ok(ReplyContent::Answer(answer))
-            }
+/// What a reply carries once more. No bytes are copied; it fails where too many share them already.
+fn shared(body: &ReplyBody<AnswerBody>) -> Result<ReplyBody<AnswerBody>, AllocError>
+    ensures { IfOk result (λ again. again ≡ body.now) }
+{
+    match body {
+        ReplyBody::Empty => Ok(ReplyBody::Empty),
+        ReplyBody::Number(number) => Ok(ReplyBody::Number(*number)),
+        ReplyBody::UniqueName(number) => Ok(ReplyBody::UniqueName(*number)),
+        ReplyBody::Answer(answer) => {
+            let answer = answer.try_clone()?;
+            Ok(ReplyBody::Answer(answer))
         }
     }
 }
@@ -55,8 +42,14 @@ impl ReplyContent {
 #[derive(Debug, Drop)]
 pub enum BusMessage {
     Signal(SharedSignal),
-    Reply { to: ReplyTo, content: ReplyContent },
-    Error { to: ReplyTo, error: ErrorKind },
+    Reply {
+        to: ReplyTo,
+        body: ReplyBody<AnswerBody>,
+    },
+    Error {
+        to: ReplyTo,
+        error: ErrorKind,
+    },
 }
 
 impl BusMessage {
@@ -74,7 +67,7 @@ impl BusMessage {
     {
         match self {
             BusMessage::Signal(signal) => write_signal(serial, signal.get(), out),
-            BusMessage::Reply { to, content } => write_reply(serial, *to, content.body(), out),
+            BusMessage::Reply { to, body } => write_reply(serial, *to, lent(body), out),
             BusMessage::Error { to, error } => write_error(serial, *to, *error, out),
         }
     }
@@ -88,25 +81,14 @@ impl BusMessage {
                 let signal = signal.try_clone()?;
                 Ok(BusMessage::Signal(signal))
             }
-            BusMessage::Reply { to, content } => {
-                let content = content.try_clone()?;
-                Ok(BusMessage::Reply { to: *to, content })
+            BusMessage::Reply { to, body } => {
+                let body = shared(body)?;
+                Ok(BusMessage::Reply { to: *to, body })
             }
             BusMessage::Error { to, error } => Ok(BusMessage::Error {
                 to: *to,
                 error: *error,
             }),
         }
-    }
-}
-
-/// The bytes of an answer, as they are written.
-fn body_of(answer: &AnswerBody) -> ReplyBody<'_>
-    ensures { IsReplyBody result (carried_types (Answered answer.now))
-        (carried_values (Answered answer.now)) }
-{
-    ReplyBody::Spelled {
-        kind: answer.kind(),
-        bytes: answer.bytes(),
     }
 }

@@ -33,7 +33,7 @@ pub mod laws;
 
 pub use answer::AnswerBody;
 pub use bus_facts::{BusMessageNames, OwnArguments};
-pub use bus_message::{BusMessage, ReplyContent};
+pub use bus_message::BusMessage;
 pub use content::Content;
 pub use deliveries::Deliveries;
 pub use envelope::Envelope;

@@ -15,9 +15,8 @@ ghost use Rattle.router.specs.Welcomes.{welcomed};
 
 use crate::peers::{Peers, SLOT_COUNT};
 use bus_view::{BusView, Cause};
-use driver::Call;
+use driver::{Call, ReplyBody};
 use message_core::Message;
-use outbox_core::ReplyContent;
 use router_core::{Gate, WrittenBytes};
 use router_steps::{HelloErrors, Peer, Stage};
 use seq_bus_core::{Change, Conn, ErrorKind, Outcome, Reply};
@@ -128,7 +127,7 @@ impl<V: BusView, G: Gate> Peers<V, G> {
             self.old.work.world self.new.standing self.new.work.world }
     {
         self.context
-            .reply_with(hello, conn, ReplyContent::UniqueName(conn.number));
+            .reply_with(hello, conn, ReplyBody::UniqueName(conn.number));
         self.context.announce(outcome.signals);
         name_in(&mut self.peers[key], conn);
         keep_key(&mut self.key_of_slot, conn.slot, key);

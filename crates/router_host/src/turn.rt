@@ -13,7 +13,8 @@ ghost use Rattle.router_host.specs.Keeping.{CanWait};
 use crate::host::Host;
 use crate::kept::Kept;
 use bus_view::BusView;
-use outbox_core::{BusMessage, Content, ReplyContent};
+use driver::ReplyBody;
+use outbox_core::{BusMessage, Content};
 use router_core::{Action, Event, Gate};
 use router_host_core::{EndCause, Ended, Post, Pulled, SLOTS, Socket, Todo};
 use seq_bus_core::Conn;
@@ -517,7 +518,7 @@ fn is_empty_reply(content: &Content) -> bool {
     match content {
         Content::Relayed(_) => false,
         Content::Own(message) => match message {
-            BusMessage::Reply { content, .. } => matches!(content, ReplyContent::Empty),
+            BusMessage::Reply { body, .. } => matches!(body, ReplyBody::Empty),
             _ => false,
         },
     }

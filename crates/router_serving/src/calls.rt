@@ -16,11 +16,11 @@ ghost use Rattle.router_steps.specs.Hearing.{heard_change};
 use crate::starting::start_service;
 use crate::watching::become_monitor;
 use bus_view::{AskFault, Asked, BusView, Cause};
-use driver::{Call, DriverFault, read_call};
+use driver::{Call, DriverFault, ReplyBody, read_call};
 use match_rules::Rule;
 use message_core::Message;
 use names::BusName;
-use outbox_core::{AnswerBody, ReplyContent};
+use outbox_core::AnswerBody;
 use owner_queues::RequestFlags;
 use router_core::{CloseCause, Gate, PeerFate};
 use router_steps::{Context, is_method_call};
@@ -29,18 +29,18 @@ use std::alloc::Global;
 use std::sync::Arc;
 
 /// What the call is answered that asked for a change, where the bus replied so.
-pub(crate) fn answer_told(reply: Reply) -> Result<ReplyContent, ErrorKind>
+pub(crate) fn answer_told(reply: Reply) -> Result<ReplyBody<AnswerBody>, ErrorKind>
     ensures { answer_of result ≡ answer_of_reply reply }
 {
     match reply {
-        Reply::Done => Ok(ReplyContent::Empty),
-        Reply::OfQueue(reply) => Ok(ReplyContent::Number(reply.code())),
+        Reply::Done => Ok(ReplyBody::Empty),
+        Reply::OfQueue(reply) => Ok(ReplyBody::Number(reply.code())),
         Reply::InvalidName => Err(ErrorKind::InvalidArgs),
         Reply::RuleNotFound => Err(ErrorKind::MatchRuleNotFound),
         Reply::LimitsExceeded => Err(ErrorKind::LimitsExceeded),
         Reply::ServiceUnknown => Err(ErrorKind::ServiceUnknown),
         Reply::AccessDenied => Err(ErrorKind::AccessDenied),
-        Reply::AlreadyRunning => Ok(ReplyContent::Number(2)),
+        Reply::AlreadyRunning => Ok(ReplyBody::Number(2)),
         Reply::Gone => Err(ErrorKind::Failed),
         Reply::Welcome(_) => Err(ErrorKind::Failed),
         Reply::Held(_) => Err(ErrorKind::Failed),
@@ -172,7 +172,7 @@ fn reply_body<V: BusView, G: Gate>(
     match Arc::new(alloc, body) {
         Ok(bytes) => {
             let answer = AnswerBody::new(query, SharedBytes::new(bytes));
-            context.reply_with(call, caller, ReplyContent::Answer(answer));
+            context.reply_with(call, caller, ReplyBody::Answer(answer));
         }
         Err(_) => context.err_with(call, caller, ErrorKind::NoMemory),
     }

@@ -7,9 +7,9 @@ ghost use Rattle.router_core.specs.Serving.{releasing, releasing_all, start_repl
 
 use crate::context::Context;
 use bus_view::BusView;
-use driver::ReplyTo;
+use driver::{ReplyBody, ReplyTo};
 use message_core::NO_REPLY_EXPECTED;
-use outbox_core::{BusMessage, Content, ReplyContent};
+use outbox_core::{BusMessage, Content};
 use router_core::{Addressees, Gate};
 use seq_bus_core::{Conn, Ticket, Tickets};
 
@@ -39,8 +39,8 @@ impl<V: BusView, G: Gate> Context<V, G> {
             return;
         }
         let to = ReplyTo::new(Some(caller.number), serial);
-        let content = ReplyContent::Number(1);
-        self.tell(caller, BusMessage::Reply { to, content });
+        let body = ReplyBody::Number(1);
+        self.tell(caller, BusMessage::Reply { to, body });
     }
 
     /// Releases a call that waited for a name, once the name has this owner. The call is put to the

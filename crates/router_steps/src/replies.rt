@@ -13,10 +13,10 @@ ghost use Rattle.router_steps.specs.Carrying.{answer_of};
 use crate::context::Context;
 use crate::verdicts::{set_recipient, tell_no_monitors};
 use bus_view::BusView;
-use driver::{ReplyTo, expects_reply};
+use driver::{ReplyBody, ReplyTo, expects_reply};
 use match_rules::MessageKind;
 use message_core::Message;
-use outbox_core::{BusMessage, Content, ReplyContent};
+use outbox_core::{AnswerBody, BusMessage, Content};
 use router_core::Gate;
 use seq_bus_core::{Conn, ErrorKind, Verdict};
 
@@ -76,18 +76,18 @@ impl<V: BusView, G: Gate> Context<V, G> {
     }
 
     /// Replies to a call. One that wants no reply gets none.
-    pub fn reply_with(&mut self, call: &Message, caller: Conn, content: ReplyContent)
+    pub fn reply_with(&mut self, call: &Message, caller: Conn, body: ReplyBody<AnswerBody>)
         requires room { 0 < self.old.room }
         requires spare_verdicts { 0 < self.old.spare_verdicts }
         ensures comes { RunsTo V.BusView G.Gate
-            (replying (said call.now) caller (carried_of content))
+            (replying (said call.now) caller (carried_of body))
             self.old.world tt self.new.world }
         ensures room { self.old.room ≤ self.new.room + 1 }
         ensures spare_verdicts { self.old.spare_verdicts ≤ self.new.spare_verdicts + 1 }
     {
         if expects_reply(call) {
             let to = call_of(call, caller);
-            self.tell(caller, BusMessage::Reply { to, content });
+            self.tell(caller, BusMessage::Reply { to, body });
         }
     }
 
@@ -125,7 +125,7 @@ impl<V: BusView, G: Gate> Context<V, G> {
         &mut self,
         call: &Message,
         caller: Conn,
-        answer: Result<ReplyContent, ErrorKind>,
+        answer: Result<ReplyBody<AnswerBody>, ErrorKind>,
     )
         requires room { 0 < self.old.room }
         requires spare_verdicts { 0 < self.old.spare_verdicts }
@@ -136,7 +136,7 @@ impl<V: BusView, G: Gate> Context<V, G> {
         ensures spare_verdicts { self.old.spare_verdicts ≤ self.new.spare_verdicts + 1 }
     {
         match answer {
-            Ok(content) => self.reply_with(call, caller, content),
+            Ok(body) => self.reply_with(call, caller, body),
             Err(error) => self.err_with(call, caller, error),
         }
     }

@@ -1,7 +1,8 @@
 //! An engine of a plain bus with two services: what is sent to it, and what it does, told shortly.
 
 use crate::waiting_calls::new_bus;
-use outbox_core::{BusMessage, Content, ReplyContent};
+use driver::ReplyBody;
+use outbox_core::{BusMessage, Content};
 use router::Engine;
 use router_core::{Action, Event, OpenGate};
 use seq_bus::SeqBus;
@@ -76,7 +77,7 @@ fn told_of_own(conn: Conn, message: &BusMessage) -> Told {
         },
         BusMessage::Reply {
             to,
-            content: ReplyContent::Number(number),
+            body: ReplyBody::Number(number),
         } => Told::Number(conn, to.call(), *number),
         BusMessage::Error { to, error } => Told::Error(conn, to.call(), *error),
         _ => Told::Other,

@@ -3,8 +3,8 @@
 ghost use Rattle.std.specs.Prelude.{◌<◌};
 
 use driver::{
-    BodyKind, Call, DriverFault, ReplyBody, ReplyTo, error_name, expects_reply, is_call_to_bus,
-    is_hello, read_call, write_error, write_reply, write_signal,
+    BodyKind, Call, DriverFault, ReplyBody, ReplyTo, SpelledBody, error_name, expects_reply,
+    is_call_to_bus, is_hello, read_call, write_error, write_reply, write_signal,
 };
 use marshal::Order;
 use match_rules::MessageKind;
@@ -97,8 +97,8 @@ fn put_reply(alloc: Global, row: &Row<'_>, output: &mut Vec<u8>) -> Result<(), A
 }
 
 /// A body that comes in bytes.
-fn spelled(kind: BodyKind, bytes: &[u8]) -> ReplyBody<'_> {
-    ReplyBody::Spelled { kind, bytes }
+fn spelled(kind: BodyKind, bytes: &[u8]) -> ReplyBody<SpelledBody<'_>> {
+    ReplyBody::Answer(SpelledBody { kind, bytes })
 }
 
 fn put_body(

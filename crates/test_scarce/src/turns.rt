@@ -60,7 +60,7 @@ fn answered(action: &Action<()>) -> Option<u32> {
         return None;
     };
     match content {
-        Content::Own(BusMessage::Reply { to, content: _ }) => Some(to.call()),
+        Content::Own(BusMessage::Reply { to, body: _ }) => Some(to.call()),
         Content::Own(
             BusMessage::Error {
                 to,

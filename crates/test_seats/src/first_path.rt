@@ -8,7 +8,7 @@ ghost use Rattle.seq_bus_core.specs.Tickets.{opening_bus};
 
 use crate::publishing::publish_to;
 use bus_view::Refused;
-use driver::{Call, ReplyBody, ReplyTo, read_call, write_reply, write_signal};
+use driver::{Call, ReplyBody, ReplyTo, SpelledBody, read_call, write_reply, write_signal};
 use message::{Framer, Message, facts, first_arguments, with_sender};
 use names::{BusName, UniqueName};
 use registry_snapshots::{Naming, NewHistory, Seat, Shared};
@@ -82,7 +82,7 @@ fn reply(
     serial: u32,
     call: &Message,
     conn: Conn,
-    body: ReplyBody<'_>,
+    body: ReplyBody<SpelledBody<'_>>,
     out: &mut Vec<u8>,
 ) -> Result<(), Fail>
     requires { 0 < serial }

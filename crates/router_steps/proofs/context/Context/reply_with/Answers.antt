@@ -15,5 +15,5 @@ returns-then-expects_reply-clause-comes g c =
     let passes = g.G.Gate.passes in
     let alone = g.V.BusView.alone in
     let m = said c.args.call.now in
-    let told_so = subst (λ (to : ReplyTo). Comes told registry_of passes alone (telling c.args.caller (Replies to (carried_of c.args.content))) c.args.self.now.world tt c.tell.new.self.world) c.call_of-to.ensures c.tell.ensures.comes in
-    chosen told registry_of passes alone (let to = call_of m c.args.caller in telling c.args.caller (Replies to (carried_of c.args.content))) nothing c.args.self.now.world c.tell.new.self.world tt (expects_reply m) (sym c.expects_reply.ensures ∙ c.if-expects_reply.true) told_so
+    let told_so = subst (λ (to : ReplyTo). Comes told registry_of passes alone (telling c.args.caller (Replies to (carried_of c.args.body))) c.args.self.now.world tt c.tell.new.self.world) c.call_of-to.ensures c.tell.ensures.comes in
+    chosen told registry_of passes alone (let to = call_of m c.args.caller in telling c.args.caller (Replies to (carried_of c.args.body))) nothing c.args.self.now.world c.tell.new.self.world tt (expects_reply m) (sym c.expects_reply.ensures ∙ c.if-expects_reply.true) told_so
