@@ -7,7 +7,7 @@ use mio::{Events, Interest, Poll, Token};
 use routers::{Coordinator, Fault, MainTask};
 use std::alloc::Global;
 use std::io;
-use std::io::{ErrorKind, Read};
+use std::io::{BufReader, ErrorKind, Read};
 use std::sync::Wait;
 use std::time::Duration;
 
@@ -57,8 +57,8 @@ pub struct Acceptor<'a, F: Read + Drop, L: AcceptLog + Drop, C: Chores + Drop> {
     poll: Poll,
     events: Events,
     listener: UnixListener,
-    /// Random bytes.
-    random: F,
+    /// Random bytes, which are read for many challenges at once.
+    random: BufReader<F>,
     coordinator: &'a Coordinator<PollWaker>,
     /// By routers.
     new_connections: &'a [NewConnections],
@@ -88,7 +88,7 @@ impl<'a, F: Read + Drop, L: AcceptLog + Drop, C: Chores + Drop> Acceptor<'a, F, 
             poll,
             events,
             listener,
-            random,
+            random: BufReader::new(alloc, random)?,
             coordinator,
             new_connections,
             next: 0,
