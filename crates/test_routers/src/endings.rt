@@ -34,6 +34,21 @@ const STOPPED: Scenario = Scenario {
     tracing: Tracing::Off,
 };
 
+/// A connection that can't be served is told of, and the next is served.
+const REFUSED: Scenario = Scenario {
+    rooms: &[1_000_000],
+    steps: &[&[
+        Step::IsAsked(0),
+        Step::Connects(0),
+        Step::Sends(0, ClientMessage::Hello),
+        Step::Awaits(Condition::Received(0, 2)),
+        Step::Ends,
+    ]],
+    stops: &[],
+    holds: false,
+    tracing: Tracing::Off,
+};
+
 const AFTER_HELLO: &str = "client 0
 1 reply 1 :1.1
 2 org.freedesktop.DBus NameAcquired :1.1
@@ -53,5 +68,15 @@ fn the_first_fault_ends_all(rt: HostRuntime) -> Result<(), Fail> {
 fn a_bus_is_stopped(rt: HostRuntime) -> Result<(), Fail> {
     let told = play(&rt, rt.alloc(), &STOPPED)?.told;
     assert_eq!(rt; told.as_str(), AFTER_HELLO);
+    Ok(())
+}
+
+#[test]
+fn a_connection_is_refused(rt: HostRuntime) -> Result<(), Fail> {
+    let told = play(&rt, rt.alloc(), &REFUSED)?.told;
+    assert!(rt;
+        told.strip_prefix(AFTER_HELLO) == Some("refused: nobody may log in\n"),
+        "{told}"
+    );
     Ok(())
 }

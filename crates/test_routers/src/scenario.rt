@@ -47,6 +47,8 @@ pub(crate) enum Step {
     Awaits(Condition),
     /// A client connects.
     Connects(ClientIndex),
+    /// A client connects, and is to say who it is, though nobody may log in.
+    IsAsked(ClientIndex),
     /// A client sends something, in one piece.
     Sends(ClientIndex, ClientMessage),
     /// A client sends no more.

@@ -47,6 +47,20 @@ impl<'a, R: Wait + Clock> ScenarioSource<'a, R> {
         }
     }
 
+    /// A client has connected.
+    fn accepted(
+        &self,
+        index: usize,
+        challenge: Option<[u8; 16]>,
+    ) -> Option<SourceEvent<ClientSocket<'a, R>>> {
+        let socket = ClientSocket {
+            rt: self.rt,
+            client: self.progress.client(index)?,
+            index,
+        };
+        Some(SourceEvent::Accepted { socket, challenge })
+    }
+
     /// Goes over the conditions that hold. Tells the step that is behind them, if there is one.
     fn next_step(&mut self) -> Option<Step> {
         for _ in 0..self.steps.len() {
@@ -97,14 +111,8 @@ impl<'a, R: Wait + Clock> Source<ClientSocket<'a, R>> for ScenarioSource<'a, R> 
         let step = self.next_step()?;
         let event = match step {
             Step::Awaits(_) | Step::Fails(_) => return None,
-            Step::Connects(index) => SourceEvent::Accepted {
-                socket: ClientSocket {
-                    rt: self.rt,
-                    client: self.progress.client(index)?,
-                    index,
-                },
-                challenge: None,
-            },
+            Step::Connects(index) => self.accepted(index, None)?,
+            Step::IsAsked(index) => self.accepted(index, Some([7; 16]))?,
             Step::Sends(index, message) => {
                 if !self.progress.send(self.rt, index, message) {
                     return None;
