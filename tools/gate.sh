@@ -1,7 +1,7 @@
 #!/usr/bin/env bash
-# The gate: `rt ci`, then each allocation of three of the programs that it built refused in turn, of busd in two ways,
+# The gate: `rt ci`, then each allocation of four of the programs that it built refused in turn, of busd in two ways,
 # and the daemon started as its users do. It is red where an edit is not well formed, too. Its last line is the count of
-# `rt ci` with these five.
+# `rt ci` with these six.
 set -uo pipefail
 cd "$(dirname "$0")/.." || exit
 
@@ -29,7 +29,7 @@ if [ "$failed" = 0 ]; then
     if ! command -v cc > /dev/null; then
         echo "there is no C compiler here: no allocation was refused"
     elif tools/memory/check.sh; then
-        passed=$((passed + 4))
+        passed=$((passed + 5))
     else
         failed=1
     fi

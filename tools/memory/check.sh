@@ -1,8 +1,8 @@
 #!/usr/bin/env bash
-# Refuses each allocation of `busd run`, of the start of `busd serve`, of bus-check and of test_scarce in turn, on all
-# processors, and fails where one answers otherwise than it should. The first three are started for each allocation, of
-# test_scarce only the part runs again that makes it. What has passed on this machine is not tried again: it is kept in
-# the user's cache, by the checksum of all that was run and compared.
+# Refuses each allocation of `busd run`, of the start of `busd serve`, of bus-check, and of test_scarce and
+# test_scarce_routers in turn, on all processors, and fails where one answers otherwise than it should. The first three
+# are started for each allocation, of the last two only the part runs again that makes it. What has passed on this
+# machine is not tried again: it is kept in the user's cache, by the checksum of all that was run and compared.
 set -euo pipefail
 cd "$(dirname "$0")/../.."
 crates=$PWD/crates
@@ -83,13 +83,14 @@ judge_check() {
     said 0 "$crates/trace_check/stdout" "" || said 5 /dev/null "bus-check: memory"
 }
 
-scarce=$crates/test_scarce/out/test_scarce
+# The program whose parts are run, which stands as out/NAME of its crate.
+scarce=
 
 run_scarce() {
-    with "$1" "$scarce" < /dev/null
+    with "$1" "$crates/$scarce/out/$scarce" < /dev/null
 }
 
-# The parts of test_scarce, each named as what it tells first; how many lines each tells, which stand in a file of its
+# The parts of that program, each named as what it tells first; how many lines each tells, which stand in a file of its
 # number; and how many allocations it makes.
 parts=()
 lines=()
@@ -100,10 +101,14 @@ part=
 # those is one of one part.
 find_parts() {
     local told sum=0 next=0
-    mapfile -t told < "$crates/test_scarce/stdout"
+    parts=()
+    lines=()
+    counts=()
+    : > "$room/told"
+    mapfile -t told < "$crates/$scarce/stdout"
     while [ "$next" -lt "${#told[@]}" ]; do
         part=${told[next]%: *}
-        with 0 "$scarce" <<< "$part"
+        with 0 "$crates/$scarce/out/$scarce" <<< "$part"
         said 0 "$own/out" '' && [ -s "$own/out" ] || wrong
         cp "$own/out" "$room/part${#parts[@]}"
         cat "$own/out" >> "$room/told"
@@ -113,9 +118,9 @@ find_parts() {
         sum=$((sum + counts[-1]))
         next=$((next + lines[-1]))
     done
-    cmp "$room/told" "$crates/test_scarce/stdout"
+    cmp "$room/told" "$crates/$scarce/stdout"
     if [ "$sum" != "$1" ]; then
-        echo "test_scarce makes $1 allocations, and its parts by themselves $sum"
+        echo "$scarce makes $1 allocations, and its parts by themselves $sum"
         exit 1
     fi
 }
@@ -128,7 +133,8 @@ rounds() {
         part=${parts[at]}
         times=$(((counts[at] - $1 + workers) / workers))
         [ "$times" != 0 ] || continue
-        ROUND=${lines[at]} STEP=$workers with "$1" "$scarce" <<< "$times times $part"
+        ROUND=${lines[at]} STEP=$workers with "$1" "$crates/$scarce/out/$scarce" \
+            <<< "$times times $part"
         refused=$(cut -d ' ' -f 2 "$own/count")
         told=$(< "$room/part$at")
         if said 0 <(yes "$told" | head -n $((times * lines[at]))) '' && [ "$refused" = "$times" ]; then
@@ -198,4 +204,6 @@ each() {
 each stream busd 'busd run' 0 "$crates/busd/stdout" ''
 each serve busd 'busd serve' 4 /dev/null "$full"
 each check trace_check bus-check 0 "$crates/trace_check/stdout" ''
-each scarce test_scarce test_scarce 0 "$crates/test_scarce/stdout" ''
+for scarce in test_scarce test_scarce_routers; do
+    each scarce "$scarce" "$scarce" 0 "$crates/$scarce/stdout" ''
+done

@@ -11,10 +11,12 @@
 //! ```
 #![tactic(auto)]
 
+mod asked;
 mod facts;
 pub mod messages;
 mod once_more;
 mod rows;
 
+pub use asked::{Asked, told};
 pub use facts::{signal, ticked};
 pub use rows::{Escaped, Row, unescaped};

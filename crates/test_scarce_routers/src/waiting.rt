@@ -1,7 +1,7 @@
 //! Calls that wait for a service.
 
-use crate::changes::clock;
 use crate::engine::{Plain, brought, send};
+use names::BusName;
 use outbox_core::{BusMessage, Content};
 use router_core::{Action, Event, HowEnded, StartEnd};
 use seq_bus_core::{Ending, ErrorKind};
@@ -41,7 +41,7 @@ fn waits(engine: &mut Plain, alloc: Global) -> Option<Told> {
 /// memory for is handed back.
 fn ends(engine: &mut Plain, alloc: Global) -> Option<Told> {
     let end = StartEnd {
-        name: clock()?,
+        name: BusName::parse("com.example.Clock").ok()?,
         start: 1,
         how: HowEnded::Program(Ending::Exit(1)),
     };
