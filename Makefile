@@ -28,7 +28,7 @@ dist:
 	@tools/dist.sh
 
 # The gate: every proof, the edits that must fail, the tests, the programs as two compilers build them, and each
-# allocation of three of them refused in turn.
+# allocation of four of them refused in turn.
 test:
 	@tools/gate.sh
 
@@ -43,7 +43,7 @@ try: named
 named:
 	@[ -n "$(CRATE)" ] && [ -d "crates/$(CRATE)/src" ] || { echo "name a crate, as in CRATE=names" >&2; exit 1; }
 
-# Each allocation of three programs, and of the start of `busd serve`, refused in turn, once the gate has built them.
+# Each allocation of four programs, and of the start of `busd serve`, refused in turn, once the gate has built them.
 # Needs cc and glibc.
 memory:
 	@tools/memory/check.sh
