@@ -40,6 +40,8 @@ pub struct Host<V: BusView, G: Gate, P: Post<V>, S: Socket> {
     /// The last event seems to have added or removed rules. Such calls come in numbers, and share a
     /// publication where they are served at once.
     pub(crate) changes_rules: bool,
+    /// How many connections were served since the other routers were told of their mail.
+    pub(crate) untold: u8,
 }
 
 impl<V: BusView, G: Gate, P: Post<V>, S: Socket> Model for Host<V, G, P, S> {
@@ -89,6 +91,7 @@ impl<V: BusView + Drop, G: Gate + Drop, P: Post<V>, S: Socket> Host<V, G, P, S> 
             ended: Vec::new(alloc),
             check_due: false,
             changes_rules: false,
+            untold: 0,
         })
     }
 }
@@ -122,8 +125,8 @@ impl<V: BusView, G: Gate, P: Post<V>, S: Socket> Host<V, G, P, S> {
     ///
     /// # Errors
     ///
-    /// There are 64 connections without a name already, nobody may log in though it is asked to, or
-    /// there is no memory.
+    /// There are 64 connections without a name already, nobody may log in though it is asked to,
+    /// more starts of services are asked for than are carried out, or there is no memory.
     pub fn open(
         &mut self,
         right: &V::Right,

@@ -24,8 +24,12 @@ use std::alloc::AllocError;
 /// How many messages of a connection are served in a turn.
 const SHARE: usize = 64;
 
-/// How many envelopes are taken of a slot in a turn.
+/// How many envelopes are taken of a slot at once.
 const HANDFUL: u32 = 256;
+
+/// How many connections are served before the other routers are told of their mail: so many have
+/// less for one connection than an outbox has room for.
+const FEW: u8 = 2;
 
 /// How many connections that are over are noted until they are asked for.
 const MOST_ENDED: usize = 1024;
@@ -109,8 +113,10 @@ impl<V: BusView, G: Gate, P: Post<V>, S: Socket> Host<V, G, P, S> {
     {
         self.catch_up(right)?;
         self.serve_kept(right)?;
-        self.serve_ready(right)?;
-        self.take_mail(right)
+        self.flush_all();
+        self.close_over(right)?;
+        self.take_mail(right)?;
+        self.serve_ready(right)
     }
 
     fn let_go_all(&mut self, right: &V::Right) -> Result<(), AllocError>
@@ -215,17 +221,40 @@ impl<V: BusView, G: Gate, P: Post<V>, S: Socket> Host<V, G, P, S> {
         match self.carrier.lines.take_ready() {
             Todo::All => {
                 for key in 0..self.carrier.lines.len() {
-                    self.serve_line(right, key)?;
+                    self.serve_one(right, key)?;
                 }
             }
             Todo::Keys(keys) => {
                 for key in &keys {
-                    self.serve_line(right, *key)?;
+                    self.serve_one(right, *key)?;
                 }
                 self.carrier.lines.give_back_ready(keys);
             }
         }
         Ok(())
+    }
+
+    /// Serves a connection, and takes the mail that it brought: else some could put more into an
+    /// outbox in one turn than it has room for.
+    fn serve_one(&mut self, right: &V::Right, key: usize) -> Result<(), AllocError>
+        requires none { self.old.kept ≡ None }
+        ensures does { DoesBy V.BusView G.Gate P.Post self.old self.new }
+        ensures ok { OnOk result (self.new.kept ≡ None) }
+    {
+        self.serve_line(right, key)?;
+        self.tell_others(right);
+        self.take_mail(right)
+    }
+
+    /// Every few connections that are served the other routers are told of their mail.
+    fn tell_others(&mut self, right: &V::Right)
+        ensures { self.new ≡ self.old }
+    {
+        self.untold = self.untold.saturating_add(1);
+        if self.untold >= FEW {
+            self.untold = 0;
+            self.carrier.post.turn_ends(right);
+        }
     }
 
     /// Serves a connection: its whole messages, up to its share of a turn. Where there is none, it
@@ -327,19 +356,42 @@ impl<V: BusView, G: Gate, P: Post<V>, S: Socket> Host<V, G, P, S> {
             Todo::All => {
                 let first = self.carrier.slots.first();
                 for i in 0..self.carrier.slots.count() {
-                    self.take_mail_of(right, first.saturating_add(i))?;
+                    self.deliver(right, first.saturating_add(i))?;
                 }
             }
             Todo::Keys(slots) => {
                 for slot in &slots {
                     if let Ok(slot) = u16::try_from(*slot) {
-                        self.take_mail_of(right, slot)?;
+                        self.deliver(right, slot)?;
                     }
                 }
                 self.carrier.slots.give_back(slots);
             }
         }
         Ok(())
+    }
+
+    /// Takes the mail of a slot. Where its connection has enough, its socket is given that first.
+    fn deliver(&mut self, right: &V::Right, slot: u16) -> Result<(), AllocError>
+        requires none { self.old.kept ≡ None }
+        ensures does { DoesBy V.BusView G.Gate P.Post self.old self.new }
+        ensures ok { OnOk result (self.new.kept ≡ None) }
+    {
+        self.relieve(slot);
+        self.take_mail_of(right, slot)
+    }
+
+    /// Gives the socket of the connection of a slot what waits for it, where that is enough.
+    fn relieve(&mut self, slot: u16)
+        ensures does { DoesBy V.BusView G.Gate P.Post self.old self.new }
+        ensures same { self.new.kept ≡ self.old.kept }
+    {
+        let Some(key) = self.engine.key_of(slot) else {
+            return;
+        };
+        if self.carrier.lines.has_enough(key) && !self.carrier.lines.is_blocked(key) {
+            self.carrier.lines.flush(key);
+        }
     }
 
     /// Takes the mail of a slot, until there is no more, or its connection has enough. Where its
@@ -361,7 +413,7 @@ impl<V: BusView, G: Gate, P: Post<V>, S: Socket> Host<V, G, P, S> {
     }
 
     /// Whether mail of a slot is to be taken now. Where its connection has enough, it is looked at
-    /// in the next turn.
+    /// once more later.
     fn may_take(&mut self, slot: u16) -> bool
         ensures blocked { IsSlotBlocked self.old slot → result ≡ false }
         ensures same { self.new ≡ self.old }
@@ -406,17 +458,38 @@ impl<V: BusView, G: Gate, P: Post<V>, S: Socket> Host<V, G, P, S> {
         match self.carrier.lines.take_over() {
             Todo::All => {
                 for key in 0..self.carrier.lines.len() {
-                    self.close(right, key)?;
+                    self.close_and_drain(right, key)?;
                 }
             }
             Todo::Keys(keys) => {
                 for key in &keys {
-                    self.close(right, *key)?;
+                    self.close_and_drain(right, *key)?;
                 }
                 self.carrier.lines.give_back_over(keys);
             }
         }
         Ok(())
+    }
+
+    /// Lets go of a connection, where it is over, and takes the mail that this brought, and that
+    /// which came for it: whoever has its slot next is to find room in its outbox.
+    fn close_and_drain(&mut self, right: &V::Right, key: usize) -> Result<(), AllocError>
+        requires none { self.old.kept ≡ None }
+        ensures does { DoesBy V.BusView G.Gate P.Post self.old self.new }
+        ensures ok { OnOk result (self.new.kept ≡ None) }
+    {
+        self.note_slot(key);
+        self.close(right, key)?;
+        self.take_mail(right)
+    }
+
+    /// The mail of the slot of a connection is to be looked at.
+    fn note_slot(&mut self, key: usize)
+        ensures { self.new ≡ self.old }
+    {
+        if let Some(slot) = self.carrier.lines.slot(key) {
+            self.carrier.slots.note(slot);
+        }
     }
 
     /// Lets go of a connection, where it is over.
@@ -442,15 +515,18 @@ impl<V: BusView, G: Gate, P: Post<V>, S: Socket> Host<V, G, P, S> {
         }
     }
 
-    /// Puts out whoever took no more mail. What that announces may put out more.
+    /// Puts out whoever took no more mail, and takes the mail that this brings. What that announces
+    /// may put out more.
     fn put_out_all(&mut self, right: &V::Right) -> Result<(), AllocError>
+        requires none { self.old.kept ≡ None }
         ensures does { DoesBy V.BusView G.Gate P.Post self.old self.new }
-        ensures same { self.new.kept ≡ self.old.kept }
+        ensures ok { OnOk result (self.new.kept ≡ None) }
     {
         for _ in 0..SLOTS {
             if !self.put_out_one(right)? {
                 return Ok(());
             }
+            self.take_mail(right)?;
         }
         Ok(())
     }

@@ -5,7 +5,8 @@ use Rattle.router_host_core.specs.declared.ending.EndCause.{EndCause}
 use Rattle.router_host_core.specs.Carrying.{line_at, with_line}
 use Rattle.router_host_core.specs.States.{LineState, ended_by}
 
--- The socket takes the first of the bytes that wait: it takes all, or no more for now, or it fails, and no more may follow.
+-- The socket takes the first of the bytes that wait: it takes all, or no more for now, or it fails, and no more may follow. Then the
+-- connection is over; but where the other side hung up, what waits is lost alone, and what came before is read to its end.
 pub record IsFlushed (before after : LineState) : Type 0 where
   pub reached : List ℕ
   pub rest : List ℕ
@@ -15,6 +16,7 @@ pub record IsFlushed (before after : LineState) : Type 0 where
       ⊎ (after ≡ record before { waits = rest; blocked = true })
       ⊎ ((cause : EndCause)
       × (after ≡ ended_by cause (record before { waits = rest; broken = true })))
+      ⊎ (after ≡ record before { waits = []; blocked = false; broken = true })
 
 abbrev pub IsFlushedIn : List (Option LineState) → ℕ → Option LineState →
     List (Option LineState) → Type 0

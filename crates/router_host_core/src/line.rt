@@ -1,6 +1,6 @@
 //! A connection.
 
-ghost use Rattle.std.specs.Prelude.{◌≡◌, false};
+ghost use Rattle.std.specs.Prelude.{◌≡◌, [], false, true};
 ghost use Rattle.router_host_core.specs.Carrying.{IsWritten};
 ghost use Rattle.router_host_core.specs.Sockets.{IsFlushed};
 ghost use Rattle.router_host_core.specs.States.{new_line, ended_by};
@@ -20,6 +20,7 @@ const ENOUGH: usize = 262_144;
 /// A connection: its socket, and what is to be done for it.
 #[derive(Drop)]
 pub(crate) struct Line<S: Socket> {
+    alloc: Global,
     socket: S,
     out: Outgoing<Written>,
     /// How many bytes wait at most.
@@ -56,11 +57,11 @@ impl<S: Socket> Model for Line<S> {
     } };
 }
 
-/// Why a connection is over whose socket failed so, where the other side did not hang up.
-fn end_by(kind: ErrorKind, failed: EndCause) -> EndCause {
+/// Why a connection is over whose socket can't be read.
+fn end_by(kind: ErrorKind) -> EndCause {
     match kind {
         ErrorKind::BrokenPipe | ErrorKind::ConnectionReset => EndCause::HungUp,
-        _ => failed,
+        _ => EndCause::Unreadable,
     }
 }
 
@@ -81,6 +82,7 @@ impl<S: Socket> Line<S> {
         ensures { result ≡ new_line }
     {
         Line {
+            alloc,
             socket,
             out: Outgoing::new(alloc),
             waiting: 0,
@@ -145,9 +147,10 @@ impl<S: Socket> Line<S> {
         !self.held && self.ended.is_none()
     }
 
-    /// Whether it was not served because bytes waited, and they may be gone.
+    /// Whether it is to be served though nobody told so: it was not because bytes waited, and they
+    /// may be gone, or the other side hung up, and what it sent before is to be read.
     pub(crate) fn is_released(&self) -> bool {
-        self.held && !self.blocked
+        self.held && !self.blocked || self.broken && self.is_readable()
     }
 
     /// Whether its socket took no more bytes.
@@ -200,7 +203,7 @@ impl<S: Socket> Line<S> {
                     Pulled::Nothing
                 }
                 ErrorKind::Interrupted => Pulled::Nothing,
-                kind => Pulled::Over(end_by(kind, EndCause::Unreadable)),
+                kind => Pulled::Over(end_by(kind)),
             },
         }
     }
@@ -240,10 +243,24 @@ impl<S: Socket> Line<S> {
         match self.out.flush(&mut self.socket) {
             Ok(Flushed::All) => self.waiting = 0,
             Ok(Flushed::Waits) => self.blocked = true,
-            Err(error) => {
-                self.broken = true;
-                self.end(end_by(error.kind(), EndCause::Unwritable));
-            }
+            Err(error) => match error.kind() {
+                ErrorKind::BrokenPipe | ErrorKind::ConnectionReset => self.lose(),
+                _ => {
+                    self.broken = true;
+                    self.end(EndCause::Unwritable);
+                }
+            },
         }
+    }
+
+    /// The other side hung up: what waits is lost, and what it sent before is read to its end.
+    fn lose(&mut self)
+        ensures { self.new ≡ record self.old { waits = []; blocked = false; broken = true } }
+    {
+        self.out = Outgoing::new(self.alloc);
+        self.waiting = 0;
+        self.blocked = false;
+        self.broken = true;
+        self.note_readable(true);
     }
 }

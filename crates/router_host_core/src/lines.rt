@@ -244,6 +244,14 @@ impl<S: Socket> Lines<S> {
         }
     }
 
+    /// The slot of a connection, once mail was looked for there.
+    pub fn slot(&self, key: usize) -> Option<u16> {
+        match self.table.get(key) {
+            Some(Some(line)) => line.slot(),
+            _ => None,
+        }
+    }
+
     /// A connection has a name, and this slot.
     pub fn know_slot(&mut self, key: usize, slot: u16)
         ensures { self.new ≡ self.old }
@@ -275,7 +283,8 @@ impl<S: Socket> Lines<S> {
         }
     }
 
-    fn flush(&mut self, key: usize)
+    /// Gives the socket of a connection what waits for it.
+    pub fn flush(&mut self, key: usize)
         ensures { IsFlushedAt key self.old self.new }
     {
         if key >= self.table.len() {

@@ -1,8 +1,8 @@
 //! The routers of a bus, each in a thread of its own.
 //!
 //! A [`Router`] is a [`Host`](router_host::Host) that is told what happens by a [`Source`], and
-//! reaches the other routers by its [`LanePost`]. [`serve`] runs one for each seat, beside the
-//! thread that accepts connections, until all are told to end. What they share stands in the
+//! reaches the other routers by its [`LanePost`]. [`serve`] runs one for each router's seat, beside
+//! the thread that accepts connections, until all are told to end. What they share stands in the
 //! [`Coordinator`]. Where the run is recorded, each thread writes the lines of its trace to a
 //! [`TraceSink`], those of a turn at its end.
 //!

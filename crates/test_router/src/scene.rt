@@ -15,8 +15,10 @@
 //!   fields are `path`, `interface`, `member`, `name` (of an error), `to`, `from`, `answers` (a
 //!   serial), `flags`, and `order big`.
 //! - `A writes BYTES`: it sends bytes, written as in Rust's literals.
+//! - `A repeats N ..`: it sends so many of a message at once; behind the number stands what it sends
+//!   as above.
 //! - `A takes N`, `A takes all`: its socket takes so many bytes more. `A fails after N`: behind so
-//!   many it can't be written any more.
+//!   many it can't be written any more, since the other side hung up.
 //! - `A ends`: it sends no more. `A breaks`: its socket can't be read any more.
 //! - `tick`: time passes.
 //! - `N times ROW`: the row is done so many times.
@@ -181,6 +183,14 @@ impl<V: BusView, G: Gate, P: Post<V>> Scene<V, G, P> {
             "calls" => self.send(right, place, &sent::call(alloc, words)?),
             "sends" => self.send(right, place, &sent::message(alloc, words)?),
             "writes" => self.send(right, place, &unescaped(alloc, words.rest)?),
+            "repeats" => {
+                let count = words.next().parse().unwrap_or(0);
+                let message = match words.next() {
+                    "calls" => sent::call(alloc, words)?,
+                    _ => sent::message(alloc, words)?,
+                };
+                self.send(right, place, &message.as_slice().repeat(alloc, count)?)
+            }
             "takes" => self.take(right, place, words.next(), false),
             "fails" => {
                 let _after = words.next();

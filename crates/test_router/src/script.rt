@@ -90,7 +90,8 @@ impl Socket for Script {
             return Err(io::Error::from(ErrorKind::TimedOut));
         }
         let count = wire.sent.len().min(room.len());
-        if count == 0 && !wire.ends {
+        let has_hung_up = wire.fails && wire.room == 0;
+        if count == 0 && !wire.ends && !has_hung_up {
             return Err(io::Error::from(ErrorKind::WouldBlock));
         }
         room[..count].copy_from_slice(&wire.sent[..count]);

@@ -236,6 +236,59 @@ fn signals_come_to_all_in_order(rt: HostRuntime) -> Result<(), Fail> {
     Ok(())
 }
 
+/// Six clients send as much at once as is served of them in one turn, to one that reads.
+const BURST: Scenario = Scenario {
+    rooms: &[ROOM, ROOM, ROOM, ROOM, ROOM, ROOM, ROOM],
+    steps: &[&[
+        Step::Connects(0),
+        Step::Sends(0, ClientMessage::Hello),
+        Step::Awaits(Condition::Received(0, 2)),
+        Step::Connects(1),
+        Step::Connects(2),
+        Step::Connects(3),
+        Step::Connects(4),
+        Step::Connects(5),
+        Step::Connects(6),
+        Step::Sends(1, ClientMessage::Hello),
+        Step::Sends(2, ClientMessage::Hello),
+        Step::Sends(3, ClientMessage::Hello),
+        Step::Sends(4, ClientMessage::Hello),
+        Step::Sends(5, ClientMessage::Hello),
+        Step::Sends(6, ClientMessage::Hello),
+        Step::Awaits(Condition::Received(6, 2)),
+        Step::Sends(1, ClientMessage::Ticks(Some(":1.1"), 64)),
+        Step::Sends(2, ClientMessage::Ticks(Some(":1.1"), 64)),
+        Step::Sends(3, ClientMessage::Ticks(Some(":1.1"), 64)),
+        Step::Sends(4, ClientMessage::Ticks(Some(":1.1"), 64)),
+        Step::Sends(5, ClientMessage::Ticks(Some(":1.1"), 64)),
+        Step::Sends(6, ClientMessage::Ticks(Some(":1.1"), 64)),
+        Step::Awaits(Condition::Received(0, 386)),
+        Step::Ends,
+    ]],
+    stops: &[],
+    holds: false,
+    tracing: Tracing::Off,
+};
+
+#[test]
+fn who_reads_all_is_not_put_out(rt: HostRuntime) -> Result<(), Fail> {
+    let told = play(&rt, rt.alloc(), &BURST)?.told;
+    let mut expected = String::new(rt.alloc());
+    writeln!(expected, "client 0\n1 reply 1 :1.1")?;
+    writeln!(expected, "2 org.freedesktop.DBus NameAcquired :1.1")?;
+    for sender in 2..=7 {
+        let name = format!(in rt.alloc(); ":1.{sender}")?;
+        add_ticks(&mut expected, name.as_str(), 2, 64)?;
+    }
+    for client in 1..=6 {
+        let number = client + 1;
+        writeln!(expected, "client {client}\n1 reply 1 :1.{number}")?;
+        writeln!(expected, "2 org.freedesktop.DBus NameAcquired :1.{number}")?;
+    }
+    assert_eq!(rt; told.as_str(), expected.as_str());
+    Ok(())
+}
+
 /// 256 envelopes wait for a client that does not read, until it does.
 const RESUMED: Scenario = Scenario {
     rooms: &[WELCOME_ROOM, ROOM],
