@@ -21,31 +21,47 @@ pub enum Opening<'a, R> {
     Ended(ExitCode),
 }
 
+fn time<'a>(alloc: Global) -> Arg<'a> {
+    Arg::new(alloc, "time")
+        .long("time")
+        .action(ArgAction::SetTrue)
+        .help("Prints times in place of checksums")
+}
+
+fn plain<'a>(alloc: Global) -> Arg<'a> {
+    Arg::new(alloc, "plain")
+        .long("plain")
+        .value_name("FILE")
+        .action(ArgAction::Set)
+        .help("The times of the same in plain Rust")
+}
+
+fn rounds<'a>(alloc: Global) -> Arg<'a> {
+    Arg::new(alloc, "rounds")
+        .long("rounds")
+        .value_name("COUNT")
+        .action(ArgAction::Set)
+        .help("How many rounds make a checksum, 64 if it is not said")
+}
+
+fn part<'a>(alloc: Global) -> Arg<'a> {
+    Arg::new(alloc, "part")
+        .value_name("PART")
+        .action(ArgAction::Set)
+        .help("The works that are measured, all if it is not said")
+}
+
 fn command_line<'a>(
     alloc: Global,
     name: &'a str,
     about: &'a str,
 ) -> Result<Command<'a>, AllocError> {
-    let time = Arg::new(alloc, "time")
-        .long("time")
-        .action(ArgAction::SetTrue)
-        .help("Prints times in place of checksums");
-    let plain = Arg::new(alloc, "plain")
-        .long("plain")
-        .value_name("FILE")
-        .action(ArgAction::Set)
-        .help("The times of the same in plain Rust");
-    let rounds = Arg::new(alloc, "rounds")
-        .long("rounds")
-        .value_name("COUNT")
-        .action(ArgAction::Set)
-        .help("How many rounds make a checksum, 64 if it is not said");
-    let part = Arg::new(alloc, "part")
-        .value_name("PART")
-        .action(ArgAction::Set)
-        .help("The works that are measured, all if it is not said");
-    let command = Command::new(alloc, name).about(about).arg(time)?;
-    command.arg(plain)?.arg(rounds)?.arg(part)
+    Command::new(alloc, name)
+        .about(about)
+        .arg(time(alloc))?
+        .arg(plain(alloc))?
+        .arg(rounds(alloc))?
+        .arg(part(alloc))
 }
 
 fn words<R: Env + AllocGlobal>(rt: &R) -> io::Result<Vec<String>> {
@@ -60,29 +76,40 @@ fn refuse<R: Print + Eprint>(rt: &R, error: &Error) -> ExitCode {
     ExitCode::from(status)
 }
 
+/// The times that the command line names.
+fn plain_times<R: Files + AllocGlobal>(rt: &R, file: Option<&str>) -> Result<PlainTimes> {
+    let Some(file) = file else {
+        return Ok(PlainTimes::new(rt.alloc()));
+    };
+    let text = fs::read_to_string(rt, file).context("the plain times")?;
+    PlainTimes::read(rt.alloc(), text.as_str())
+}
+
+/// How many rounds the command line asks for.
+fn rounds_of(count: Option<&str>) -> Result<u64> {
+    match count {
+        Some(count) => count.parse::<u64>().context("a count of rounds"),
+        None => Ok(ROUNDS),
+    }
+}
+
+/// The part that the command line names, which is to be one of these.
+fn part_of(alloc: Global, word: Option<&str>, parts: &[&str]) -> Result<Option<String>> {
+    let Some(word) = word else {
+        return Ok(None);
+    };
+    ensure!(parts.contains(&word), "there is no part {word}");
+    Ok(Some(String::from_str(alloc, word)?))
+}
+
 fn report<'a, R: Files + AllocGlobal>(
     rt: &'a R,
     matches: &ArgMatches<'_>,
     parts: &[&str],
 ) -> Result<Report<'a, R>> {
-    let plain = match matches.get_str("plain") {
-        Some(file) => {
-            let text = fs::read_to_string(rt, file).context("the plain times")?;
-            PlainTimes::read(rt.alloc(), text.as_str())?
-        }
-        None => PlainTimes::new(rt.alloc()),
-    };
-    let rounds = match matches.get_str("rounds") {
-        Some(count) => count.parse::<u64>().context("a count of rounds")?,
-        None => ROUNDS,
-    };
-    let part = match matches.get_str("part") {
-        Some(word) => {
-            ensure!(parts.contains(&word), "there is no part {word}");
-            Some(String::from_str(rt.alloc(), word)?)
-        }
-        None => None,
-    };
+    let rounds = rounds_of(matches.get_str("rounds"))?;
+    let part = part_of(rt.alloc(), matches.get_str("part"), parts)?;
+    let plain = plain_times(rt, matches.get_str("plain"))?;
     Ok(Report {
         rt,
         part,
