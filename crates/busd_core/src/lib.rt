@@ -71,4 +71,4 @@ pub use serve_fault::{Device, ServeFault};
 pub use service_fault::{FileName, ServiceCode};
 pub use services::{read_services, rising_names};
 pub use stream::run;
-pub use trace::begin_trace;
+pub use trace::{TraceFiles, open_trace};

@@ -9,7 +9,7 @@ use crate::services::push;
 use names::WellKnown;
 use owner_queues::Profile;
 use std::alloc::{AllocError, Global};
-use std::fs::File;
+use std::fs::{OpenFile, OpenOptions};
 use std::io;
 use std::io::{ErrorKind, Write};
 use std::rt::Files;
@@ -36,20 +36,32 @@ fn head(alloc: Global, routers: u8, services: &[WellKnown]) -> Result<String, Al
     Ok(head)
 }
 
-/// Makes a file of the folder. What stood there is gone.
-fn create<R: Files + AllocGlobal>(rt: &R, folder: &str, name: &str) -> io::Result<R::File> {
-    let path = format!(in rt.alloc(); "{folder}/{name}.trace")?;
-    File::create(rt, path.as_str())
+/// The files of a trace, one for each seat and one for its head. What stood in them before stands
+/// there until the trace begins.
+#[derive(Drop)]
+pub struct TraceFiles<F: Drop> {
+    head: F,
+    /// That of the main thread first.
+    seats: Vec<F>,
 }
 
-/// Adds a file of the folder, made anew.
+/// Opens a file of the folder, to write to it. One that is not there is made.
+fn open<R: Files + AllocGlobal>(rt: &R, folder: &str, name: &str) -> io::Result<R::File> {
+    let path = format!(in rt.alloc(); "{folder}/{name}.trace")?;
+    OpenOptions::new()
+        .write(true)
+        .create(true)
+        .open(rt, path.as_str())
+}
+
+/// Adds a file of the folder.
 fn add_file<R: Files + AllocGlobal>(
     rt: &R,
     folder: &str,
     name: &str,
     files: &mut Vec<R::File>,
 ) -> io::Result<()> {
-    let file = create(rt, folder, name)?;
+    let file = open(rt, folder, name)?;
     Ok(push(files, file)?)
 }
 
@@ -66,7 +78,7 @@ fn add_routers<R: Files + AllocGlobal>(
     Ok(())
 }
 
-/// Makes the file of each seat.
+/// Opens the file of each seat.
 fn seats<R: Files + AllocGlobal>(rt: &R, folder: &str, routers: u8) -> io::Result<Vec<R::File>> {
     let mut files = Vec::new(rt.alloc());
     add_file(rt, folder, "main", &mut files)?;
@@ -74,35 +86,81 @@ fn seats<R: Files + AllocGlobal>(rt: &R, folder: &str, routers: u8) -> io::Resul
     Ok(files)
 }
 
-/// Writes the head, and makes the file of each seat.
-fn begin<R: Files + AllocGlobal>(
+/// Opens the head, and the file of each seat.
+fn open_all<R: Files + AllocGlobal>(
     rt: &R,
     folder: &str,
     routers: u8,
-    services: &[WellKnown],
-) -> io::Result<Vec<R::File>> {
+) -> io::Result<TraceFiles<R::File>> {
     if folder.is_empty() {
         return Err(io::Error::from(ErrorKind::NotFound));
     }
-    let head = head(rt.alloc(), routers, services)?;
-    create(rt, folder, "head")?.write_all(head.as_bytes())?;
-    drop(head);
-    seats(rt, folder, routers)
+    Ok(TraceFiles {
+        head: open(rt, folder, "head")?,
+        seats: seats(rt, folder, routers)?,
+    })
 }
 
-/// Begins the trace of a bus with so many routers and these services, whose names rise, in a
-/// folder: writes `head.trace`, and makes `main.trace` and `router-K.trace` for each router, from
-/// 1. Of an earlier trace nothing is left in these files. Hands out those that lines are to be
-/// written to, that of the main thread first.
+/// Takes what stands in a file out of it. In a device nothing stands.
+fn clear<F: OpenFile>(file: &F) -> io::Result<()> {
+    match file.set_len(0) {
+        Ok(()) => Ok(()),
+        Err(error) => match error.kind() {
+            ErrorKind::InvalidInput => Ok(()),
+            _ => Err(error),
+        },
+    }
+}
+
+impl<F: OpenFile + Write + Drop> TraceFiles<F> {
+    /// Begins the trace of a bus with so many routers and these services, whose names rise: writes
+    /// its head. Of an earlier trace nothing is left in the files. Hands out those that lines are
+    /// to be written to, that of the main thread first.
+    ///
+    /// # Errors
+    ///
+    /// `Device(Trace)` where a file can't be written.
+    pub fn begin(
+        self,
+        alloc: Global,
+        routers: u8,
+        services: &[WellKnown],
+    ) -> Result<Vec<F>, ServeFault> {
+        let TraceFiles { head, seats } = self;
+        match write_head(alloc, head, &seats, routers, services) {
+            Ok(()) => Ok(seats),
+            Err(error) => Err(device(error, Device::Trace)),
+        }
+    }
+}
+
+/// Clears the files, and writes the head.
+fn write_head<F: OpenFile + Write + Drop>(
+    alloc: Global,
+    file: F,
+    seats: &[F],
+    routers: u8,
+    services: &[WellKnown],
+) -> io::Result<()> {
+    let text = head(alloc, routers, services)?;
+    clear(&file)?;
+    for seat in seats {
+        clear(seat)?;
+    }
+    let mut file = file;
+    file.write_all(text.as_bytes())
+}
+
+/// Opens the files of the trace of a bus with so many routers, in a folder: `head.trace`,
+/// `main.trace` and `router-K.trace` for each router, from 1. Nothing is written to them yet.
 ///
 /// # Errors
 ///
-/// `Device(Trace)` where a file can't be made or written.
-pub fn begin_trace<R: Files + AllocGlobal>(
+/// `Device(Trace)` where a file can't be opened or made.
+pub fn open_trace<R: Files + AllocGlobal>(
     rt: &R,
     folder: &str,
     routers: u8,
-    services: &[WellKnown],
-) -> Result<Vec<R::File>, ServeFault> {
-    begin(rt, folder, routers, services).map_err(|error| device(error, Device::Trace))
+) -> Result<TraceFiles<R::File>, ServeFault> {
+    open_all(rt, folder, routers).map_err(|error| device(error, Device::Trace))
 }

@@ -4,10 +4,10 @@ use crate::login::LoginSettings;
 use crate::polls::{Polls, open_polls};
 use crate::runtime::DaemonRuntime;
 use crate::serving::begin;
-use crate::tracing::{TraceFile, trace_files};
+use crate::tracing::{TraceFile, begin_files, open_files};
 use busd_core::{
-    Device, Options, ServeFault, SocketPath, open_random, random_bytes, read_cookie, read_services,
-    rising_names,
+    Device, Options, ServeFault, SocketPath, TraceFiles, open_random, random_bytes, read_cookie,
+    read_services, rising_names,
 };
 use busd_sockets::{NewConnections, PollWaker};
 use mio::Poll;
@@ -18,6 +18,8 @@ use sasl::Cookie;
 use service_files::Service;
 use std::alloc::{AllocError, Global};
 use std::fmt;
+use std::fs::{OpenFile, remove_file};
+use std::io::Write;
 use std::net::Net;
 use std::rt::Files;
 
@@ -72,18 +74,18 @@ impl fmt::Display for BusAddress<'_> {
     }
 }
 
-/// What is read and begun before the socket is made.
+/// What is read and opened before the socket is made.
 #[derive(Drop)]
 struct Prepared<F: Drop> {
     cookie: Cookie,
     services: Vec<Service>,
     names: Vec<WellKnown>,
-    traces: Vec<TraceFile<F>>,
+    traces: Option<TraceFiles<F>>,
     random: F,
     guid: [u8; 16],
 }
 
-/// Reads what the options name, and begins the trace where they want one.
+/// Reads what the options name, and opens the files of the trace where they want one.
 fn prepare<R: Files + AllocGlobal + Clone + Drop>(
     rt: &R,
     options: &Options<'_>,
@@ -91,7 +93,7 @@ fn prepare<R: Files + AllocGlobal + Clone + Drop>(
     let cookie = read_cookie(rt, options.keyring)?;
     let services = read_services(rt, options.services)?;
     let names = rising_names(rt.alloc(), services.as_slice())?;
-    let traces = trace_files(rt, options, names.as_slice())?;
+    let traces = open_files(rt, options)?;
     let mut random = open_random(rt)?;
     let guid = random_bytes(&mut random)?;
     Ok(Prepared {
@@ -114,61 +116,81 @@ fn keep_free_memory(alloc: Global) {
     let _block: Result<Vec<u8>, AllocError> = Vec::with_capacity(alloc, LARGE);
 }
 
+/// Makes what the threads work with, and begins the trace.
+fn set_up<'a, F: OpenFile + Write + Drop, R: Net + AllocGlobal + Clone + Drop>(
+    rt: &R,
+    options: Options<'a>,
+    prepared: Prepared<F>,
+    listener: UnixListener,
+) -> Result<(Bus<'a>, Listening<F>), ServeFault> {
+    let Prepared {
+        cookie,
+        services,
+        names,
+        traces,
+        random,
+        guid,
+    } = prepared;
+    let Polls {
+        poll,
+        waker,
+        coordinator,
+        router_polls,
+        new_connections,
+    } = open_polls(rt, rt.alloc(), options.routers)?;
+    let traces = begin_files(rt.alloc(), traces, options.routers, names.as_slice())?;
+    let bus = Bus {
+        login: LoginSettings {
+            guid,
+            user: options.user,
+            cookie,
+            allow_anonymous: options.allow_anonymous,
+        },
+        options,
+        coordinator,
+        new_connections,
+    };
+    let listening = Listening {
+        entrance: Entrance {
+            listener,
+            random,
+            poll,
+        },
+        services,
+        names,
+        traces,
+        waker,
+        router_polls,
+    };
+    Ok((bus, listening))
+}
+
 impl<'a> Bus<'a> {
-    /// Reads what the options name, begins the trace where they want one, and makes the socket.
+    /// Reads what the options name, makes the socket, and begins the trace where they want one.
     /// From then on clients can connect; they are served once [`Bus::serve`] runs.
     ///
     /// # Errors
     ///
-    /// What is wrong at the start, the first of: the keyring, the services, the trace, random
-    /// bytes, the socket, the polls.
+    /// What is wrong at the start, the first of: the keyring, the services, the files of the trace,
+    /// random bytes, the socket, the polls, the trace that can't be written. Then no socket is left
+    /// that was made, and where there was one already, an earlier trace stands as it stood.
     pub fn open<R: Net + Files + AllocGlobal + Clone + Drop>(
         rt: &R,
         options: Options<'a>,
     ) -> Result<(Bus<'a>, Listening<R::File>), ServeFault> {
-        let Prepared {
-            cookie,
-            services,
-            names,
-            traces,
-            random,
-            guid,
-        } = prepare(rt, &options)?;
+        let prepared = prepare(rt, &options)?;
         keep_free_memory(rt.alloc());
-        let Ok(listener) = UnixListener::bind(rt, options.path.as_str()) else {
+        let path = options.path;
+        let Ok(listener) = UnixListener::bind(rt, path.as_str()) else {
             return Err(ServeFault::Device(Device::Listen));
         };
-        let Polls {
-            poll,
-            waker,
-            coordinator,
-            router_polls,
-            new_connections,
-        } = open_polls(rt, rt.alloc(), options.routers)?;
-        let bus = Bus {
-            login: LoginSettings {
-                guid,
-                user: options.user,
-                cookie,
-                allow_anonymous: options.allow_anonymous,
-            },
-            options,
-            coordinator,
-            new_connections,
-        };
-        let listening = Listening {
-            entrance: Entrance {
-                listener,
-                random,
-                poll,
-            },
-            services,
-            names,
-            traces,
-            waker,
-            router_polls,
-        };
-        Ok((bus, listening))
+        match set_up(rt, options, prepared, listener) {
+            Ok(made) => Ok(made),
+            Err(fault) => {
+                let _left = remove_file(rt, path.as_str());
+                Err(fault)
+            }
+        }
     }
 
     /// Where clients connect.

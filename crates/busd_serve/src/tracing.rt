@@ -1,9 +1,11 @@
 //! The files that the threads of a bus write their lines to.
 
 use crate::polls::push;
-use busd_core::{Options, ServeFault, begin_trace};
+use busd_core::{Options, ServeFault, TraceFiles, open_trace};
 use names::WellKnown;
 use routers::{Fault, TraceSink};
+use std::alloc::Global;
+use std::fs::OpenFile;
 use std::io::{ErrorKind, Write};
 use std::rt::Files;
 
@@ -32,18 +34,30 @@ impl<F: Write + Drop> TraceSink for TraceFile<F> {
     }
 }
 
-/// Where each thread of a bus with these services writes its lines, the main thread's first.
-pub(crate) fn trace_files<R: Files + AllocGlobal>(
+/// Opens the files of the trace, where the options want one.
+pub(crate) fn open_files<R: Files + AllocGlobal>(
     rt: &R,
     options: &Options<'_>,
-    services: &[WellKnown],
-) -> Result<Vec<TraceFile<R::File>>, ServeFault> {
-    let mut traces = Vec::new(rt.alloc());
+) -> Result<Option<TraceFiles<R::File>>, ServeFault> {
     match options.trace {
-        Some(folder) => for file in begin_trace(rt, folder, options.routers, services)? {
+        Some(folder) => Ok(Some(open_trace(rt, folder, options.routers)?)),
+        None => Ok(None),
+    }
+}
+
+/// Where each thread of a bus with these services writes its lines, the main thread's first.
+pub(crate) fn begin_files<F: OpenFile + Write + Drop>(
+    alloc: Global,
+    files: Option<TraceFiles<F>>,
+    routers: u8,
+    services: &[WellKnown],
+) -> Result<Vec<TraceFile<F>>, ServeFault> {
+    let mut traces = Vec::new(alloc);
+    match files {
+        Some(files) => for file in files.begin(alloc, routers, services)? {
             push(&mut traces, TraceFile { file: Some(file) })?;
         },
-        None => for _seat in 0..=options.routers {
+        None => for _seat in 0..=routers {
             push(&mut traces, TraceFile { file: None })?;
         },
     }
