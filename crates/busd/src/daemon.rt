@@ -1,8 +1,9 @@
 //! `busd serve`: the bus of a socket.
 
 use busd_core::{Device, Options, ServeFault};
-use busd_serve::{Bus, BusAddress, DaemonRuntime};
+use busd_serve::{Bus, BusAddress, DaemonRuntime, Listening};
 use clap::ArgMatches;
+use std::fs::remove_file;
 use std::io;
 use std::io::Write;
 use std::process::ExitCode;
@@ -26,7 +27,23 @@ where
 {
     let options = Options::of(found)?;
     let (bus, listening) = Bus::open(rt, options)?;
-    if options.prints_address {
+    let served = serve_opened(rt, &bus, listening, options.prints_address);
+    // Else nobody could serve there again before it was removed by hand.
+    let _ = remove_file(rt, options.path.as_str());
+    served
+}
+
+/// Tells where the bus is reached, if that is wanted, and serves its clients.
+fn serve_opened<R: DaemonRuntime + Print>(
+    rt: &R,
+    bus: &Bus<'_>,
+    listening: Listening<R::File>,
+    prints_address: bool,
+) -> Result<(), ServeFault>
+where
+    R::File: Send,
+{
+    if prints_address {
         print_address(rt, bus.address())?;
     }
     bus.serve(rt, listening)
