@@ -18,7 +18,7 @@
 //! - `A repeats N ..`: it sends so many of a message at once; behind the number stands what it sends
 //!   as above.
 //! - `A takes N`, `A takes all`: its socket takes so many bytes more. `A fails after N`: behind so
-//!   many it can't be written any more, since the other side hung up.
+//!   many it can't be written any more; `A hangs up after N`: since the other side hung up.
 //! - `A ends`: it sends no more. `A breaks`: its socket can't be read any more.
 //! - `tick`: time passes.
 //! - `N times ROW`: the row is done so many times.
@@ -30,7 +30,7 @@ use crate::client::Client;
 use crate::happening::CHALLENGE;
 use crate::journal::Journal;
 use crate::scenario::{Pieces, Scenario};
-use crate::script::{Script, Wire};
+use crate::script::{Beyond, Script, Wire};
 use crate::sent;
 use crate::watch::Findings;
 use crate::words::Words;
@@ -191,10 +191,14 @@ impl<V: BusView, G: Gate, P: Post<V>> Scene<V, G, P> {
                 };
                 self.send(right, place, &message.as_slice().repeat(alloc, count)?)
             }
-            "takes" => self.take(right, place, words.next(), false),
+            "takes" => self.take(right, place, words.next(), Beyond::Waits),
             "fails" => {
                 let _after = words.next();
-                self.take(right, place, words.next(), true)
+                self.take(right, place, words.next(), Beyond::Fails)
+            }
+            "hangs" => {
+                let (_up, _after) = (words.next(), words.next());
+                self.take(right, place, words.next(), Beyond::HungUp)
             }
             "ends" => self.stop(right, place, false),
             "breaks" => self.stop(right, place, true),
@@ -325,14 +329,14 @@ impl<V: BusView, G: Gate, P: Post<V>> Scene<V, G, P> {
         self.drive(right)
     }
 
-    /// The socket of a client takes so many bytes more, behind which it may fail.
-    fn take(&mut self, right: &V::Right, place: usize, room: &str, fails: bool) -> Result<()> {
+    /// The socket of a client takes so many bytes more, and what comes behind them waits or fails.
+    fn take(&mut self, right: &V::Right, place: usize, room: &str, beyond: Beyond) -> Result<()> {
         let Some(client) = self.clients.get(place) else {
             return Ok(());
         };
         if let Ok(mut wire) = client.wire.try_borrow_mut() {
             wire.room = room.parse().unwrap_or(usize::MAX);
-            wire.fails = fails;
+            wire.beyond = beyond;
         }
         if !client.is_over {
             if let Some(host) = self.hosts.get_mut(client.router) {

@@ -7,6 +7,17 @@ use std::io;
 use std::io::{ErrorKind, IoSlice, Write};
 use std::rc::Rc;
 
+/// What becomes of bytes that a wire has no room for.
+#[derive(Clone, Copy, PartialEq)]
+pub enum Beyond {
+    /// They wait.
+    Waits,
+    /// They can't be written, since the client hung up.
+    HungUp,
+    /// They can't be written.
+    Fails,
+}
+
 /// What lies between a client and the socket that the bus has of it.
 #[derive(Drop)]
 pub struct Wire {
@@ -20,8 +31,8 @@ pub struct Wire {
     pub written: Vec<u8>,
     /// How many bytes the client takes.
     pub room: usize,
-    /// Behind them the socket can't be written any more.
-    pub fails: bool,
+    /// What becomes of more.
+    pub beyond: Beyond,
 }
 
 impl Wire {
@@ -33,7 +44,7 @@ impl Wire {
             breaks: false,
             written: Vec::new(alloc),
             room: usize::MAX,
-            fails: false,
+            beyond: Beyond::Waits,
         }
     }
 }
@@ -57,10 +68,10 @@ impl Write for Script {
         };
         let wire = &mut *wire;
         if wire.room == 0 {
-            return Err(io::Error::from(if wire.fails {
-                ErrorKind::BrokenPipe
-            } else {
-                ErrorKind::WouldBlock
+            return Err(io::Error::from(match wire.beyond {
+                Beyond::Waits => ErrorKind::WouldBlock,
+                Beyond::HungUp => ErrorKind::BrokenPipe,
+                Beyond::Fails => ErrorKind::TimedOut,
             }));
         }
         let count = bytes.len().min(wire.room);
@@ -90,7 +101,7 @@ impl Socket for Script {
             return Err(io::Error::from(ErrorKind::TimedOut));
         }
         let count = wire.sent.len().min(room.len());
-        let has_hung_up = wire.fails && wire.room == 0;
+        let has_hung_up = wire.beyond == Beyond::HungUp && wire.room == 0;
         if count == 0 && !wire.ends && !has_hung_up {
             return Err(io::Error::from(ErrorKind::WouldBlock));
         }
