@@ -53,7 +53,7 @@ pub data Occasion : Type 0 where
   Opened : (key : ℕ) → (challenge : Option (List ℕ)) → Occasion
   Bytes : (key : ℕ) → (piece : List ℕ) → Occasion
   Next : (key : ℕ) → Occasion
-  -- the coming_next messages of several keys, of each as many as it stands there
+  -- the next messages of several keys, of each as many as it stands there
   Turn : (keys : List ℕ) → Occasion
   Mail : (slot number : ℕ) → (note : Option History) → Said → Occasion
   Closed : (key : ℕ) → Occasion

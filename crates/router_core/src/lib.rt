@@ -3,8 +3,8 @@
 //!
 //! A router is an engine over a view of a bus. [`Event`]s happen to it: a connection comes, bytes
 //! of it come, its next message is served, mail comes from another router, a connection is gone,
-//! time has passed. It answers with [`Action`]s, and asks its [`Gate`] before each call to the bus
-//! that it serves.
+//! time has passed. It answers with [`Action`]s, and shows its [`Gate`] each call to the bus before
+//! it serves it.
 //!
 //! The definitions stand in `specs/`: `Serving` says what is done for a message, `Events` what is
 //! done at an event, as a script of calls of the bus whose answers decide what comes next;

@@ -75,7 +75,7 @@ module _ {N G : Type 0} (told : N → History) (registry_of : N → ℕ) (passes
         subst (λ (b : Bool). Comes told registry_of passes alone (serve_named s key (said message) x conn b) w t v) (sym same) here in
         (Whole message r.unread, incoming, subst (λ (stage : Stage). Comes told registry_of passes alone (serve_at s key (said message) x stage) w t v) (sym named) chosen)
 
-    -- so it is served coming_next
+    -- so it is served next
     pub next_unnamed : (s : Standing) (q : Peer) (old : Option Peer) (privileged : Bool) → old ≡ Some p → p.stage ≡ Unnamed privileged → Reads s q → Comes told registry_of passes alone (coming_next s key old) w (with_peer s key (Some q)) v
     next_unnamed s q old privileged is unnamed reads =
         let t : Standing = with_peer s key (Some q) in

@@ -4,7 +4,8 @@
 //! [`Server`] is one conversation. `specs/Table.antt` is the table of its states,
 //! `specs/Conversations.antt` what a whole conversation is, after "Authentication Protocol" of the
 //! D-Bus Specification, with the mechanisms DBUS_COOKIE_SHA1 and, where it is allowed, ANONYMOUS.
-//! [`read_keyring`] reads the cookies of the former. The laws stand in [`laws`].
+//! [`read_keyring`] reads the cookie of the former: that of a keyring's last line. The laws stand in
+//! [`laws`].
 //!
 //! ```
 //! use sasl::{Identity, KeyringFault, Progress, Server, read_keyring};
