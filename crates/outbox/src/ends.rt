@@ -53,6 +53,13 @@ impl<E: Drop> End<E> {
             .push_as::<Puts, R>(rt, &mut self.pass, item)
             .map_err(Full)
     }
+
+    /// How many items the queue held at some moment of the call.
+    pub(crate) fn len<R: Wait>(&mut self, rt: &R) -> usize
+        ensures { self.new ≡ self.old }
+    {
+        self.queue.len_as::<Puts, R>(rt, &mut self.pass)
+    }
 }
 
 /// The end of a queue that takes.

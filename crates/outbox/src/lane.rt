@@ -67,6 +67,14 @@ impl<E: Drop> Lane<E> {
         self.ends[slot].put(rt, item)
     }
 
+    /// How many items the queue of a slot held at some moment of the call.
+    pub fn len<R: Wait>(&mut self, rt: &R, slot: usize) -> usize
+        requires { slot < length self.old }
+        ensures same { self.new ≡ self.old }
+    {
+        self.ends[slot].len(rt)
+    }
+
     /// Shows that what was taken of this lane from the queue of a slot is a beginning of what the
     /// lane put into it, once the lane and the tap are in one hand.
     ///

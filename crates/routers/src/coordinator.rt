@@ -7,11 +7,21 @@ use crate::fault::Fault;
 use seq_bus_core::limits::MAX_CONNECTIONS;
 use std::alloc::{AllocError, Global};
 use std::marker::Model;
-use std::sync::atomic::{AtomicBool, Ordering};
+use std::sync::atomic::{AtomicBool, AtomicU64, Ordering};
 use std::sync::{OnceLock, Wait};
+use std::time::Duration;
 
 /// How many places for connections a bus has.
 const PLACES: usize = MAX_CONNECTIONS;
+
+/// How often it is looked whether another router has ended a turn, by one that is patient.
+const PATIENCE: u32 = 100;
+
+/// How often by one that is not.
+const IMPATIENCE: u32 = 10;
+
+/// How long it is waited for that each time, in milliseconds.
+const WAIT: u64 = 2;
 
 /// Ends the wait of one thread.
 pub trait Wake {
@@ -34,6 +44,14 @@ struct RouterState<W: Wake + Drop> {
     comes: AtomicBool,
     /// Something was brought to it: whoever ends a turn wakes it.
     owed: AtomicBool,
+    /// It serves.
+    serves: AtomicBool,
+    /// How many turns it has ended.
+    turns: AtomicU64,
+    /// Another router waits for the end of its turn.
+    awaited: AtomicBool,
+    /// It waits for the end of another's turn.
+    waits: AtomicBool,
 }
 
 impl<W: Wake + Drop> RouterState<W> {
@@ -45,13 +63,67 @@ impl<W: Wake + Drop> RouterState<W> {
             check_due: AtomicBool::new(false),
             comes: AtomicBool::new(false),
             owed: AtomicBool::new(false),
+            serves: AtomicBool::new(false),
+            turns: AtomicU64::new(0),
+            awaited: AtomicBool::new(false),
+            waits: AtomicBool::new(false),
         }
     }
 
-    fn wake(&self) {
-        if self.sleeps.swap(false, Ordering::SeqCst) {
+    /// Wakes it. Tells whether it slept.
+    fn wake(&self) -> bool {
+        let slept = self.sleeps.swap(false, Ordering::SeqCst);
+        if slept {
             self.waker.wake();
         }
+        slept
+    }
+
+    /// Whoever waits for it looks again.
+    fn notify(&self) {
+        if lower(&self.awaited) {
+            self.turns.wake_all();
+        }
+    }
+
+    /// It has ended a turn.
+    fn end_turn(&self) {
+        self.turns.fetch_add(1, Ordering::SeqCst);
+        self.notify();
+    }
+
+    /// It begins to wait for another.
+    fn begin_wait(&self) {
+        self.waits.store(true, Ordering::SeqCst);
+        self.notify();
+    }
+
+    /// It waits no more.
+    fn end_wait(&self) {
+        self.waits.store(false, Ordering::SeqCst);
+    }
+
+    /// Waits until it has ended a turn that began after this call. Tells whether it has: that may
+    /// take too long. For one that waits itself only a patient one waits.
+    fn await_turn<R: Wait>(&self, rt: &R, is_patient: bool) -> bool {
+        // If it does not sleep, it may be in a turn that began before.
+        let more = if self.wake() { 1 } else { 2 };
+        let wanted = self.turns.load(Ordering::SeqCst).saturating_add(more);
+        let looks = if is_patient { PATIENCE } else { IMPATIENCE };
+        for _ in 0..looks {
+            let turns = self.turns.load(Ordering::SeqCst);
+            if turns >= wanted {
+                return true;
+            }
+            if !is_patient && self.waits.load(Ordering::SeqCst) {
+                return false;
+            }
+            raise(&self.awaited);
+            let wait = Duration::from_millis(WAIT);
+            self.turns
+                .park_timeout(rt, (turns & 0xffff_ffff) as u32, wait);
+        }
+        false
     }
 }
 
@@ -75,6 +147,8 @@ pub struct Coordinator<W: Wake + Drop> {
     states: Vec<RouterState<W>>,
     /// By slots: there is mail from another router.
     mail: Vec<AtomicBool>,
+    /// By slots: the connection did not take its mail, though its router had a turn.
+    stuck: Vec<AtomicBool>,
     main: W,
     stops: AtomicBool,
     /// The fault that came first.
@@ -95,6 +169,15 @@ fn states_of<W: Wake + Drop>(
     Ok(states)
 }
 
+/// A flag for each place.
+fn flags(alloc: Global) -> Result<Vec<AtomicBool>, AllocError> {
+    let mut flags = Vec::with_capacity(alloc, PLACES)?;
+    for _slot in 0..PLACES {
+        flags.push(AtomicBool::new(false))?;
+    }
+    Ok(flags)
+}
+
 impl<W: Wake + Drop> Model for Coordinator<W> {
     ghost use Rattle.std.specs.Prelude.{ℕ, length};
 
@@ -110,13 +193,12 @@ impl<W: Wake + Drop> Coordinator<W> {
         ensures routers { IfOk result (λ c. c ≡ length wakers.items) }
     {
         let states = states_of(alloc, wakers)?;
-        let mut mail = Vec::with_capacity(alloc, PLACES)?;
-        for _slot in 0..PLACES {
-            mail.push(AtomicBool::new(false))?;
-        }
+        let mail = flags(alloc)?;
+        let stuck = flags(alloc)?;
         Ok(Coordinator {
             states,
             mail,
+            stuck,
             main,
             stops: AtomicBool::new(false),
             fault: OnceLock::new(),
@@ -151,6 +233,75 @@ impl<W: Wake + Drop> Coordinator<W> {
         if let Some(state) = self.states.get(self.router_of(slot)) {
             raise(&state.mail);
             raise(&state.owed);
+        }
+    }
+
+    /// There is mail for a place of another router, whose outbox had room for it.
+    pub(crate) fn tell_of_room(&self, slot: usize) {
+        if let Some(flag) = self.stuck.get(slot) {
+            lower(flag);
+        }
+        self.tell_of_mail(slot);
+    }
+
+    /// Much mail waits for a place of another router. Waits until that router has had a turn, in
+    /// which it takes the mail of the place, if the connection takes any. Tells whether it has had
+    /// one. Where the outbox is full, this one waits also for a router that waits itself: else two
+    /// that wait for each other would both stand still.
+    pub(crate) fn wait_for_room<R: Wait>(
+        &self,
+        rt: &R,
+        me: usize,
+        slot: usize,
+        is_full: bool,
+    ) -> bool {
+        let Some(flag) = self.stuck.get(slot) else {
+            return false;
+        };
+        let Some(state) = self.states.get(self.router_of(slot)) else {
+            return false;
+        };
+        if flag.load(Ordering::SeqCst) || !state.serves.load(Ordering::SeqCst) {
+            return false;
+        }
+        self.tell_of_mail(slot);
+        let own = self.states.get(me);
+        if let Some(own) = own {
+            own.begin_wait();
+        }
+        let has_turned = state.await_turn(rt, is_full);
+        if let Some(own) = own {
+            own.end_wait();
+        }
+        has_turned
+    }
+
+    /// The outbox of a place of another router stays full: nobody is to wait for it until it has
+    /// room.
+    pub(crate) fn note_stuck(&self, slot: usize) {
+        if let Some(flag) = self.stuck.get(slot) {
+            raise(flag);
+        }
+    }
+
+    /// A router begins to serve.
+    pub(crate) fn begin(&self, router: usize) {
+        if let Some(state) = self.states.get(router) {
+            state.serves.store(true, Ordering::SeqCst);
+        }
+    }
+
+    /// A router serves no more.
+    pub(crate) fn end(&self, router: usize) {
+        if let Some(state) = self.states.get(router) {
+            state.serves.store(false, Ordering::SeqCst);
+        }
+    }
+
+    /// A router has ended a turn.
+    pub(crate) fn end_turn(&self, router: usize) {
+        if let Some(state) = self.states.get(router) {
+            state.end_turn();
         }
     }
 

@@ -97,6 +97,7 @@ impl<'a, V: BusView, G: Gate, P: Post<V>, S: Socket, E: Source<S>, W: Wake + Dro
     fn rest(&mut self) -> Result<(), Fault>
         ensures same { self.new ≡ self.old }
     {
+        self.coordinator.end_turn(self.me);
         let timeout = self.timeout();
         if timeout == Timeout::Zero {
             return self.source.wait(Timeout::Zero);

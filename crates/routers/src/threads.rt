@@ -178,6 +178,7 @@ impl<
             setup,
             socket: _,
         } = self;
+        coordinator.begin(me);
         let served = serve_as_router::<J, S, E, G, W, T, R>(
             rt,
             alloc,
@@ -186,6 +187,7 @@ impl<
             coordinator,
             setup,
         );
+        coordinator.end(me);
         if let Err(fault) = served {
             coordinator.fail(rt, fault);
         }

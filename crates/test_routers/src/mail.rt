@@ -289,6 +289,43 @@ fn who_reads_all_is_not_put_out(rt: HostRuntime) -> Result<(), Fail> {
     Ok(())
 }
 
+/// A client is sent more at once, by another router, than its outbox has room for.
+const FAR_BURST: Scenario = Scenario {
+    rooms: &[ROOM, ROOM],
+    steps: &[
+        &[
+            Step::Connects(0),
+            Step::Sends(0, ClientMessage::Hello),
+            Step::Awaits(Condition::Received(0, 1002)),
+            Step::Ends,
+        ],
+        &[
+            Step::Awaits(Condition::Received(0, 2)),
+            Step::Connects(1),
+            Step::Sends(1, ClientMessage::Hello),
+            Step::Sends(1, ClientMessage::Ticks(Some(":1.1"), 1000)),
+            Step::Awaits(Condition::Received(0, 1002)),
+            Step::Ends,
+        ],
+    ],
+    stops: &[],
+    holds: false,
+    tracing: Tracing::Off,
+};
+
+#[test]
+fn who_reads_all_is_not_put_out_by_another_router(rt: HostRuntime) -> Result<(), Fail> {
+    let told = play(&rt, rt.alloc(), &FAR_BURST)?.told;
+    let mut expected = String::new(rt.alloc());
+    writeln!(expected, "client 0\n1 reply 1 :1.1")?;
+    writeln!(expected, "2 org.freedesktop.DBus NameAcquired :1.1")?;
+    add_ticks(&mut expected, ":1.2", 2, 1000)?;
+    writeln!(expected, "client 1\n1 reply 1 :1.2")?;
+    writeln!(expected, "2 org.freedesktop.DBus NameAcquired :1.2")?;
+    assert_eq!(rt; told.as_str(), expected.as_str());
+    Ok(())
+}
+
 /// 256 envelopes wait for a client that does not read, until it does.
 const RESUMED: Scenario = Scenario {
     rooms: &[WELCOME_ROOM, ROOM],

@@ -2,16 +2,14 @@ use Rattle.std.proofs.Common.{rules, ◌≡◌, ◌∙◌, refl, subst}
 use Rattle.routers.specs.Posts.{Puts, Sends, Ways}
 use Rattle.routers.proofs.Slots.{at_slot}
 use Rattle.routers.proofs.Ways.{is_put}
-use Rattle.routers.proofs.post.LanePostPostTracedDesk.put.Goals as goal
+use Rattle.routers.proofs.post.LanePost.put_once.Goals as goal
 
--- src/post.rt:95:13
 pub returns-in-Err-clause-refused : goal.returns-in-Err-clause-refused
 returns-in-Err-clause-refused g c =
     let ways : Ways _ _ = record { lane = c.self.inside.lane; taps = c.self.inside.taps.items; first = c.self.inside.first; starts = c.self.inside.starts } in
     let same = at_slot c.self.inside.lane c.from-slot.result (search rules) (λ e is. (c.in-Err.ensures.rule e is).1) in
     (λ i. record ways { lane = same i }) ∙ c.self.view_is
 
--- src/post.rt:95:13
 pub returns-in-Err-clause-back : goal.returns-in-Err-clause-back
 returns-in-Err-clause-back g c =
     at_slot c.self.inside.lane c.from-slot.result (search rules) (λ e is. (c.in-Err.ensures.rule e is).0)
