@@ -21,8 +21,12 @@ use seq_bus_core::Conn;
 use seq_bus_core::limits::MAX_BATCH;
 use std::alloc::AllocError;
 
-/// How many messages of a connection are served in a turn.
-const SHARE: usize = 64;
+/// How many messages of a connection are served before mail is taken: what they bring for one
+/// connection an outbox has room for.
+const PART: usize = 32;
+
+/// How many such parts of a connection are served in a turn.
+const PARTS: u8 = 2;
 
 /// How many envelopes are taken of a slot at once.
 const HANDFUL: u32 = 256;
@@ -277,16 +281,33 @@ impl<V: BusView, G: Gate, P: Post<V>, S: Socket> Host<V, G, P, S> {
         Ok(())
     }
 
-    /// Serves whole messages of a connection, up to its share of a turn: one by one, but twice as
-    /// many at once each time that those before seem to have changed rules.
+    /// Serves whole messages of a connection, up to its share of a turn, and takes the mail that
+    /// they brought.
     fn serve_share(&mut self, right: &V::Right, key: usize) -> Result<(), AllocError>
         requires none { self.old.kept ≡ None }
         ensures does { DoesBy V.BusView G.Gate P.Post self.old self.new }
         ensures ok { OnOk result (self.new.kept ≡ None) }
     {
-        let mut left = SHARE;
+        for _ in 0..PARTS {
+            if !self.engine.has_next(key) {
+                break;
+            }
+            self.serve_part(right, key)?;
+            self.take_mail(right)?;
+        }
+        Ok(())
+    }
+
+    /// Serves some whole messages of a connection: one by one, but twice as many at once each time
+    /// that those before seem to have changed rules.
+    fn serve_part(&mut self, right: &V::Right, key: usize) -> Result<(), AllocError>
+        requires none { self.old.kept ≡ None }
+        ensures does { DoesBy V.BusView G.Gate P.Post self.old self.new }
+        ensures ok { OnOk result (self.new.kept ≡ None) }
+    {
+        let mut left = PART;
         let mut count = 1;
-        for _ in 0..SHARE {
+        for _ in 0..PART {
             if left == 0 || !self.engine.has_next(key) {
                 break;
             }
