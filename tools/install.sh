@@ -3,7 +3,7 @@
 # the program that `make prove` has built, or the one that BUSD names. Puts bus-check there too where it is built.
 set -euo pipefail
 cd "$(dirname "$0")/.."
-place=$1
+place=${1:?names no folder: tools/install.sh FOLDER}
 program=${BUSD:-crates/busd/out/busd}
 
 if [ ! -x "$program" ]; then

@@ -8,11 +8,12 @@ if [ ! -x "$BUSD" ]; then
     echo "there is no $BUSD yet: \`make prove\` proves and builds it" >&2
     exit 1
 fi
-trap : INT
-tools/busd-run-session --verbose "$@" sh -c '
+exec tools/busd-run-session --verbose "$@" sh -c '
     echo "The bus is served until Ctrl-C. Its clients, in another shell:"
     echo "    export DBUS_SESSION_BUS_ADDRESS=\"$DBUS_SESSION_BUS_ADDRESS\""
     echo "    dbus-send --session --print-reply --dest=org.freedesktop.DBus / org.freedesktop.DBus.ListNames"
-    exec tail -f /dev/null'
-# Ctrl-C is how it ends.
-[ "$?" -eq 130 ]
+    tail -f /dev/null &
+    trap "kill $!; exit 0" INT
+    trap "kill $!; exit 129" HUP
+    trap "kill $!; exit 143" TERM
+    wait'

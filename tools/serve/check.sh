@@ -206,6 +206,11 @@ order() {
     refused 4 'busd: keyring: 36' keyring=empty --trace none
     refused 4 'busd: services: a.service: 55/4' services=wrong_line --trace none
     refused 4 'busd: device: trace' --trace none address=taken
+    # A start that finds the socket taken leaves a trace as it stands.
+    printf 'dbus-trace 2\n' > trace/head.trace
+    refused 4 'busd: device: listen' --trace trace address=taken
+    [ "$(< trace/head.trace)" = 'dbus-trace 2' ] || wrong "clears a trace that is not its own"
+    rm trace/*
 }
 
 full_device() {
@@ -216,8 +221,7 @@ full_device() {
     start --print-address
     status=0
     timeout 20 "$BUSD" "${words[@]}" > /dev/full 2> err < /dev/null || status=$?
-    [ "$status" = 4 ] && [ "$(< err)" = 'busd: device: output' ] || wrong "${words[@]}"
-    rm bus
+    [ "$status" = 4 ] && [ "$(< err)" = 'busd: device: output' ] && [ ! -e bus ] || wrong "${words[@]}"
     status=0
     "$BUSD" --help > /dev/full 2> err || status=$?
     [ "$status" = 4 ] && [ "$(< err)" = 'busd: device: output' ] || wrong --help
@@ -468,8 +472,7 @@ traces() {
         status=0
         wait "$bus" || status=$?
         bus=
-        [ "$status" = 4 ] && [ "$(< said)" = 'busd: device: trace' ] || wrong "writes no trace: $(< said)"
-        rm bus
+        [ "$status" = 4 ] && [ "$(< said)" = 'busd: device: trace' ] && [ ! -e bus ] || wrong "writes no trace: $(< said)"
     fi
     # Of an earlier trace nothing is left.
     for file in head main router-1 router-2; do
@@ -536,6 +539,14 @@ sessions() {
     session 125 --router 1 true
     session 125
     session 143 sh -c 'kill "$PPID"; exec sleep 20'
+    # The command has its caller's descriptors, and may have any name.
+    echo three > three
+    session 0 sh -c 'read -r word <&3 && [ "$word" = three ]' 3< three
+    mkdir a=b
+    printf '#!/bin/sh\nexit 9\n' > a=b/nine
+    chmod +x a=b/nine
+    session 9 ./a=b/nine
+    sessions_at_once
     # The folder of the keyrings may stand elsewhere.
     mkdir -m 700 linked elsewhere
     ln -s "$room/elsewhere" linked/.dbus-keyrings
@@ -547,6 +558,22 @@ sessions() {
 
 nobody_runs() {
     ! grep -qsaF "$1" /proc/[0-9]*/cmdline
+}
+
+# Sessions that begin and end beside others are as they are alone.
+sessions_at_once() {
+    local number ends=()
+    for number in 1 2 3 4; do
+        HOME=$room/home XDG_RUNTIME_DIR=$room/session timeout 40 "$session" sleep "0.$number" > out 2> err < /dev/null &
+        ends+=($!)
+    done
+    for number in "${ends[@]}"; do
+        wait "$number" || wrong "in a session beside others"
+    done
+    # The folder stays, where whoever made it ended before others.
+    [ ! -e home/.dbus-keyrings ] || rmdir home/.dbus-keyrings
+    [ -z "$(find home session -mindepth 1)" ] || wrong "in sessions at once: $(find home session)"
+    tried=$((tried + 4))
 }
 
 # A session that is killed leaves its bus and its key, but nobody who renews the key.

@@ -175,7 +175,11 @@ def main(address, what, name, count="0"):
         to.sendall(bytes.fromhex(name))
         return to.recv(1)
     if what == "crowd":
-        crowd = [connected(address) for _ in range(int(name))]
+        crowd = []
+        for _ in range(int(name)):
+            crowd.append(connected(address))
+            # One after the other, so that none waits behind those that came before.
+            time.sleep(0.005)
         time.sleep(1)
         for to in crowd:
             to.close()
