@@ -16,3 +16,8 @@ pub mod Conversations
 pub mod Openings
 pub mod Turnings
 pub mod Gatherings
+pub mod Answering
+pub mod Waits
+pub mod Verdicts
+pub mod Rules
+pub mod Joins

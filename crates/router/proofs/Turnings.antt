@@ -30,8 +30,8 @@ use Rattle.router_steps.specs.Quiet.{IsQuiet, IsQuietAt}
 use Rattle.router_steps.specs.Reading.{IsRest}
 use Rattle.router_steps.proofs.Nexts.{for_some}
 use Rattle.router_steps.proofs.Sequels.{comes_then}
-use Rattle.router_serving.specs.Joinings.{RepliesAlone}
-use Rattle.router_serving.proofs.Rules.{rules_bring_none}
+use Rattle.router.specs.Joinings.{RepliesAlone}
+use Rattle.router.proofs.Rules.{rules_bring_none}
 use Rattle.router.specs.Dues.{IsApart}
 use Rattle.router.specs.Named.{is_named, IsSettled}
 use Rattle.router.proofs.Endings.{AllGive, given}

@@ -6,3 +6,4 @@ pub mod Numbers
 pub mod OneEvent
 pub mod Dues
 pub mod Named
+pub mod Joinings

@@ -28,18 +28,25 @@
 //! ```
 #![tactic(auto)]
 
+mod activation;
+mod calls;
 mod engine;
 mod hello;
+mod joining;
 mod leaving;
 mod login;
 mod mail;
+mod messages;
 mod naming;
 mod next;
 mod peers;
+mod routing;
+mod starting;
 mod starts;
 mod tick;
 mod trace;
 mod turn;
+mod watching;
 
 pub use bus_trace::Traced;
 pub use engine::Engine;

@@ -7,11 +7,11 @@ ghost use Rattle.router_core.specs.Standing.{peer_at};
 ghost use Rattle.router_steps.specs.Quiet.{IsQuiet};
 ghost use Rattle.router.specs.Upcoming.{HasNoNext};
 
+use crate::messages::next_in;
 use crate::peers::Peers;
 use bus_view::BusView;
 use router_core::Gate;
 use router_core::limits::MAX_EFFECTS;
-use router_serving::next_in;
 use router_steps::{HelloCall, Peer};
 use std::alloc::AllocError;
 

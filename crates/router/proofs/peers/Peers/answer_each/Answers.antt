@@ -5,7 +5,7 @@ use Rattle.std.specs.Vec.Iter.{into_iter_items}
 use Rattle.seq_bus_core.specs.declared.outcome.Outcome.{Outcome}
 use Rattle.router_core.specs.Events.{answering_each}
 use Rattle.router_core.specs.Scripts.{Comes}
-use Rattle.router_serving.specs.Joinings.{RepliesAlone}
+use Rattle.router.specs.Joinings.{RepliesAlone}
 use Rattle.router.proofs.Turnings.{answers_more, answers_none}
 use Rattle.router.proofs.peers.Peers.answer_each.Goals as goal
 

@@ -4,7 +4,7 @@ use Rattle.std.specs.Vec.Iter.{into_iter_items}
 use Rattle.router_core.specs.Events.{answering_each}
 use Rattle.router_core.specs.Scripts.{World, Comes}
 use Rattle.router_core.specs.Standing.{Standing}
-use Rattle.router_serving.specs.Joinings.{RepliesAlone}
+use Rattle.router.specs.Joinings.{RepliesAlone}
 use Rattle.router.proofs.peers.Peers.answer_each.Given as goal
 
 abbrev pub invariant-loop-outcome : goal.invariant-loop-outcome

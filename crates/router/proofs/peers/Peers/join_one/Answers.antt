@@ -7,8 +7,8 @@ use Rattle.router_core.specs.Scripts.{Comes, and_then}
 use Rattle.router_core.specs.Standing.{Standing}
 use Rattle.router_core.specs.Together.{Joins, Parts, joining}
 use Rattle.router_steps.proofs.Sequels.{comes_then}
-use Rattle.router_serving.specs.Joinings.{joining_of, parting_of}
-use Rattle.router_serving.specs.declared.joining.Joining.{Joining}
+use Rattle.router.specs.Joinings.{joining_of, parting_of}
+use Rattle.router.specs.declared.joining.Joining.{Joining}
 use Rattle.router.specs.Tables.{Table}
 use Rattle.router.proofs.Turnings.{parts_from}
 use Rattle.router.proofs.peers.Peers.join_one.Goals as goal

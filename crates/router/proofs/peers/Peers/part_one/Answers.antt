@@ -3,7 +3,7 @@ use Rattle.message_core.specs.Said.{said}
 use Rattle.router_core.specs.Events.{done_for}
 use Rattle.router_core.specs.Scripts.{Comes}
 use Rattle.router_core.specs.Standing.{peer_at}
-use Rattle.router_serving.specs.Joinings.{parting_of}
+use Rattle.router.specs.Joinings.{parting_of}
 use Rattle.router.specs.Named.{is_named}
 use Rattle.router.specs.Tables.{Table}
 use Rattle.router.proofs.Turnings.{does_nothing}

@@ -1,0 +1,40 @@
+use Rattle.std.proofs.Common.{true, subst}
+use Rattle.names.specs.Texts.{Text}
+use Rattle.message_core.specs.Said.{said}
+use Rattle.seq_bus_core.specs.declared.change.CallHead.{CallHead}
+use Rattle.seq_bus_core.specs.declared.change.Change.TheVariants.{Start}
+use Rattle.seq_bus_core.specs.declared.error_kind.ErrorKind.{ErrorKind}
+use Rattle.router_core.specs.Answers.{Says, Refuses, refusal_of}
+use Rattle.router_core.specs.Scripts.{Changes, Comes}
+use Rattle.router_core.specs.Serving.{and_stays, erring, after_start}
+use Rattle.router.proofs.starting.start_service.Goals as goal
+
+pub returns-in-Ok-change-clause-comes : goal.returns-in-Ok-change-clause-comes
+returns-in-Ok-change-clause-comes g c =
+    let told = g.V.BusView.told in
+    let registry_of = g.V.BusView.registry_of in
+    let passes = g.G.Gate.passes in
+    let alone = g.V.BusView.alone in
+    let m = said c.args.call.now in
+    let o = c.in-Ok-change.outcome in
+    let w = c.args.context.now.world in
+    let n = c.change.new.self.world in
+    let v = c.started.new.context.world in
+    let changes = subst (λ (call : CallHead). Changes alone (Start c.args.caller.number c.args.name.now call) w (Says o) n) c.waiting_call.ensures c.in-Ok-change.ensures.changes in
+    let goes_on = subst (λ (name : Text). Comes told registry_of passes alone (after_start m c.args.caller name (Says o)) n c.started.result v) c.in-Ok.ensures.ok c.started.ensures.comes in
+    (true, (Says o, n, changes, goes_on))
+
+pub returns-in-Err-clause-comes : goal.returns-in-Err-clause-comes
+returns-in-Err-clause-comes g c =
+    let told = g.V.BusView.told in
+    let registry_of = g.V.BusView.registry_of in
+    let passes = g.G.Gate.passes in
+    let alone = g.V.BusView.alone in
+    let m = said c.args.call.now in
+    let why = refusal_of c.in-Err.cause in
+    let w = c.args.context.now.world in
+    let n = c.change.new.self.world in
+    let v = c.refuse-in-Err.new.context.world in
+    let changes = subst (λ (call : CallHead). Changes alone (Start c.args.caller.number c.args.name.now call) w (Refuses why) n) c.waiting_call.ensures c.in-Err.ensures.changes in
+    let errs = subst (λ (e : ErrorKind). Comes told registry_of passes alone (and_stays (erring m c.args.caller e)) n c.refuse-in-Err.result v) c.error_for.ensures c.refuse-in-Err.ensures.comes in
+    (true, (Refuses why, n, changes, errs))

@@ -1,5 +1,0 @@
-pub mod Answering
-pub mod Waits
-pub mod Verdicts
-pub mod Rules
-pub mod Joins
