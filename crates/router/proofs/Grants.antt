@@ -19,7 +19,7 @@ granted_parts (AskedPresence number (Refuses r) ∷ first) later h = absurd h
 granted_parts (Noted told ∷ first) later h = granted_parts first later h
 granted_parts (Framed bytes incoming ∷ first) later h = granted_parts first later h
 granted_parts (Called m reading ∷ first) later h = granted_parts first later h
-granted_parts (Gated call ∷ first) later h = granted_parts first later h
+granted_parts (Gated seen call ∷ first) later h = granted_parts first later h
 granted_parts (Wanted true ∷ first) later h = granted_parts first later h
 granted_parts (Wanted false ∷ first) later h = absurd h
 
@@ -33,5 +33,5 @@ read_parts readers (AskedPresence number heard ∷ first) later h = read_parts r
 read_parts readers (Noted told ∷ first) later h = read_parts readers first later h
 read_parts readers (Framed bytes incoming ∷ first) later h = let parts = read_parts readers first later h.1 in ((h.0, parts.0), parts.1)
 read_parts readers (Called m reading ∷ first) later h = let parts = read_parts readers first later h.1 in ((h.0, parts.0), parts.1)
-read_parts readers (Gated call ∷ first) later h = read_parts readers first later h
+read_parts readers (Gated seen call ∷ first) later h = read_parts readers first later h
 read_parts readers (Wanted granted ∷ first) later h = read_parts readers first later h

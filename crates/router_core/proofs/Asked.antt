@@ -168,11 +168,11 @@ listed {N = N} {G = G} told registry_of passes alone (Gating call s) w x v p =
     let l = listed told registry_of passes alone s p.0 x v p.2 in
     let seat : (p.0).view.seat ≡ w.view.seat = ap (λ (z : World N G). z.view.seat) p.1.rest in
     record {
-      asked = Gated call ∷ l.asked;
+      asked = Gated w.view.seen call ∷ l.asked;
       deeds = l.deeds;
       actions = l.actions;
-      goes = (l.asked, refl, l.goes);
-      lawful = subst (λ (z : World N G). IsLawful alone z.view l.asked v.view) p.1.rest l.lawful;
+      goes = (w.view.seen, l.asked, refl, l.goes);
+      lawful = (refl, subst (λ (z : World N G). IsLawful alone z.view l.asked v.view) p.1.rest l.lawful);
       done = l.done;
       added = l.added ∙ ap (λ (z : World N G). z.actions ++ l.actions) p.1.rest;
       shown = ((p.0).gate, p.1.shown, subst (λ n. PassesAll passes (p.0).gate (gated_in n l.asked) v.gate) seat l.shown);

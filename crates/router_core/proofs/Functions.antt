@@ -121,8 +121,8 @@ module _ (readers : Readers) {X : Type 0} where
       let here = subst (λ z. Ends readers (goes_on z) w deeds x k) read.0 (ends (goes_on p.0) p.1 deeds x k p.3 w lawful.1 granted read.1) in
       record { result = here.result; view = here.view; done = here.done })
   ends (Gating call s) asked deeds x k p =
-      subst (λ a. Goes_on (Gating call s) a deeds x k) (sym p.1) (λ w lawful granted read.
-      let here = ends s p.0 deeds x k p.2 w lawful granted read in
+      subst (λ a. Goes_on (Gating call s) a deeds x k) (sym p.2) (λ w lawful granted read.
+      let here = ends s p.1 deeds x k p.3 w lawful.1 granted read in
       record { result = here.result; view = here.view; done = here.done })
   ends (Wanting goes_on) asked deeds x k p =
       subst (λ a. Goes_on (Wanting goes_on) a deeds x k) (sym p.2) (wanted goes_on p.0 p.1 deeds x k (ends (goes_on p.0) p.1 deeds x k p.3))

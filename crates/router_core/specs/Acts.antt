@@ -33,7 +33,7 @@ pub data Exchange : Type 0 where
   Noted : History → Exchange
   Framed : (bytes : List ℕ) → Incoming → Exchange
   Called : Message → Reading Call → Exchange
-  Gated : Call → Exchange
+  Gated : (seen : History) → Call → Exchange
   Wanted : Bool → Exchange
 
 -- The script asks this, is answered so, does these deeds, and comes to this result.
@@ -47,7 +47,7 @@ Goes (AskingPresence number goes_on) asked deeds x = (heard : Heard Bool) × (la
 Goes (Noting told s) asked deeds x = (later : List Exchange) × (asked ≡ Noted told ∷ later) × Goes s later deeds x
 Goes (Framing bytes goes_on) asked deeds x = (incoming : Incoming) × (later : List Exchange) × (asked ≡ Framed bytes incoming ∷ later) × Goes (goes_on incoming) later deeds x
 Goes (Calling m goes_on) asked deeds x = (reading : Reading Call) × (later : List Exchange) × (asked ≡ Called m reading ∷ later) × Goes (goes_on reading) later deeds x
-Goes (Gating call s) asked deeds x = (later : List Exchange) × (asked ≡ Gated call ∷ later) × Goes s later deeds x
+Goes (Gating call s) asked deeds x = (seen : History) × (later : List Exchange) × (asked ≡ Gated seen call ∷ later) × Goes s later deeds x
 Goes (Wanting goes_on) asked deeds x = (granted : Bool) × (later : List Exchange) × (asked ≡ Wanted granted ∷ later) × Goes (goes_on granted) later deeds x
 Goes (Requiring holds s) asked deeds x = (holds ≡ true) × Goes s asked deeds x
 Goes (Doing deed s) asked deeds x = (later : List Deed) × (deeds ≡ deed ∷ later) × Goes s asked later x
@@ -64,13 +64,13 @@ IsLawful alone before (AskedPresence number heard ∷ later) after = (k : Knowle
 IsLawful alone before (Noted told ∷ later) after = (k : Knowledge) × IsNoted alone before told k × IsLawful alone k later after
 IsLawful alone before (Framed bytes incoming ∷ later) after = IsIncoming bytes incoming × IsLawful alone before later after
 IsLawful alone before (Called m reading ∷ later) after = IsCall m reading × IsLawful alone before later after
-IsLawful alone before (Gated call ∷ later) after = IsLawful alone before later after
+IsLawful alone before (Gated seen call ∷ later) after = (seen ≡ before.seen) × IsLawful alone before later after
 IsLawful alone before (Wanted granted ∷ later) after = IsLawful alone before later after
 
--- the calls that the gate was shown, in order, by the seat that serves them
+-- the calls that the gate was shown, in order, by the seat that serves them, each with what that had seen of the bus then
 abbrev pub gated_in : ℕ → List Exchange → List GatedCall
 gated_in seat [] = []
-gated_in seat (Gated call ∷ later) = record { seat = seat; call = call } ∷ gated_in seat later
+gated_in seat (Gated seen call ∷ later) = record { seat = seat; call = call; seen = seen } ∷ gated_in seat later
 gated_in seat (other ∷ later) = gated_in seat later
 
 -- Nothing was refused.

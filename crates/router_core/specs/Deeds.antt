@@ -15,10 +15,11 @@ use Rattle.router_core.specs.declared.action.Action.{Action}
 use Rattle.router_core.specs.declared.action.Action.TheVariants.{Write, Put, Close, Run}
 use Rattle.router_core.specs.declared.cause.CloseCause.{CloseCause}
 
--- a call, and the seat that serves it
+-- a call, the seat that serves it, and what that had seen of the bus when the gate was shown the call
 pub record GatedCall : Type 0 where
   pub seat : ℕ
   pub call : Call
+  pub seen : History
 
 -- A gate was shown these calls, one after the other; `passes` says what it may be once it was shown one.
 abbrev pub PassesAll : {G : Type 0} → (G → GatedCall → G → Type 0) → G → List GatedCall → G → Type 0

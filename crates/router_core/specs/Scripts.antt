@@ -109,7 +109,7 @@ pub record Takes {N G : Type 0} (alone : Bool) (told : History) (w m : World N G
 
 -- the gate is shown a call; `passes` says what it may be then
 pub record Passes {N G : Type 0} (passes : G → GatedCall → G → Type 0) (call : Call) (w m : World N G) : Type 0 where
-  pub shown : passes w.gate (record { seat = w.view.seat; call = call }) m.gate
+  pub shown : passes w.gate (record { seat = w.view.seat; call = call; seen = w.view.seen }) m.gate
   pub rest : m ≡ record w { gate = m.gate }
 
 -- an action is taken, which carries the furthest note; `told` says which history a note tells, and `registry_of` which registry it is of

@@ -2,6 +2,7 @@
 
 ghost use Rattle.router_core.specs.Deeds.{GatedCall};
 
+use bus_view::BusView;
 use driver::Call;
 
 /// What is shown each call to the bus before it is served.
@@ -9,9 +10,14 @@ pub trait Gate {
     /// What it may be once it was shown a call.
     ghost passes: { Self → GatedCall → Self → Type 0 };
 
-    /// The router of this seat is about to serve the call.
-    fn before(&mut self, seat: u8, call: &Call)
-        ensures { passes self.old (record { seat = seat; call = call.now }) self.new };
+    /// The router of this seat is about to serve the call. It lends the bus as it sees it: the
+    /// change that the call asks for is not made yet.
+    fn before<V: BusView>(&mut self, seat: u8, call: &Call, bus: &V)
+        ensures { passes self.old (record {
+          seat = seat;
+          call = call.now;
+          seen = (V.knows bus.now).seen;
+        }) self.new };
 }
 
 /// A gate that lets each call pass.
@@ -23,5 +29,5 @@ impl Gate for OpenGate {
 
     ghost passes = { λ before _ after. after ≡ before };
 
-    fn before(&mut self, _seat: u8, _call: &Call) {}
+    fn before<V: BusView>(&mut self, _seat: u8, _call: &Call, _bus: &V) {}
 }

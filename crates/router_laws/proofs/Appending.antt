@@ -45,7 +45,7 @@ gated_append seat (AskedPresence number heard ∷ first) later = gated_append se
 gated_append seat (Noted told ∷ first) later = gated_append seat first later
 gated_append seat (Framed bytes incoming ∷ first) later = gated_append seat first later
 gated_append seat (Called m reading ∷ first) later = gated_append seat first later
-gated_append seat (Gated call ∷ first) later = ap (λ (calls : List GatedCall). record { seat = seat; call = call } ∷ calls) (gated_append seat first later)
+gated_append seat (Gated seen call ∷ first) later = ap (λ (calls : List GatedCall). record { seat = seat; call = call; seen = seen } ∷ calls) (gated_append seat first later)
 gated_append seat (Wanted granted ∷ first) later = gated_append seat first later
 
 passes_append : {G : Type 0} (passes : G → GatedCall → G → Type 0) (before now after : G) (first later : List GatedCall) →

@@ -57,7 +57,7 @@ extended_right later (AskedPresence number heard ∷ asked) right = extended_rig
 extended_right later (Noted told ∷ asked) right = extended_right later asked right
 extended_right later (Framed bytes incoming ∷ asked) right = right_append (behind later bytes incoming) (extended later asked) (behind_right later bytes incoming right.0) (extended_right later asked right.1)
 extended_right later (Called m reading ∷ asked) right = extended_right later asked right.1
-extended_right later (Gated call ∷ asked) right = extended_right later asked right
+extended_right later (Gated seen call ∷ asked) right = extended_right later asked right
 extended_right later (Wanted granted ∷ asked) right = extended_right later asked right
 
 behind_read : (readers : Readers) (later bytes : List ℕ) (incoming : Incoming) → incoming ≢ Waits → AreReadBy readers (behind later bytes incoming) → readers.incoming (bytes ++ later) ≡ with_behind later incoming

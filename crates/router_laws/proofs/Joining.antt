@@ -24,7 +24,7 @@ granted_append (AskedPresence number (Refuses r) ∷ first) later h k = absurd h
 granted_append (Noted told ∷ first) later h k = granted_append first later h k
 granted_append (Framed bytes incoming ∷ first) later h k = granted_append first later h k
 granted_append (Called m reading ∷ first) later h k = granted_append first later h k
-granted_append (Gated call ∷ first) later h k = granted_append first later h k
+granted_append (Gated seen call ∷ first) later h k = granted_append first later h k
 granted_append (Wanted true ∷ first) later h k = granted_append first later h k
 granted_append (Wanted false ∷ first) later h k = absurd h
 

@@ -58,7 +58,7 @@ lawful_keeps alone (Noted told ∷ later) k m h =
     both k h.0 m (record { registry = ap (λ (n : Knowledge). n.registry) h.1.kept; seat = ap (λ (n : Knowledge). n.seat) h.1.kept }) (lawful_keeps alone later h.0 m h.2)
 lawful_keeps alone (Framed bytes incoming ∷ later) k m h = lawful_keeps alone later k m h.1
 lawful_keeps alone (Called m reading ∷ later) k n h = lawful_keeps alone later k n h.1
-lawful_keeps alone (Gated call ∷ later) k m h = lawful_keeps alone later k m h
+lawful_keeps alone (Gated seen call ∷ later) k m h = lawful_keeps alone later k m h.1
 lawful_keeps alone (Wanted granted ∷ later) k m h = lawful_keeps alone later k m h
 
 pub turns_keep : (alone : Bool) (before after : Rest) (occasions : List Occasion) (turns : List Turn) → AreServedBy alone before occasions turns after → Stays before.view after.view

@@ -29,7 +29,7 @@ right_lawful alone (AskedPresence number heard ∷ later) before after h = right
 right_lawful alone (Noted told ∷ later) before after h = right_lawful alone later h.0 after h.2
 right_lawful alone (Framed bytes incoming ∷ later) before after h = (h.0, right_lawful alone later before after h.1)
 right_lawful alone (Called m reading ∷ later) before after h = (h.0, right_lawful alone later before after h.1)
-right_lawful alone (Gated call ∷ later) before after h = right_lawful alone later before after h
+right_lawful alone (Gated seen call ∷ later) before after h = right_lawful alone later before after h.1
 right_lawful alone (Wanted granted ∷ later) before after h = right_lawful alone later before after h
 
 pub right_append : (first later : List Exchange) → AreRight first → AreRight later → AreRight (first ++ later)
@@ -42,7 +42,7 @@ right_append (AskedPresence number heard ∷ first) later h k = right_append fir
 right_append (Noted told ∷ first) later h k = right_append first later h k
 right_append (Framed bytes incoming ∷ first) later h k = (h.0, right_append first later h.1 k)
 right_append (Called m reading ∷ first) later h k = (h.0, right_append first later h.1 k)
-right_append (Gated call ∷ first) later h k = right_append first later h k
+right_append (Gated seen call ∷ first) later h k = right_append first later h k
 right_append (Wanted granted ∷ first) later h k = right_append first later h k
 
 -- ## Readers
@@ -102,7 +102,7 @@ module _ (bytes : List ℕ) (incoming : Incoming) (is : IsIncoming bytes incomin
   still (Noted told ∷ later) right read = still later right read
   still (Framed other so ∷ later) right read = (still_read other so right.0 read.0, still later right.1 read.1)
   still (Called m reading ∷ later) right read = (read.0, still later right.1 read.1)
-  still (Gated call ∷ later) right read = still later right read
+  still (Gated seen call ∷ later) right read = still later right read
   still (Wanted granted ∷ later) right read = still later right read
 
 -- they do
@@ -118,5 +118,5 @@ read_so (Framed bytes incoming ∷ later) right = (rw (same_is bytes) refl, stil
 read_so (Called m reading ∷ later) right =
     let found = calls_are_read m in
     (calls_are_one m reading found.0 right.0 found.1, read_so later right.1)
-read_so (Gated call ∷ later) right = read_so later right
+read_so (Gated seen call ∷ later) right = read_so later right
 read_so (Wanted granted ∷ later) right = read_so later right

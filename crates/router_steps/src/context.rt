@@ -382,7 +382,7 @@ impl<V: BusView, G: Gate> Context<V, G> {
         ensures spare_verdicts { self.new.spare_verdicts ≡ self.old.spare_verdicts }
     {
         let seat = self.view.seat();
-        self.gate.before(seat, call);
+        self.gate.before(seat, call, &self.view);
     }
 
     /// Asks the bus: the body of the reply is appended to nothing.

@@ -111,7 +111,7 @@ pub struct Watch<'b, J: Naming, R: Wait> {
 impl<'b, J: Naming, R: Wait> Gate for Watch<'b, J, R> {
     ghost passes = { λ _ _ _. Unit {0} };
 
-    fn before(&mut self, _seat: u8, call: &Call) {
+    fn before<V: BusView>(&mut self, _seat: u8, call: &Call, _bus: &V) {
         let Some(lookout) = &mut self.lookout else {
             return;
         };

@@ -3,6 +3,7 @@
 use crate::playing::play;
 use crate::progress::{Progress, pause};
 use crate::scenario::{ClientMessage, Condition, Scenario, Step, Tracing};
+use bus_view::BusView;
 use driver::Call;
 use router_core::Gate;
 use std::rt::Clock;
@@ -48,7 +49,7 @@ impl<'a, R: Clock> HoldingGate<'a, R> {
 impl<'a, R: Clock> Gate for HoldingGate<'a, R> {
     ghost passes = { λ _ _ _. Unit {0} };
 
-    fn before(&mut self, seat: u8, call: &Call) {
+    fn before<V: BusView>(&mut self, seat: u8, call: &Call, _bus: &V) {
         self.calls = self.calls.saturating_add(1);
         match (seat, self.calls) {
             (1, 2) if self.holds && matches!(call, Call::ListNames) => self.hold(),
