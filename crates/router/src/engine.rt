@@ -73,13 +73,6 @@ impl<V: BusView, G: Gate> Engine<V, G> {
         self.peers.free_key()
     }
 
-    /// Whether a key is that of the next connection, as [`free_key`](Engine::free_key) tells it.
-    pub fn is_free(&self, key: usize) -> bool
-        ensures { IsTrue result ↔ IsFree self.now.standing key }
-    {
-        self.peers.is_free(key)
-    }
-
     /// Whether connections can be asked who they are: with a login one may come with a challenge.
     pub fn has_login(&self) -> bool
         ensures { result ≡ is_some self.now.standing.login }

@@ -1,6 +1,6 @@
 //! The connections with what serves them, while an event is served.
 
-ghost use Rattle.std.specs.Prelude.{◌≡◌, ◌↔◌, IsTrue, [], is_some, is_none, position, IfOk, OnOk, OnErr};
+ghost use Rattle.std.specs.Prelude.{◌≡◌, [], is_some, is_none, position, IfOk, OnOk, OnErr};
 ghost use Rattle.std.specs.List.{position_or_len};
 ghost use Rattle.router_core.specs.Events.{hearing, for_peer, free_key, IsFree};
 ghost use Rattle.router_core.specs.Scripts.{RunsTo};
@@ -93,15 +93,6 @@ impl<V: BusView + Drop, G: Gate + Drop> Peers<V, G> {
 }
 
 impl<V: BusView, G: Gate> Peers<V, G> {
-    /// Makes room for so many actions.
-    pub fn reserve(&mut self, count: usize) -> Result<(), AllocError>
-        ensures standing { self.new.standing ≡ self.old.standing }
-        ensures world { self.new.work.world ≡ self.old.work.world }
-        ensures room { OnOk result (self.new.work.room ≡ count) }
-    {
-        self.context.reserve(count)
-    }
-
     /// Hands out the actions.
     pub fn take_actions(&mut self) -> Vec<Action<V::Note>>
         ensures standing { self.new.standing ≡ self.old.standing }
@@ -124,13 +115,6 @@ impl<V: BusView, G: Gate> Peers<V, G> {
         ensures { result ≡ free_key self.now.standing }
     {
         least_free(&self.peers)
-    }
-
-    /// Whether the next connection has a key.
-    pub fn is_free(&self, key: usize) -> bool
-        ensures { IsTrue result ↔ IsFree self.now.standing key }
-    {
-        key == self.free_key()
     }
 
     /// Whether connections can be asked who they are.

@@ -74,7 +74,7 @@ impl<G: Gate + Drop> Session<G> {
         ensures fault { IfErr result (λ fault.
             IsRefused self.now.engine index (Opened key challenge) fault) }
     {
-        if !self.engine.is_free(key) {
+        if key != self.engine.free_key() {
             return Err(RunFault::WrongKey(index));
         }
         if challenge.is_some() && !self.engine.has_login() {

@@ -124,7 +124,7 @@ pub(crate) fn served(
 
 /// A connection comes, and says Hello.
 pub(crate) fn come(rt: &impl Abort, alloc: Global, engine: &mut Plain, key: usize) {
-    assert!(rt; engine.is_free(key));
+    assert!(rt; key == engine.free_key());
     let mut comes = Event::Opened {
         key,
         challenge: None,

@@ -82,7 +82,7 @@ fn can_happen(engine: &Plain, event: &Event<()>) -> bool
         Event::Opened {
             key,
             challenge: None,
-        } => engine.is_free(*key),
+        } => *key == engine.free_key(),
         Event::Opened {
             key: _,
             challenge: Some(_),
@@ -240,7 +240,7 @@ impl EngineScene {
                 Some(key) => Some(key as u64),
                 None => None,
             },
-            "free" => Some(u64::from(self.engine.is_free(key))),
+            "free" => Some(u64::from(key == self.engine.free_key())),
             "ready" => Some(u64::from(self.engine.has_next(key))),
             _ => Some(self.engine.unnamed() as u64),
         };

@@ -49,7 +49,7 @@ pub fn serve(alloc: Global) -> Served {
 
 /// A connection comes, and has its name.
 pub fn say_hello(engine: &mut Plain, alloc: Global) -> Option<()> {
-    if !engine.is_free(0) {
+    if engine.free_key() != 0 {
         return None;
     }
     let opened = Event::Opened {

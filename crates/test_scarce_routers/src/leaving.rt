@@ -70,5 +70,5 @@ fn is_still(engine: &mut Plain) -> bool {
 fn is_gone(engine: &mut Plain) -> Option<bool> {
     brought(engine, Event::Closed { key: 0 })?;
     brought(engine, Event::Tick)?;
-    Some(engine.is_free(0) && !engine.ticks())
+    Some(engine.free_key() == 0 && !engine.ticks())
 }

@@ -31,7 +31,7 @@ pub fn is_let_in(engine: &mut Plain, alloc: Global) -> Option<bool> {
 /// A connection comes, is asked who it is, and says so. None where it is answered anything else
 /// than it should be.
 fn converse(engine: &mut Plain, alloc: Global) -> Option<End> {
-    if !engine.is_free(0) || !engine.has_login() {
+    if engine.free_key() != 0 || !engine.has_login() {
         return None;
     }
     let opened = Event::Opened {
