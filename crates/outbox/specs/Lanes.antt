@@ -69,6 +69,10 @@ module _ {E : Type 0} where
   abbrev pub Shows : Hand E → List E → Type 0
   Shows v items = (put : List (Entry E)) × (taken : List (Entry E)) × Legal put taken items × Knows v put taken
 
+  -- The queue of this end held so many items at some moment.
+  abbrev pub HadItems : ℕ → End E → Type 0
+  HadItems count e = Held count (Shows e.hand)
+
   -- The queue of this end was full at some moment.
   abbrev pub WasFull : End E → Type 0
   WasFull e = Held 256 (Shows e.hand)

@@ -1,7 +1,7 @@
 //! The ends of one queue.
 
 ghost use Rattle.std.specs.Prelude.{◌≡◌, ◌+◌, ◌<◌, ◌≤◌, IfOk, OnErr, OnOk, MatchResult, MatchOption};
-ghost use Rattle.outbox.specs.Lanes.{whole, sent, Took, gives, keeps_rest, Begins, of, WasEmpty, WasFull};
+ghost use Rattle.outbox.specs.Lanes.{whole, sent, Took, gives, keeps_rest, Begins, HadItems, of, WasEmpty, WasFull};
 
 use crate::hand::{Adopt, FirstLane, Hand, InOrder, Puts, Takes};
 use crossbeam_queue::{Pass, RuledArrayQueue};
@@ -56,7 +56,8 @@ impl<E: Drop> End<E> {
 
     /// How many items the queue held at some moment of the call.
     pub(crate) fn len<R: Wait>(&mut self, rt: &R) -> usize
-        ensures { self.new ≡ self.old }
+        ensures same { self.new ≡ self.old }
+        ensures count { HadItems result self.old }
     {
         self.queue.len_as::<Puts, R>(rt, &mut self.pass)
     }

@@ -1,7 +1,7 @@
 //! What a thread puts with.
 
 ghost use Rattle.std.specs.Prelude.{◌≡◌, ◌+◌, ◌<◌, ◌≤◌, length, IfOk, OnOk, MatchResult, map, slice_get, slice_set, All};
-ghost use Rattle.outbox.specs.Lanes.{sent, with, gives, keeps_rest, MayPut, Begins, of, IsCompared, End as Known, WasFull};
+ghost use Rattle.outbox.specs.Lanes.{sent, with, gives, keeps_rest, MayPut, Begins, HadItems, of, IsCompared, End as Known, WasFull};
 
 use crate::ends::{End, Full, Tap};
 use std::alloc::{AllocError, Global};
@@ -71,6 +71,7 @@ impl<E: Drop> Lane<E> {
     pub fn len<R: Wait>(&mut self, rt: &R, slot: usize) -> usize
         requires { slot < length self.old }
         ensures same { self.new ≡ self.old }
+        ensures count { (e : Known E) → slice_get self.old slot ≡ Some e → HadItems result e }
     {
         self.ends[slot].len(rt)
     }
