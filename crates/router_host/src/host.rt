@@ -200,6 +200,14 @@ impl<V: BusView, G: Gate, P: Post<V>, S: Socket> Host<V, G, P, S> {
         self.check_due = true;
     }
 
+    /// Lets a router that is behind with its mail have a turn, if there is one. It does not wait for
+    /// long.
+    pub fn let_others_go_first(&mut self, right: &V::Right)
+        ensures { self.new ≡ self.old }
+    {
+        self.carrier.post.let_go_first(right);
+    }
+
     /// Whether something is left for the next turn.
     pub fn is_busy(&self) -> bool {
         self.kept.is_some()

@@ -225,17 +225,31 @@ impl<V: BusView, G: Gate, P: Post<V>, S: Socket> Host<V, G, P, S> {
         match self.carrier.lines.take_ready() {
             Todo::All => {
                 for key in 0..self.carrier.lines.len() {
-                    self.serve_one(right, key)?;
+                    self.serve_in_turn(right, key)?;
                 }
             }
             Todo::Keys(keys) => {
                 for key in &keys {
-                    self.serve_one(right, *key)?;
+                    self.serve_in_turn(right, *key)?;
                 }
                 self.carrier.lines.give_back_ready(keys);
             }
         }
         Ok(())
+    }
+
+    /// Serves a connection, but in the next turn where another router is behind: what is served now
+    /// could put more into an outbox than it has room for.
+    fn serve_in_turn(&mut self, right: &V::Right, key: usize) -> Result<(), AllocError>
+        requires none { self.old.kept ≡ None }
+        ensures does { DoesBy V.BusView G.Gate P.Post self.old self.new }
+        ensures ok { OnOk result (self.new.kept ≡ None) }
+    {
+        if self.carrier.post.is_behind() {
+            self.carrier.lines.serve_later(key);
+            return Ok(());
+        }
+        self.serve_one(right, key)
     }
 
     /// Serves a connection, and takes the mail that it brought: else some could put more into an
@@ -298,8 +312,8 @@ impl<V: BusView, G: Gate, P: Post<V>, S: Socket> Host<V, G, P, S> {
         Ok(())
     }
 
-    /// Serves some whole messages of a connection: one by one, but twice as many at once each time
-    /// that those before seem to have changed rules.
+    /// Serves some whole messages of a connection, until another router is behind: one by one, but
+    /// twice as many at once each time that those before seem to have changed rules.
     fn serve_part(&mut self, right: &V::Right, key: usize) -> Result<(), AllocError>
         requires none { self.old.kept ≡ None }
         ensures does { DoesBy V.BusView G.Gate P.Post self.old self.new }
@@ -308,7 +322,7 @@ impl<V: BusView, G: Gate, P: Post<V>, S: Socket> Host<V, G, P, S> {
         let mut left = PART;
         let mut count = 1;
         for _ in 0..PART {
-            if left == 0 || !self.engine.has_next(key) {
+            if left == 0 || !self.engine.has_next(key) || self.carrier.post.is_behind() {
                 break;
             }
             self.serve_up_to(right, key, count)?;
@@ -479,17 +493,31 @@ impl<V: BusView, G: Gate, P: Post<V>, S: Socket> Host<V, G, P, S> {
         match self.carrier.lines.take_over() {
             Todo::All => {
                 for key in 0..self.carrier.lines.len() {
-                    self.close_and_drain(right, key)?;
+                    self.close_in_turn(right, key)?;
                 }
             }
             Todo::Keys(keys) => {
                 for key in &keys {
-                    self.close_and_drain(right, *key)?;
+                    self.close_in_turn(right, *key)?;
                 }
                 self.carrier.lines.give_back_over(keys);
             }
         }
         Ok(())
+    }
+
+    /// Lets go of a connection, where it is over, but in the next turn where another router is
+    /// behind: a connection with many names has much to tell.
+    fn close_in_turn(&mut self, right: &V::Right, key: usize) -> Result<(), AllocError>
+        requires none { self.old.kept ≡ None }
+        ensures does { DoesBy V.BusView G.Gate P.Post self.old self.new }
+        ensures ok { OnOk result (self.new.kept ≡ None) }
+    {
+        if self.carrier.post.is_behind() {
+            self.carrier.lines.let_go_later(key);
+            return Ok(());
+        }
+        self.close_and_drain(right, key)
     }
 
     /// Lets go of a connection, where it is over, and takes the mail that this brought, and that

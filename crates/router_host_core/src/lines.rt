@@ -188,6 +188,21 @@ impl<S: Socket> Lines<S> {
         }
     }
 
+    /// A connection that was to be served now is to be served in the next turn.
+    pub fn serve_later(&mut self, key: usize)
+        ensures { self.new ≡ self.old }
+    {
+        self.ready.add(key);
+    }
+
+    /// A connection that was to be let go of now, where it is over, is to be let go of in the next
+    /// turn.
+    pub fn let_go_later(&mut self, key: usize)
+        ensures { self.new ≡ self.old }
+    {
+        self.over.add(key);
+    }
+
     /// Bytes are written to a connection.
     pub fn write(&mut self, key: usize, bytes: WrittenBytes)
         ensures { IsWrittenAt self.old key bytes (line_at self.old key) self.new }

@@ -95,4 +95,12 @@ pub trait Post<V: BusView>: Drop {
     /// A turn ends: whoever something was put for may be woken.
     fn turn_ends(&mut self, right: &V::Right)
         ensures { self.new ≡ self.old };
+
+    /// Whether another router is behind with what was put for it: nothing that may put more is to
+    /// be served before that one had a turn.
+    fn is_behind(&self) -> bool;
+
+    /// Lets a router that is behind have a turn. It does not wait for long.
+    fn let_go_first(&mut self, right: &V::Right)
+        ensures { self.new ≡ self.old };
 }

@@ -14,14 +14,12 @@ use std::time::Duration;
 /// How many places for connections a bus has.
 const PLACES: usize = MAX_CONNECTIONS;
 
-/// How often it is looked whether another router has ended a turn, by one that is patient.
-const PATIENCE: u32 = 100;
-
-/// How often by one that is not.
-const IMPATIENCE: u32 = 10;
-
-/// How long it is waited for that each time, in milliseconds.
+/// How long a router waits at most until another one ends a turn, in milliseconds.
 const WAIT: u64 = 2;
+
+/// A router that ends so many turns has had one that it began after they were counted: it may have
+/// been in one then.
+const TURNS: u64 = 2;
 
 /// Ends the wait of one thread.
 pub trait Wake {
@@ -50,8 +48,6 @@ struct RouterState<W: Wake + Drop> {
     turns: AtomicU64,
     /// Another router waits for the end of its turn.
     awaited: AtomicBool,
-    /// It waits for the end of another's turn.
-    waits: AtomicBool,
 }
 
 impl<W: Wake + Drop> RouterState<W> {
@@ -66,64 +62,34 @@ impl<W: Wake + Drop> RouterState<W> {
             serves: AtomicBool::new(false),
             turns: AtomicU64::new(0),
             awaited: AtomicBool::new(false),
-            waits: AtomicBool::new(false),
         }
     }
 
-    /// Wakes it. Tells whether it slept.
-    fn wake(&self) -> bool {
-        let slept = self.sleeps.swap(false, Ordering::SeqCst);
-        if slept {
+    fn wake(&self) {
+        if self.sleeps.swap(false, Ordering::SeqCst) {
             self.waker.wake();
         }
-        slept
     }
 
-    /// Whoever waits for it looks again.
-    fn notify(&self) {
+    /// It has ended a turn: whoever waits for that goes on.
+    fn end_turn(&self) {
+        self.turns.fetch_add(1, Ordering::SeqCst);
         if lower(&self.awaited) {
             self.turns.wake_all();
         }
     }
 
-    /// It has ended a turn.
-    fn end_turn(&self) {
-        self.turns.fetch_add(1, Ordering::SeqCst);
-        self.notify();
-    }
-
-    /// It begins to wait for another.
-    fn begin_wait(&self) {
-        self.waits.store(true, Ordering::SeqCst);
-        self.notify();
-    }
-
-    /// It waits no more.
-    fn end_wait(&self) {
-        self.waits.store(false, Ordering::SeqCst);
-    }
-
-    /// Waits until it has ended a turn that began after this call. Tells whether it has: that may
-    /// take too long. For one that waits itself only a patient one waits.
-    fn await_turn<R: Wait>(&self, rt: &R, is_patient: bool) -> bool {
-        // If it does not sleep, it may be in a turn that began before.
-        let more = if self.wake() { 1 } else { 2 };
-        let wanted = self.turns.load(Ordering::SeqCst).saturating_add(more);
-        let looks = if is_patient { PATIENCE } else { IMPATIENCE };
-        for _ in 0..looks {
-            let turns = self.turns.load(Ordering::SeqCst);
-            if turns >= wanted {
-                return true;
-            }
-            if !is_patient && self.waits.load(Ordering::SeqCst) {
-                return false;
-            }
-            raise(&self.awaited);
-            let wait = Duration::from_millis(WAIT);
-            self.turns
-                .park_timeout(rt, (turns & 0xffff_ffff) as u32, wait);
-        }
-        false
+    /// Waits until it ends a turn, but not for long.
+    fn await_turn<R: Wait>(&self, rt: &R) {
+        let turns = self.turns.load(Ordering::SeqCst);
+        // Before it is woken: if it is about to sleep, it sees this.
+        raise(&self.awaited);
+        self.wake();
+        self.turns.park_timeout(
+            rt,
+            (turns & 0xffff_ffff) as u32,
+            Duration::from_millis(WAIT),
+        );
     }
 }
 
@@ -236,51 +202,47 @@ impl<W: Wake + Drop> Coordinator<W> {
         }
     }
 
-    /// There is mail for a place of another router, whose outbox had room for it.
-    pub(crate) fn tell_of_room(&self, slot: usize) {
-        if let Some(flag) = self.stuck.get(slot) {
-            lower(flag);
+    /// How many turns the router of a place has ended. None where it does not serve, or where the
+    /// connection of the place did not take its mail though its router had a turn.
+    pub(crate) fn turns_of(&self, slot: usize) -> Option<u64> {
+        let stuck = self.stuck.get(slot)?;
+        let state = self.states.get(self.router_of(slot))?;
+        if stuck.load(Ordering::SeqCst) || !state.serves.load(Ordering::SeqCst) {
+            return None;
         }
-        self.tell_of_mail(slot);
+        Some(state.turns.load(Ordering::SeqCst))
     }
 
-    /// Much mail waits for a place of another router. Waits until that router has had a turn, in
-    /// which it takes the mail of the place, if the connection takes any. Tells whether it has had
-    /// one. Where the outbox is full, this one waits also for a router that waits itself: else two
-    /// that wait for each other would both stand still.
-    pub(crate) fn wait_for_room<R: Wait>(
-        &self,
-        rt: &R,
-        me: usize,
-        slot: usize,
-        is_full: bool,
-    ) -> bool {
-        let Some(flag) = self.stuck.get(slot) else {
-            return false;
-        };
-        let Some(state) = self.states.get(self.router_of(slot)) else {
-            return false;
-        };
-        if flag.load(Ordering::SeqCst) || !state.serves.load(Ordering::SeqCst) {
-            return false;
+    /// Whether the router of a place has had a turn that began after it had ended so many, or will
+    /// have none.
+    pub(crate) fn has_had_turn(&self, slot: usize, turns: u64) -> bool {
+        match self.states.get(self.router_of(slot)) {
+            Some(state) => {
+                !state.serves.load(Ordering::SeqCst)
+                    || state.turns.load(Ordering::SeqCst) >= turns.saturating_add(TURNS)
+            }
+            None => true,
         }
-        self.tell_of_mail(slot);
-        let own = self.states.get(me);
-        if let Some(own) = own {
-            own.begin_wait();
-        }
-        let has_turned = state.await_turn(rt, is_full);
-        if let Some(own) = own {
-            own.end_wait();
-        }
-        has_turned
     }
 
-    /// The outbox of a place of another router stays full: nobody is to wait for it until it has
-    /// room.
+    /// Waits until the router of a place ends a turn, but not for long.
+    pub(crate) fn await_turn<R: Wait>(&self, rt: &R, slot: usize) {
+        if let Some(state) = self.states.get(self.router_of(slot)) {
+            state.await_turn(rt);
+        }
+    }
+
+    /// The connection of a place does not take its mail, though its router had a turn.
     pub(crate) fn note_stuck(&self, slot: usize) {
         if let Some(flag) = self.stuck.get(slot) {
             raise(flag);
+        }
+    }
+
+    /// The connection of a place takes its mail.
+    pub(crate) fn note_taking(&self, slot: usize) {
+        if let Some(flag) = self.stuck.get(slot) {
+            lower(flag);
         }
     }
 
@@ -374,7 +336,8 @@ impl<W: Wake + Drop> Coordinator<W> {
         state.sleeps.store(true, Ordering::SeqCst);
         let is_awaited = state.mail.load(Ordering::SeqCst)
             || state.check_due.load(Ordering::SeqCst)
-            || state.comes.load(Ordering::SeqCst);
+            || state.comes.load(Ordering::SeqCst)
+            || state.awaited.load(Ordering::SeqCst);
         !(is_awaited || self.is_over())
     }
 

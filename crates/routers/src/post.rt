@@ -23,21 +23,30 @@ pub struct LanePost<'a, J: Naming, W: Wake + Drop> {
     taps: Vec<Tap<EnvelopeOf<J>>>,
     starts: Lane<StartRequest>,
     coordinator: &'a Coordinator<W>,
-    /// Its place among the routers.
-    me: usize,
     /// The slot of its first place.
     first: usize,
     /// How many envelopes were put for other routers since it was looked how many wait.
     unseen: u8,
+    /// What another router is behind with.
+    backlog: Option<Backlog>,
+}
+
+/// Much mail that waits for a place of another router.
+#[derive(Clone, Copy)]
+struct Backlog {
+    slot: usize,
+    /// How many turns that router had ended when it was seen.
+    turns: u64,
 }
 
 /// So many envelopes are put for other routers before it is looked how many wait for one of their
-/// places.
-const LOOK: u8 = 8;
+/// places: an odd number, so that each of several places has its turn.
+const LOOK: u8 = 7;
 
-/// Where so many envelopes wait for a place, its router is behind. More than half of an outbox is
-/// left for what that router puts there itself in a part of its turn.
-const BEHIND: usize = 96;
+/// So many envelopes for a place are much. Most of its outbox is left for what its own router puts
+/// there in a part of its turn, up to five for each message, and for what others put until they
+/// look.
+const MUCH: usize = 80;
 
 impl<'a, J: Naming, W: Wake + Drop> Model for LanePost<'a, J, W> {
     ghost use Rattle.outbox_core.specs.declared.envelope.Envelope.{Envelope};
@@ -75,9 +84,9 @@ impl<'a, J: Naming, W: Wake + Drop> LanePost<'a, J, W> {
             taps,
             starts,
             coordinator,
-            me,
             first: me.saturating_mul(coordinator.places()),
             unseen: 0,
+            backlog: None,
         }
     }
 
@@ -110,14 +119,9 @@ impl<'a, J: Naming, W: Wake + Drop> LanePost<'a, J, W> {
             return Err(Full(back));
         }
         if !self.is_own(slot) {
-            self.coordinator.tell_of_room(slot);
+            self.coordinator.tell_of_mail(slot);
         }
         Ok(())
-    }
-
-    /// Whether the full outbox of a slot is worth another try, once its router has had a turn.
-    fn is_worth_a_try<R: Wait>(&self, right: &R, slot: usize) -> bool {
-        !self.is_own(slot) && self.coordinator.wait_for_room(right, self.me, slot, true)
     }
 
     /// Whether it is to be looked how many envelopes wait for a slot of another router.
@@ -136,40 +140,47 @@ impl<'a, J: Naming, W: Wake + Drop> LanePost<'a, J, W> {
         true
     }
 
-    /// Lets the router of a slot have a turn first, where it is behind.
-    fn let_go_first<R: Wait>(&mut self, right: &R, slot: usize)
+    /// Looks now and then whether much mail waits for a slot of another router.
+    fn look<R: Wait>(&mut self, right: &R, slot: usize)
         ensures same { self.new ≡ self.old }
     {
-        if self.is_to_look(slot) && self.lane.len(right, slot) >= BEHIND {
-            let _taken = self.coordinator.wait_for_room(right, self.me, slot, false);
+        if self.is_to_look(slot) && self.lane.len(right, slot) >= MUCH {
+            self.note_backlog(slot);
         }
     }
 
-    /// Puts an envelope into an outbox that was full, once its router had time to take what is
-    /// there: a client that reads is not to leave since its router was late.
-    fn put_again<R: Wait>(
-        &mut self,
-        right: &R,
-        to: Conn,
-        envelope: EnvelopeOf<J>,
-    ) -> Result<(), Full<Note<J>>>
-        requires was_full { IsFullFor self.old to.slot }
-        ensures put { OnOk result (Sends self.old to.slot envelope self.new) }
-        ensures refused { OnErr result (self.new ≡ self.old) }
-        ensures full { OnErr result (IsFullFor self.old to.slot) }
-        ensures back { IfErr result (λ full. full.0 ≡ envelope) }
+    /// Much mail waits for a slot of another router.
+    fn note_backlog(&mut self, slot: usize)
+        ensures same { self.new ≡ self.old }
     {
-        let slot = usize::from(to.slot);
-        if !self.is_worth_a_try(right, slot) {
-            return Err(Full(envelope));
+        if self.backlog.is_some() {
+            return;
         }
-        match self.put_once(right, to, envelope) {
-            Ok(()) => Ok(()),
-            Err(full) => {
-                self.coordinator.note_stuck(slot);
-                Err(full)
-            }
+        if let Some(turns) = self.coordinator.turns_of(slot) {
+            self.backlog = Some(Backlog { slot, turns });
         }
+    }
+
+    /// Whether much mail waits for a slot still.
+    fn has_much<R: Wait>(&mut self, right: &R, slot: usize) -> bool
+        ensures same { self.new ≡ self.old }
+    {
+        slot < self.lane.slots() && self.lane.len(right, slot) >= MUCH
+    }
+
+    /// Whether a backlog is no reason to wait any more: it is gone, or its connection does not take
+    /// its mail.
+    fn is_over<R: Wait>(&mut self, right: &R, backlog: Backlog) -> bool
+        ensures same { self.new ≡ self.old }
+    {
+        if !self.has_much(right, backlog.slot) {
+            return true;
+        }
+        if !self.coordinator.has_had_turn(backlog.slot, backlog.turns) {
+            return false;
+        }
+        self.coordinator.note_stuck(backlog.slot);
+        true
     }
 }
 
@@ -195,11 +206,8 @@ impl<'a, 'b, J: Naming, W: Wake + Drop, R: Wait> Post<Traced<Desk<'b, J, R>>>
         ensures full { OnErr result (IsFullFor self.old to.slot) }
         ensures back { IfErr result (λ full. full.0 ≡ envelope) }
     {
-        self.let_go_first(right, usize::from(to.slot));
-        match self.put_once(right, to, envelope) {
-            Ok(()) => Ok(()),
-            Err(Full(back)) => self.put_again(right, to, back),
-        }
+        self.look(right, usize::from(to.slot));
+        self.put_once(right, to, envelope)
     }
 
     fn start(&mut self, right: &R, request: StartRequest) -> Result<(), TooManyStarts>
@@ -221,11 +229,28 @@ impl<'a, 'b, J: Naming, W: Wake + Drop, R: Wait> Post<Traced<Desk<'b, J, R>>>
         if place >= self.taps.len() {
             return None;
         }
+        self.coordinator.note_taking(usize::from(slot));
         self.taps[place].take(right)
     }
 
     fn turn_ends(&mut self, _right: &R) {
         self.coordinator.wake_owed();
+    }
+
+    fn is_behind(&self) -> bool {
+        self.backlog.is_some()
+    }
+
+    fn let_go_first(&mut self, right: &R) {
+        let Some(backlog) = self.backlog else {
+            return;
+        };
+        if !self.is_over(right, backlog) {
+            self.coordinator.await_turn(right, backlog.slot);
+        }
+        if self.is_over(right, backlog) {
+            self.backlog = None;
+        }
     }
 
     fn ask_check(&mut self, _right: &R, at: Conn) {

@@ -80,7 +80,7 @@ impl<'a, V: BusView, G: Gate, P: Post<V>, S: Socket, E: Source<S>, W: Wake + Dro
         ensures serves { WorksOnBy V.BusView G.Gate P.Post self.old self.new }
     {
         for _ in rt.forever() {
-            self.rest()?;
+            self.rest(right)?;
             if self.coordinator.is_over() {
                 return Ok(());
             }
@@ -93,11 +93,13 @@ impl<'a, V: BusView, G: Gate, P: Post<V>, S: Socket, E: Source<S>, W: Wake + Dro
         unreachable!()
     }
 
-    /// Waits for what happens next, unless there is something to do.
-    fn rest(&mut self) -> Result<(), Fault>
+    /// Waits for what happens next, unless there is something to do. Routers that are behind go
+    /// first.
+    fn rest(&mut self, right: &V::Right) -> Result<(), Fault>
         ensures same { self.new ≡ self.old }
     {
         self.coordinator.end_turn(self.me);
+        self.host.let_others_go_first(right);
         let timeout = self.timeout();
         if timeout == Timeout::Zero {
             return self.source.wait(Timeout::Zero);

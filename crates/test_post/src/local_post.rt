@@ -156,4 +156,10 @@ impl Post<SeqBus> for LocalPost {
     }
 
     fn turn_ends(&mut self, _right: &()) {}
+
+    fn is_behind(&self) -> bool {
+        false
+    }
+
+    fn let_go_first(&mut self, _right: &()) {}
 }

@@ -2,7 +2,7 @@
 
 use crate::playing::play;
 use crate::scenario::{ClientMessage, Condition, Scenario, Step, Tracing};
-use std::alloc::AllocError;
+use std::alloc::{AllocError, Global};
 use std::test::Fail;
 use test_support::messages::{ACQUIRED, WELCOME};
 
@@ -323,6 +323,102 @@ fn who_reads_all_is_not_put_out_by_another_router(rt: HostRuntime) -> Result<(),
     writeln!(expected, "client 1\n1 reply 1 :1.2")?;
     writeln!(expected, "2 org.freedesktop.DBus NameAcquired :1.2")?;
     assert_eq!(rt; told.as_str(), expected.as_str());
+    Ok(())
+}
+
+/// What five clients of the first router send to the second reader, each.
+const TO_SECOND: ClientMessage = ClientMessage::Ticks(Some(":1.2"), 200);
+
+/// What five clients of the second router send to the first reader, each.
+const TO_FIRST: ClientMessage = ClientMessage::Ticks(Some(":1.1"), 200);
+
+/// Five clients of each of two routers send more at once, to one of the other router that reads,
+/// than its outbox has room for.
+const CROSSING: Scenario = Scenario {
+    rooms: &[ROOM; 12],
+    steps: &[
+        &[
+            Step::Connects(0),
+            Step::Sends(0, ClientMessage::Hello),
+            Step::Awaits(Condition::Received(1, 2)),
+            Step::Connects(2),
+            Step::Connects(3),
+            Step::Connects(4),
+            Step::Connects(5),
+            Step::Connects(6),
+            Step::Sends(2, ClientMessage::Hello),
+            Step::Sends(3, ClientMessage::Hello),
+            Step::Sends(4, ClientMessage::Hello),
+            Step::Sends(5, ClientMessage::Hello),
+            Step::Sends(6, ClientMessage::Hello),
+            Step::Awaits(Condition::Received(11, 2)),
+            Step::Sends(2, TO_SECOND),
+            Step::Sends(3, TO_SECOND),
+            Step::Sends(4, TO_SECOND),
+            Step::Sends(5, TO_SECOND),
+            Step::Sends(6, TO_SECOND),
+            Step::Awaits(Condition::Received(0, 1002)),
+            Step::Awaits(Condition::Received(1, 1002)),
+            Step::Ends,
+        ],
+        &[
+            Step::Awaits(Condition::Received(0, 2)),
+            Step::Connects(1),
+            Step::Sends(1, ClientMessage::Hello),
+            Step::Awaits(Condition::Received(6, 2)),
+            Step::Connects(7),
+            Step::Connects(8),
+            Step::Connects(9),
+            Step::Connects(10),
+            Step::Connects(11),
+            Step::Sends(7, ClientMessage::Hello),
+            Step::Sends(8, ClientMessage::Hello),
+            Step::Sends(9, ClientMessage::Hello),
+            Step::Sends(10, ClientMessage::Hello),
+            Step::Sends(11, ClientMessage::Hello),
+            Step::Awaits(Condition::Received(11, 2)),
+            Step::Sends(7, TO_FIRST),
+            Step::Sends(8, TO_FIRST),
+            Step::Sends(9, TO_FIRST),
+            Step::Sends(10, TO_FIRST),
+            Step::Sends(11, TO_FIRST),
+            Step::Awaits(Condition::Received(0, 1002)),
+            Step::Awaits(Condition::Received(1, 1002)),
+            Step::Ends,
+        ],
+    ],
+    stops: &[],
+    holds: false,
+    tracing: Tracing::Off,
+};
+
+/// The lines that tell what came of a sender.
+fn ticks_of(alloc: Global, told: &str, sender: &str) -> Result<String, Fail> {
+    let end = format!(in alloc; " {sender} Ticked")?;
+    let mut ticks = String::new(alloc);
+    for line in told.lines() {
+        if line.ends_with(end.as_str()) {
+            writeln!(ticks, "{line}")?;
+        }
+    }
+    Ok(ticks)
+}
+
+#[test]
+fn who_reads_all_is_not_put_out_where_routers_flood_each_other(
+    rt: HostRuntime,
+) -> Result<(), Fail> {
+    let alloc = rt.alloc();
+    let told = play(&rt, alloc, &CROSSING)?.told;
+    let mut ticks = String::new(alloc);
+    let mut expected = String::new(alloc);
+    for number in 3..=12 {
+        let sender = format!(in alloc; ":1.{number}")?;
+        let came = ticks_of(alloc, told.as_str(), sender.as_str())?;
+        write!(ticks, "{came}")?;
+        add_ticks(&mut expected, sender.as_str(), 2, 200)?;
+    }
+    assert_eq!(rt; ticks.as_str(), expected.as_str());
     Ok(())
 }
 

@@ -9,7 +9,7 @@ use std::rt::Clock;
 use std::sync::Wait;
 
 /// The most clients of a scenario.
-const CLIENTS: usize = 8;
+const CLIENTS: usize = 12;
 
 /// What happens to a router, as its scenario says.
 #[derive(Drop)]
