@@ -155,12 +155,17 @@ impl<V: BusView, P: Post<V>, S: Socket> Carrier<V, P, S> {
         }
     }
 
-    /// Puts a message to one connection. Where that can't be, it is to be put out.
+    /// Puts a message to one connection. Where that can't be, it is to be put out, and gets no later
+    /// ones: what it gets has no gap.
     fn put_to(&mut self, right: &V::Right, to: Conn, note: &Option<V::Note>, content: &Content)
         requires { IsOwnNote V.registry_of (P.registry self.old.post) note.now }
         ensures done { IsPut P.puts note.now content.now to self.old self.new }
         ensures registry { P.registry self.new.post ≡ P.registry self.old.post }
     {
+        if self.put_out.contains(to) {
+            self.put_out.add(to);
+            return;
+        }
         let Ok(content) = content.try_clone() else {
             self.put_out.add(to);
             return;

@@ -54,6 +54,12 @@ impl PutOut {
         !self.any
     }
 
+    /// Whether a connection is among them.
+    pub fn contains(&self, conn: Conn) -> bool {
+        let slot = usize::from(conn.slot);
+        self.any && slot < self.conns.len() && self.conns[slot] == Some(conn)
+    }
+
     /// One of them, who is then no longer among them.
     pub fn take(&mut self) -> Option<Conn>
         ensures taken { IfSome result (λ conn. IsTakenOut conn self.old self.new) }
