@@ -18,6 +18,8 @@ pub enum EndCause {
     Unwritable,
     /// There was no memory for bytes that were written to it.
     NoMemory,
+    /// It had no name in time.
+    Silent,
 }
 
 impl fmt::Display for EndCause {
@@ -29,6 +31,7 @@ impl fmt::Display for EndCause {
             EndCause::Unreadable => write!(f, "device: input"),
             EndCause::Unwritable => write!(f, "device: output"),
             EndCause::NoMemory => write!(f, "memory"),
+            EndCause::Silent => write!(f, "no name in time"),
         }
     }
 }

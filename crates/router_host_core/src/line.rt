@@ -42,6 +42,8 @@ pub(crate) struct Line<S: Socket> {
     listed: bool,
     /// It is among those to be flushed.
     dirty: bool,
+    /// The time in which who connects is to have a name passed since it came.
+    aged: bool,
 }
 
 impl<S: Socket> Model for Line<S> {
@@ -95,6 +97,7 @@ impl<S: Socket> Line<S> {
             ended: None,
             listed: true,
             dirty: false,
+            aged: false,
         }
     }
 
@@ -125,6 +128,14 @@ impl<S: Socket> Line<S> {
         ensures { self.new ≡ self.old }
     {
         !std::mem::replace(&mut self.dirty, true)
+    }
+
+    /// The time in which who connects is to have a name passes. Tells whether it did before, since
+    /// the connection came.
+    pub(crate) fn age(&mut self) -> bool
+        ensures { self.new ≡ self.old }
+    {
+        std::mem::replace(&mut self.aged, true)
     }
 
     /// The socket may be read, to its end where the other side sends no more.

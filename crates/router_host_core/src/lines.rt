@@ -24,6 +24,8 @@ pub struct Lines<S: Socket> {
     dirty: Hints,
     /// Those that are over.
     over: Hints,
+    /// A connection came since all had names.
+    has_newcomers: bool,
 }
 
 impl<S: Socket> Model for Lines<S> {
@@ -46,6 +48,7 @@ impl<S: Socket> Lines<S> {
             ready: Hints::new(alloc),
             dirty: Hints::new(alloc),
             over: Hints::new(alloc),
+            has_newcomers: false,
         }
     }
 
@@ -86,6 +89,7 @@ impl<S: Socket> Lines<S> {
         if key < self.table.len() {
             self.table[key] = Some(Line::new(alloc, socket));
             self.ready.add(key);
+            self.has_newcomers = true;
         }
     }
 
@@ -238,6 +242,32 @@ impl<S: Socket> Lines<S> {
             if !was_over {
                 self.over.add(key);
             }
+        }
+    }
+
+    /// Whether a connection came since all had names.
+    pub fn has_newcomers(&self) -> bool {
+        self.has_newcomers
+    }
+
+    /// All connections have names.
+    pub fn note_all_named(&mut self)
+        ensures { self.new ≡ self.old }
+    {
+        self.has_newcomers = false;
+    }
+
+    /// The time in which who connects is to have a name passes for a connection. Tells whether it
+    /// did before, since that came.
+    pub fn age(&mut self, key: usize) -> bool
+        ensures { self.new ≡ self.old }
+    {
+        if key >= self.table.len() {
+            return false;
+        }
+        match &mut self.table[key] {
+            Some(line) => line.age(),
+            None => false,
         }
     }
 
