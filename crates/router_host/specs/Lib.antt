@@ -1,4 +1,5 @@
 pub mod Doing
+pub mod Expiring
 pub mod Happening
 pub mod Keeping
 pub mod Opening

@@ -26,6 +26,7 @@
 
 mod host;
 mod kept;
+mod login_time;
 mod opening;
 mod trace;
 mod turn;
