@@ -106,7 +106,7 @@ fn open_registry<
 }
 
 /// What a router begins with.
-type Setup<'a, J, F, R> = RouterSetup<J, Sockets<'a, Log<'a, R>>, OpenGate, TraceFile<F>>;
+type Setup<'a, J, F, R> = RouterSetup<J, Sockets<'a, Log<'a, R>, R>, OpenGate, TraceFile<F>>;
 
 /// What the routers begin with.
 type Setups<'a, J, F, R> = Vec<Setup<'a, J, F, R>>;
@@ -137,7 +137,7 @@ fn setup<'a, J: Naming, F: Drop, R: Net + Eprint + Clock + AllocGlobal>(
     let login = bus.login.login(alloc)?;
     let poll = parts.polls.pop().ok_or(AllocError)?;
     let log = Log::new(rt, bus.options.is_verbose);
-    let source = Sockets::new(alloc, poll, new_connections, log)?;
+    let source = Sockets::new(rt, alloc, poll, new_connections, log)?;
     let taps = parts.taps.pop().ok_or(AllocError)?;
     let Place {
         seat,
@@ -261,7 +261,7 @@ fn run_threads<
     rt: &R,
     shared: &Shared<J>,
     bus: &Bus<'_>,
-    setups: Vec<RouterSetup<J, Sockets<'_, L>, OpenGate, TraceFile<F>>>,
+    setups: Vec<RouterSetup<J, Sockets<'_, L, R>, OpenGate, TraceFile<F>>>,
     entrance: Entrance<F>,
     chores: C,
 ) -> Result<(), ServeFault> {

@@ -10,17 +10,18 @@
 //! use std::alloc::Global;
 //! use std::io;
 //! use std::net::Net;
+//! use std::rt::Clock;
 //!
 //! /// What a router hears of its sockets by, and what wakes it.
-//! fn open<'a, L: EndLog + Drop, R: Net>(
-//!     rt: &R,
+//! fn open<'a, L: EndLog + Drop, R: Net + Clock>(
+//!     rt: &'a R,
 //!     alloc: Global,
 //!     new_connections: &'a NewConnections,
 //!     log: L,
-//! ) -> io::Result<(Sockets<'a, L>, PollWaker)> {
+//! ) -> io::Result<(Sockets<'a, L, R>, PollWaker)> {
 //!     let poll = Poll::new(rt)?;
 //!     let waker = PollWaker::new(alloc, &poll)?;
-//!     let sockets = Sockets::new(alloc, poll, new_connections, log)?;
+//!     let sockets = Sockets::new(rt, alloc, poll, new_connections, log)?;
 //!     Ok((sockets, waker))
 //! }
 //! ```
@@ -28,6 +29,7 @@
 
 mod acceptor;
 mod client_socket;
+mod login_timer;
 mod new_connection;
 mod sockets;
 mod waker;

@@ -1,6 +1,7 @@
 //! What happens to the sockets of a router.
 
 use crate::client_socket::ClientSocket;
+use crate::login_timer::LoginTimer;
 use crate::new_connection::{NewConnection, NewConnections};
 use crate::waker::WAKER;
 use mio::event::Event;
@@ -9,6 +10,7 @@ use router_host::{Ended, OpenFault};
 use routers::{Fault, Source, SourceEvent, Timeout};
 use std::alloc::{AllocError, Global};
 use std::fmt::Display;
+use std::rt::Clock;
 use std::sync::Wait;
 use std::time::Duration;
 
@@ -53,7 +55,7 @@ impl Change {
 /// What happens to the sockets of a router, as the system tells it, and the connections that come
 /// to the router.
 #[derive(Drop)]
-pub struct Sockets<'a, L: EndLog + Drop> {
+pub struct Sockets<'a, L: EndLog + Drop, R: Clock> {
     poll: Poll,
     events: Events,
     new_connections: &'a NewConnections,
@@ -61,23 +63,26 @@ pub struct Sockets<'a, L: EndLog + Drop> {
     changes: Vec<Change>,
     /// How many connections that came may be told of before the next wait.
     left: usize,
+    login_timer: LoginTimer<'a, R>,
     log: L,
 }
 
-impl<'a, L: EndLog + Drop> Sockets<'a, L> {
+impl<'a, L: EndLog + Drop, R: Clock> Sockets<'a, L, R> {
     /// The sockets that this poll tells of. Its waker is used where connections come.
     pub fn new(
+        rt: &'a R,
         alloc: Global,
         poll: Poll,
         new_connections: &'a NewConnections,
         log: L,
-    ) -> Result<Sockets<'a, L>, AllocError> {
+    ) -> Result<Sockets<'a, L, R>, AllocError> {
         Ok(Sockets {
             poll,
             events: Events::with_capacity(alloc, EVENTS)?,
             new_connections,
             changes: Vec::with_capacity(alloc, EVENTS)?,
             left: NEW,
+            login_timer: LoginTimer::new(rt),
             log,
         })
     }
@@ -118,7 +123,16 @@ impl<'a, L: EndLog + Drop> Sockets<'a, L> {
     }
 }
 
-impl<'a, L: EndLog + Drop> Source<ClientSocket> for Sockets<'a, L> {
+/// The shorter of two waits; one without a length has no end.
+fn shorter(one: Option<Duration>, other: Option<Duration>) -> Option<Duration> {
+    match (one, other) {
+        (Some(one), Some(other)) => Some(one.min(other)),
+        (None, other) => other,
+        (one, None) => one,
+    }
+}
+
+impl<'a, L: EndLog + Drop, R: Clock> Source<ClientSocket> for Sockets<'a, L, R> {
     fn wait(&mut self, timeout: Timeout) -> Result<(), Fault> {
         let most = match timeout {
             Timeout::Zero => Some(Duration::from_millis(0)),
@@ -131,6 +145,7 @@ impl<'a, L: EndLog + Drop> Source<ClientSocket> for Sockets<'a, L> {
         } else {
             most
         };
+        let most = shorter(most, self.login_timer.left());
         self.left = NEW;
         if self.poll.poll(&mut self.events, most).is_err() {
             return Err(Fault::Poll);
@@ -138,7 +153,7 @@ impl<'a, L: EndLog + Drop> Source<ClientSocket> for Sockets<'a, L> {
         self.note_changes()
     }
 
-    fn next<R: Wait>(&mut self, rt: &R) -> Option<SourceEvent<ClientSocket>> {
+    fn next<W: Wait>(&mut self, rt: &W) -> Option<SourceEvent<ClientSocket>> {
         if let Some(event) = self.told() {
             return Some(event);
         }
@@ -148,6 +163,10 @@ impl<'a, L: EndLog + Drop> Source<ClientSocket> for Sockets<'a, L> {
             socket: ClientSocket { stream },
             challenge: Some(challenge),
         })
+    }
+
+    fn login_time_passes(&mut self, is_wanted: bool) -> bool {
+        self.login_timer.passes(is_wanted)
     }
 
     fn watch(&mut self, key: usize, socket: &mut ClientSocket) -> bool {

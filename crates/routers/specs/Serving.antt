@@ -12,6 +12,7 @@ use Rattle.router_host_core.specs.declared.post.Post.{Ghosts as Post}
 use Rattle.router_host_core.specs.Carrying.{Each, line_at}
 use Rattle.router_host_core.specs.Sockets.{unblocked_at}
 use Rattle.router_host.specs.Doing.{Does, with_lines}
+use Rattle.router_host.specs.Expiring.{LoginTimeEnds}
 use Rattle.router_host.specs.Happening.{CatchesUp, Happens}
 use Rattle.router_host.specs.Opening.{MakesRoom, Opens}
 use Rattle.router_host.specs.States.{Hosted}
@@ -24,6 +25,8 @@ pub data Happening : Type 0 where
   Unblocks : ℕ → Happening
   -- Time passes. There may be no memory for that.
   Ticks : Happening
+  -- The time in which who connects is to have a name passes.
+  Expires : Happening
   -- A turn.
   Turns : Happening
 
@@ -41,6 +44,7 @@ module _ {P N G : Type 0} (told : N → History) (passes : G → GatedCall → G
   HasHappened Ticks before after =
       Happens told passes alone puts starts before Tick after
       ⊎ CatchesUp puts starts before after
+  HasHappened Expires before after = LoginTimeEnds before after
   HasHappened Turns before after = Does told passes alone puts starts takes before after
 
   -- Such things happen, one after the other, and nothing else.

@@ -180,10 +180,22 @@ impl<'a, V: BusView, G: Gate, P: Post<V>, S: Socket, E: Source<S>, W: Wake + Dro
         ensures serves { WorksOnBy V.BusView G.Gate P.Post self.old self.new }
     {
         self.take_flags();
+        self.end_login_time();
         let ticked = self.tick(right);
         let turned = self.host.turn(right);
         self.is_short_of_memory = any_failed(ticked, turned);
         self.tell_ended();
+    }
+
+    /// The time in which who connects is to have a name passes, where there is anyone without.
+    fn end_login_time(&mut self)
+        ensures serves { WorksOnBy V.BusView G.Gate P.Post self.old self.new }
+    {
+        let is_wanted = self.host.has_unnamed();
+        if !self.source.login_time_passes(is_wanted) {
+            return;
+        }
+        self.host.end_login_time();
     }
 
     /// Time has passed, where a tick is wanted.

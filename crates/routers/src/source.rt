@@ -46,6 +46,10 @@ pub trait Source<S: Socket> {
     /// What happened since, one after another.
     fn next<R: Wait>(&mut self, rt: &R) -> Option<SourceEvent<S>>;
 
+    /// Whether the time in which who connects is to have a name has passed once more. It runs only
+    /// as long as this is asked with `is_wanted`, whether there is anyone without one.
+    fn login_time_passes(&mut self, is_wanted: bool) -> bool;
+
     /// From now on it is told what happens to this socket, under its key. It is false where the
     /// system refuses that.
     fn watch(&mut self, key: usize, socket: &mut S) -> bool;

@@ -139,6 +139,10 @@ impl<'a, R: Wait + Clock> Source<ClientSocket<'a, R>> for ScenarioSource<'a, R> 
         Some(event)
     }
 
+    fn login_time_passes(&mut self, _is_wanted: bool) -> bool {
+        false
+    }
+
     fn watch(&mut self, key: usize, socket: &mut ClientSocket<'a, R>) -> bool {
         match self.keys.get_mut(socket.index) {
             Some(known) => {

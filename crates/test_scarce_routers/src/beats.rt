@@ -134,6 +134,10 @@ impl Source<Wire> for Beats {
         }
     }
 
+    fn login_time_passes(&mut self, _is_wanted: bool) -> bool {
+        false
+    }
+
     fn watch(&mut self, _key: usize, _socket: &mut Wire) -> bool {
         true
     }

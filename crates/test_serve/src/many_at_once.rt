@@ -12,7 +12,7 @@ use routers::{Coordinator, Fault, MainTask, Source, SourceEvent, Timeout};
 use std::alloc::Global;
 use std::fmt::Display;
 use std::net::Net;
-use std::rt::Files;
+use std::rt::{Clock, Files};
 use std::sync::Wait;
 use std::{fs, io};
 
@@ -157,16 +157,18 @@ fn take_all<E: Source<ClientSocket>, R: Wait>(rt: &R, source: &mut E) -> Result<
     }
 }
 
-fn play<R: Net + Files + Wait>(rt: &R, alloc: Global) -> Result<(), Wrong> {
+fn play<R: Net + Files + Wait + Clock>(rt: &R, alloc: Global) -> Result<(), Wrong> {
     let poll = Poll::new(rt)?;
     let queues = [NewConnections::new(alloc, ROOM)?];
     accept_all(rt, alloc, &poll, &queues)?;
-    let mut sockets = Sockets::new(alloc, poll, &queues[0], NoLog)?;
+    let mut sockets = Sockets::new(rt, alloc, poll, &queues[0], NoLog)?;
     take_all(rt, &mut sockets)
 }
 
 /// Each turn has its share, and what is left over comes in the next.
-pub(crate) fn many_at_once<R: Net + Files + Wait + AllocGlobal>(rt: &R) -> Result<(), Wrong> {
+pub(crate) fn many_at_once<R: Net + Files + Wait + Clock + AllocGlobal>(
+    rt: &R,
+) -> Result<(), Wrong> {
     let _absent = fs::remove_file(rt, PATH);
     let played = play(rt, rt.alloc());
     let _absent = fs::remove_file(rt, PATH);
