@@ -20,7 +20,7 @@
 //! - `A takes N`, `A takes all`: its socket takes so many bytes more. `A fails after N`: behind so
 //!   many it can't be written any more; `A hangs up after N`: since the other side hung up.
 //! - `A ends`: it sends no more. `A breaks`: its socket can't be read any more.
-//! - `tick`: time passes.
+//! - `tick`: time passes. `late`: the time in which who connects is to have a name passes.
 //! - `N times ROW`: the row is done so many times.
 //! - `show bytes`, `show words`: what comes from now on is told so.
 
@@ -163,6 +163,7 @@ impl<V: BusView, G: Gate, P: Post<V>> Scene<V, G, P> {
             "open" => self.open(right, words, journal),
             "crowd" => self.crowd(right, words, journal),
             "tick" => self.tick(right),
+            "late" => self.end_login_time(right),
             "show" => {
                 self.shows_bytes = words.next() == "bytes";
                 Ok(())
@@ -363,6 +364,17 @@ impl<V: BusView, G: Gate, P: Post<V>> Scene<V, G, P> {
         for host in self.hosts.iter_mut() {
             host.check_came();
             host.tick(right)?;
+        }
+        self.drive(right)
+    }
+
+    /// The time in which who connects is to have a name passes, at each router that has connections
+    /// without one.
+    fn end_login_time(&mut self, right: &V::Right) -> Result<()> {
+        for host in self.hosts.iter_mut() {
+            if host.has_unnamed() {
+                host.end_login_time();
+            }
         }
         self.drive(right)
     }
