@@ -49,6 +49,34 @@ const REFUSED: Scenario = Scenario {
     tracing: Tracing::Off,
 };
 
+/// A client says nothing, while another has a name.
+const SILENT: Scenario = Scenario {
+    rooms: &[1_000_000, 1_000_000],
+    steps: &[&[
+        Step::Connects(0),
+        Step::Connects(1),
+        Step::Sends(1, ClientMessage::Hello),
+        Step::Awaits(Condition::Received(1, 2)),
+        Step::LoginTimePasses,
+        Step::LoginTimePasses,
+        Step::Awaits(Condition::Over(1)),
+        Step::Sends(1, ClientMessage::GetNameOwner(":1.1")),
+        Step::Awaits(Condition::Received(1, 3)),
+        Step::Ends,
+    ]],
+    stops: &[],
+    holds: false,
+    tracing: Tracing::Off,
+};
+
+const SILENT_TOLD: &str = "client 0
+client 1
+1 reply 1 :1.1
+2 org.freedesktop.DBus NameAcquired :1.1
+3 reply 2 :1.1
+over: no name in time
+";
+
 const AFTER_HELLO: &str = "client 0
 1 reply 1 :1.1
 2 org.freedesktop.DBus NameAcquired :1.1
@@ -68,6 +96,13 @@ fn the_first_fault_ends_all(rt: HostRuntime) -> Result<(), Fail> {
 fn a_bus_is_stopped(rt: HostRuntime) -> Result<(), Fail> {
     let told = play(&rt, rt.alloc(), &STOPPED)?.told;
     assert_eq!(rt; told.as_str(), AFTER_HELLO);
+    Ok(())
+}
+
+#[test]
+fn who_has_no_name_in_time_is_over(rt: HostRuntime) -> Result<(), Fail> {
+    let told = play(&rt, rt.alloc(), &SILENT)?.told;
+    assert_eq!(rt; told.as_str(), SILENT_TOLD);
     Ok(())
 }
 

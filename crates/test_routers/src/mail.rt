@@ -422,6 +422,57 @@ fn who_reads_all_is_not_put_out_where_routers_flood_each_other(
     Ok(())
 }
 
+/// A monitor is to be shown a call that its router's neighbour has routed and is held before it
+/// serves. Meanwhile the monitor leaves, and another client has its place.
+const LATE_COPY: Scenario = Scenario {
+    rooms: &[ROOM, ROOM, ROOM],
+    steps: &[
+        &[
+            Step::Connects(0),
+            Step::Sends(0, ClientMessage::Hello),
+            Step::Awaits(Condition::Received(1, 5)),
+            Step::Sends(0, ClientMessage::ListNames),
+            Step::Awaits(Condition::Received(0, 3)),
+            Step::Awaits(Condition::Received(2, 3)),
+            Step::Ends,
+        ],
+        &[
+            Step::Awaits(Condition::Received(0, 2)),
+            Step::Connects(1),
+            Step::Sends(1, ClientMessage::Hello),
+            Step::Sends(1, ClientMessage::BecomeMonitor),
+            Step::Awaits(Condition::IsHeld),
+            Step::HangsUp(1),
+            Step::Awaits(Condition::Over(1)),
+            Step::Connects(2),
+            Step::Sends(2, ClientMessage::Hello),
+            Step::Awaits(Condition::Received(0, 3)),
+            Step::Sends(2, ClientMessage::GetNameOwner(":1.1")),
+            Step::Awaits(Condition::Received(2, 3)),
+            Step::Ends,
+        ],
+    ],
+    stops: &[],
+    holds: true,
+    tracing: Tracing::Off,
+};
+
+const LATE_COPY_TOLD: &str = "1 reply 1 :1.3
+2 org.freedesktop.DBus NameAcquired :1.3
+3 reply 2 :1.1
+over: end of input
+";
+
+#[test]
+fn a_newcomer_gets_no_copy_for_the_monitor_before_it(rt: HostRuntime) -> Result<(), Fail> {
+    let told = play(&rt, rt.alloc(), &LATE_COPY)?.told;
+    let Some((_others, newcomer)) = told.as_str().split_once("client 2\n") else {
+        return Err(Fail::from("no newcomer"));
+    };
+    assert_eq!(rt; newcomer, LATE_COPY_TOLD);
+    Ok(())
+}
+
 /// 256 envelopes wait for a client that does not read, until it does.
 const RESUMED: Scenario = Scenario {
     rooms: &[WELCOME_ROOM, ROOM],

@@ -55,6 +55,8 @@ pub(crate) enum Step {
     HangsUp(ClientIndex),
     /// The socket of a client takes all bytes from now on.
     TakesAll(ClientIndex),
+    /// The time in which who connects is to have a name passes.
+    LoginTimePasses,
     /// The wait for what happens fails.
     Fails(Fault),
     /// Nothing happens any more.

@@ -110,7 +110,7 @@ impl<'a, R: Wait + Clock> Source<ClientSocket<'a, R>> for ScenarioSource<'a, R> 
     fn next<Q: Wait>(&mut self, _rt: &Q) -> Option<SourceEvent<ClientSocket<'a, R>>> {
         let step = self.next_step()?;
         let event = match step {
-            Step::Awaits(_) | Step::Fails(_) => return None,
+            Step::Awaits(_) | Step::LoginTimePasses | Step::Fails(_) => return None,
             Step::Connects(index) => self.accepted(index, None)?,
             Step::IsAsked(index) => self.accepted(index, Some([7; 16]))?,
             Step::Sends(index, message) => {
@@ -139,8 +139,12 @@ impl<'a, R: Wait + Clock> Source<ClientSocket<'a, R>> for ScenarioSource<'a, R> 
         Some(event)
     }
 
-    fn login_time_passes(&mut self, _is_wanted: bool) -> bool {
-        false
+    fn login_time_passes(&mut self, is_wanted: bool) -> bool {
+        let Some(Step::LoginTimePasses) = self.next_step() else {
+            return false;
+        };
+        self.step_over();
+        is_wanted
     }
 
     fn watch(&mut self, key: usize, socket: &mut ClientSocket<'a, R>) -> bool {
