@@ -2,6 +2,8 @@
 # Packs busd and bus-check for machines without the toolchain: an archive with the stripped programs and all that
 # `make install` puts beside them, and tells which libraries of the system busd needs.
 set -euo pipefail
+# What is packed is for all users.
+umask 022
 cd "$(dirname "$0")/.."
 
 room=$(mktemp -d)

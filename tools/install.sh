@@ -2,6 +2,8 @@
 # Puts busd and busd-run-session with their pages, completions, documents and licences under the folder that is named:
 # the program that `make prove` has built, or the one that BUSD names. Puts bus-check there too where it is built.
 set -euo pipefail
+# What is installed is for all users.
+umask 022
 cd "$(dirname "$0")/.."
 place=${1:?names no folder: tools/install.sh FOLDER}
 program=${BUSD:-crates/busd/out/busd}
