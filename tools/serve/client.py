@@ -183,6 +183,8 @@ def main(address, what, name, count="0"):
         time.sleep(1)
         for to in crowd:
             to.close()
+        # Who comes at the same moment may be told of before these are let go of.
+        time.sleep(0.2)
         what, name = "ask", "ListNames"
     client = Client(address)
     if what == "own":
