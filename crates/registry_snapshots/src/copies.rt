@@ -10,7 +10,7 @@ ghost use Rattle.seq_bus_core.specs.Tickets.{opening_bus};
 ghost use Rattle.registry_snapshots_core.specs.Copies.{IsSnapOf, prefix_of};
 ghost use Rattle.registry_snapshots_core.specs.Pending.{IsReady, Shows, brought_up};
 
-use crate::rule::{CopyKeepsRule, CopyRule};
+use crate::protocol::{CopyKeepsRule, CopyRule};
 use bus_view::Gone;
 use core::mem::replace_with;
 use left_right::reader::Reader;

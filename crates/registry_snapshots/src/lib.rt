@@ -1,8 +1,9 @@
 //! The registry of a bus that several routers share.
 //!
 //! [`start`] opens a registry and hands it to a server: a [`Shared`], a [`Seat`] for each router,
-//! from 1, and seat 0 for the main thread. A seat reads the bus with no lock and takes no memory for
-//! it; it makes a change under the one lock of the [`Shared`]. What is told by a seat's [`Note`] is seen by the seat that takes it.
+//! from 1, and seat 0 for the main thread. A seat reads the bus with no lock and takes no memory
+//! for it; it makes a change under the one lock of the [`Shared`]. What is told by a seat's [`Note`]
+//! is seen by the seat that takes it.
 //!
 //! A [`Desk`] is a seat with the [`Shared`] that it makes its changes by: a
 //! [`BusView`](bus_view::BusView), as a router's engine sees a bus.
@@ -36,9 +37,9 @@
 mod copies;
 mod desk;
 mod opening;
+mod protocol;
 mod refusal;
 mod registrar;
-mod rule;
 mod seat;
 mod shared;
 

@@ -16,7 +16,7 @@ ghost use Rattle.registry_snapshots_core.specs.Copies.{SnapView};
 ghost use Rattle.registry_snapshots.specs.Seats.{fresh, AreChanged, IsChanged, IsRead, IsUnwatched};
 
 use crate::copies::SnapReader;
-use crate::rule::{CopyKeepsRule, CopyRule};
+use crate::protocol::{CopyKeepsRule, CopyRule};
 use crate::shared::Shared;
 use bus_view::{AskFault, Asked, BatchCause, CheapCopy, Gone, Refused, RefusedAll};
 use left_right::reader::Reading;

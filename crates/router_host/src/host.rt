@@ -200,8 +200,8 @@ impl<V: BusView, G: Gate, P: Post<V>, S: Socket> Host<V, G, P, S> {
         self.check_due = true;
     }
 
-    /// Lets a router that is behind with its mail have a turn, if there is one. It does not wait for
-    /// long.
+    /// Lets a router that is behind with its mail have a turn, if there is one. It does not wait
+    /// for long.
     pub fn let_others_go_first(&mut self, right: &V::Right)
         ensures { self.new ≡ self.old }
     {

@@ -155,8 +155,8 @@ impl<V: BusView, P: Post<V>, S: Socket> Carrier<V, P, S> {
         }
     }
 
-    /// Puts a message to one connection. Where that can't be, it is to be put out, and gets no later
-    /// ones: what it gets has no gap.
+    /// Puts a message to one connection. Where that can't be, it is to be put out, and gets no
+    /// later ones: what it gets has no gap.
     fn put_to(&mut self, right: &V::Right, to: Conn, note: &Option<V::Note>, content: &Content)
         requires { IsOwnNote V.registry_of (P.registry self.old.post) note.now }
         ensures done { IsPut P.puts note.now content.now to self.old self.new }

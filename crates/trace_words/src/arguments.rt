@@ -95,7 +95,8 @@ fn arguments_in(
 ) -> Result<Option<Vec<KeptArgument>>, AllocError>
     ensures read { IfOk result (λ arguments. option_map (λ a. map kept_argument a.items) arguments
         ≡ arguments_from [] (parts_left words.entry)) }
-    ensures few { IfOk result (λ arguments. IfSome arguments (λ a. length a.items ≤ max_arguments)) }
+    ensures few { IfOk result
+        (λ arguments. IfSome arguments (λ a. length a.items ≤ max_arguments)) }
 {
     let mut arguments = Vec::new(alloc);
     while let Some(word) = words.take() {
@@ -114,7 +115,8 @@ fn arguments_in(
 pub(crate) fn arguments(alloc: Global, word: &str) -> Result<Option<Vec<KeptArgument>>, AllocError>
     ensures read { IfOk result (λ arguments. option_map (λ a. map kept_argument a.items) arguments
         ≡ arguments_of word.now) }
-    ensures few { IfOk result (λ arguments. IfSome arguments (λ a. length a.items ≤ max_arguments)) }
+    ensures few { IfOk result
+        (λ arguments. IfSome arguments (λ a. length a.items ≤ max_arguments)) }
 {
     if word == "." {
         return Ok(Some(Vec::new(alloc)));
