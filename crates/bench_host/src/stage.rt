@@ -79,7 +79,7 @@ fn over_registry<J: Naming, R: Print + Clock + Wait>(
     let starts = starts.pop().context("there are two lanes for starts")?;
     let desk: Desk<'_, J, R> = Desk::new(seat, shared);
     let view = Traced::silent(alloc, desk);
-    let post = LanePost::new(0, lane, taps, starts, &coordinator);
+    let post = LanePost::new(alloc, 0, lane, taps, starts, &coordinator)?;
     over_view(report, alloc, scene, report.rt, view, post)?;
     Ok(())
 }

@@ -31,6 +31,7 @@
 
 mod coordinator;
 mod fault;
+mod place;
 mod post;
 mod router_loop;
 mod source;

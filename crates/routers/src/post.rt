@@ -1,26 +1,28 @@
 //! The ways between the routers of one process.
 
-ghost use Rattle.std.specs.Prelude.{◌≡◌, ◌-◌, ◌*◌, ◌^◌, ◌<◌, true, length, min, IfErr, OnOk, OnErr};
-ghost use Rattle.routers.specs.Posts.{AsksFor, Sends, IsFullFor, places_of};
+ghost use Rattle.std.specs.Prelude.{◌≡◌, ◌+◌, ◌-◌, ◌*◌, ◌^◌, ◌<◌, true, length, map, min, IfErr, IfNone, IfOk, IfSome, OnOk, OnErr};
+ghost use Rattle.routers.specs.Posts.{AsksFor, IsFullFor, IsOwn, Sends, new_place, places_of};
 
 use crate::coordinator::{Coordinator, Wake};
+use crate::place::{NoRoom, Place};
 use outbox::{EnvelopeOf, Lane, Tap};
 use registry_snapshots::{Desk, Naming, Note};
 use router::Traced;
 use router_host::{Full, Post, StartRequest, TooManyStarts};
 use seq_bus_core::Conn;
+use std::alloc::{AllocError, Global};
 use std::marker::Model;
 use std::sync::Wait;
 
-/// How a router reaches the others: its lane into all outboxes, the taps of its own places, its
-/// lane to whoever runs the programs of services, and the coordinator, where it tells that
-/// something was brought to another thread.
+/// How a router reaches the others: its lane into all outboxes, its own places, its lane to whoever
+/// runs the programs of services, and the coordinator, where it tells that something was brought to
+/// another thread. What it puts for a place of its own passes no outbox.
 ///
-/// Contracts see the lanes, the taps and the slot of its first place.
+/// Contracts see the lanes, the places and the slot of the first.
 #[derive(Drop)]
 pub struct LanePost<'a, J: Naming, W: Wake + Drop> {
     lane: Lane<EnvelopeOf<J>>,
-    taps: Vec<Tap<EnvelopeOf<J>>>,
+    places: Vec<Place<EnvelopeOf<J>>>,
     starts: Lane<StartRequest>,
     coordinator: &'a Coordinator<W>,
     /// The slot of its first place.
@@ -58,69 +60,106 @@ impl<'a, J: Naming, W: Wake + Drop> Model for LanePost<'a, J, W> {
 
     ghost view = { λ p. record {
       lane = p.lane;
-      taps = p.taps.items;
+      places = p.places.items;
       first = p.first;
       starts = p.starts;
     } };
 }
 
+/// The places of these taps.
+fn places_over<E: Drop>(alloc: Global, taps: Vec<Tap<E>>) -> Result<Vec<Place<E>>, AllocError>
+    ensures { IfOk result (λ places. places.items ≡ map new_place taps.items) }
+{
+    let mut places = Vec::with_capacity(alloc, taps.len())?;
+    for tap in taps {
+        places.push(Place::new(alloc, tap)?)?;
+    }
+    Ok(places)
+}
+
 impl<'a, J: Naming, W: Wake + Drop> LanePost<'a, J, W> {
     /// The post of router `me` of the coordinator, with its lane and the taps of its places, and
     /// its lane to whoever runs the programs of services.
+    ///
+    /// # Errors
+    ///
+    /// There may not be memory for what it puts for its own places.
     pub fn new(
+        alloc: Global,
         me: usize,
         lane: Lane<EnvelopeOf<J>>,
         taps: Vec<Tap<EnvelopeOf<J>>>,
         starts: Lane<StartRequest>,
         coordinator: &'a Coordinator<W>,
-    ) -> LanePost<'a, J, W>
-        ensures lane { result.lane ≡ lane }
-        ensures taps { result.taps ≡ taps.items }
-        ensures first { result.first ≡ min (me * places_of coordinator.now) (2 ^ 64 - 1) }
-        ensures starts { result.starts ≡ starts }
+    ) -> Result<LanePost<'a, J, W>, AllocError>
+        ensures lane { IfOk result (λ post. post.lane ≡ lane) }
+        ensures places { IfOk result (λ post. post.places ≡ map new_place taps.items) }
+        ensures first { IfOk result (λ post.
+            post.first ≡ min (me * places_of coordinator.now) (2 ^ 64 - 1)) }
+        ensures starts { IfOk result (λ post. post.starts ≡ starts) }
     {
-        LanePost {
+        let places = places_over(alloc, taps)?;
+        Ok(LanePost {
             lane,
-            taps,
+            places,
             starts,
             coordinator,
             first: me.saturating_mul(coordinator.places()),
             unseen: 0,
             backlog: None,
+        })
+    }
+
+    /// The place of its own that a slot is.
+    fn own_place(&self, slot: usize) -> Option<usize>
+        ensures own { IfSome result (λ place. (slot ≡ self.now.first + place)
+            × (place < length self.now.places)) }
+        ensures others { IfNone result (IsOwn self.now slot → ⊥) }
+    {
+        let place = slot.checked_sub(self.first)?;
+        if place < self.places.len() {
+            Some(place)
+        } else {
+            None
         }
     }
 
-    /// Whether a slot is that of a place of its own.
-    fn is_own(&self, slot: usize) -> bool {
-        match slot.checked_sub(self.first) {
-            Some(place) => place < self.taps.len(),
-            None => false,
-        }
-    }
-
-    /// Puts an envelope into the outbox of a slot, and tells its router. It is handed back only
-    /// where that was full at some moment.
-    fn put_once<R: Wait>(
-        &mut self,
-        right: &R,
-        to: Conn,
-        envelope: EnvelopeOf<J>,
-    ) -> Result<(), Full<Note<J>>>
-        ensures put { OnOk result (Sends self.old to.slot envelope self.new) }
+    /// Puts an envelope for a place of its own.
+    fn put_own(&mut self, place: usize, envelope: EnvelopeOf<J>) -> Result<(), Full<Note<J>>>
+        requires { place < length self.old.places }
+        ensures put { OnOk result
+            (Sends self.old (self.old.first + place) envelope self.new) }
         ensures refused { OnErr result (self.new ≡ self.old) }
-        ensures full { OnErr result (IsFullFor self.old to.slot) }
+        ensures full { OnErr result (IsFullFor self.old (self.old.first + place)) }
         ensures back { IfErr result (λ full. full.0 ≡ envelope) }
     {
-        let slot = usize::from(to.slot);
+        match self.places[place].put(envelope) {
+            Ok(()) => Ok(()),
+            Err(NoRoom(back)) => Err(Full(back)),
+        }
+    }
+
+    /// Puts an envelope into the outbox of a slot of another router, and tells that one. It is
+    /// handed back only where that was full at some moment.
+    fn put_away<R: Wait>(
+        &mut self,
+        right: &R,
+        slot: usize,
+        envelope: EnvelopeOf<J>,
+    ) -> Result<(), Full<Note<J>>>
+        requires { IsOwn self.old slot → ⊥ }
+        ensures put { OnOk result (Sends self.old slot envelope self.new) }
+        ensures refused { OnErr result (self.new ≡ self.old) }
+        ensures full { OnErr result (IsFullFor self.old slot) }
+        ensures back { IfErr result (λ full. full.0 ≡ envelope) }
+    {
         if slot >= self.lane.slots() {
             return Err(Full(envelope));
         }
         if let Err(outbox::Full(back)) = self.lane.put(right, slot, envelope) {
             return Err(Full(back));
         }
-        if !self.is_own(slot) {
-            self.coordinator.tell_of_mail(slot);
-        }
+        self.coordinator.tell_of_mail(slot);
         Ok(())
     }
 
@@ -129,7 +168,7 @@ impl<'a, J: Naming, W: Wake + Drop> LanePost<'a, J, W> {
         ensures same { self.new ≡ self.old }
         ensures there { result ≡ true → slot < length self.old.lane }
     {
-        if self.is_own(slot) || slot >= self.lane.slots() {
+        if slot >= self.lane.slots() {
             return false;
         }
         self.unseen = self.unseen.saturating_add(1);
@@ -206,8 +245,14 @@ impl<'a, 'b, J: Naming, W: Wake + Drop, R: Wait> Post<Traced<Desk<'b, J, R>>>
         ensures full { OnErr result (IsFullFor self.old to.slot) }
         ensures back { IfErr result (λ full. full.0 ≡ envelope) }
     {
-        self.look(right, usize::from(to.slot));
-        self.put_once(right, to, envelope)
+        let slot = usize::from(to.slot);
+        match self.own_place(slot) {
+            Some(place) => self.put_own(place, envelope),
+            None => {
+                self.look(right, slot);
+                self.put_away(right, slot, envelope)
+            }
+        }
     }
 
     fn start(&mut self, right: &R, request: StartRequest) -> Result<(), TooManyStarts>
@@ -225,12 +270,9 @@ impl<'a, 'b, J: Naming, W: Wake + Drop, R: Wait> Post<Traced<Desk<'b, J, R>>>
     }
 
     fn take(&mut self, right: &R, slot: u16) -> Option<EnvelopeOf<J>> {
-        let place = usize::from(slot).checked_sub(self.first)?;
-        if place >= self.taps.len() {
-            return None;
-        }
+        let place = self.own_place(usize::from(slot))?;
         self.coordinator.note_taking(usize::from(slot));
-        self.taps[place].take(right)
+        self.places[place].take(right)
     }
 
     fn turn_ends(&mut self, _right: &R) {
@@ -255,7 +297,7 @@ impl<'a, 'b, J: Naming, W: Wake + Drop, R: Wait> Post<Traced<Desk<'b, J, R>>>
 
     fn ask_check(&mut self, _right: &R, at: Conn) {
         let slot = usize::from(at.slot);
-        if !self.is_own(slot) {
+        if self.own_place(slot).is_none() {
             self.coordinator.ask_check(slot);
         }
     }

@@ -88,9 +88,10 @@ fn serve_as_router<
         trace,
     } = setup;
     let desk: Desk<'_, J, R> = Desk::new(seat, shared);
+    let post = LanePost::new(alloc, me, lane, taps, starts, coordinator).map_err(no_memory)?;
     let parts = RouterParts {
         view: traced(alloc, desk, trace.records()),
-        post: LanePost::new(me, lane, taps, starts, coordinator),
+        post,
         source,
         gate,
         login,

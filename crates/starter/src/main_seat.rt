@@ -61,11 +61,12 @@ impl<
     ) -> Option<MainSeat<'a, J, S, W, Q, T, R>>
         ensures lane { IfSome result (λ main. main.carried.post.lane ≡ lane) }
         ensures starts { IfSome result (λ main. main.carried.post.starts ≡ starts) }
-        ensures none { IfSome result (λ main. main.carried.post.taps ≡ []) }
+        ensures none { IfSome result (λ main. main.carried.post.places ≡ []) }
     {
         let desk: Desk<'_, J, R> = Desk::new(seat, shared);
         let view = traced(alloc, desk, trace.records());
-        let post = LanePost::new(usize::MAX, lane, Vec::new(alloc), starts, coordinator);
+        let none = Vec::new(alloc);
+        let post = LanePost::new(alloc, usize::MAX, lane, none, starts, coordinator).ok()?;
         let starter = Starter::over(alloc, view, post, programs)?;
         Some(MainSeat { rt, starter, trace })
     }

@@ -115,12 +115,16 @@ impl<'a, R: Wait> Stage<'a, R> {
                 alloc: self.alloc,
                 lookout: lookout.take(),
             };
+            let Ok(post) = LanePost::new(self.alloc, router, lane, taps, starts, coordinator) else {
+                is_short = true;
+                continue;
+            };
             let host = scene::host(
                 self.alloc,
                 Traced::silent(self.alloc, desk),
                 gate,
                 self.scenario.login(self.alloc),
-                LanePost::new(router, lane, taps, starts, coordinator),
+                post,
                 self.places(router),
             );
             is_short = scene::add(&mut hosts, host).is_err() || is_short;

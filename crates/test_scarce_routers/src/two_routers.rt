@@ -349,12 +349,20 @@ fn serve_ends<J: Naming, F: Fill, R: Wait>(
     let desk: Desk<'_, J, R> = Desk::new(first.seat, shared);
     let first = Side {
         view: Traced::silent(alloc, desk),
-        post: LanePost::new(0, first.lane, first.taps, first.starts, &coordinator),
+        post: LanePost::new(alloc, 0, first.lane, first.taps, first.starts, &coordinator).ok()?,
     };
     let desk: Desk<'_, J, R> = Desk::new(second.seat, shared);
     let second = Side {
         view: Traced::silent(alloc, desk),
-        post: LanePost::new(1, second.lane, second.taps, second.starts, &coordinator),
+        post: LanePost::new(
+            alloc,
+            1,
+            second.lane,
+            second.taps,
+            second.starts,
+            &coordinator,
+        )
+        .ok()?,
     };
     serve_both(
         rt,
