@@ -45,9 +45,9 @@ struct Backlog {
 /// places: an odd number, so that each of several places has its turn.
 const LOOK: u8 = 7;
 
-/// So many envelopes for a place are much. Most of its outbox is left for what its own router puts
-/// there in a part of its turn, up to five for each message, and for what others put until they
-/// look.
+/// So many envelopes for a place are much. Most of its outbox is left for what one event may bring:
+/// over a hundred for a monitor, where a connection with 64 names leaves; and for what other
+/// routers put until they look.
 const MUCH: usize = 80;
 
 impl<'a, J: Naming, W: Wake + Drop> Model for LanePost<'a, J, W> {
