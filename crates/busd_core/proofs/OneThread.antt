@@ -13,7 +13,7 @@ use Rattle.router_core.specs.declared.event.Event.TheVariants as event
 use Rattle.router_core.specs.Acts.{IsGranted, State}
 use Rattle.router_core.specs.Deeds.{Deed, Writes, Sends, Puts, Closes, Runs, GatedCall, IsDoneBy, IsWriting, AreDoneBy}
 use Rattle.router_core.specs.Events.{Occasion, Mail, occasion_of}
-use Rattle.router_core.specs.OneThread.{AreReadBy, Readers, Rest, given}
+use Rattle.router_core.specs.OneThread.{AreReadBy, Readers, Rest, effect}
 use Rattle.router.specs.OneEvent.{rest_in}
 use Rattle.router.proofs.Grants.{granted_parts, read_parts}
 use Rattle.router.proofs.Writings.{written_once}
@@ -120,8 +120,8 @@ module _ {N G : Type 0} (told : N → History) (passes : G → GatedCall → G �
       let later = asked_mailed told passes alone seat key between deliveries m.2 after m.4 in
       let grants = granted_parts asked later granted in
       let reads = read_parts readers asked later read in
-      let brought : List Deed × Rest = given readers (rest_in before) (Mail delivery.slot delivery.number None delivery.said) in
-      let same = ap (λ (o : Occasion). given readers (rest_in before) o) (as_mail one.envelope delivery one.carries) in
+      let brought : List Deed × Rest = effect readers (rest_in before) (Mail delivery.slot delivery.number None delivery.said) in
+      let same = ap (λ (o : Occasion). effect readers (rest_in before) o) (as_mail one.envelope delivery one.carries) in
       let given_so = one.serves.one_thread is grants.0 readers reads.0 in
       let bytes : m.1 ≡ bytes_done key brought.0 =
       one.writes ∙ sym (bytes_are key one.actions one.serves.served.deeds one.serves.served.done)
@@ -141,7 +141,7 @@ module _ {N G : Type 0} (told : N → History) (passes : G → GatedCall → G �
       let later = asked_mailed told passes alone seat key h.between (mails_of seat h.actions) h.later after h.mailed in
       let grants = granted_parts asked later granted in
       let reads = read_parts readers asked later read in
-      let brought : List Deed × Rest = given readers (rest_in before) (occasion_of told event) in
+      let brought : List Deed × Rest = effect readers (rest_in before) (occasion_of told event) in
       let deeds = h.serves.served.deeds in
       let given_so = h.serves.one_thread is grants.0 readers reads.0 in
       let bytes : written_to key h.actions ≡ bytes_done key brought.0 =

@@ -9,7 +9,7 @@ use Rattle.router_core.specs.declared.action.Action.TheVariants.{Write, Put, Clo
 use Rattle.router_core.specs.declared.event.Event.TheVariants.{Mail}
 use Rattle.router_core.specs.Acts.{State, Brings}
 use Rattle.router_core.specs.Deeds.{GatedCall, Writes, Sends, IsDoneBy}
-use Rattle.router_core.specs.Events.{writing, for_peer, mail_found, after_note}
+use Rattle.router_core.specs.Events.{writing, for_peer, mail_delivery, after_note}
 use Rattle.router_core.specs.Scripts.{World, Comes}
 use Rattle.router_core.specs.Standing.{Peer, Standing, peer_at, is_conn}
 use Rattle.busd_core.specs.Happenings.{mails_of, closed_by}
@@ -49,7 +49,7 @@ module _ {N G : Type 0} (told : N → History) (registry_of : N → ℕ) (passes
       let does = comes.1 in
       record { more = does.action ∷ []; quiet = sends seat key does.action to _ does.done; grown = ap (λ (k : World N G). k.actions) (comes.2.1 ∙ does.rest) }
 
-  by_found : (s t : Standing) (said : Said) (found : Option ℕ) (w v : World N G) → Comes told registry_of passes alone (mail_found s said found) w t v → Adds w v
+  by_found : (s t : Standing) (said : Said) (found : Option ℕ) (w v : World N G) → Comes told registry_of passes alone (mail_delivery s said found) w t v → Adds w v
   by_found s t said None w v comes = nothing w v comes.1
   by_found s t said (Some to) w v comes = by_peer s t to said (peer_at s to) w v comes
 
@@ -59,6 +59,6 @@ module _ {N G : Type 0} (told : N → History) (registry_of : N → ℕ) (passes
       let said = said_of envelope.content in
       let found : Option ℕ = position (is_conn slot envelope.number) s.peers in
       let w : World N G = record { view = before.view; gate = before.gate; actions = [] } in
-      let comes = subst (λ (note : Option N). Comes told registry_of passes alone (after_note (option_map told note) (mail_found s said found)) w after.standing brings.ends) none brings.comes in
+      let comes = subst (λ (note : Option N). Comes told registry_of passes alone (after_note (option_map told note) (mail_delivery s said found)) w after.standing brings.ends) none brings.comes in
       let adds = by_found s after.standing said found w brings.ends comes in
       subst (IsQuiet seat key) (sym (brings.done ∙ adds.grown)) adds.quiet

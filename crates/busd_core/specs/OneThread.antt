@@ -6,7 +6,7 @@ use Rattle.router_core.specs.declared.event.Event.{Event}
 use Rattle.router_core.specs.Acts.{Exchange, State}
 use Rattle.router_core.specs.Deeds.{Deed, Writes, Sends, Puts, GatedCall}
 use Rattle.router_core.specs.Events.{Occasion, Mail}
-use Rattle.router_core.specs.OneThread.{Readers, Rest, given}
+use Rattle.router_core.specs.OneThread.{Readers, Rest, effect}
 use Rattle.busd_core.specs.Happenings.{Delivery, mail_to_all, mails_of, AreMailed, AllHappen}
 
 -- what deeds write to the connection of a key
@@ -27,14 +27,14 @@ module _ (readers : Readers) (seat key : ℕ) where
   abbrev pub mailed : Rest → List Delivery → List ℕ × Rest
   mailed r [] = ([], r)
   mailed r (delivery ∷ deliveries) =
-      let brought = given readers r (Mail delivery.slot delivery.number None delivery.said) in
+      let brought = effect readers r (Mail delivery.slot delivery.number None delivery.said) in
       let later = mailed brought.1 deliveries in
       (bytes_done key brought.0 ++ later.0, later.1)
 
   -- the bytes that an occasion brings, with those of the mail that it brings
   abbrev pub happened : Rest → Occasion → List ℕ × Rest
   happened r occasion =
-      let brought = given readers r occasion in
+      let brought = effect readers r occasion in
       let later = mailed brought.1 (mail_done seat brought.0) in
       (bytes_done key brought.0 ++ later.0, later.1)
 

@@ -12,8 +12,8 @@ use Rattle.sasl.proofs.Runs.{conversation_goes_on}
 use Rattle.sasl.proofs.Outcomes.{outcome, outcome_is}
 use Rattle.router_core.specs.declared.cause.CloseCause.TheVariants as cause
 use Rattle.router_core.specs.Deeds.{Deed, Writes, Closes}
-use Rattle.router_core.specs.Events.{Bytes, Stands, for_peer, with_bytes, is_user, answering, conversed_to, hearing}
-use Rattle.router_core.specs.OneThread.{Readers, Rest, given, bytes_if, opening_of, written_to}
+use Rattle.router_core.specs.Events.{Bytes, Stands, for_peer, with_bytes, is_user, answering, after_conversing, hearing}
+use Rattle.router_core.specs.OneThread.{Readers, Rest, effect, bytes_if, opening_of, bytes_to}
 use Rattle.router_core.specs.Scripts.{Gives, and_then}
 use Rattle.router_core.specs.Standing.{Stage, Authenticating, Unnamed, Closing, Peer, SpeaksDBus, peer_at, with_peer, conn_of, closing_peer}
 use Rattle.router.proofs.Feeding.{bytes_given, come_to, more_if, rest_more, standing_so}
@@ -84,7 +84,7 @@ module _ (readers : Readers) (key : ℕ) where
   heard_so r setting p said phase = (writes key said.sent ++ closes key phase, peer_so r (peer_after setting p said phase))
 
   abbrev script_so : Rest → Setting → Peer → Conversed → List ℕ → Phase → Stands
-  script_so r setting p said sent phase = and_then (and_then (answering key sent (conversed_to key setting said phase p)) (λ q. Gives (Some q))) (λ q. Gives (with_peer r.standing key q))
+  script_so r setting p said sent phase = and_then (and_then (answering key sent (after_conversing key setting said phase p)) (λ q. Gives (Some q))) (λ q. Gives (with_peer r.standing key q))
 
   by_phase : (r : Rest) (setting : Setting) (p : Peer) (said : Conversed) (phase : Phase) → come_to readers r (script_so r setting p said [] phase) ≡ (closes key phase, peer_so r (peer_after setting p said phase))
   by_phase r setting p said WaitingForNul = refl
@@ -109,7 +109,7 @@ module _ (readers : Readers) (key : ℕ) where
   by_sent r setting p said (b ∷ bytes) phase = by_phase_written r setting p said b bytes phase
 
   hear_given : (r : Rest) (p : Peer) (setting : Setting) (state : AuthState) → peer_at r.standing key ≡ Some p → p.stage ≡ Authenticating setting state → (piece : List ℕ) →
-      given readers r (Bytes key piece) ≡ heard_so r setting p (conversed setting state [] (p.unread ++ piece)) (conversed setting state [] (p.unread ++ piece)).state.phase
+      effect readers r (Bytes key piece) ≡ heard_so r setting p (conversed setting state [] (p.unread ++ piece)) (conversed setting state [] (p.unread ++ piece)).state.phase
   hear_given r p setting state here is piece =
       let said = conversed setting state [] (p.unread ++ piece) in
       ap (λ (o : Option Peer). come_to readers r (for_peer r.standing key o (λ q. hearing key piece q q.stage))) here
@@ -136,7 +136,7 @@ module _ (readers : Readers) (key : ℕ) where
         by_test true = refl
         by_test false = refl
 
-    closes_write : (phase : Phase) → written_to opening keys (closes key phase) ≡ []
+    closes_write : (phase : Phase) → bytes_to opening keys (closes key phase) ≡ []
     closes_write WaitingForNul = refl
     closes_write WaitingForAuth = refl
     closes_write (WaitingForData due) = refl
@@ -144,7 +144,7 @@ module _ (readers : Readers) (key : ℕ) where
     closes_write (Done identity) = refl
     closes_write (Closed fault) = refl
 
-    written_so : (sent : List ℕ) (phase : Phase) → written_to opening keys (writes key sent ++ closes key phase) ≡ to_it sent
+    written_so : (sent : List ℕ) (phase : Phase) → bytes_to opening keys (writes key sent ++ closes key phase) ≡ to_it sent
     written_so [] phase = closes_write phase ∙ nothing_to_it
     written_so (b ∷ bytes) phase = ap (λ (l : List ℕ). to_it (b ∷ bytes) ++ l) (closes_write phase) ∙ append-nil (to_it (b ∷ bytes))
 
@@ -158,7 +158,7 @@ module _ (readers : Readers) (key : ℕ) where
       all_said : conversed setting state [] (p.unread ++ (first ++ second)) ≡ joined said more
       all_said = ap (conversed setting state []) (sym (append_assoc p.unread first second)) ∙ goes_on setting state (p.unread ++ first) second
 
-      all_given : given readers r (Bytes key (first ++ second)) ≡ heard_so r setting p (joined said more) more.state.phase
+      all_given : effect readers r (Bytes key (first ++ second)) ≡ heard_so r setting p (joined said more) more.state.phase
       all_given = hear_given r p setting state here is (first ++ second) ∙ ap (λ (s : Conversed). heard_so r setting p s s.state.phase) all_said
 
       there : (q : Peer) → peer_at (peer_so r q).standing key ≡ Some q
@@ -170,15 +170,15 @@ module _ (readers : Readers) (key : ℕ) where
       -- what the two come to is what comes of both at once
       abbrev Joins : List Deed × Rest → Type 0
       Joins one =
-          let two = given readers one.1 (Bytes key second) in
+          let two = effect readers one.1 (Bytes key second) in
           let all = heard_so r setting p (joined said more) more.state.phase in
-          (written_to opening keys one.0 ++ written_to opening keys two.0 ≡ written_to opening keys all.0) × (two.1 ≡ all.1)
+          (bytes_to opening keys one.0 ++ bytes_to opening keys two.0 ≡ bytes_to opening keys all.0) × (two.1 ≡ all.1)
 
-      joins_by : (phase : Phase) (q : Peer) (deeds : List Deed) (end : Rest) → given readers (peer_so r q) (Bytes key second) ≡ (deeds, end) →
-          written_to opening keys deeds ≡ to_it more.sent → end ≡ peer_so r (peer_after setting p (joined said more) more.state.phase) → Joins (writes key said.sent ++ closes key phase, peer_so r q)
+      joins_by : (phase : Phase) (q : Peer) (deeds : List Deed) (end : Rest) → effect readers (peer_so r q) (Bytes key second) ≡ (deeds, end) →
+          bytes_to opening keys deeds ≡ to_it more.sent → end ≡ peer_so r (peer_after setting p (joined said more) more.state.phase) → Joins (writes key said.sent ++ closes key phase, peer_so r q)
       joins_by phase q deeds end came written same = (
-        ap (λ (l : List ℕ). l ++ written_to opening keys (given readers (peer_so r q) (Bytes key second)).0) (written_so said.sent phase)
-            ∙ ap (λ (two : List Deed × Rest). to_it said.sent ++ written_to opening keys two.0) came
+        ap (λ (l : List ℕ). l ++ bytes_to opening keys (effect readers (peer_so r q) (Bytes key second)).0) (written_so said.sent phase)
+            ∙ ap (λ (two : List Deed × Rest). to_it said.sent ++ bytes_to opening keys two.0) came
             ∙ ap (λ (l : List ℕ). to_it said.sent ++ l) written
             ∙ more_to_it said.sent more.sent
             ∙ sym (written_so (said.sent ++ more.sent) more.state.phase),
@@ -192,7 +192,7 @@ module _ (readers : Readers) (key : ℕ) where
           now : Peer
           now = record p { stage = Authenticating setting said.state; unread = said.left }
 
-          heard : given readers (peer_so r now) (Bytes key second) ≡ heard_so (peer_so r now) setting now more more.state.phase
+          heard : effect readers (peer_so r now) (Bytes key second) ≡ heard_so (peer_so r now) setting now more more.state.phase
           heard = hear_given (peer_so r now) now setting said.state (there now) refl second
 
           alike : (ph : Phase) → peer_after setting now more ph ≡ peer_after setting p (joined said more) ph
@@ -226,9 +226,9 @@ module _ (readers : Readers) (key : ℕ) where
           (ap (λ (ph : Phase). peer_after setting p (joined said more) ph) (sym (ap (λ (s : Conversed). s.state.phase) silence ∙ at_it)))
 
       pub hears_joined :
-          (written_to opening keys (given readers r (Bytes key first)).0 ++ written_to opening keys (given readers (given readers r (Bytes key first)).1 (Bytes key second)).0 ≡ written_to opening keys (given readers r (Bytes key (first ++ second))).0)
-          × ((given readers (given readers r (Bytes key first)).1 (Bytes key second)).1 ≡ (given readers r (Bytes key (first ++ second))).1)
+          (bytes_to opening keys (effect readers r (Bytes key first)).0 ++ bytes_to opening keys (effect readers (effect readers r (Bytes key first)).1 (Bytes key second)).0 ≡ bytes_to opening keys (effect readers r (Bytes key (first ++ second))).0)
+          × ((effect readers (effect readers r (Bytes key first)).1 (Bytes key second)).1 ≡ (effect readers r (Bytes key (first ++ second))).1)
       hears_joined =
-          let one : given readers r (Bytes key first) ≡ heard_so r setting p said said.state.phase = hear_given r p setting state here is first in
-          let came : Joins (given readers r (Bytes key first)) = subst (λ (end : List Deed × Rest). Joins end) (sym one) (joins said.state.phase refl) in
-          (came.0 ∙ ap (λ (end : List Deed × Rest). written_to opening keys end.0) (sym all_given), came.1 ∙ ap (λ (end : List Deed × Rest). end.1) (sym all_given))
+          let one : effect readers r (Bytes key first) ≡ heard_so r setting p said said.state.phase = hear_given r p setting state here is first in
+          let came : Joins (effect readers r (Bytes key first)) = subst (λ (end : List Deed × Rest). Joins end) (sym one) (joins said.state.phase refl) in
+          (came.0 ∙ ap (λ (end : List Deed × Rest). bytes_to opening keys end.0) (sym all_given), came.1 ∙ ap (λ (end : List Deed × Rest). end.1) (sym all_given))

@@ -28,9 +28,9 @@ use Rattle.router_core.specs.declared.fate.PeerFate.{PeerFate}
 use Rattle.router_core.specs.declared.fate.PeerFate.TheVariants as fate
 use Rattle.router_core.specs.Answers.{Heard, Says, Refuses, error_for}
 use Rattle.router_core.specs.Deeds.{Deed, Closes, Sends}
-use Rattle.router_core.specs.Events.{Bytes, Mail, Next, OfPeer, Stands, hearing, closing, after_serving, send, writing, for_entry, for_peer, with_bytes, refuse, refuse_with, close_found, close_former, welcome, turn_away, after_hello_by, after_hello, serving_hello, serve_named, serve_at, read, next_at, coming_next, mail_found}
+use Rattle.router_core.specs.Events.{Bytes, Mail, Next, OfPeer, Stands, hearing, closing, after_serving, sending, writing, for_entry, for_peer, with_bytes, refusing_routed, refusing_hello, closing_if_found, closing_former, greeting, dismissal, after_hello_by, after_hello, serving_hello, serving_named, serving_at, serving_incoming, next_at, coming_next, mail_delivery}
 use Rattle.router_core.specs.Incoming.{Incoming, Waits, Whole, Faulty}
-use Rattle.router_core.specs.OneThread.{Readers, Rest, Course, alone, given, rest_of}
+use Rattle.router_core.specs.OneThread.{Readers, Rest, Course, alone, effect, rest_of}
 use Rattle.router_core.specs.Scripts.{Script, Gives, Changing, ChangingAll, Asking, Routing, AskingPresence, Noting, Framing, Calling, Gating, Wanting, Requiring, Doing, Announcing, and_then, putting}
 use Rattle.router_core.specs.Serving.{monitors_in, replying, serving}
 use Rattle.router_core.specs.Standing.{Stage, Authenticating, Unnamed, Named, Closing, Peer, Standing, SpeaksDBus, peer_at, with_peer, closing_peer, next_serial, has_slot, is_conn}
@@ -226,7 +226,7 @@ module _ (piece : List ℕ) (key : ℕ) where
   abbrev sent : ℕ → Own → Peer → ℕ → OfPeer
   sent k own p serial = Doing (Sends k (bus_message serial own)) (Gives (numbered p serial))
 
-  send_natural : (k : ℕ) (own : Own) → Natural (send k own)
+  send_natural : (k : ℕ) (own : Own) → Natural (sending k own)
   send_natural k own p =
       ap (λ (n : ℕ). sent k own (more p) (next_serial n)) (serial_same p p.stage)
       ∙ ap (λ (q : Peer). Doing (Sends k (bus_message (next_serial p.serial) own)) (Gives q)) (numbered_more p (next_serial p.serial) p.stage)
@@ -246,24 +246,24 @@ module _ (piece : List ℕ) (key : ℕ) where
   putting_natural [] said p = refl
   putting_natural (conn ∷ conns) said p = refl
 
-  refuse_natural : (k : ℕ) (own : Own) (heard : Heard Verdict) → Natural (λ p. refuse k own p heard)
-  refuse_natural k own heard = then_natural (send k own) (λ q. putting (monitors_in heard) (Tells own) (Gives q)) (send_natural k own) (putting_natural (monitors_in heard) (Tells own))
+  refuse_natural : (k : ℕ) (own : Own) (heard : Heard Verdict) → Natural (λ p. refusing_routed k own p heard)
+  refuse_natural k own heard = then_natural (sending k own) (λ q. putting (monitors_in heard) (Tells own) (Gives q)) (send_natural k own) (putting_natural (monitors_in heard) (Tells own))
 
   abbrev error_to : Message → ErrorKind → Own
   error_to m error = Errs (record { caller = None; call = m.serial }) error
 
-  refuse_with_natural : (k : ℕ) (m : Message) (error : ErrorKind) → Natural (refuse_with k m error)
+  refuse_with_natural : (k : ℕ) (m : Message) (error : ErrorKind) → Natural (refusing_hello k m error)
   refuse_with_natural k m error p = by_test (expects_reply m)
     where
       asked : Peer → OfPeer
-      asked q = Routing 0 (facts_of (bus_message 1 (error_to m error))) (λ heard. refuse k (error_to m error) q heard)
+      asked q = Routing 0 (facts_of (bus_message 1 (error_to m error))) (λ heard. refusing_routed k (error_to m error) q heard)
 
       by_test : (b : Bool) → (if b then asked (more p) else Gives (more p)) ≡ seen_as more (if b then asked p else Gives p)
       by_test true = λ i. Routing 0 (facts_of (bus_message 1 (error_to m error))) (λ heard. refuse_natural k (error_to m error) heard p i)
       by_test false = refl
 
-  turn_away_natural : (k : ℕ) (m : Message) → Natural (turn_away k m)
-  turn_away_natural k m = then_natural (refuse_with k m LimitsExceeded) (closing k cause.LimitsExceeded) (refuse_with_natural k m LimitsExceeded) (closing_natural k cause.LimitsExceeded)
+  turn_away_natural : (k : ℕ) (m : Message) → Natural (dismissal k m)
+  turn_away_natural k m = then_natural (refusing_hello k m LimitsExceeded) (closing k cause.LimitsExceeded) (refuse_with_natural k m LimitsExceeded) (closing_natural k cause.LimitsExceeded)
 
   serve_natural : (k : ℕ) (m : Message) (conn : Conn) → Natural (λ p. and_then (serving m conn) (λ fate. after_serving k fate p))
   serve_natural k m conn p =
@@ -296,25 +296,25 @@ module _ (piece : List ℕ) (key : ℕ) where
 
   -- ## Mail
 
-  mail_at : (s : Standing) (said : Said) (found : Option ℕ) → mail_found (with_more s) said found ≡ seen_as with_more (mail_found s said found)
+  mail_at : (s : Standing) (said : Said) (found : Option ℕ) → mail_delivery (with_more s) said found ≡ seen_as with_more (mail_delivery s said found)
   mail_at s said None = refl
   mail_at s said (Some k) = at_key s k (writing k said) (write_natural k said) (cases_eq k key)
 
   pub mail_more : (s : Standing) (slot number : ℕ) (said : Said) →
-      mail_found (with_more s) said (position (is_conn slot number) (with_more s).peers) ≡ seen_as with_more (mail_found s said (position (is_conn slot number) s.peers))
+      mail_delivery (with_more s) said (position (is_conn slot number) (with_more s).peers) ≡ seen_as with_more (mail_delivery s said (position (is_conn slot number) s.peers))
   mail_more s slot number said =
-      ap (λ (found : Option ℕ). mail_found (with_more s) said found) (position_changed None more_if refl (is_conn slot number) (conn_same slot number) s.peers key)
+      ap (λ (found : Option ℕ). mail_delivery (with_more s) said found) (position_changed None more_if refl (is_conn slot number) (conn_same slot number) s.peers key)
       ∙ mail_at s said (position (is_conn slot number) s.peers)
 
   -- ## Hello
 
-  close_found_more : (s : Standing) (found : Option ℕ) → close_found (with_more s) found ≡ seen_as with_more (close_found s found)
+  close_found_more : (s : Standing) (found : Option ℕ) → closing_if_found (with_more s) found ≡ seen_as with_more (closing_if_found s found)
   close_found_more s None = refl
   close_found_more s (Some k) = at_key s k (λ p. closing k cause.Left p) (closing_natural k cause.Left) (cases_eq k key)
 
-  close_former_more : (s : Standing) (conn : Conn) → close_former (with_more s) conn ≡ seen_as with_more (close_former s conn)
+  close_former_more : (s : Standing) (conn : Conn) → closing_former (with_more s) conn ≡ seen_as with_more (closing_former s conn)
   close_former_more s conn =
-      ap (λ (found : Option ℕ). close_found (with_more s) found) (position_changed None more_if refl (has_slot conn.slot) (slot_same conn.slot) s.peers key)
+      ap (λ (found : Option ℕ). closing_if_found (with_more s) found) (position_changed None more_if refl (has_slot conn.slot) (slot_same conn.slot) s.peers key)
       ∙ close_found_more s (position (has_slot conn.slot) s.peers)
 
   module _ (m : Message) (p : Peer) (privileged : Bool) (unnamed : p.stage ≡ Unnamed privileged) where
@@ -324,22 +324,22 @@ module _ (piece : List ℕ) (key : ℕ) where
     named_more : (conn : Conn) → named (more p) conn ≡ more (named p conn)
     named_more conn = ap (λ (stage : Stage). named (with_bytes piece p stage) conn) unnamed
 
-    welcome_more : (o : Outcome) (conn : Conn) (t : Standing) → welcome key m (more p) o conn (with_more t) ≡ seen_as with_more (welcome key m p o conn t)
+    welcome_more : (o : Outcome) (conn : Conn) (t : Standing) → greeting key m (more p) o conn (with_more t) ≡ seen_as with_more (greeting key m p o conn t)
     welcome_more o conn t =
         ap (λ (u : Standing). and_then (replying m conn (UniqueName conn.number)) (λ done. Announcing o.signals (Gives u)))
         (set_of_more t (Some (named (more p) conn)) ∙ ap (λ (q : Peer). with_peer t key (Some q)) (named_more conn) ∙ sym (more_of_set t (Some (named p conn))))
         ∙ sym (and_then_assoc (replying m conn (UniqueName conn.number)) (λ done. Announcing o.signals (Gives (with_peer t key (Some (named p conn))))) (λ u. Gives (with_more u)))
 
     welcomed_more : (s : Standing) (o : Outcome) (conn : Conn) →
-        and_then (close_former (with_more s) conn) (λ t. welcome key m (more p) o conn t) ≡ seen_as with_more (and_then (close_former s conn) (λ t. welcome key m p o conn t))
+        and_then (closing_former (with_more s) conn) (λ t. greeting key m (more p) o conn t) ≡ seen_as with_more (and_then (closing_former s conn) (λ t. greeting key m p o conn t))
     welcomed_more s o conn =
-        ap (λ (x : Stands). and_then x (λ t. welcome key m (more p) o conn t)) (close_former_more s conn)
-        ∙ and_then_assoc (close_former s conn) (λ t. Gives (with_more t)) (λ t. welcome key m (more p) o conn t)
-        ∙ after_same (close_former s conn) (λ t. welcome key m (more p) o conn (with_more t)) (λ t. seen_as with_more (welcome key m p o conn t)) (welcome_more o conn)
-        ∙ sym (and_then_assoc (close_former s conn) (λ t. welcome key m p o conn t) (λ u. Gives (with_more u)))
+        ap (λ (x : Stands). and_then x (λ t. greeting key m (more p) o conn t)) (close_former_more s conn)
+        ∙ and_then_assoc (closing_former s conn) (λ t. Gives (with_more t)) (λ t. greeting key m (more p) o conn t)
+        ∙ after_same (closing_former s conn) (λ t. greeting key m (more p) o conn (with_more t)) (λ t. seen_as with_more (greeting key m p o conn t)) (welcome_more o conn)
+        ∙ sym (and_then_assoc (closing_former s conn) (λ t. greeting key m p o conn t) (λ u. Gives (with_more u)))
 
-    turned_away_more : (s : Standing) → for_peer (with_more s) key (Some (more p)) (turn_away key m) ≡ seen_as with_more (for_peer s key (Some p) (turn_away key m))
-    turned_away_more s = here s (turn_away key m) (turn_away_natural key m) (Some p)
+    turned_away_more : (s : Standing) → for_peer (with_more s) key (Some (more p)) (dismissal key m) ≡ seen_as with_more (for_peer s key (Some p) (dismissal key m))
+    turned_away_more s = here s (dismissal key m) (turn_away_natural key m) (Some p)
 
     after_hello_by_more : (s : Standing) (o : Outcome) (r : Reply) → after_hello_by (with_more s) key m (more p) o r ≡ seen_as with_more (after_hello_by s key m p o r)
     after_hello_by_more s o (reply.Welcome conn) = welcomed_more s o conn
@@ -357,7 +357,7 @@ module _ (piece : List ℕ) (key : ℕ) where
     after_hello_by_more s o reply.Ignored = turned_away_more s
 
     after_hello_more : (s : Standing) (heard : Heard Outcome) → after_hello (with_more s) key m (more p) heard ≡ seen_as with_more (after_hello s key m p heard)
-    after_hello_more s (Refuses refusal) = here s (refuse_with key m (error_for refusal)) (refuse_with_natural key m (error_for refusal)) (Some p)
+    after_hello_more s (Refuses refusal) = here s (refusing_hello key m (error_for refusal)) (refuse_with_natural key m (error_for refusal)) (Some p)
     after_hello_more s (Says o) = after_hello_by_more s o o.reply
 
     serving_hello_more : (s : Standing) → serving_hello (with_more s) key m (more p) privileged ≡ seen_as with_more (serving_hello s key m p privileged)
@@ -377,14 +377,14 @@ module _ (piece : List ℕ) (key : ℕ) where
   watches_same p (Named conn) = refl
   watches_same p (Closing conn) = refl
 
-  named_serve : (s : Standing) (m : Message) (p : Peer) (conn : Conn) (watches : Bool) → serve_named (with_more s) key m (more p) conn watches ≡ seen_as with_more (serve_named s key m p conn watches)
+  named_serve : (s : Standing) (m : Message) (p : Peer) (conn : Conn) (watches : Bool) → serving_named (with_more s) key m (more p) conn watches ≡ seen_as with_more (serving_named s key m p conn watches)
   named_serve s m p conn true = here s (closing key cause.MonitorSent) (closing_natural key cause.MonitorSent) (Some p)
   named_serve s m p conn false = here s (λ q. and_then (serving m conn) (λ fate. after_serving key fate q)) (serve_natural key m conn) (Some p)
 
-  pub serve_more : (s : Standing) (m : Message) (p : Peer) (stage : Stage) → p.stage ≡ stage → serve_at (with_more s) key m (more p) stage ≡ seen_as with_more (serve_at s key m p stage)
+  pub serve_more : (s : Standing) (m : Message) (p : Peer) (stage : Stage) → p.stage ≡ stage → serving_at (with_more s) key m (more p) stage ≡ seen_as with_more (serving_at s key m p stage)
   serve_more s m p (Authenticating setting state) is = refl
   serve_more s m p (Unnamed privileged) is = hello_more m p privileged is s (is_hello m)
-  serve_more s m p (Named conn) is = ap (serve_named (with_more s) key m (more p) conn) (watches_same p p.stage) ∙ named_serve s m p conn p.watches
+  serve_more s m p (Named conn) is = ap (serving_named (with_more s) key m (more p) conn) (watches_same p p.stage) ∙ named_serve s m p conn p.watches
   serve_more s m p (Closing conn) is = refl
 
 -- ## Over a bus of one thread
@@ -409,7 +409,7 @@ module _ (readers : Readers) (piece : List ℕ) (key : ℕ) where
   come_to_more r s = ap (λ (end : Standing × Course). let at : List Deed × Rest = (end.1.deeds, rest_of end) in at) (alone_seen readers (with_more piece key) s (record { view = r.view; deeds = [] }))
 
   -- bytes of a connection that has begun its messages
-  pub bytes_given : (r : Rest) → IfSome (peer_at r.standing key) (λ p. SpeaksDBus p.stage) → given readers r (Bytes key piece) ≡ ([], rest_more piece key r)
+  pub bytes_given : (r : Rest) → IfSome (peer_at r.standing key) (λ p. SpeaksDBus p.stage) → effect readers r (Bytes key piece) ≡ ([], rest_more piece key r)
   bytes_given r begun = by_peer (peer_at r.standing key) begun
     where
       heard : Peer → Stage → Stands
@@ -426,10 +426,10 @@ module _ (readers : Readers) (piece : List ℕ) (key : ℕ) where
       by_peer None begun = refl
       by_peer (Some p) begun = by_stage p p.stage begun
 
-  pub mail_given : (r : Rest) (slot number : ℕ) (said : Said) → given readers (rest_more piece key r) (Mail slot number None said) ≡ end_more piece key (given readers r (Mail slot number None said))
+  pub mail_given : (r : Rest) (slot number : ℕ) (said : Said) → effect readers (rest_more piece key r) (Mail slot number None said) ≡ end_more piece key (effect readers r (Mail slot number None said))
   mail_given r slot number said =
       ap (λ (s : Stands). come_to readers r s) (mail_more piece key r.standing slot number said)
-      ∙ come_to_more r (mail_found r.standing said (position (is_conn slot number) r.standing.peers))
+      ∙ come_to_more r (mail_delivery r.standing said (position (is_conn slot number) r.standing.peers))
 
   module _ (s : Standing) (p : Peer) (message rest : List ℕ) where
     abbrev left_with : Peer → List ℕ → Peer
@@ -438,15 +438,15 @@ module _ (readers : Readers) (piece : List ℕ) (key : ℕ) where
     -- a stage at which bytes are taken
     turn : (stage : Stage) → p.stage ≡ stage → with_bytes piece p stage ≡ left_with p (p.unread ++ piece) → with_bytes piece (left_with p rest) stage ≡ left_with p (rest ++ piece) →
         readers.incoming p.unread ≡ Whole message rest → readers.incoming (p.unread ++ piece) ≡ Whole message (rest ++ piece) → (c : Course) →
-        alone readers (read (with_more piece key s) key (more piece key p) (readers.incoming (more piece key p).unread)) c ≡ alone readers (seen_as (with_more piece key) (read s key p (readers.incoming p.unread))) c
+        alone readers (serving_incoming (with_more piece key s) key (more piece key p) (readers.incoming (more piece key p).unread)) c ≡ alone readers (seen_as (with_more piece key) (serving_incoming s key p (readers.incoming p.unread))) c
     turn stage is grows left incoming later c =
         let s2 : Standing = with_more piece key s in
         let grown : more piece key p ≡ left_with p (p.unread ++ piece) = ap (λ (st : Stage). with_bytes piece p st) is ∙ grows in
-        ap (λ (q : Peer). alone readers (read s2 key q (readers.incoming q.unread)) c) grown
-        ∙ ap (λ (f : Incoming). alone readers (read s2 key (left_with p (p.unread ++ piece)) f) c) later
-        ∙ ap (λ (q : Peer). alone readers (serve_at s2 key (message_said message) q p.stage) c) (sym (ap (λ (st : Stage). with_bytes piece (left_with p rest) st) is ∙ left))
+        ap (λ (q : Peer). alone readers (serving_incoming s2 key q (readers.incoming q.unread)) c) grown
+        ∙ ap (λ (f : Incoming). alone readers (serving_incoming s2 key (left_with p (p.unread ++ piece)) f) c) later
+        ∙ ap (λ (q : Peer). alone readers (serving_at s2 key (message_said message) q p.stage) c) (sym (ap (λ (st : Stage). with_bytes piece (left_with p rest) st) is ∙ left))
         ∙ ap (λ (x : Stands). alone readers x c) (serve_more piece key s (message_said message) (left_with p rest) p.stage refl)
-        ∙ ap (λ (f : Incoming). alone readers (seen_as (with_more piece key) (read s key p f)) c) (sym incoming)
+        ∙ ap (λ (f : Incoming). alone readers (seen_as (with_more piece key) (serving_incoming s key p f)) c) (sym incoming)
 
     turn_at : (stage : Stage) → p.stage ≡ stage → readers.incoming p.unread ≡ Whole message rest → readers.incoming (p.unread ++ piece) ≡ Whole message (rest ++ piece) → (c : Course) →
         alone readers (next_at (with_more piece key s) key (more piece key p) stage) c ≡ alone readers (seen_as (with_more piece key) (next_at s key p stage)) c
@@ -457,7 +457,7 @@ module _ (readers : Readers) (piece : List ℕ) (key : ℕ) where
 
   -- a whole message is served, whatever comes behind it
   pub next_given : (r : Rest) (p : Peer) (message rest : List ℕ) → peer_at r.standing key ≡ Some p → readers.incoming p.unread ≡ Whole message rest → readers.incoming (p.unread ++ piece) ≡ Whole message (rest ++ piece) →
-      given readers (rest_more piece key r) (Next key) ≡ end_more piece key (given readers r (Next key))
+      effect readers (rest_more piece key r) (Next key) ≡ end_more piece key (effect readers r (Next key))
   next_given r p message rest here incoming later =
       let s : Standing = r.standing in
       let s2 : Standing = with_more piece key s in
@@ -491,32 +491,32 @@ module _ (readers : Readers) (key : ℕ) where
   abbrev next_so : Rest → Option Peer → List Deed × Rest
   next_so r o = come_to readers r (coming_next r.standing key o)
 
-  pub none_given : (r : Rest) → peer_at r.standing key ≡ None → given readers r (Next key) ≡ ([], r)
+  pub none_given : (r : Rest) → peer_at r.standing key ≡ None → effect readers r (Next key) ≡ ([], r)
   none_given r here = ap (next_so r) here
 
-  pub closing_given : (r : Rest) (p : Peer) (conn : Option Conn) → peer_at r.standing key ≡ Some p → p.stage ≡ Closing conn → given readers r (Next key) ≡ ([], r)
+  pub closing_given : (r : Rest) (p : Peer) (conn : Option Conn) → peer_at r.standing key ≡ Some p → p.stage ≡ Closing conn → effect readers r (Next key) ≡ ([], r)
   closing_given r p conn here is = ap (next_so r) here ∙ ap (λ (stage : Stage). come_to readers r (next_at r.standing key p stage)) is
 
-  pub authenticating_given : (r : Rest) (p : Peer) (setting : Setting) (state : AuthState) → peer_at r.standing key ≡ Some p → p.stage ≡ Authenticating setting state → given readers r (Next key) ≡ ([], r)
+  pub authenticating_given : (r : Rest) (p : Peer) (setting : Setting) (state : AuthState) → peer_at r.standing key ≡ Some p → p.stage ≡ Authenticating setting state → effect readers r (Next key) ≡ ([], r)
   authenticating_given r p setting state here is = ap (next_so r) here ∙ ap (λ (stage : Stage). come_to readers r (next_at r.standing key p stage)) is
 
-  pub waiting_given : (r : Rest) (p : Peer) → peer_at r.standing key ≡ Some p → readers.incoming p.unread ≡ Waits → given readers r (Next key) ≡ ([], r)
+  pub waiting_given : (r : Rest) (p : Peer) → peer_at r.standing key ≡ Some p → readers.incoming p.unread ≡ Waits → effect readers r (Next key) ≡ ([], r)
   waiting_given r p here incoming = ap (next_so r) here ∙ by_stage p.stage
     where
       by_stage : (stage : Stage) → come_to readers r (next_at r.standing key p stage) ≡ ([], r)
       by_stage (Authenticating setting state) = refl
-      by_stage (Unnamed privileged) = ap (λ (f : Incoming). come_to readers r (read r.standing key p f)) incoming
-      by_stage (Named conn) = ap (λ (f : Incoming). come_to readers r (read r.standing key p f)) incoming
+      by_stage (Unnamed privileged) = ap (λ (f : Incoming). come_to readers r (serving_incoming r.standing key p f)) incoming
+      by_stage (Named conn) = ap (λ (f : Incoming). come_to readers r (serving_incoming r.standing key p f)) incoming
       by_stage (Closing conn) = refl
 
   pub faulty_given : (r : Rest) (p : Peer) (fault : FrameFault) → peer_at r.standing key ≡ Some p → TakesBytes p.stage → readers.incoming p.unread ≡ Faulty fault →
-      given readers r (Next key) ≡ (Closes key (cause.Faulty fault) ∷ [], closed_so key r p)
+      effect readers r (Next key) ≡ (Closes key (cause.Faulty fault) ∷ [], closed_so key r p)
   faulty_given r p fault here takes incoming = ap (next_so r) here ∙ by_stage p.stage takes
     where
       by_stage : (stage : Stage) → TakesBytes stage → come_to readers r (next_at r.standing key p stage) ≡ (Closes key (cause.Faulty fault) ∷ [], closed_so key r p)
       by_stage (Authenticating setting state) takes = absurd takes
-      by_stage (Unnamed privileged) takes = ap (λ (f : Incoming). come_to readers r (read r.standing key p f)) incoming
-      by_stage (Named conn) takes = ap (λ (f : Incoming). come_to readers r (read r.standing key p f)) incoming
+      by_stage (Unnamed privileged) takes = ap (λ (f : Incoming). come_to readers r (serving_incoming r.standing key p f)) incoming
+      by_stage (Named conn) takes = ap (λ (f : Incoming). come_to readers r (serving_incoming r.standing key p f)) incoming
       by_stage (Closing conn) takes = absurd takes
 
 -- ## Pieces

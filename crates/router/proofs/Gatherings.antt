@@ -9,7 +9,7 @@ use Rattle.driver.specs.declared.call.Call.{Call}
 use Rattle.router_core.specs.declared.joint.Joint.{Joint}
 use Rattle.router_core.specs.declared.joint.RuleCall.{RuleCall}
 use Rattle.router_core.specs.Deeds.{GatedCall}
-use Rattle.router_core.specs.Events.{Gathered, apart, gathering, after_joining}
+use Rattle.router_core.specs.Events.{Gathered, serving_apart, gathering, after_joining}
 use Rattle.router_core.specs.Scripts.{World, Comes, and_then}
 use Rattle.router_core.specs.Standing.{Peer, Standing, has_slot, peer_at, with_peer}
 use Rattle.router_core.specs.Together.{joining, rule_call}
@@ -66,7 +66,7 @@ module _ {N G : Type 0} (told : N → History) (registry_of : N → ℕ) (passes
 
   module _ (v : World N G) (end : Gathered) where
     -- what is next is served by itself
-    pub gathers_one : IsDue due.Apart old new → Comes told registry_of passes alone (apart joints (with_peer s key new) key) w end v → Comes told registry_of passes alone (gathering joints s key (peer_at s key)) w end v
+    pub gathers_one : IsDue due.Apart old new → Comes told registry_of passes alone (serving_apart joints (with_peer s key new) key) w end v → Comes told registry_of passes alone (gathering joints s key (peer_at s key)) w end v
     gathers_one is served =
         subst (λ (o : Option Peer). Comes told registry_of passes alone (gathering joints s key o) w end v) (sym there) (of_slot old there is)
       where
@@ -74,7 +74,7 @@ module _ {N G : Type 0} (told : N → History) (registry_of : N → ℕ) (passes
         of_slot None at is = absurd is
         of_slot (Some p) at is =
             gathers_apart told registry_of passes alone joints s key p w v end is.0
-            (subst (λ (t : Standing). Comes told registry_of passes alone (apart joints t key) w end v) (as_it_was s key (Some p) new at is.1) served)
+            (subst (λ (t : Standing). Comes told registry_of passes alone (serving_apart joints t key) w end v) (as_it_was s key (Some p) new at is.1) served)
 
     -- it is a call that may joining the others
     pub gathers_call : (conn : Conn) (message : List ℕ) (call : Call) → IsDue (due.Rule conn message call) old new →

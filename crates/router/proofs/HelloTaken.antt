@@ -16,7 +16,7 @@ use Rattle.outbox_core.specs.Contents.{UniqueName}
 use Rattle.router_core.specs.declared.cause.CloseCause.TheVariants as cause
 use Rattle.router_core.specs.Answers.{Heard, Says, Refuses, error_for}
 use Rattle.router_core.specs.Deeds.{GatedCall, Closes}
-use Rattle.router_core.specs.Events.{OfPeer, Stands, closing, for_entry, for_peer, close_found, welcome, turn_away, refuse_with, after_hello_by, after_hello, serving_hello, serve_at, next_at, coming_next}
+use Rattle.router_core.specs.Events.{OfPeer, Stands, closing, for_entry, for_peer, closing_if_found, greeting, dismissal, refusing_hello, after_hello_by, after_hello, serving_hello, serving_at, next_at, coming_next}
 use Rattle.router_core.specs.Incoming.{Whole, IsIncoming}
 use Rattle.router_core.specs.Scripts.{Gives, Doing, Announcing, World, Comes, and_then}
 use Rattle.router_core.specs.Serving.{replying}
@@ -58,20 +58,20 @@ module _ (s : Standing) (key : ℕ) (left : Option Peer) where
   module _ (m : Message) (p : Peer) (o : Outcome) where
     module _ (conn : Conn) where
       -- the name is the one of a connection, whoever else is there
-      welcome_same : (t u : Standing) → ((q : Option Peer) → with_peer t key q ≡ with_peer u key q) → welcome key m p o conn t ≡ welcome key m p o conn u
+      welcome_same : (t u : Standing) → ((q : Option Peer) → with_peer t key q ≡ with_peer u key q) → greeting key m p o conn t ≡ greeting key m p o conn u
       welcome_same t u same = λ i. and_then (replying m conn (UniqueName conn.number)) (λ done. Announcing o.signals (Gives (same (Some (record p { stage = Named conn })) i)))
 
       closed_then : (k : ℕ) → k ≢ key → (r : Option Peer) →
-          and_then (for_peer taken k r (λ q. closing k cause.Left q)) (λ t. welcome key m p o conn t) ≡ and_then (for_peer s k r (λ q. closing k cause.Left q)) (λ t. welcome key m p o conn t)
+          and_then (for_peer taken k r (λ q. closing k cause.Left q)) (λ t. greeting key m p o conn t) ≡ and_then (for_peer s k r (λ q. closing k cause.Left q)) (λ t. greeting key m p o conn t)
       closed_then k other None = welcome_same (with_peer taken k None) (with_peer s k None) (λ q. filled_after k other None q)
       closed_then k other (Some r) =
           ap (λ (rest : Stands). Doing (Closes k cause.Left) rest) (welcome_same (with_peer taken k (Some (closing_peer r))) (with_peer s k (Some (closing_peer r))) (λ q. filled_after k other (Some (closing_peer r)) q))
 
       found_then : (found : Option ℕ) → ((k : ℕ) → found ≡ Some k → k ≢ key) →
-          and_then (close_found taken found) (λ t. welcome key m p o conn t) ≡ and_then (close_found s found) (λ t. welcome key m p o conn t)
+          and_then (closing_if_found taken found) (λ t. greeting key m p o conn t) ≡ and_then (closing_if_found s found) (λ t. greeting key m p o conn t)
       found_then None other = welcome_same taken s filled
       found_then (Some k) other =
-          ap (λ r. and_then (for_peer taken k r (λ q. closing k cause.Left q)) (λ t. welcome key m p o conn t)) (there_too k (other k refl)) ∙ closed_then k (other k refl) (peer_at s k)
+          ap (λ r. and_then (for_peer taken k r (λ q. closing k cause.Left q)) (λ t. greeting key m p o conn t)) (there_too k (other k refl)) ∙ closed_then k (other k refl) (peer_at s k)
 
     module _ (was : Peer) (privileged : Bool) (there : peer_at s key ≡ Some was) (unnamed : was.stage ≡ Unnamed privileged) (slotless : (slot : ℕ) → has_slot slot left ≡ false) where
       without : (slot : ℕ) → has_slot slot (peer_at s key) ≡ false
@@ -85,13 +85,13 @@ module _ (s : Standing) (key : ℕ) (left : Option Peer) where
 
       by_reply : (reply : Reply) → after_hello_by taken key m p o reply ≡ after_hello_by s key m p o reply
       by_reply (Welcome conn) =
-          ap (λ found. and_then (close_found taken found) (λ t. welcome key m p o conn t)) (position_same (has_slot conn.slot) s.peers key left None (slotless conn.slot ∙ sym (without conn.slot)))
+          ap (λ found. and_then (closing_if_found taken found) (λ t. greeting key m p o conn t)) (position_same (has_slot conn.slot) s.peers key left None (slotless conn.slot ∙ sym (without conn.slot)))
           ∙ found_then conn (position (has_slot conn.slot) s.peers) (λ k found. other_key conn.slot k found)
-      by_reply other = for_it p (turn_away key m)
+      by_reply other = for_it p (dismissal key m)
 
   module _ (m : Message) (p : Peer) (was : Peer) (privileged : Bool) (there : peer_at s key ≡ Some was) (unnamed : was.stage ≡ Unnamed privileged) (slotless : (slot : ℕ) → has_slot slot left ≡ false) where
     after_hello_same : (heard : Heard Outcome) → after_hello taken key m p heard ≡ after_hello s key m p heard
-    after_hello_same (Refuses refusal) = for_it p (refuse_with key m (error_for refusal))
+    after_hello_same (Refuses refusal) = for_it p (refusing_hello key m (error_for refusal))
     after_hello_same (Says o) = by_reply m p o was privileged there unnamed slotless o.reply
 
     -- what comes of the Hello then comes of it
@@ -108,8 +108,8 @@ hello_next told registry_of passes alone s key p q privileged message w t v ther
     let m = said message in
     let x : Peer = record p { unread = q.unread } in
     let serves_it = subst (λ (r : Peer). Comes told registry_of passes alone (serving_hello s key m r privileged) w t v) rest done in
-    let chosen : Comes told registry_of passes alone (serve_at s key m x (Unnamed privileged)) w t v =
+    let chosen : Comes told registry_of passes alone (serving_at s key m x (Unnamed privileged)) w t v =
     subst (λ (b : Bool). Comes told registry_of passes alone (if b then serving_hello s key m x privileged else for_peer s key (Some x) (closing key cause.NotHello)) w t v) (sym hello) serves_it in
-    let served = subst (λ (stage : Stage). Comes told registry_of passes alone (serve_at s key m x stage) w t v) (sym unnamed) chosen in
+    let served = subst (λ (stage : Stage). Comes told registry_of passes alone (serving_at s key m x stage) w t v) (sym unnamed) chosen in
     let reads : Comes told registry_of passes alone (next_at s key p (Unnamed privileged)) w t v = (Whole message q.unread, incoming, served) in
     subst (λ (o : Option Peer). Comes told registry_of passes alone (coming_next s key o) w t v) (sym there) (subst (λ (stage : Stage). Comes told registry_of passes alone (next_at s key p stage) w t v) (sym unnamed) reads)

@@ -14,7 +14,7 @@ use Rattle.router_core.specs.declared.joint.RuleCall.{RuleCall}
 use Rattle.router_core.specs.Deeds.{GatedCall}
 use Rattle.router_core.specs.Scripts.{Script, Wanting, World, Passes, Comes, putting}
 use Rattle.router_core.specs.Serving.{closes_for, nothing, with_sender}
-use Rattle.router_core.specs.Together.{Joining, Joins, Parts, call_of_rule, join_copied_if, joining_shown, joins, parts, rule_call}
+use Rattle.router_core.specs.Together.{Joining, Joins, Parts, call_of_rule, joining_copied_if, joining_shown, joining_gated, parting_with, rule_call}
 use Rattle.router_core.specs.declared.cause.CloseCause.TheVariants.{TooLong as For_length}
 use Rattle.router_steps.specs.OncePut.{is_for_length, not_put}
 
@@ -26,7 +26,7 @@ call_is other c is = absurd (none-some c is)
 
 module _ {N G : Type 0} (told : N → History) (registry_of : N → ℕ) (passes : G → GatedCall → G → Type 0) (alone : Bool) (m : Message) (caller : Conn) (c : RuleCall) where
   abbrev joins_if : (monitors : List Conn) → Bool → Script Joining
-  joins_if monitors long = if long then parts (closes_for For_length) else Wanting (λ granted. join_copied_if m caller monitors c granted)
+  joins_if monitors long = if long then parting_with (closes_for For_length) else Wanting (λ granted. joining_copied_if m caller monitors c granted)
 
   module _ (call : Call) (w n v : World N G) (is : rule_call (Ok call) ≡ Some c) (passed : Passes passes call n v) where
     passes_rule : Passes passes (call_of_rule c) n v
@@ -38,7 +38,7 @@ module _ {N G : Type 0} (told : N → History) (registry_of : N → ℕ) (passes
     joins_shown [] short put = subst (λ (k : World N G). Comes told registry_of passes alone (joining_shown m caller [] c) k Joins v) put.1 (v, passes_rule, (refl, refl))
     joins_shown (conn ∷ conns) short put =
         let ends : n ≡ put.0 = put.2.1 in
-        let joined : Comes told registry_of passes alone (joins c) put.0 Joins v = (v, subst (λ (k : World N G). Passes passes (call_of_rule c) k v) ends passes_rule, (refl, refl)) in
+        let joined : Comes told registry_of passes alone (joining_gated c) put.0 Joins v = (v, subst (λ (k : World N G). Passes passes (call_of_rule c) k v) ends passes_rule, (refl, refl)) in
         subst (λ (long : Bool). Comes told registry_of passes alone (joins_if (conn ∷ conns) long) w Joins v) (sym (short (search rules)))
         (true, (put.0, put.1, joined))
 

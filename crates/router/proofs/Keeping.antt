@@ -26,7 +26,7 @@ use Rattle.router_core.specs.declared.fate.PeerFate.{PeerFate}
 use Rattle.router_core.specs.declared.fate.PeerFate.TheVariants as fate
 use Rattle.router_core.specs.Answers.{Heard, Says, Refuses, error_for}
 use Rattle.router_core.specs.Deeds.{GatedCall}
-use Rattle.router_core.specs.Events.{OfPeer, closing, after_serving, close_at, close_found, close_former, writing, for_entry, for_peer, hearing, answering, conversed_to, converse_if, refuse, refuse_with, turn_away, welcome, after_hello, after_hello_by, serving_hello, serve_named, serve_at, read, coming_next, next_at, after_check, checking_presence, checking_each}
+use Rattle.router_core.specs.Events.{OfPeer, closing, after_serving, closing_at, closing_if_found, closing_former, writing, for_entry, for_peer, hearing, answering, after_conversing, conversing_if, refusing_routed, refusing_hello, dismissal, greeting, after_hello, after_hello_by, serving_hello, serving_named, serving_at, serving_incoming, coming_next, next_at, after_check, checking_presence, checking_each}
 use Rattle.router_core.specs.Incoming.{Incoming, Waits, Whole, Faulty}
 use Rattle.router_core.specs.Scripts.{Gives, Routing, Announcing, World, Comes, and_then}
 use Rattle.router_core.specs.Serving.{monitors_in, replying, serving}
@@ -42,7 +42,7 @@ hear_keeps : (key : ℕ) (piece : List ℕ) (p : Peer) → AllGive (λ q. Keeps 
 hear_keeps key piece p = in_stage p.stage
   where
     -- a connection that says who it is has no slot, and gets none
-    in_phase : (q : Peer) (setting : Setting) (said : Conversed) (phase : Phase) → AllGive (λ r. Keeps (Some q) (Some r)) (conversed_to key setting said phase q)
+    in_phase : (q : Peer) (setting : Setting) (said : Conversed) (phase : Phase) → AllGive (λ r. Keeps (Some q) (Some r)) (after_conversing key setting said phase q)
     in_phase q setting said WaitingForNul = λ slot has. absurd (false≢true has)
     in_phase q setting said WaitingForAuth = λ slot has. absurd (false≢true has)
     in_phase q setting said (WaitingForData due) = λ slot has. absurd (false≢true has)
@@ -54,8 +54,8 @@ hear_keeps key piece p = in_stage p.stage
     answering_keeps q [] s all = all
     answering_keeps q (b ∷ bytes) s all = all
 
-    by_grant : (q : Peer) (setting : Setting) (said : Conversed) (granted : Bool) → AllGive (λ r. Keeps (Some q) (Some r)) (converse_if key setting said q granted)
-    by_grant q setting said true = answering_keeps q said.sent (conversed_to key setting said said.state.phase q) (in_phase q setting said said.state.phase)
+    by_grant : (q : Peer) (setting : Setting) (said : Conversed) (granted : Bool) → AllGive (λ r. Keeps (Some q) (Some r)) (conversing_if key setting said q granted)
+    by_grant q setting said true = answering_keeps q said.sent (after_conversing key setting said said.state.phase q) (in_phase q setting said said.state.phase)
     by_grant q setting said false = λ slot has. absurd (false≢true has)
 
     in_stage : (stage : Stage) → AllGive (λ q. Keeps (Some (record p { stage = stage })) (Some q)) (hearing key piece (record p { stage = stage }) stage)
@@ -177,28 +177,28 @@ module _ (key : ℕ) (m : Message) (p : Peer) where
   abbrev pub IsLike : Peer → Type 0
   IsLike q = q.stage ≡ p.stage
 
-  refused_by : (own : Own) (heard : Heard Verdict) → AllGive IsLike (refuse key own p heard)
+  refused_by : (own : Own) (heard : Heard Verdict) → AllGive IsLike (refusing_routed key own p heard)
   refused_by own heard = putting_give IsLike (monitors_in heard) (Tells own) (Gives (record p { serial = next_serial p.serial })) refl
 
-  pub refusing : (kind : ErrorKind) → AllGive IsLike (refuse_with key m kind p)
+  pub refusing : (kind : ErrorKind) → AllGive IsLike (refusing_hello key m kind p)
   refusing kind =
       let own = Errs (hello_of m) kind in
-      if_give IsLike (expects_reply m) (Routing 0 (facts_of (bus_message 1 own)) (λ heard. refuse key own p heard)) (Gives p) (λ heard. refused_by own heard) refl
+      if_give IsLike (expects_reply m) (Routing 0 (facts_of (bus_message 1 own)) (λ heard. refusing_routed key own p heard)) (Gives p) (λ heard. refused_by own heard) refl
 
   -- one that is turned away has no slot
-  pub turning_away : AllGive (λ q. Keeps None (Some q)) (turn_away key m p)
+  pub turning_away : AllGive (λ q. Keeps None (Some q)) (dismissal key m p)
   turning_away =
-      then_give IsLike (λ q. Keeps None (Some q)) (λ q. closing key cause.LimitsExceeded q) (λ q like. λ slot has. has) (refuse_with key m error.LimitsExceeded p) (refusing error.LimitsExceeded)
+      then_give IsLike (λ q. Keeps None (Some q)) (λ q. closing key cause.LimitsExceeded q) (λ q like. λ slot has. has) (refusing_hello key m error.LimitsExceeded p) (refusing error.LimitsExceeded)
 
-refusing_in : (key : ℕ) (m : Message) (kind : ErrorKind) (old : Option Peer) → AllGive (λ new. Keeps old new) (for_entry old (refuse_with key m kind))
+refusing_in : (key : ℕ) (m : Message) (kind : ErrorKind) (old : Option Peer) → AllGive (λ new. Keeps old new) (for_entry old (refusing_hello key m kind))
 refusing_in key m kind None = λ slot has. has
 refusing_in key m kind (Some p) =
-    then_give (IsLike key m p) (λ new. Keeps (Some p) new) (λ q. Gives (Some q)) (λ q like. like_keeps p q like) (refuse_with key m kind p) (refusing key m p kind)
+    then_give (IsLike key m p) (λ new. Keeps (Some p) new) (λ q. Gives (Some q)) (λ q like. like_keeps p q like) (refusing_hello key m kind p) (refusing key m p kind)
 
-turning_away_in : (key : ℕ) (m : Message) (old : Option Peer) → AllGive (λ new. Keeps None new) (for_entry old (turn_away key m))
+turning_away_in : (key : ℕ) (m : Message) (old : Option Peer) → AllGive (λ new. Keeps None new) (for_entry old (dismissal key m))
 turning_away_in key m None = λ slot has. has
 turning_away_in key m (Some p) =
-    then_give (λ q. Keeps None (Some q)) (λ new. Keeps None new) (λ q. Gives (Some q)) (λ q keeps. keeps) (turn_away key m p) (turning_away key m p)
+    then_give (λ q. Keeps None (Some q)) (λ new. Keeps None new) (λ q. Gives (Some q)) (λ q keeps. keeps) (dismissal key m p) (turning_away key m p)
 
 -- A connection without a name, or a slot that is another's.
 module _ (slot key : ℕ) where
@@ -224,41 +224,41 @@ module _ (slot key : ℕ) where
       false≢true (subst (λ x. has_slot slot (Some x) ≡ true) same has)
 
   module _ (m : Message) (p : Peer) (privileged : Bool) (unnamed : p.stage ≡ Unnamed privileged) where
-    turned_away : (u : Standing) → AllGive NotBoth (for_peer u key (Some p) (turn_away key m))
+    turned_away : (u : Standing) → AllGive NotBoth (for_peer u key (Some p) (dismissal key m))
     turned_away u =
-        for_give u key p (turn_away key m) (λ q. Keeps None (Some q)) NotBoth (λ q keeps. not_first u (Some q) (λ has. false≢true (keeps slot has))) (turning_away key m p)
+        for_give u key p (dismissal key m) (λ q. Keeps None (Some q)) NotBoth (λ q keeps. not_first u (Some q) (λ has. false≢true (keeps slot has))) (turning_away key m p)
 
-    refused : (u : Standing) (kind : ErrorKind) → AllGive NotBoth (for_peer u key (Some p) (refuse_with key m kind))
+    refused : (u : Standing) (kind : ErrorKind) → AllGive NotBoth (for_peer u key (Some p) (refusing_hello key m kind))
     refused u kind =
-        for_give u key p (refuse_with key m kind) (IsLike key m p) NotBoth (λ q like. not_first u (Some q) (unnamed_has_not q privileged (like ∙ unnamed))) (refusing key m p kind)
+        for_give u key p (refusing_hello key m kind) (IsLike key m p) NotBoth (λ q like. not_first u (Some q) (unnamed_has_not q privileged (like ∙ unnamed))) (refusing key m p kind)
 
-    welcoming : (o : Outcome) (conn : Conn) (u : Standing) → ((q : Peer) → NotBoth (with_peer u key (Some (record q { stage = Named conn })))) → AllGive NotBoth (welcome key m p o conn u)
+    welcoming : (o : Outcome) (conn : Conn) (u : Standing) → ((q : Peer) → NotBoth (with_peer u key (Some (record q { stage = Named conn })))) → AllGive NotBoth (greeting key m p o conn u)
     welcoming o conn u done =
         then_give (λ x. Unit {0}) NotBoth (λ x. Announcing o.signals (Gives (with_peer u key (Some (record p { stage = Named conn }))))) (λ x y. done p) (replying m conn (UniqueName conn.number))
         (all_give (λ x. Unit {0}) (λ x. tt) (replying m conn (UniqueName conn.number)))
 
     -- whoever had the slot is closed
-    closing_second : (u : Standing) (found : Option ℕ) → found ≡ Some (suc key) → AllGive (λ t. HasNot (get_or t.peers (suc key) None)) (close_found u found)
-    closing_second u found is = subst (λ f. AllGive (λ t. HasNot (get_or t.peers (suc key) None)) (close_found u f)) (sym is) (of_it (peer_at u (suc key)))
+    closing_second : (u : Standing) (found : Option ℕ) → found ≡ Some (suc key) → AllGive (λ t. HasNot (get_or t.peers (suc key) None)) (closing_if_found u found)
+    closing_second u found is = subst (λ f. AllGive (λ t. HasNot (get_or t.peers (suc key) None)) (closing_if_found u f)) (sym is) (of_it (peer_at u (suc key)))
       where
-        of_it : (o : Option Peer) → AllGive (λ t. HasNot (get_or t.peers (suc key) None)) (close_at u (suc key) o)
+        of_it : (o : Option Peer) → AllGive (λ t. HasNot (get_or t.peers (suc key) None)) (closing_at u (suc key) o)
         of_it None = λ has. false≢true (written_keeps u.peers (suc key) None slot has)
         of_it (Some q) = λ has. false≢true (written_keeps u.peers (suc key) (Some (closing_peer q)) slot has)
 
     welcomed_by : (x y : Option Peer) (o : Outcome) (conn : Conn) → has_slot slot x ≡ false → has_slot slot y ≡ true →
-        AllGive NotBoth (and_then (close_former (record { peers = two key x y; due_leaves = []; login = None }) conn) (λ t. welcome key m p o conn t))
+        AllGive NotBoth (and_then (closing_former (record { peers = two key x y; due_leaves = []; login = None }) conn) (λ t. greeting key m p o conn t))
     welcomed_by x y o conn isnt is =
         let s : Standing = record { peers = two key x y; due_leaves = []; login = None } in
         elim (cases_eq conn.slot slot) [
           | inl e ↦
               let found : position (has_slot conn.slot) s.peers ≡ Some (suc key) = subst (λ n. position (has_slot n) s.peers ≡ Some (suc key)) (sym e) (second_is_found slot key x y isnt is) in
-              then_give (λ t. HasNot (get_or t.peers (suc key) None)) NotBoth (λ t. welcome key m p o conn t)
+              then_give (λ t. HasNot (get_or t.peers (suc key) None)) NotBoth (λ t. greeting key m p o conn t)
               (λ t hasnt. welcoming o conn t (λ q. not_second t (Some (record q { stage = Named conn })) hasnt))
-              (close_former s conn) (closing_second s (position (has_slot conn.slot) s.peers) found)
+              (closing_former s conn) (closing_second s (position (has_slot conn.slot) s.peers) found)
           | inr ne ↦
-              then_give (λ t. Unit {0}) NotBoth (λ t. welcome key m p o conn t)
+              then_give (λ t. Unit {0}) NotBoth (λ t. greeting key m p o conn t)
               (λ t done. welcoming o conn t (λ q. not_first t (Some (record q { stage = Named conn })) (λ has. ne (eqb-true conn.slot slot has))))
-              (close_former s conn) (all_give (λ t. Unit {0}) (λ t. tt) (close_former s conn))
+              (closing_former s conn) (all_give (λ t. Unit {0}) (λ t. tt) (closing_former s conn))
         ]
 
     hello_served : (x y : Option Peer) (known : Bool) → has_slot slot x ≡ false → has_slot slot y ≡ true → AllGive NotBoth (serving_hello (record { peers = two key x y; due_leaves = []; login = None }) key m p known)
@@ -279,7 +279,7 @@ module _ (slot key : ℕ) where
     as_it_was : (x : Option Peer) → has_slot slot x ≡ false → NotBoth (standing_of x)
     as_it_was x isnt = λ first second. false≢true (sym isnt ∙ ap (has_slot slot) (sym (first_of key x y)) ∙ first)
 
-    serving_keeps : (p : Peer) (m : Message) (rest : List ℕ) (stage : Stage) → has_slot slot (Some (record p { stage = stage })) ≡ false → AllGive NotBoth (serve_at (standing_of (Some (record p { stage = stage }))) key m (record p { stage = stage; unread = rest }) stage)
+    serving_keeps : (p : Peer) (m : Message) (rest : List ℕ) (stage : Stage) → has_slot slot (Some (record p { stage = stage })) ≡ false → AllGive NotBoth (serving_at (standing_of (Some (record p { stage = stage }))) key m (record p { stage = stage; unread = rest }) stage)
     serving_keeps p m rest (Authenticating setting state) isnt = as_it_was (Some (record p { stage = Authenticating setting state })) isnt
     serving_keeps p m rest (Closing conn) isnt = as_it_was (Some (record p { stage = Closing conn })) isnt
     serving_keeps p m rest (Unnamed privileged) isnt =
@@ -301,13 +301,13 @@ module _ (slot key : ℕ) where
         by_fate fate.Watches = λ has. false≢true (sym isnt ∙ has)
         by_fate (fate.Closes why) = λ has. false≢true has
 
-        if_watches : (watches : Bool) → AllGive NotBoth (serve_named s key m q conn watches)
+        if_watches : (watches : Bool) → AllGive NotBoth (serving_named s key m q conn watches)
         if_watches true = not_first s (Some (closing_peer q)) (λ has. false≢true has)
         if_watches false =
             for_give s key q (λ r. and_then (serving m conn) (λ fate. after_serving key fate r)) (λ r. HasNot (Some r)) NotBoth (λ r hasnt. not_first s (Some r) hasnt)
             (then_give (λ fate. Unit {0}) (λ r. HasNot (Some r)) (λ fate. after_serving key fate q) (λ fate done. by_fate fate) (serving m conn) (all_give (λ fate. Unit {0}) (λ fate. tt) (serving m conn)))
 
-    reading : (p : Peer) (stage : Stage) → has_slot slot (Some (record p { stage = stage })) ≡ false → (incoming : Incoming) → AllGive NotBoth (read (standing_of (Some (record p { stage = stage }))) key (record p { stage = stage }) incoming)
+    reading : (p : Peer) (stage : Stage) → has_slot slot (Some (record p { stage = stage })) ≡ false → (incoming : Incoming) → AllGive NotBoth (serving_incoming (standing_of (Some (record p { stage = stage }))) key (record p { stage = stage }) incoming)
     reading p stage isnt Waits = as_it_was (Some (record p { stage = stage })) isnt
     reading p stage isnt (Faulty fault) = not_first (standing_of (Some (record p { stage = stage }))) (Some (closing_peer (record p { stage = stage }))) (λ has. false≢true has)
     reading p stage isnt (Whole bytes rest) = serving_keeps p (message_said bytes) rest stage isnt
@@ -339,11 +339,11 @@ module _ {N G : Type 0} (told : N → History) (registry_of : N → ℕ) (passes
       let rest = given told registry_of passes alone (λ all. KeepsRest [] old all) new v (checking_each [] old) w (checking [] old) came in
       subst (λ xs. KeepsAll old xs) (sym rest.1) rest.2
 
-  pub refused_keeps : (key : ℕ) (m : Message) (kind : ErrorKind) (old new : Option Peer) → Comes told registry_of passes alone (for_entry old (refuse_with key m kind)) w new v → Keeps old new
-  refused_keeps key m kind old new came = given told registry_of passes alone (λ o. Keeps old o) new v (for_entry old (refuse_with key m kind)) w (refusing_in key m kind old) came
+  pub refused_keeps : (key : ℕ) (m : Message) (kind : ErrorKind) (old new : Option Peer) → Comes told registry_of passes alone (for_entry old (refusing_hello key m kind)) w new v → Keeps old new
+  refused_keeps key m kind old new came = given told registry_of passes alone (λ o. Keeps old o) new v (for_entry old (refusing_hello key m kind)) w (refusing_in key m kind old) came
 
-  pub turned_away_has_none : (key : ℕ) (m : Message) (old new : Option Peer) → Comes told registry_of passes alone (for_entry old (turn_away key m)) w new v → Keeps None new
-  turned_away_has_none key m old new came = given told registry_of passes alone (λ o. Keeps None o) new v (for_entry old (turn_away key m)) w (turning_away_in key m old) came
+  pub turned_away_has_none : (key : ℕ) (m : Message) (old new : Option Peer) → Comes told registry_of passes alone (for_entry old (dismissal key m)) w new v → Keeps None new
+  turned_away_has_none key m old new came = given told registry_of passes alone (λ o. Keeps None o) new v (for_entry old (dismissal key m)) w (turning_away_in key m old) came
 
 -- A connection whose next message is served where it stands gets no slot, whoever else is there.
 pub next_keeps : {N G : Type 0} (told : N → History) (registry_of : N → ℕ) (passes : G → GatedCall → G → Type 0) (alone : Bool) (key : ℕ) (old new : Option Peer) (w v : World N G) →

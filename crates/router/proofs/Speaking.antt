@@ -18,9 +18,9 @@ use Rattle.router_core.specs.declared.cause.CloseCause.TheVariants as cause
 use Rattle.router_core.specs.declared.fate.PeerFate.{PeerFate}
 use Rattle.router_core.specs.declared.fate.PeerFate.TheVariants as fate
 use Rattle.router_core.specs.Answers.{Heard, Says, Refuses, error_for}
-use Rattle.router_core.specs.Events.{Mail, Next, OfPeer, with_bytes, closing, after_serving, close_found, close_former, writing, for_entry, for_peer, refuse_with, turn_away, welcome, after_hello, after_hello_by, serving_hello, serve_named, serve_at, read, next_at, coming_next, mail_found}
+use Rattle.router_core.specs.Events.{Mail, Next, OfPeer, with_bytes, closing, after_serving, closing_if_found, closing_former, writing, for_entry, for_peer, refusing_hello, dismissal, greeting, after_hello, after_hello_by, serving_hello, serving_named, serving_at, serving_incoming, next_at, coming_next, mail_delivery}
 use Rattle.router_core.specs.Incoming.{Incoming, Waits, Whole, Faulty}
-use Rattle.router_core.specs.OneThread.{Readers, Rest, Course, alone, given}
+use Rattle.router_core.specs.OneThread.{Readers, Rest, Course, alone, effect}
 use Rattle.router_core.specs.Scripts.{Script, Gives, Changing, ChangingAll, Asking, Routing, AskingPresence, Noting, Framing, Calling, Gating, Wanting, Requiring, Doing, Announcing, and_then}
 use Rattle.router_core.specs.Serving.{replying, serving}
 use Rattle.router_core.specs.Standing.{Stage, Authenticating, Unnamed, Named, Closing, Peer, Standing, SpeaksDBus, first_stage, newcomer, with_newcomer, peer_at, with_peer, is_conn}
@@ -74,7 +74,7 @@ module _ (key : ℕ) where
   closing_speaks : (s : Standing) (k : ℕ) (o : Option Peer) (why : CloseCause) → SpeaksAt key s → AllGive (SpeaksAt key) (for_peer s k o (λ p. closing k why p))
   closing_speaks s k o why speaks = for_speaks s k o (λ p. closing k why p) speaks (λ p is. tt)
 
-  found_speaks : (s : Standing) (found : Option ℕ) → SpeaksAt key s → AllGive (SpeaksAt key) (close_found s found)
+  found_speaks : (s : Standing) (found : Option ℕ) → SpeaksAt key s → AllGive (SpeaksAt key) (closing_if_found s found)
   found_speaks s None speaks = speaks
   found_speaks s (Some k) speaks = closing_speaks s k (peer_at s k) cause.Left speaks
 
@@ -82,26 +82,26 @@ module _ (key : ℕ) where
     like_speaks : (q : Peer) → IsLike key m p q → Speaks q
     like_speaks q like = subst (λ (stage : Stage). SpeaksDBus stage) (sym like) begun
 
-    turned_away_speaks : (s : Standing) → SpeaksAt key s → AllGive (SpeaksAt key) (for_peer s key (Some p) (turn_away key m))
+    turned_away_speaks : (s : Standing) → SpeaksAt key s → AllGive (SpeaksAt key) (for_peer s key (Some p) (dismissal key m))
     turned_away_speaks s speaks =
-        for_speaks s key (Some p) (turn_away key m) speaks
-        (λ q is. then_give (λ r. Unit {0}) Speaks (λ r. closing key cause.LimitsExceeded r) (λ r done. tt) (refuse_with key m LimitsExceeded q) (all_give (λ r. Unit {0}) (λ r. tt) (refuse_with key m LimitsExceeded q)))
+        for_speaks s key (Some p) (dismissal key m) speaks
+        (λ q is. then_give (λ r. Unit {0}) Speaks (λ r. closing key cause.LimitsExceeded r) (λ r done. tt) (refusing_hello key m LimitsExceeded q) (all_give (λ r. Unit {0}) (λ r. tt) (refusing_hello key m LimitsExceeded q)))
 
-    welcome_speaks : (o : Outcome) (conn : Conn) (t : Standing) → SpeaksAt key t → AllGive (SpeaksAt key) (welcome key m p o conn t)
+    welcome_speaks : (o : Outcome) (conn : Conn) (t : Standing) → SpeaksAt key t → AllGive (SpeaksAt key) (greeting key m p o conn t)
     welcome_speaks o conn t speaks =
         then_give (λ x. Unit {0}) (SpeaksAt key) (λ x. Announcing o.signals (Gives (with_peer t key (Some (record p { stage = Named conn })))))
         (λ x done. with_speaks t key (Some (record p { stage = Named conn })) speaks tt) (replying m conn (UniqueName conn.number)) (all_give (λ x. Unit {0}) (λ x. tt) (replying m conn (UniqueName conn.number)))
 
     after_hello_by_speaks : (s : Standing) (o : Outcome) (reply : Reply) → SpeaksAt key s → AllGive (SpeaksAt key) (after_hello_by s key m p o reply)
     after_hello_by_speaks s o (Welcome conn) speaks =
-        then_give (SpeaksAt key) (SpeaksAt key) (λ t. welcome key m p o conn t) (λ t so. welcome_speaks o conn t so) (close_former s conn) (found_speaks s _ speaks)
+        then_give (SpeaksAt key) (SpeaksAt key) (λ t. greeting key m p o conn t) (λ t so. welcome_speaks o conn t so) (closing_former s conn) (found_speaks s _ speaks)
     after_hello_by_speaks s o other speaks = turned_away_speaks s speaks
 
     after_hello_speaks : (s : Standing) (heard : Heard Outcome) → SpeaksAt key s → AllGive (SpeaksAt key) (after_hello s key m p heard)
     after_hello_speaks s (Says o) speaks = after_hello_by_speaks s o o.reply speaks
     after_hello_speaks s (Refuses refusal) speaks =
-        for_speaks s key (Some p) (refuse_with key m (error_for refusal)) speaks
-        (λ q is. weaker_give (IsLike key m q) Speaks (λ r like. subst (λ (stage : Stage). SpeaksDBus stage) (sym like) (of_it q is)) (refuse_with key m (error_for refusal) q) (refusing key m q (error_for refusal)))
+        for_speaks s key (Some p) (refusing_hello key m (error_for refusal)) speaks
+        (λ q is. weaker_give (IsLike key m q) Speaks (λ r like. subst (λ (stage : Stage). SpeaksDBus stage) (sym like) (of_it q is)) (refusing_hello key m (error_for refusal) q) (refusing key m q (error_for refusal)))
       where
         of_it : (q : Peer) → ◌≡◌ {A = Option Peer} (Some p) (Some q) → Speaks q
         of_it q is = subst (λ (o : Option Peer). IfSome o Speaks) is begun
@@ -111,21 +111,21 @@ module _ (key : ℕ) where
     fated_speaks fate.Watches q speaks = speaks
     fated_speaks (fate.Closes why) q speaks = tt
 
-    named_speaks : (s : Standing) (conn : Conn) (watches : Bool) → SpeaksAt key s → AllGive (SpeaksAt key) (serve_named s key m p conn watches)
+    named_speaks : (s : Standing) (conn : Conn) (watches : Bool) → SpeaksAt key s → AllGive (SpeaksAt key) (serving_named s key m p conn watches)
     named_speaks s conn true speaks = closing_speaks s key (Some p) cause.MonitorSent speaks
     named_speaks s conn false speaks =
         for_speaks s key (Some p) (λ q. and_then (serving m conn) (λ fate. after_serving key fate q)) speaks
         (λ q is. then_give (λ fate. Unit {0}) Speaks (λ fate. after_serving key fate q) (λ fate done. fated_speaks fate q (subst (λ (o : Option Peer). IfSome o Speaks) is begun)) (serving m conn)
         (all_give (λ fate. Unit {0}) (λ fate. tt) (serving m conn)))
 
-    serve_speaks : (s : Standing) (stage : Stage) → SpeaksAt key s → AllGive (SpeaksAt key) (serve_at s key m p stage)
+    serve_speaks : (s : Standing) (stage : Stage) → SpeaksAt key s → AllGive (SpeaksAt key) (serving_at s key m p stage)
     serve_speaks s (Authenticating setting state) speaks = speaks
     serve_speaks s (Unnamed privileged) speaks =
         if_give (SpeaksAt key) (is_hello m) (serving_hello s key m p privileged) (for_peer s key (Some p) (closing key cause.NotHello)) (λ heard. after_hello_speaks s heard speaks) (closing_speaks s key (Some p) cause.NotHello speaks)
     serve_speaks s (Named conn) speaks = named_speaks s conn p.watches speaks
     serve_speaks s (Closing conn) speaks = speaks
 
-  read_speaks : (s : Standing) (p : Peer) (incoming : Incoming) → SpeaksAt key s → Speaks p → AllGive (SpeaksAt key) (read s key p incoming)
+  read_speaks : (s : Standing) (p : Peer) (incoming : Incoming) → SpeaksAt key s → Speaks p → AllGive (SpeaksAt key) (serving_incoming s key p incoming)
   read_speaks s p Waits speaks begun = speaks
   read_speaks s p (Faulty fault) speaks begun = closing_speaks s key (Some p) (cause.Faulty fault) speaks
   read_speaks s p (Whole bytes rest) speaks begun = serve_speaks (message_said bytes) (record p { unread = rest }) begun s p.stage speaks
@@ -145,14 +145,14 @@ module _ (key : ℕ) where
   write_like k (Relays bytes) p = refl
   write_like k (Tells own) p = refl
 
-  mail_speaks_at : (s : Standing) (said : Said) (found : Option ℕ) → SpeaksAt key s → AllGive (SpeaksAt key) (mail_found s said found)
+  mail_speaks_at : (s : Standing) (said : Said) (found : Option ℕ) → SpeaksAt key s → AllGive (SpeaksAt key) (mail_delivery s said found)
   mail_speaks_at s said None speaks = speaks
   mail_speaks_at s said (Some k) speaks = by_key (cases_eq key k)
     where
       of_peer : (p : Peer) → AllGive (λ q. q.stage ≡ p.stage) (writing k said p)
       of_peer p = write_like k said p
 
-      by_key : (key ≡ k) ⊎ (key ≡ k → ⊥) → AllGive (SpeaksAt key) (mail_found s said (Some k))
+      by_key : (key ≡ k) ⊎ (key ≡ k → ⊥) → AllGive (SpeaksAt key) (mail_delivery s said (Some k))
       by_key (inl same) =
           for_speaks s k (peer_at s k) (writing k said) speaks
           (λ p is. weaker_give (λ q. q.stage ≡ p.stage) Speaks
@@ -163,13 +163,13 @@ module _ (key : ℕ) where
           (for_entry (peer_at s k) (writing k said)) (all_give (λ q. Unit {0}) (λ q. tt) (for_entry (peer_at s k) (writing k said)))
 
 module _ (readers : Readers) (key : ℕ) where
-  pub next_speaks : (r : Rest) → SpeaksAt key r.standing → SpeaksAt key (given readers r (Next key)).1.standing
+  pub next_speaks : (r : Rest) → SpeaksAt key r.standing → SpeaksAt key (effect readers r (Next key)).1.standing
   next_speaks r speaks = alone_gives readers (SpeaksAt key) (coming_next r.standing key (peer_at r.standing key)) (record { view = r.view; deeds = [] }) (next_speaks_at key r.standing (peer_at r.standing key) speaks speaks)
 
-  pub mail_speaks : (r : Rest) (slot number : ℕ) (said : Said) → SpeaksAt key r.standing → SpeaksAt key (given readers r (Mail slot number None said)).1.standing
+  pub mail_speaks : (r : Rest) (slot number : ℕ) (said : Said) → SpeaksAt key r.standing → SpeaksAt key (effect readers r (Mail slot number None said)).1.standing
   mail_speaks r slot number said speaks =
       let found : Option ℕ = position (is_conn slot number) r.standing.peers in
-      alone_gives readers (SpeaksAt key) (mail_found r.standing said found) (record { view = r.view; deeds = [] }) (mail_speaks_at key r.standing said found speaks)
+      alone_gives readers (SpeaksAt key) (mail_delivery r.standing said found) (record { view = r.view; deeds = [] }) (mail_speaks_at key r.standing said found speaks)
 
 -- ## Bytes, and a connection that comes
 

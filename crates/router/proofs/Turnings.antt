@@ -20,7 +20,7 @@ use Rattle.bus_view.specs.declared.view.BusView.{Ghosts as BusView}
 use Rattle.router_core.specs.declared.gate.Gate.{Ghosts as Gate}
 use Rattle.router_core.specs.Answers.{Says}
 use Rattle.router_core.specs.Deeds.{GatedCall}
-use Rattle.router_core.specs.Events.{Gathered, Stands, answering_each, apart, done_at, done_for, done_in, after_serving, gathering, gather_at, apart_incoming, gather_incoming, gather_message, gathered, join_call, join_if, join_read, making_all, making_each, making_if, coming_next, after_joints, turning}
+use Rattle.router_core.specs.Events.{Gathered, Stands, answering_each, serving_apart, work_at, work_for, work_in, after_serving, gathering, gathering_at, serving_incoming_apart, gathering_incoming, gathering_message, gathering_of_one, joining_call, joining_if, joining_reading, making_all, making_each, making_if, coming_next, after_joints, turning}
 use Rattle.router_core.specs.Incoming.{Incoming, Waits, Whole, Faulty, IsIncoming}
 use Rattle.router_core.specs.Scripts.{Changing, Wanting, World, Comes, and_then}
 use Rattle.router_core.specs.Serving.{OfFate, after_change}
@@ -41,16 +41,16 @@ module _ {N G : Type 0} (told : N → History) (registry_of : N → ℕ) (passes
   -- ---- one connection
 
   -- nothing is done for one that has no name
-  pub does_nothing : (s : Standing) (key : ℕ) (work : OfFate) (w : World N G) → is_named (peer_at s key) ≡ false → Comes told registry_of passes alone (done_for s key work) w s w
+  pub does_nothing : (s : Standing) (key : ℕ) (work : OfFate) (w : World N G) → is_named (peer_at s key) ≡ false → Comes told registry_of passes alone (work_for s key work) w s w
   does_nothing s key work w isnt = in_slot (peer_at s key) isnt
     where
-      in_stage : (p : Peer) (stage : Stage) → is_named (Some (record p { stage = stage })) ≡ false → Comes told registry_of passes alone (done_in s key p stage work) w s w
+      in_stage : (p : Peer) (stage : Stage) → is_named (Some (record p { stage = stage })) ≡ false → Comes told registry_of passes alone (work_in s key p stage work) w s w
       in_stage p (Named conn) isnt = absurd (false≢true (sym isnt))
       in_stage p (Authenticating setting state) isnt = (refl, refl)
       in_stage p (Unnamed privileged) isnt = (refl, refl)
       in_stage p (Closing conn) isnt = (refl, refl)
 
-      in_slot : (o : Option Peer) → is_named o ≡ false → Comes told registry_of passes alone (done_at s key o work) w s w
+      in_slot : (o : Option Peer) → is_named o ≡ false → Comes told registry_of passes alone (work_at s key o work) w s w
       in_slot None isnt = (refl, refl)
       in_slot (Some p) isnt = in_stage p p.stage isnt
 
@@ -58,20 +58,20 @@ module _ {N G : Type 0} (told : N → History) (registry_of : N → ℕ) (passes
 
   -- the change of the coming_next, then those of the rest
   pub makes_more : (joints : List Joint) (i : ℕ) (j : Joint) → i < length joints → j ≡ get_or joints i j → (before after end : Standing) (w m v : World N G) →
-      Comes told registry_of passes alone (done_for before j.key (Changing (change_of_joint j) (λ heard. after_change (said j.message) j.caller heard))) w after m →
+      Comes told registry_of passes alone (work_for before j.key (Changing (change_of_joint j) (λ heard. after_change (said j.message) j.caller heard))) w after m →
       Comes told registry_of passes alone (making_each (drop (i + 1) joints) after) m end v → Comes told registry_of passes alone (making_each (drop i joints) before) w end v
   makes_more joints i j inside is before after end w m v this later =
       subst (λ (js : List Joint). Comes told registry_of passes alone (making_each js before) w end v) (sym (drop_more joints i j inside ∙ ap (λ (x : Joint). x ∷ drop (i + 1) joints) (sym is)))
-      (comes_then told registry_of passes alone (λ (t : Standing). making_each (drop (i + 1) joints) t) after m end v later (done_for before j.key (Changing (change_of_joint j) (λ heard. after_change (said j.message) j.caller heard))) w this)
+      (comes_then told registry_of passes alone (λ (t : Standing). making_each (drop (i + 1) joints) t) after m end v later (work_for before j.key (Changing (change_of_joint j) (λ heard. after_change (said j.message) j.caller heard))) w this)
 
   -- the coming_next is answered, then the rest
   pub answers_more : (joints : List Joint) (i : ℕ) (j : Joint) (outcomes rest : List Outcome) (o : Outcome) → i < length joints → j ≡ get_or joints i j → outcomes ≡ o ∷ rest → (before after end : Standing) (w m v : World N G) →
-      Comes told registry_of passes alone (done_for before j.key (after_change (said j.message) j.caller (Says o))) w after m →
+      Comes told registry_of passes alone (work_for before j.key (after_change (said j.message) j.caller (Says o))) w after m →
       Comes told registry_of passes alone (answering_each (drop (i + 1) joints) rest after) m end v → Comes told registry_of passes alone (answering_each (drop i joints) outcomes before) w end v
   answers_more joints i j outcomes rest o inside is steps before after end w m v this later =
       subst (λ (os : List Outcome). Comes told registry_of passes alone (answering_each (drop i joints) os before) w end v) (sym steps)
       (subst (λ (js : List Joint). Comes told registry_of passes alone (answering_each js (o ∷ rest) before) w end v) (sym (drop_more joints i j inside ∙ ap (λ (x : Joint). x ∷ drop (i + 1) joints) (sym is)))
-      (comes_then told registry_of passes alone (λ (t : Standing). answering_each (drop (i + 1) joints) rest t) after m end v later (done_for before j.key (after_change (said j.message) j.caller (Says o))) w this))
+      (comes_then told registry_of passes alone (λ (t : Standing). answering_each (drop (i + 1) joints) rest t) after m end v later (work_for before j.key (after_change (said j.message) j.caller (Says o))) w this))
 
   -- nobody is left to be answered, or nothing to be told
   pub answers_past : (joints : List Joint) (i : ℕ) (outcomes rest : List Outcome) → length joints ≤ i → (s end : Standing) (w v : World N G) →
@@ -106,51 +106,51 @@ module _ {N G : Type 0} (told : N → History) (registry_of : N → ℕ) (passes
       Comes told registry_of passes alone (after_joints joints s work) w (record { joints = []; standing = u; served = true }) v
   parts_from joints s t u work w m v making later =
       let end : Gathered = record { joints = []; standing = u; served = true } in
-      comes_then told registry_of passes alone (λ (x : Standing). and_then (work x) (λ (y : Standing). gathered [] y)) t m end v
-      (comes_then told registry_of passes alone (λ (y : Standing). gathered [] y) u v end v (refl, refl) (work t) m later)
+      comes_then told registry_of passes alone (λ (x : Standing). and_then (work x) (λ (y : Standing). gathering_of_one [] y)) t m end v
+      (comes_then told registry_of passes alone (λ (y : Standing). gathering_of_one [] y) u v end v (refl, refl) (work t) m later)
       (making_all joints s) w making
 
   pub serves_apart : {T E : Type 0} (r : Result T E) (joints left : List Joint) (key : ℕ) (s t u : Standing) (w m v : World N G) → left ≡ [] → Comes told registry_of passes alone (making_all joints s) w t m →
-      OnOk r (Comes told registry_of passes alone (coming_next t key (peer_at t key)) m u v) → OnOk r (Comes told registry_of passes alone (apart joints s key) w (record { joints = left; standing = u; served = true }) v)
+      OnOk r (Comes told registry_of passes alone (coming_next t key (peer_at t key)) m u v) → OnOk r (Comes told registry_of passes alone (serving_apart joints s key) w (record { joints = left; standing = u; served = true }) v)
   serves_apart (Err e) joints left key s t u w m v none making served = tt
   serves_apart (Ok x) joints left key s t u w m v none making served =
-      subst (λ (js : List Joint). let end : Gathered = record { joints = js; standing = u; served = true } in Comes told registry_of passes alone (apart joints s key) w end v) (sym none)
+      subst (λ (js : List Joint). let end : Gathered = record { joints = js; standing = u; served = true } in Comes told registry_of passes alone (serving_apart joints s key) w end v) (sym none)
       (parts_from joints s t u (λ (y : Standing). coming_next y key (peer_at y key)) w m v making served)
 
   -- nothing is coming_next
   pub gathers_none : (joints : List Joint) (s : Standing) (key : ℕ) (p : Peer) (w : World N G) → IsQuiet p → Comes told registry_of passes alone (gathering joints s key (Some p)) w (record { joints = joints; standing = s; served = false }) w
   gathers_none joints s key p w quiet = in_stage p.stage quiet
     where
-      in_stage : (stage : Stage) → IsQuietAt p stage → Comes told registry_of passes alone (gather_at joints s key p stage) w (record { joints = joints; standing = s; served = false }) w
+      in_stage : (stage : Stage) → IsQuietAt p stage → Comes told registry_of passes alone (gathering_at joints s key p stage) w (record { joints = joints; standing = s; served = false }) w
       in_stage (Authenticating setting state) quiet = (refl, refl)
       in_stage (Unnamed privileged) quiet = (Waits, quiet, (refl, refl))
       in_stage (Named conn) quiet = (Waits, quiet, (refl, refl))
       in_stage (Closing conn) quiet = (refl, refl)
 
   -- it does not join
-  pub gathers_apart : (joints : List Joint) (s : Standing) (key : ℕ) (p : Peer) (w v : World N G) (end : Gathered) → IsApart p p.stage → Comes told registry_of passes alone (apart joints s key) w end v →
+  pub gathers_apart : (joints : List Joint) (s : Standing) (key : ℕ) (p : Peer) (w v : World N G) (end : Gathered) → IsApart p p.stage → Comes told registry_of passes alone (serving_apart joints s key) w end v →
       Comes told registry_of passes alone (gathering joints s key (Some p)) w end v
   gathers_apart joints s key p w v end due served = in_stage p.stage due
     where
-      if_joins : (message : List ℕ) (q : Peer) (conn : Conn) (b : Bool) → Comes told registry_of passes alone (if b then Wanting (λ granted. join_if joints s key message q conn granted) else apart joints s key) w end v
+      if_joins : (message : List ℕ) (q : Peer) (conn : Conn) (b : Bool) → Comes told registry_of passes alone (if b then Wanting (λ granted. joining_if joints s key message q conn granted) else serving_apart joints s key) w end v
       if_joins message q conn true = (false, served)
       if_joins message q conn false = served
 
-      if_watches : (message : List ℕ) (q : Peer) (conn : Conn) (watches : Bool) → Comes told registry_of passes alone (gather_message joints s key message q conn watches) w end v
+      if_watches : (message : List ℕ) (q : Peer) (conn : Conn) (watches : Bool) → Comes told registry_of passes alone (gathering_message joints s key message q conn watches) w end v
       if_watches message q conn true = served
       if_watches message q conn false = if_joins message q conn (may_join (said message))
 
-      at_incoming : (conn : Conn) (incoming : Incoming) → incoming ≢ Waits → Comes told registry_of passes alone (gather_incoming joints s key p conn incoming) w end v
+      at_incoming : (conn : Conn) (incoming : Incoming) → incoming ≢ Waits → Comes told registry_of passes alone (gathering_incoming joints s key p conn incoming) w end v
       at_incoming conn Waits other = absurd (other refl)
       at_incoming conn (Faulty fault) other = served
       at_incoming conn (Whole message rest) other = if_watches message (record p { unread = rest }) conn p.watches
 
-      apart_at : (incoming : Incoming) → incoming ≢ Waits → Comes told registry_of passes alone (apart_incoming joints s key incoming) w end v
+      apart_at : (incoming : Incoming) → incoming ≢ Waits → Comes told registry_of passes alone (serving_incoming_apart joints s key incoming) w end v
       apart_at Waits other = absurd (other refl)
       apart_at (Faulty fault) other = served
       apart_at (Whole message rest) other = served
 
-      in_stage : (stage : Stage) → IsApart p stage → Comes told registry_of passes alone (gather_at joints s key p stage) w end v
+      in_stage : (stage : Stage) → IsApart p stage → Comes told registry_of passes alone (gathering_at joints s key p stage) w end v
       in_stage (Authenticating setting state) due = absurd due
       in_stage (Unnamed privileged) due = (due.0, due.1, apart_at due.0 due.2)
       in_stage (Named conn) due = (due.0, due.1, at_incoming conn due.0 due.2)
@@ -159,15 +159,15 @@ module _ {N G : Type 0} (told : N → History) (registry_of : N → ℕ) (passes
   -- it is a call that adds or removes a rule, and reads well
   pub gathers_rule : (joints : List Joint) (s : Standing) (key : ℕ) (old new : Peer) (conn : Conn) (message : List ℕ) (call : Call) (c : RuleCall) (w v : World N G) (end : Gathered) →
       old.stage ≡ Named conn → IsIncoming old.unread (Whole message new.unread) → IsRest old new → old.watches ≡ false → may_join (said message) ≡ true → IsCall (said message) (Ok call) → rule_call (Ok call) ≡ Some c →
-      Comes told registry_of passes alone (join_call joints s key message new conn c) w end v → Comes told registry_of passes alone (gathering joints s key (Some old)) w end v
+      Comes told registry_of passes alone (joining_call joints s key message new conn c) w end v → Comes told registry_of passes alone (gathering joints s key (Some old)) w end v
   gathers_rule joints s key old new conn message call c w v end named incoming rest speaks joins reads is served =
       let left : Peer = record old { unread = new.unread } in
-      let of_left = subst (λ (q : Peer). Comes told registry_of passes alone (join_call joints s key message q conn c) w end v) rest served in
-      let of_call = subst (λ (o : Option RuleCall). Comes told registry_of passes alone (join_read joints s key message left conn o) w end v) (sym is) of_left in
-      let wanted : Comes told registry_of passes alone (Wanting (λ granted. join_if joints s key message left conn granted)) w end v = (true, (Ok call, reads, of_call)) in
-      let of_header = subst (λ (b : Bool). Comes told registry_of passes alone (if b then Wanting (λ granted. join_if joints s key message left conn granted) else apart joints s key) w end v) (sym joins) wanted in
-      let of_client = subst (λ (b : Bool). Comes told registry_of passes alone (gather_message joints s key message left conn b) w end v) (sym speaks) of_header in
-      subst (λ (stage : Stage). Comes told registry_of passes alone (gather_at joints s key old stage) w end v) (sym named) (Whole message new.unread, incoming, of_client)
+      let of_left = subst (λ (q : Peer). Comes told registry_of passes alone (joining_call joints s key message q conn c) w end v) rest served in
+      let of_call = subst (λ (o : Option RuleCall). Comes told registry_of passes alone (joining_reading joints s key message left conn o) w end v) (sym is) of_left in
+      let wanted : Comes told registry_of passes alone (Wanting (λ granted. joining_if joints s key message left conn granted)) w end v = (true, (Ok call, reads, of_call)) in
+      let of_header = subst (λ (b : Bool). Comes told registry_of passes alone (if b then Wanting (λ granted. joining_if joints s key message left conn granted) else serving_apart joints s key) w end v) (sym joins) wanted in
+      let of_client = subst (λ (b : Bool). Comes told registry_of passes alone (gathering_message joints s key message left conn b) w end v) (sym speaks) of_header in
+      subst (λ (stage : Stage). Comes told registry_of passes alone (gathering_at joints s key old stage) w end v) (sym named) (Whole message new.unread, incoming, of_client)
 
   -- the coming_next message, then the rest; memory is there
   pub turns_more : (keys : List ℕ) (i : ℕ) → i < length keys → (begun : Bool) (js : List Joint) (before end : Standing) (after : Gathered) (w m v : World N G) →
@@ -221,16 +221,16 @@ named_within peers key is =
 module _ {V N R G : Type 0} (view : BusView V N R) (gate : Gate G) where
   -- what is done for one that has a name
   pub settles : (s : Standing) (key : ℕ) (work : OfFate) (becomes : PeerFate) (old new : Option Peer) (w m v : World N G) → is_named old ≡ true → peer_at s key ≡ old → Comes view.told view.registry_of gate.passes view.alone work w becomes m →
-      IsSettled view gate key becomes old m new v → Comes view.told view.registry_of gate.passes view.alone (done_for s key work) w (with_peer s key new) v
+      IsSettled view gate key becomes old m new v → Comes view.told view.registry_of gate.passes view.alone (work_for s key work) w (with_peer s key new) v
   settles s key work becomes None new w m v named there served settled = absurd settled
   settles s key work becomes (Some p) new w m v named there served settled =
-      subst (λ (o : Option Peer). Comes view.told view.registry_of gate.passes view.alone (done_at s key o work) w (with_peer s key new) v) (sym there)
-      (subst (λ (o : Option Peer). Comes view.told view.registry_of gate.passes view.alone (done_in s key p p.stage work) w (with_peer s key o) v) (sym settled.1) (in_stage p.stage named))
+      subst (λ (o : Option Peer). Comes view.told view.registry_of gate.passes view.alone (work_at s key o work) w (with_peer s key new) v) (sym there)
+      (subst (λ (o : Option Peer). Comes view.told view.registry_of gate.passes view.alone (work_in s key p p.stage work) w (with_peer s key o) v) (sym settled.1) (in_stage p.stage named))
     where
       done : Comes view.told view.registry_of gate.passes view.alone (and_then work (λ (f : PeerFate). after_serving key f p)) w settled.0 v
       done = comes_then view.told view.registry_of gate.passes view.alone (λ (f : PeerFate). after_serving key f p) becomes m settled.0 v settled.2 work w served
 
-      in_stage : (stage : Stage) → is_named (Some (record p { stage = stage })) ≡ true → Comes view.told view.registry_of gate.passes view.alone (done_in s key p stage work) w (with_peer s key (Some settled.0)) v
+      in_stage : (stage : Stage) → is_named (Some (record p { stage = stage })) ≡ true → Comes view.told view.registry_of gate.passes view.alone (work_in s key p stage work) w (with_peer s key (Some settled.0)) v
       in_stage (Named conn) is = for_some view.told view.registry_of gate.passes view.alone s key p settled.0 (λ (x : Peer). and_then work (λ (f : PeerFate). after_serving key f x)) w v done
       in_stage (Authenticating setting state) is = absurd (false≢true is)
       in_stage (Unnamed privileged) is = absurd (false≢true is)

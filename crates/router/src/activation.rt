@@ -8,7 +8,7 @@ ghost use Rattle.message_core.specs.declared.header_field.HeaderField.TheVariant
 ghost use Rattle.message.specs.MessageBytes.{message_bytes};
 ghost use Rattle.router_core.specs.Answers.{Says};
 ghost use Rattle.router_core.specs.Scripts.{RunsTo};
-ghost use Rattle.router_core.specs.Serving.{after_hold, holding, hold_if, with_sender, waiting_call};
+ghost use Rattle.router_core.specs.Serving.{after_hold, holding, holding_if, with_sender, waiting_call};
 
 use crate::calls::{error_for, refuse};
 use bus_view::BusView;
@@ -121,7 +121,7 @@ fn wait<V: BusView, G: Gate>(
     requires held { parcel.held ≡ message_bytes (with_sender (said message.now) sender) }
     requires passed { parcel.passed ≡ message_bytes (with_sender (said message.now) sender) }
     ensures comes { RunsTo V.BusView G.Gate
-        (hold_if (said message.now) sender parcel.name.value true)
+        (holding_if (said message.now) sender parcel.name.value true)
         context.old.world result context.new.world }
     ensures room { context.old.room ≤ context.new.room + 1 }
 {

@@ -5,7 +5,7 @@ ghost use Rattle.message_core.specs.Said.{said};
 ghost use Rattle.seq_bus_core.specs.Bounds.{IsBounded};
 ghost use Rattle.seq_bus_core.specs.declared.limits.TheConstants.{MAX_SIGNALS};
 ghost use Rattle.router_core.specs.Answers.{error_for, refusal_of};
-ghost use Rattle.router_core.specs.Events.{refuse_with, turn_away, for_peer, close_former, welcome, after_hello, after_hello_by, serving_hello};
+ghost use Rattle.router_core.specs.Events.{refusing_hello, dismissal, for_peer, closing_former, greeting, after_hello, after_hello_by, serving_hello};
 ghost use Rattle.router_core.specs.Scripts.{RunsTo};
 ghost use Rattle.router_core.specs.Standing.{Peer as Standing_peer, Named, has_slot, next_serial, peer_at};
 ghost use Rattle.router_steps.specs.Hearing.{heard_change};
@@ -99,7 +99,7 @@ impl<V: BusView, G: Gate> Peers<V, G> {
     /// Whoever had the slot before has left, though its connection is not gone yet: it is closed.
     fn close_former(&mut self, conn: Conn)
         requires { 0 < self.old.work.room }
-        ensures comes { RunsTo V.BusView G.Gate (close_former self.old.standing conn)
+        ensures comes { RunsTo V.BusView G.Gate (closing_former self.old.standing conn)
             self.old.work.world self.new.standing self.new.work.world }
         ensures room { self.old.work.room ≤ self.new.work.room + 1 }
         ensures spare_verdicts { self.new.work.spare_verdicts ≡ self.old.work.spare_verdicts }
@@ -123,7 +123,7 @@ impl<V: BusView, G: Gate> Peers<V, G> {
         requires vacant { IsVacant conn.slot self.old.standing.peers }
         ensures { (p : Standing_peer) → peer_at self.old.standing key ≡ Some p →
             RunsTo V.BusView G.Gate
-            (welcome key (said hello.now) p outcome conn self.old.standing)
+            (greeting key (said hello.now) p outcome conn self.old.standing)
             self.old.work.world self.new.standing self.new.work.world }
     {
         self.context
@@ -142,7 +142,7 @@ impl<V: BusView, G: Gate> Peers<V, G> {
             (λ p. AreRefusals (said hello.now) (next_serial p.serial) errors) }
         ensures { RunsTo V.BusView G.Gate
             (for_peer self.old.standing key (peer_at self.old.standing key)
-            (refuse_with key (said hello.now) (error_for (refusal_of why))))
+            (refusing_hello key (said hello.now) (error_for (refusal_of why))))
             self.old.work.world self.new.standing self.new.work.world }
     {
         self.context
@@ -158,7 +158,7 @@ impl<V: BusView, G: Gate> Peers<V, G> {
             (said hello.now) ErrorKind.LimitsExceeded (next_serial p.serial) bytes) }
         ensures { RunsTo V.BusView G.Gate
             (for_peer self.old.standing key (peer_at self.old.standing key)
-            (turn_away key (said hello.now)))
+            (dismissal key (said hello.now)))
             self.old.work.world self.new.standing self.new.work.world }
     {
         self.context

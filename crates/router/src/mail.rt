@@ -3,7 +3,7 @@
 ghost use Rattle.std.specs.Prelude.{◌≡◌, option_map, position, OnOk, OnErr};
 ghost use Rattle.outbox_core.specs.Contents.{said_of};
 ghost use Rattle.router_core.specs.Deeds.{IsOwnNote};
-ghost use Rattle.router_core.specs.Events.{mail_found, after_note};
+ghost use Rattle.router_core.specs.Events.{mail_delivery, after_note};
 ghost use Rattle.router_core.specs.Scripts.{RunsTo};
 ghost use Rattle.router_core.specs.Standing.{is_conn};
 ghost use Rattle.router.specs.Indexed.{IsIndexed};
@@ -65,7 +65,7 @@ impl<V: BusView, G: Gate> Peers<V, G> {
         requires { IsOwnNote V.registry_of self.old.work.world.view.registry envelope.now.note }
         ensures comes { OnOk result (RunsTo V.BusView G.Gate
             (after_note (option_map V.told envelope.now.note)
-            (mail_found self.old.standing (said_of envelope.now.content)
+            (mail_delivery self.old.standing (said_of envelope.now.content)
             (position (is_conn slot envelope.now.number) self.old.standing.peers)))
             self.old.work.world self.new.standing self.new.work.world) }
         ensures err { OnErr result (self.new.standing ≡ self.old.standing) }

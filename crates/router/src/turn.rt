@@ -5,7 +5,7 @@ ghost use Rattle.std.specs.List.{AllByRecursion};
 ghost use Rattle.seq_bus_core.specs.Batches.{IsBatch, max_batch};
 ghost use Rattle.message_core.specs.Said.{said};
 ghost use Rattle.router_core.specs.Answers.{Says};
-ghost use Rattle.router_core.specs.Events.{answering_each, apart, done_for, gathering, after_joining, making_all, making_each, making_if, turning};
+ghost use Rattle.router_core.specs.Events.{answering_each, serving_apart, work_for, gathering, after_joining, making_all, making_each, making_if, turning};
 ghost use Rattle.router_core.specs.Scripts.{Changing, RunsTo, World, and_then};
 ghost use Rattle.router_core.specs.Serving.{OfFate, after_change};
 ghost use Rattle.router_core.specs.Standing.{peer_at};
@@ -177,7 +177,7 @@ impl<V: BusView, G: Gate> Peers<V, G> {
         requires room { 0 < self.old.work.room }
         ensures comes { (work : OfFate) (w : World V.Note G) →
             RunsTo V.BusView G.Gate work w fate self.old.work.world →
-            RunsTo V.BusView G.Gate (done_for self.old.standing key work)
+            RunsTo V.BusView G.Gate (work_for self.old.standing key work)
             w self.new.standing self.new.work.world }
         ensures room { self.old.work.room ≤ self.new.work.room + 1 }
         ensures spare_verdicts { self.new.work.spare_verdicts ≡ self.old.work.spare_verdicts }
@@ -190,7 +190,7 @@ impl<V: BusView, G: Gate> Peers<V, G> {
         requires room { 1 < self.old.work.room }
         requires spare_verdicts { 0 < self.old.work.spare_verdicts }
         ensures comes { RunsTo V.BusView G.Gate
-            (done_for self.old.standing joint.now.key
+            (work_for self.old.standing joint.now.key
             (Changing (change_of_joint joint.now)
             (λ heard. after_change (said joint.now.message) joint.now.caller heard)))
             self.old.work.world self.new.standing self.new.work.world }
@@ -210,7 +210,7 @@ impl<V: BusView, G: Gate> Peers<V, G> {
         requires spare_verdicts { 0 < self.old.work.spare_verdicts }
         requires alone { RepliesAlone outcome }
         ensures comes { RunsTo V.BusView G.Gate
-            (done_for self.old.standing joint.now.key
+            (work_for self.old.standing joint.now.key
             (after_change (said joint.now.message) joint.now.caller (Says outcome)))
             self.old.work.world self.new.standing self.new.work.world }
         ensures room { self.old.work.room ≤ self.new.work.room + 2 }
@@ -329,7 +329,7 @@ impl<V: BusView, G: Gate> Peers<V, G> {
         requires room { MAX_EFFECTS + 2 < self.old.work.room }
         requires spare_verdicts { 0 < self.old.work.spare_verdicts }
         ensures comes { RunsTo V.BusView G.Gate
-            (done_for self.old.standing key (parting_of (said message.now) caller parting))
+            (work_for self.old.standing key (parting_of (said message.now) caller parting))
             self.old.work.world self.new.standing self.new.work.world }
     {
         if !self.has_name(key) {
@@ -358,7 +358,7 @@ impl<V: BusView, G: Gate> Peers<V, G> {
         requires room { 2 * length joints.old.items ≤ self.old.work.room }
         requires spare_verdicts { length joints.old.items ≤ self.old.work.spare_verdicts }
         ensures comes { OnOk result (RunsTo V.BusView G.Gate
-            (apart joints.old.items self.old.standing key)
+            (serving_apart joints.old.items self.old.standing key)
             self.old.work.world (record {
               joints = joints.new.items;
               standing = self.new.standing;

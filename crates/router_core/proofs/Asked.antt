@@ -7,7 +7,7 @@ use Rattle.seq_bus_core.specs.declared.signal.AddressedSignal.{AddressedSignal}
 use Rattle.outbox_core.specs.Contents.{Tells, Signals}
 use Rattle.outbox_core.specs.Deliveries.{deliveries_of}
 use Rattle.router_core.specs.declared.action.Action.{Action}
-use Rattle.router_core.specs.Acts.{Exchange, Changed, ChangedAll, Asked, Routed, AskedPresence, Noted, Framed, Called, Gated, Wanted, Goes, IsLawful, gated_in, world_of}
+use Rattle.router_core.specs.Acts.{Exchange, Changed, ChangedAll, Asked, Routed, AskedPresence, Noted, Framed, Called, Gated, Wanted, Goes, IsLawful, gated_calls, world_of}
 use Rattle.router_core.specs.Deeds.{Deed, GatedCall, PassesAll, Puts, puts_of_signals, announcement, put_of, put_to, AreDoneBy}
 use Rattle.router_core.specs.Events.{script, occasion_of}
 use Rattle.bus_view.specs.declared.view.BusView.{Ghosts as BusView}
@@ -42,7 +42,7 @@ pub record Listed {N G : Type 0} (passes : G → GatedCall → G → Type 0) (al
   pub lawful : IsLawful alone w.view asked v.view
   pub done : AreDoneBy actions deeds
   pub added : v.actions ≡ w.actions ++ actions
-  pub shown : PassesAll passes w.gate (gated_in w.view.seat asked) v.gate
+  pub shown : PassesAll passes w.gate (gated_calls w.view.seat asked) v.gate
 
 snoc : {A : Type 0} (all before later x : List A) → all ≡ (before ++ x) ++ later → all ≡ before ++ (x ++ later)
 snoc all before later x e = e ∙ append_assoc before x later
@@ -52,10 +52,10 @@ module _ {N G : Type 0} (passes : G → GatedCall → G → Type 0) (w m v : Wor
   kept_actions : (actions : List (Action N)) → v.actions ≡ m.actions ++ actions → v.actions ≡ w.actions ++ actions
   kept_actions actions e = e ∙ ap (λ (z : World N G). z.actions ++ actions) rest
 
-  kept_gate : (asked : List Exchange) → m.view.seat ≡ w.view.seat → PassesAll passes m.gate (gated_in m.view.seat asked) v.gate → PassesAll passes w.gate (gated_in w.view.seat asked) v.gate
+  kept_gate : (asked : List Exchange) → m.view.seat ≡ w.view.seat → PassesAll passes m.gate (gated_calls m.view.seat asked) v.gate → PassesAll passes w.gate (gated_calls w.view.seat asked) v.gate
   kept_gate asked same h =
-      subst (λ n. PassesAll passes w.gate (gated_in n asked) v.gate) same
-      (subst (λ (z : World N G). PassesAll passes z.gate (gated_in m.view.seat asked) v.gate) rest h)
+      subst (λ n. PassesAll passes w.gate (gated_calls n asked) v.gate) same
+      (subst (λ (z : World N G). PassesAll passes z.gate (gated_calls m.view.seat asked) v.gate) rest h)
 
 pub listed : {N G : Type 0} (told : N → History) (registry_of : N → ℕ) (passes : G → GatedCall → G → Type 0) (alone : Bool) {X : Type 0} (s : Script X) (w : World N G) (x : X) (v : World N G) → Comes told registry_of passes alone s w x v → Listed passes alone s w x v
 listed {N = N} {G = G} told registry_of passes alone (Gives y) w x v p = record {
@@ -175,7 +175,7 @@ listed {N = N} {G = G} told registry_of passes alone (Gating call s) w x v p =
       lawful = (refl, subst (λ (z : World N G). IsLawful alone z.view l.asked v.view) p.1.rest l.lawful);
       done = l.done;
       added = l.added ∙ ap (λ (z : World N G). z.actions ++ l.actions) p.1.rest;
-      shown = ((p.0).gate, p.1.shown, subst (λ n. PassesAll passes (p.0).gate (gated_in n l.asked) v.gate) seat l.shown);
+      shown = ((p.0).gate, p.1.shown, subst (λ n. PassesAll passes (p.0).gate (gated_calls n l.asked) v.gate) seat l.shown);
     }
 listed told registry_of passes alone (Wanting goes_on) w x v p =
     let l = listed told registry_of passes alone (goes_on p.0) w x v p.1 in
@@ -211,7 +211,7 @@ listed {N = N} {G = G} told registry_of passes alone (Doing deed s) w x v p =
       lawful = subst (λ (z : World N G). IsLawful alone z.view l.asked v.view) p.1.rest l.lawful;
       done = (deed, l.deeds, p.1.done, l.done, refl);
       added = snoc v.actions w.actions l.actions (p.1.action ∷ []) (l.added ∙ ap (λ (z : World N G). z.actions ++ l.actions) p.1.rest);
-      shown = subst (λ (z : World N G). PassesAll passes z.gate (gated_in z.view.seat l.asked) v.gate) p.1.rest l.shown;
+      shown = subst (λ (z : World N G). PassesAll passes z.gate (gated_calls z.view.seat l.asked) v.gate) p.1.rest l.shown;
     }
 listed {N = N} {G = G} told registry_of passes alone (Announcing signals s) w x v p =
     let l = listed told registry_of passes alone s p.0 x v p.2 in
@@ -223,7 +223,7 @@ listed {N = N} {G = G} told registry_of passes alone (Announcing signals s) w x 
       lawful = subst (λ (z : World N G). IsLawful alone z.view l.asked v.view) p.1.rest l.lawful;
       done = more_announced signals p.1.note l.actions l.deeds l.done;
       added = snoc v.actions w.actions l.actions (announcement signals p.1.note) (l.added ∙ ap (λ (z : World N G). z.actions ++ l.actions) p.1.rest);
-      shown = subst (λ (z : World N G). PassesAll passes z.gate (gated_in z.view.seat l.asked) v.gate) p.1.rest l.shown;
+      shown = subst (λ (z : World N G). PassesAll passes z.gate (gated_calls z.view.seat l.asked) v.gate) p.1.rest l.shown;
     }
 
 pub answers_are_lawful : {V N R G : Type 0} (view : BusView V N R) (gate : Gate G) → AnswersAreLawful view gate
@@ -233,6 +233,6 @@ answers_are_lawful view gate before after event actions brings =
       asked = l.asked;
       deeds = l.deeds;
       served = record { goes = l.goes; lawful = subst (λ k. IsLawful view.alone before.view l.asked k) (sym brings.view) l.lawful };
-      shown = subst (λ shown. PassesAll gate.passes before.gate (gated_in before.view.seat l.asked) shown) (sym brings.gate) l.shown;
+      shown = subst (λ shown. PassesAll gate.passes before.gate (gated_calls before.view.seat l.asked) shown) (sym brings.gate) l.shown;
       done = subst (λ all. AreDoneBy all l.deeds) (sym (brings.done ∙ l.added)) l.done;
     }

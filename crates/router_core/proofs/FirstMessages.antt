@@ -7,7 +7,7 @@ use Rattle.sasl.specs.declared.phase.Phase.TheVariants.{WaitingForNul, WaitingFo
 use Rattle.sasl.specs.Settings.{Setting}
 use Rattle.sasl.specs.Conversations.{State as AuthState}
 use Rattle.sasl.specs.Hearing.{Conversed, conversed}
-use Rattle.router_core.specs.Events.{Gathered, gathering, gather_at, none_gathered, turning, coming_next, next_at, for_peer, hearing, answering, conversed_to, converse_if, is_user, closing, serving_hello, serve_named}
+use Rattle.router_core.specs.Events.{Gathered, gathering, gathering_at, gathering_of_none, turning, coming_next, next_at, for_peer, hearing, answering, after_conversing, conversing_if, is_user, closing, serving_hello, serving_named}
 use Rattle.router_core.specs.declared.cause.CloseCause.TheVariants.{NotHello, MonitorSent}
 use Rattle.bus_view.specs.declared.view.BusView.{Ghosts as BusView}
 use Rattle.router_core.specs.declared.gate.Gate.{Ghosts as Gate}
@@ -19,8 +19,8 @@ pub closed_are_not_served : ClosedAreNotServed
 closed_are_not_served s key p is = ap (coming_next s key) is.0 ∙ ap (next_at s key p) is.1.1
 
 -- it is passed over
-not_gathered : (s : Standing) (key : ℕ) (p : Peer) → IsClosing s key p → gathering [] s key (peer_at s key) ≡ none_gathered [] s
-not_gathered s key p is = ap (gathering [] s key) is.0 ∙ ap (gather_at [] s key p) is.1.1
+not_gathered : (s : Standing) (key : ℕ) (p : Peer) → IsClosing s key p → gathering [] s key (peer_at s key) ≡ gathering_of_none [] s
+not_gathered s key p is = ap (gathering [] s key) is.0 ∙ ap (gathering_at [] s key p) is.1.1
 
 pub closed_have_no_turn : ClosedHaveNoTurn
 closed_have_no_turn s [] all = refl
@@ -39,8 +39,8 @@ pub nobody_speaks_before_begin : NobodySpeaksBeforeBegin
 nobody_speaks_before_begin s key p setting state is = (ap (coming_next s key) is.0 ∙ ap (next_at s key p) is.1, λ slot number. rw is.1 refl)
 
 -- it is passed over
-not_begun : (s : Standing) (key : ℕ) (p : Peer) (setting : Setting) (state : AuthState) → HasNotBegun s key p setting state → gathering [] s key (peer_at s key) ≡ none_gathered [] s
-not_begun s key p setting state is = ap (gathering [] s key) is.0 ∙ ap (gather_at [] s key p) is.1
+not_begun : (s : Standing) (key : ℕ) (p : Peer) (setting : Setting) (state : AuthState) → HasNotBegun s key p setting state → gathering [] s key (peer_at s key) ≡ gathering_of_none [] s
+not_begun s key p setting state is = ap (gathering [] s key) is.0 ∙ ap (gathering_at [] s key p) is.1
 
 pub nobody_has_a_turn_before_begin : NobodyHasATurnBeforeBegin
 nobody_has_a_turn_before_begin s [] all = refl
@@ -62,7 +62,7 @@ only_begin_begins {N = N} {G = G} view gate p q key piece setting state privileg
     goes_on : q.stage ≡ Authenticating setting said.state → HasBegun
     goes_on is = let never : Authenticating setting said.state ≡ Unnamed privileged = sym is ∙ begun in absurd (cc)
 
-    by_phase : (phase : Phase) → said.state.phase ≡ phase → (m : World N G) → RunsTo view gate (conversed_to key setting said phase p) m q v → HasBegun
+    by_phase : (phase : Phase) → said.state.phase ≡ phase → (m : World N G) → RunsTo view gate (after_conversing key setting said phase p) m q v → HasBegun
     by_phase (Done identity) is m came =
         let same : Unnamed (is_user identity) ≡ Unnamed privileged = sym (ap (λ (r : Peer). r.stage) came.0) ∙ begun in
         (identity, is, cc)
@@ -72,11 +72,11 @@ only_begin_begins {N = N} {G = G} view gate p q key piece setting state privileg
     by_phase (WaitingForData due) is m came = goes_on (ap (λ (r : Peer). r.stage) came.0)
     by_phase (WaitingForBegin identity) is m came = goes_on (ap (λ (r : Peer). r.stage) came.0)
 
-    by_sent : (sent : List ℕ) (m : World N G) → RunsTo view gate (answering key sent (conversed_to key setting said said.state.phase p)) m q v → HasBegun
+    by_sent : (sent : List ℕ) (m : World N G) → RunsTo view gate (answering key sent (after_conversing key setting said said.state.phase p)) m q v → HasBegun
     by_sent [] m came = by_phase said.state.phase refl m came
     by_sent (b ∷ bytes) m came = by_phase said.state.phase refl came.0 came.2
 
-    by_grant : (granted : Bool) → RunsTo view gate (converse_if key setting said p granted) w q v → HasBegun
+    by_grant : (granted : Bool) → RunsTo view gate (conversing_if key setting said p granted) w q v → HasBegun
     by_grant true came = by_sent said.sent w came
     by_grant false came = stays_closed _ (ap (λ (r : Peer). r.stage) came.2.0)
 
@@ -90,5 +90,5 @@ only_hello_is_served view gate s t key m p privileged w v other comes =
 
 pub monitors_send_nothing : {V N R G : Type 0} (view : BusView V N R) (gate : Gate G) → MonitorsSendNothing view gate
 monitors_send_nothing view gate s t key m p conn w v watches comes =
-    let closed : RunsTo view gate (for_peer s key (Some p) (closing key MonitorSent)) w t v = subst (λ b. RunsTo view gate (serve_named s key m p conn b) w t v) watches comes in
+    let closed : RunsTo view gate (for_peer s key (Some p) (closing key MonitorSent)) w t v = subst (λ b. RunsTo view gate (serving_named s key m p conn b) w t v) watches comes in
     (closed.2.0, (closed.1.action, closed.1.done, closed.2.1 ∙ closed.1.rest))

@@ -17,7 +17,7 @@ use Rattle.router_core.specs.Answers.{Heard, Says, Refuses}
 use Rattle.router_core.specs.Deeds.{Deed, puts_of_signals}
 use Rattle.router_core.specs.Events.{script}
 use Rattle.router_core.specs.Laws.{OneThreadIsAFunction, BytesAreAFunction}
-use Rattle.router_core.specs.OneThread.{Readers, AreReadBy, Course, learning, doing, alone, given, rest_after, keys_after, written_to, bus_bytes}
+use Rattle.router_core.specs.OneThread.{Readers, AreReadBy, Course, learning, doing, alone, effect, rest_after, keys_after, bytes_to, bus_bytes}
 use Rattle.router_core.specs.Scripts.{Script, Gives, Changing, ChangingAll, Asking, Routing, AskingPresence, Noting, Framing, Calling, Gating, Wanting, Requiring, Doing, Announcing}
 use Rattle.router_core.proofs.Knowing.{read_alone, added_alone, all_added_alone}
 
@@ -150,7 +150,7 @@ bytes_are_a_function readers opening keys before after (occasion ∷ occasions) 
     let first = one_thread_is_a_function readers before run.2 occasion run.0 run.1 run.4 run.5 run.6 in
     let others = bytes_are_a_function readers opening now run.2 after occasions run.3 run.7 in (
       run.8
-          ∙ ap (λ deeds. written_to opening now deeds ++ run.3) first.0
-          ∙ ap (λ later. written_to opening now (given readers before occasion).0 ++ later) (others.0 ∙ ap (λ r. bus_bytes readers opening now r occasions) first.1),
+          ∙ ap (λ deeds. bytes_to opening now deeds ++ run.3) first.0
+          ∙ ap (λ later. bytes_to opening now (effect readers before occasion).0 ++ later) (others.0 ∙ ap (λ r. bus_bytes readers opening now r occasions) first.1),
       others.1 ∙ ap (λ r. rest_after readers r occasions) first.1,
     )

@@ -68,10 +68,10 @@ IsLawful alone before (Gated seen call ∷ later) after = (seen ≡ before.seen)
 IsLawful alone before (Wanted granted ∷ later) after = IsLawful alone before later after
 
 -- the calls that the gate was shown, in order, by the seat that serves them, each with what that had seen of the bus then
-abbrev pub gated_in : ℕ → List Exchange → List GatedCall
-gated_in seat [] = []
-gated_in seat (Gated seen call ∷ later) = record { seat = seat; call = call; seen = seen } ∷ gated_in seat later
-gated_in seat (other ∷ later) = gated_in seat later
+abbrev pub gated_calls : ℕ → List Exchange → List GatedCall
+gated_calls seat [] = []
+gated_calls seat (Gated seen call ∷ later) = record { seat = seat; call = call; seen = seen } ∷ gated_calls seat later
+gated_calls seat (other ∷ later) = gated_calls seat later
 
 -- Nothing was refused.
 abbrev pub IsGranted : List Exchange → Type 0
@@ -118,5 +118,5 @@ pub record IsServed {N G : Type 0} (told : N → History) (passes : G → GatedC
   pub asked : List Exchange
   pub deeds : List Deed
   pub served : IsServedBy alone before.standing before.view (occasion_of told event) asked deeds after.standing after.view
-  pub shown : PassesAll passes before.gate (gated_in before.view.seat asked) after.gate
+  pub shown : PassesAll passes before.gate (gated_calls before.view.seat asked) after.gate
   pub done : AreDoneBy actions deeds

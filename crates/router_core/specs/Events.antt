@@ -82,12 +82,12 @@ after_serving key fate.Watches p = Gives (record p { watches = true })
 after_serving key (fate.Closes cause) p = closing key cause p
 
 -- a message of the bus, numbered and written
-abbrev pub send : ℕ → Own → Peer → OfPeer
-send key own p = Doing (Sends key (bus_message (next_serial p.serial) own)) (Gives (record p { serial = next_serial p.serial }))
+abbrev pub sending : ℕ → Own → Peer → OfPeer
+sending key own p = Doing (Sends key (bus_message (next_serial p.serial) own)) (Gives (record p { serial = next_serial p.serial }))
 
 abbrev pub writing : ℕ → Said → Peer → OfPeer
 writing key (Relays bytes) p = Doing (Writes key bytes) (Gives p)
-writing key (Tells own) p = send key own p
+writing key (Tells own) p = sending key own p
 
 -- what is done for a connection, if it is there
 abbrev pub for_entry : Option Peer → (Peer → OfPeer) → Script (Option Peer)
@@ -115,71 +115,71 @@ answering key [] s = s
 answering key (b ∷ bytes) s = Doing (Writes key (b ∷ bytes)) s
 
 -- The conversation is done, and the bytes behind it are the first of its messages; or it has failed; or it goes on.
-abbrev pub conversed_to : ℕ → Setting → Conversed → Phase → Peer → OfPeer
-conversed_to key setting said (phase.Done identity) p = Gives (record p { stage = Unnamed (is_user identity); unread = said.left })
-conversed_to key setting said (phase.Closed fault) p = closing key (cause.Unauthenticated fault) p
-conversed_to key setting said going p = Gives (record p { stage = Authenticating setting said.state; unread = said.left })
+abbrev pub after_conversing : ℕ → Setting → Conversed → Phase → Peer → OfPeer
+after_conversing key setting said (phase.Done identity) p = Gives (record p { stage = Unnamed (is_user identity); unread = said.left })
+after_conversing key setting said (phase.Closed fault) p = closing key (cause.Unauthenticated fault) p
+after_conversing key setting said going p = Gives (record p { stage = Authenticating setting said.state; unread = said.left })
 
 -- Without memory for its lines the connection is closed.
-abbrev pub converse_if : ℕ → Setting → Conversed → Peer → Bool → OfPeer
-converse_if key setting said p true = answering key said.sent (conversed_to key setting said said.state.phase p)
-converse_if key setting said p false = closing key (cause.Unauthenticated NoMemoryForLines) p
+abbrev pub conversing_if : ℕ → Setting → Conversed → Peer → Bool → OfPeer
+conversing_if key setting said p true = answering key said.sent (after_conversing key setting said said.state.phase p)
+conversing_if key setting said p false = closing key (cause.Unauthenticated NoMemoryForLines) p
 
 -- Bytes of a connection come. While it says who it is, each line that is whole by them is answered.
 abbrev pub hearing : ℕ → List ℕ → Peer → Stage → OfPeer
-hearing key piece p (Authenticating setting state) = Wanting (λ granted. converse_if key setting (conversed setting state [] (p.unread ++ piece)) p granted)
+hearing key piece p (Authenticating setting state) = Wanting (λ granted. conversing_if key setting (conversed setting state [] (p.unread ++ piece)) p granted)
 hearing key piece p stage = Gives (with_bytes piece p stage)
 
 -- ## Hello
 
 -- The error in place of the reply is written to the connection, which has no name yet, and put to the monitors.
-abbrev pub refuse : ℕ → Own → Peer → Heard Verdict → OfPeer
-refuse key own p heard = and_then (send key own p) (λ q. putting (monitors_in heard) (Tells own) (Gives q))
+abbrev pub refusing_routed : ℕ → Own → Peer → Heard Verdict → OfPeer
+refusing_routed key own p heard = and_then (sending key own p) (λ q. putting (monitors_in heard) (Tells own) (Gives q))
 
-abbrev pub refuse_with : ℕ → Message → ErrorKind → Peer → OfPeer
-refuse_with key m error p =
-    if expects_reply m then Routing 0 (facts_of (bus_message 1 (Errs (record { caller = None; call = m.serial }) error))) (λ heard. refuse key (Errs (record { caller = None; call = m.serial }) error) p heard)
+abbrev pub refusing_hello : ℕ → Message → ErrorKind → Peer → OfPeer
+refusing_hello key m error p =
+    if expects_reply m then Routing 0 (facts_of (bus_message 1 (Errs (record { caller = None; call = m.serial }) error))) (λ heard. refusing_routed key (Errs (record { caller = None; call = m.serial }) error) p heard)
     else Gives p
 
-abbrev pub close_at : Standing → ℕ → Option Peer → Stands
-close_at s key peer = for_peer s key peer (λ p. closing key cause.Left p)
+abbrev pub closing_at : Standing → ℕ → Option Peer → Stands
+closing_at s key peer = for_peer s key peer (λ p. closing key cause.Left p)
 
-abbrev pub close_found : Standing → Option ℕ → Stands
-close_found s None = Gives s
-close_found s (Some key) = close_at s key (peer_at s key)
+abbrev pub closing_if_found : Standing → Option ℕ → Stands
+closing_if_found s None = Gives s
+closing_if_found s (Some key) = closing_at s key (peer_at s key)
 
 -- Whoever had the slot before has left, though its connection is not gone yet: it is closed.
-abbrev pub close_former : Standing → Conn → Stands
-close_former s conn = close_found s (position (has_slot conn.slot) s.peers)
+abbrev pub closing_former : Standing → Conn → Stands
+closing_former s conn = closing_if_found s (position (has_slot conn.slot) s.peers)
 
 -- The connection has its name: the reply comes first, then the signals.
-abbrev pub welcome : ℕ → Message → Peer → Outcome → Conn → Standing → Stands
-welcome key m p o conn s =
+abbrev pub greeting : ℕ → Message → Peer → Outcome → Conn → Standing → Stands
+greeting key m p o conn s =
     and_then (replying m conn (UniqueName conn.number))
     (λ done. Announcing o.signals (Gives (with_peer s key (Some (record p { stage = Named conn })))))
 
-abbrev pub turn_away : ℕ → Message → Peer → OfPeer
-turn_away key m p = and_then (refuse_with key m error.LimitsExceeded p) (λ q. closing key cause.LimitsExceeded q)
+abbrev pub dismissal : ℕ → Message → Peer → OfPeer
+dismissal key m p = and_then (refusing_hello key m error.LimitsExceeded p) (λ q. closing key cause.LimitsExceeded q)
 
 abbrev pub after_hello_by : Standing → ℕ → Message → Peer → Outcome → Reply → Stands
-after_hello_by s key m p o (reply.Welcome conn) = and_then (close_former s conn) (λ t. welcome key m p o conn t)
-after_hello_by s key m p o reply.LimitsExceeded = for_peer s key (Some p) (turn_away key m)
+after_hello_by s key m p o (reply.Welcome conn) = and_then (closing_former s conn) (λ t. greeting key m p o conn t)
+after_hello_by s key m p o reply.LimitsExceeded = for_peer s key (Some p) (dismissal key m)
 -- these are no replies to a Hello
-after_hello_by s key m p o reply.Gone = for_peer s key (Some p) (turn_away key m)
-after_hello_by s key m p o reply.Done = for_peer s key (Some p) (turn_away key m)
-after_hello_by s key m p o (reply.OfQueue r) = for_peer s key (Some p) (turn_away key m)
-after_hello_by s key m p o reply.InvalidName = for_peer s key (Some p) (turn_away key m)
-after_hello_by s key m p o reply.RuleNotFound = for_peer s key (Some p) (turn_away key m)
-after_hello_by s key m p o reply.AccessDenied = for_peer s key (Some p) (turn_away key m)
-after_hello_by s key m p o reply.AlreadyRunning = for_peer s key (Some p) (turn_away key m)
-after_hello_by s key m p o (reply.Held ticket) = for_peer s key (Some p) (turn_away key m)
-after_hello_by s key m p o reply.ServiceUnknown = for_peer s key (Some p) (turn_away key m)
-after_hello_by s key m p o (reply.Pass owner) = for_peer s key (Some p) (turn_away key m)
-after_hello_by s key m p o reply.Ignored = for_peer s key (Some p) (turn_away key m)
+after_hello_by s key m p o reply.Gone = for_peer s key (Some p) (dismissal key m)
+after_hello_by s key m p o reply.Done = for_peer s key (Some p) (dismissal key m)
+after_hello_by s key m p o (reply.OfQueue r) = for_peer s key (Some p) (dismissal key m)
+after_hello_by s key m p o reply.InvalidName = for_peer s key (Some p) (dismissal key m)
+after_hello_by s key m p o reply.RuleNotFound = for_peer s key (Some p) (dismissal key m)
+after_hello_by s key m p o reply.AccessDenied = for_peer s key (Some p) (dismissal key m)
+after_hello_by s key m p o reply.AlreadyRunning = for_peer s key (Some p) (dismissal key m)
+after_hello_by s key m p o (reply.Held ticket) = for_peer s key (Some p) (dismissal key m)
+after_hello_by s key m p o reply.ServiceUnknown = for_peer s key (Some p) (dismissal key m)
+after_hello_by s key m p o (reply.Pass owner) = for_peer s key (Some p) (dismissal key m)
+after_hello_by s key m p o reply.Ignored = for_peer s key (Some p) (dismissal key m)
 
 -- A Hello that is refused leaves the connection without a name: it may say Hello again.
 abbrev pub after_hello : Standing → ℕ → Message → Peer → Heard Outcome → Stands
-after_hello s key m p (Refuses refusal) = for_peer s key (Some p) (refuse_with key m (error_for refusal))
+after_hello s key m p (Refuses refusal) = for_peer s key (Some p) (refusing_hello key m (error_for refusal))
 after_hello s key m p (Says o) = after_hello_by s key m p o o.reply
 
 abbrev pub serving_hello : Standing → ℕ → Message → Peer → Bool → Stands
@@ -188,25 +188,25 @@ serving_hello s key m p privileged = Gating call.Hello (Changing (Hello privileg
 -- ## The next message
 
 -- A monitor that sends is closed.
-abbrev pub serve_named : Standing → ℕ → Message → Peer → Conn → (watches : Bool) → Stands
-serve_named s key m p conn true = for_peer s key (Some p) (closing key cause.MonitorSent)
-serve_named s key m p conn false = for_peer s key (Some p) (λ q. and_then (serving m conn) (λ fate. after_serving key fate q))
+abbrev pub serving_named : Standing → ℕ → Message → Peer → Conn → (watches : Bool) → Stands
+serving_named s key m p conn true = for_peer s key (Some p) (closing key cause.MonitorSent)
+serving_named s key m p conn false = for_peer s key (Some p) (λ q. and_then (serving m conn) (λ fate. after_serving key fate q))
 
-abbrev pub serve_at : Standing → ℕ → Message → Peer → Stage → Stands
-serve_at s key m p (Authenticating setting state) = Gives s
-serve_at s key m p (Unnamed privileged) = if is_hello m then serving_hello s key m p privileged else for_peer s key (Some p) (closing key cause.NotHello)
-serve_at s key m p (Named conn) = serve_named s key m p conn p.watches
-serve_at s key m p (Closing conn) = Gives s
+abbrev pub serving_at : Standing → ℕ → Message → Peer → Stage → Stands
+serving_at s key m p (Authenticating setting state) = Gives s
+serving_at s key m p (Unnamed privileged) = if is_hello m then serving_hello s key m p privileged else for_peer s key (Some p) (closing key cause.NotHello)
+serving_at s key m p (Named conn) = serving_named s key m p conn p.watches
+serving_at s key m p (Closing conn) = Gives s
 
-abbrev pub read : Standing → ℕ → Peer → Incoming → Stands
-read s key p Waits = Gives s
-read s key p (Faulty fault) = for_peer s key (Some p) (closing key (cause.Faulty fault))
-read s key p (Whole bytes rest) = serve_at s key (message_said bytes) (record p { unread = rest }) p.stage
+abbrev pub serving_incoming : Standing → ℕ → Peer → Incoming → Stands
+serving_incoming s key p Waits = Gives s
+serving_incoming s key p (Faulty fault) = for_peer s key (Some p) (closing key (cause.Faulty fault))
+serving_incoming s key p (Whole bytes rest) = serving_at s key (message_said bytes) (record p { unread = rest }) p.stage
 
 abbrev pub next_at : Standing → ℕ → Peer → Stage → Stands
 next_at s key p (Authenticating setting state) = Gives s
 next_at s key p (Closing conn) = Gives s
-next_at s key p stage = Framing p.unread (λ incoming. read s key p incoming)
+next_at s key p stage = Framing p.unread (λ incoming. serving_incoming s key p incoming)
 
 abbrev pub coming_next : Standing → ℕ → Option Peer → Stands
 coming_next s key None = Gives s
@@ -215,29 +215,29 @@ coming_next s key (Some p) = next_at s key p p.stage
 -- ## Several messages, one after the other
 
 -- what is done for a message of the connection of a key, unless it was closed in the meantime
-abbrev pub done_in : Standing → ℕ → Peer → Stage → OfFate → Stands
-done_in s key p (Named conn) work = for_peer s key (Some p) (λ q. and_then work (λ fate. after_serving key fate q))
-done_in s key p (Authenticating setting state) work = Gives s
-done_in s key p (Unnamed privileged) work = Gives s
-done_in s key p (Closing conn) work = Gives s
+abbrev pub work_in : Standing → ℕ → Peer → Stage → OfFate → Stands
+work_in s key p (Named conn) work = for_peer s key (Some p) (λ q. and_then work (λ fate. after_serving key fate q))
+work_in s key p (Authenticating setting state) work = Gives s
+work_in s key p (Unnamed privileged) work = Gives s
+work_in s key p (Closing conn) work = Gives s
 
-abbrev pub done_at : Standing → ℕ → Option Peer → OfFate → Stands
-done_at s key None work = Gives s
-done_at s key (Some p) work = done_in s key p p.stage work
+abbrev pub work_at : Standing → ℕ → Option Peer → OfFate → Stands
+work_at s key None work = Gives s
+work_at s key (Some p) work = work_in s key p p.stage work
 
-abbrev pub done_for : Standing → ℕ → OfFate → Stands
-done_for s key work = done_at s key (peer_at s key) work
+abbrev pub work_for : Standing → ℕ → OfFate → Stands
+work_for s key work = work_at s key (peer_at s key) work
 
 -- the changes of calls that joined, each by itself
 abbrev pub making_each : List Joint → Standing → Stands
 making_each [] s = Gives s
-making_each (j ∷ joints) s = and_then (done_for s j.key (Changing (change_of_joint j) (λ heard. after_change (message_said j.message) j.caller heard))) (λ t. making_each joints t)
+making_each (j ∷ joints) s = and_then (work_for s j.key (Changing (change_of_joint j) (λ heard. after_change (message_said j.message) j.caller heard))) (λ t. making_each joints t)
 
 -- They were made together. Each call is answered, in order.
 abbrev pub answering_each : List Joint → List Outcome → Standing → Stands
 answering_each [] outcomes s = Gives s
 answering_each (j ∷ joints) [] s = Gives s
-answering_each (j ∷ joints) (o ∷ outcomes) s = and_then (done_for s j.key (after_change (message_said j.message) j.caller (Says o))) (λ t. answering_each joints outcomes t)
+answering_each (j ∷ joints) (o ∷ outcomes) s = and_then (work_for s j.key (after_change (message_said j.message) j.caller (Says o))) (λ t. answering_each joints outcomes t)
 
 -- What is refused together is asked for by itself.
 abbrev pub after_changes : List Joint → Standing → Heard (List Outcome) → Stands
@@ -261,71 +261,71 @@ pub record Gathered : Type 0 where
   -- whether there was a message, which joined or was served
   pub served : Bool
 
-abbrev pub gathered : List Joint → Standing → Script Gathered
-gathered joints s = Gives (record { joints = joints; standing = s; served = true })
+abbrev pub gathering_of_one : List Joint → Standing → Script Gathered
+gathering_of_one joints s = Gives (record { joints = joints; standing = s; served = true })
 
 -- There is no message.
-abbrev pub none_gathered : List Joint → Standing → Script Gathered
-none_gathered joints s = Gives (record { joints = joints; standing = s; served = false })
+abbrev pub gathering_of_none : List Joint → Standing → Script Gathered
+gathering_of_none joints s = Gives (record { joints = joints; standing = s; served = false })
 
 -- what is done for a message that does not join: the changes before it are made first
 abbrev pub after_joints : List Joint → Standing → (Standing → Stands) → Script Gathered
-after_joints joints s work = and_then (making_all joints s) (λ t. and_then (work t) (λ u. gathered [] u))
+after_joints joints s work = and_then (making_all joints s) (λ t. and_then (work t) (λ u. gathering_of_one [] u))
 
 -- it is served as any message is
-abbrev pub apart : List Joint → Standing → ℕ → Script Gathered
-apart joints s key = after_joints joints s (λ t. coming_next t key (peer_at t key))
+abbrev pub serving_apart : List Joint → Standing → ℕ → Script Gathered
+serving_apart joints s key = after_joints joints s (λ t. coming_next t key (peer_at t key))
 
 -- The call has come to this before its change.
 abbrev pub after_joining : List Joint → Standing → Joint → Joining → Script Gathered
-after_joining joints s j Joins = gathered (joints ++ j ∷ []) s
-after_joining joints s j (Parts work) = after_joints joints s (λ t. done_for t j.key work)
+after_joining joints s j Joins = gathering_of_one (joints ++ j ∷ []) s
+after_joining joints s j (Parts work) = after_joints joints s (λ t. work_for t j.key work)
 
-abbrev pub join_call : List Joint → Standing → ℕ → (message : List ℕ) → Peer → Conn → RuleCall → Script Gathered
-join_call joints s key message p conn c =
+abbrev pub joining_call : List Joint → Standing → ℕ → (message : List ℕ) → Peer → Conn → RuleCall → Script Gathered
+joining_call joints s key message p conn c =
     and_then (joining (message_said message) conn c)
     (λ it. after_joining joints (with_peer s key (Some p)) (record { key = key; message = message; caller = conn; call = c }) it)
 
 -- One that does not read well is served as any message is.
-abbrev pub join_read : List Joint → Standing → ℕ → (message : List ℕ) → Peer → Conn → Option RuleCall → Script Gathered
-join_read joints s key message p conn None = apart joints s key
-join_read joints s key message p conn (Some c) = join_call joints s key message p conn c
+abbrev pub joining_reading : List Joint → Standing → ℕ → (message : List ℕ) → Peer → Conn → Option RuleCall → Script Gathered
+joining_reading joints s key message p conn None = serving_apart joints s key
+joining_reading joints s key message p conn (Some c) = joining_call joints s key message p conn c
 
 -- Without memory to read it as a call it does not join.
-abbrev pub join_if : List Joint → Standing → ℕ → (message : List ℕ) → Peer → Conn → Bool → Script Gathered
-join_if joints s key message p conn true = Calling (message_said message) (λ reading. join_read joints s key message p conn (rule_call reading))
-join_if joints s key message p conn false = apart joints s key
+abbrev pub joining_if : List Joint → Standing → ℕ → (message : List ℕ) → Peer → Conn → Bool → Script Gathered
+joining_if joints s key message p conn true = Calling (message_said message) (λ reading. joining_reading joints s key message p conn (rule_call reading))
+joining_if joints s key message p conn false = serving_apart joints s key
 
 -- A monitor sends nothing.
-abbrev pub gather_message : List Joint → Standing → ℕ → (message : List ℕ) → Peer → Conn → (watches : Bool) → Script Gathered
-gather_message joints s key message p conn true = apart joints s key
-gather_message joints s key message p conn false =
-    if may_join (message_said message) then Wanting (λ granted. join_if joints s key message p conn granted) else apart joints s key
+abbrev pub gathering_message : List Joint → Standing → ℕ → (message : List ℕ) → Peer → Conn → (watches : Bool) → Script Gathered
+gathering_message joints s key message p conn true = serving_apart joints s key
+gathering_message joints s key message p conn false =
+    if may_join (message_said message) then Wanting (λ granted. joining_if joints s key message p conn granted) else serving_apart joints s key
 
-abbrev pub gather_incoming : List Joint → Standing → ℕ → Peer → Conn → Incoming → Script Gathered
-gather_incoming joints s key p conn Waits = none_gathered joints s
-gather_incoming joints s key p conn (Faulty fault) = apart joints s key
-gather_incoming joints s key p conn (Whole bytes rest) = gather_message joints s key bytes (record p { unread = rest }) conn p.watches
+abbrev pub gathering_incoming : List Joint → Standing → ℕ → Peer → Conn → Incoming → Script Gathered
+gathering_incoming joints s key p conn Waits = gathering_of_none joints s
+gathering_incoming joints s key p conn (Faulty fault) = serving_apart joints s key
+gathering_incoming joints s key p conn (Whole bytes rest) = gathering_message joints s key bytes (record p { unread = rest }) conn p.watches
 
-abbrev pub apart_incoming : List Joint → Standing → ℕ → Incoming → Script Gathered
-apart_incoming joints s key Waits = none_gathered joints s
-apart_incoming joints s key incoming = apart joints s key
+abbrev pub serving_incoming_apart : List Joint → Standing → ℕ → Incoming → Script Gathered
+serving_incoming_apart joints s key Waits = gathering_of_none joints s
+serving_incoming_apart joints s key incoming = serving_apart joints s key
 
 -- Only connections that have a name make changes.
-abbrev pub gather_at : List Joint → Standing → ℕ → Peer → Stage → Script Gathered
-gather_at joints s key p (Named conn) = Framing p.unread (λ incoming. gather_incoming joints s key p conn incoming)
-gather_at joints s key p (Unnamed privileged) = Framing p.unread (λ incoming. apart_incoming joints s key incoming)
-gather_at joints s key p (Authenticating setting state) = none_gathered joints s
-gather_at joints s key p (Closing conn) = none_gathered joints s
+abbrev pub gathering_at : List Joint → Standing → ℕ → Peer → Stage → Script Gathered
+gathering_at joints s key p (Named conn) = Framing p.unread (λ incoming. gathering_incoming joints s key p conn incoming)
+gathering_at joints s key p (Unnamed privileged) = Framing p.unread (λ incoming. serving_incoming_apart joints s key incoming)
+gathering_at joints s key p (Authenticating setting state) = gathering_of_none joints s
+gathering_at joints s key p (Closing conn) = gathering_of_none joints s
 
 abbrev pub gathering : List Joint → Standing → ℕ → Option Peer → Script Gathered
-gathering joints s key None = none_gathered joints s
-gathering joints s key (Some p) = gather_at joints s key p p.stage
+gathering joints s key None = gathering_of_none joints s
+gathering joints s key (Some p) = gathering_at joints s key p p.stage
 
 -- Without memory the turn ends: neither this message is served nor any behind it.
-abbrev pub go_on_if : List Joint → Standing → (goes_on : Stands) → Bool → Stands
-go_on_if joints s goes_on true = goes_on
-go_on_if joints s goes_on false = making_all joints s
+abbrev pub turning_if : List Joint → Standing → (goes_on : Stands) → Bool → Stands
+turning_if joints s goes_on true = goes_on
+turning_if joints s goes_on false = making_all joints s
 
 -- The next messages of these keys, each in its turn. Neighbouring calls that add and remove rules are routed first, then their changes are
 -- made together, then they are answered. Memory is wanted between one message and the next: once a turn is not refused whole, its first
@@ -334,13 +334,13 @@ abbrev pub turning : List Joint → List ℕ → (begun : Bool) → Standing →
 turning joints [] begun s = making_all joints s
 turning joints (key ∷ keys) false s = and_then (gathering joints s key (peer_at s key)) (λ g. turning g.joints keys g.served g.standing)
 turning joints (key ∷ keys) true s =
-    Wanting (λ granted. go_on_if joints s (and_then (gathering joints s key (peer_at s key)) (λ g. turning g.joints keys true g.standing)) granted)
+    Wanting (λ granted. turning_if joints s (and_then (gathering joints s key (peer_at s key)) (λ g. turning g.joints keys true g.standing)) granted)
 
 -- ## Mail
 
-abbrev pub mail_found : Standing → Said → Option ℕ → Stands
-mail_found s said None = Gives s
-mail_found s said (Some key) = for_peer s key (peer_at s key) (writing key said)
+abbrev pub mail_delivery : Standing → Said → Option ℕ → Stands
+mail_delivery s said None = Gives s
+mail_delivery s said (Some key) = for_peer s key (peer_at s key) (writing key said)
 
 -- what came with a note is served once the note was taken
 abbrev pub after_note : Option History → Stands → Stands
@@ -460,7 +460,7 @@ script s (Opened key challenge) = Gives (with_newcomer s key challenge)
 script s (Bytes key piece) = for_peer s key (peer_at s key) (λ p. hearing key piece p p.stage)
 script s (Next key) = coming_next s key (peer_at s key)
 script s (Turn keys) = turning [] keys false s
-script s (Mail slot number told said) = after_note told (mail_found s said (position (is_conn slot number) s.peers))
+script s (Mail slot number told said) = after_note told (mail_delivery s said (position (is_conn slot number) s.peers))
 script s (Closed key) = removing s key (peer_at s key)
 script s (Full number) = leaving s number
 script s (Child e) = ending_child s e

@@ -17,8 +17,8 @@ use Rattle.router_core.specs.declared.event.Event.{Event}
 use Rattle.router_core.specs.declared.gate.Gate.{Ghosts as Gate}
 use Rattle.router_core.specs.Acts.{State, BringsBy, IsServed, IsServedBy, Exchange, IsGranted}
 use Rattle.router_core.specs.Deeds.{Deed, Closes, IsDoneBy, CarriesOwn}
-use Rattle.router_core.specs.Events.{Occasion, Bytes, Next, Turn, IsFree, hearing, is_user, script, serve_at}
-use Rattle.router_core.specs.OneThread.{Readers, Rest, given, rest_after, bus_bytes, AreReadBy, IsRun}
+use Rattle.router_core.specs.Events.{Occasion, Bytes, Next, Turn, IsFree, hearing, is_user, script, serving_at}
+use Rattle.router_core.specs.OneThread.{Readers, Rest, effect, rest_after, bus_bytes, AreReadBy, IsRun}
 use Rattle.router_core.specs.Scripts.{Gives, World, having_done, RunsTo}
 use Rattle.router_core.specs.Serving.{serving, is_unknown, stays_open}
 use Rattle.router_core.specs.Standing.{Authenticating, Unnamed, Named, Closing, Peer, Standing, peer_at, with_peer, with_newcomer, closing_peer, is_conn}
@@ -70,13 +70,13 @@ UnknownTypesBringNothing = (m : Message) (sender : Conn) → is_unknown (kind_of
 -- Before its Hello a connection is closed for anything else.
 abbrev pub OnlyHelloIsServed : {V N R G : Type 0} → BusView V N R → Gate G → Type 0
 OnlyHelloIsServed {N = N} {G = G} view gate = (s t : Standing) (key : ℕ) (m : Message) (p : Peer) (privileged : Bool) (w v : World N G) →
-    is_hello m ≡ false → RunsTo view gate (serve_at s key m p (Unnamed privileged)) w t v →
+    is_hello m ≡ false → RunsTo view gate (serving_at s key m p (Unnamed privileged)) w t v →
     (t ≡ with_peer s key (Some (closing_peer p))) × ((action : Action N) × IsDoneBy action (Closes key NotHello) × (v ≡ having_done w (action ∷ [])))
 
 -- A monitor that sends anything is closed for it, and nothing else is done.
 abbrev pub MonitorsSendNothing : {V N R G : Type 0} → BusView V N R → Gate G → Type 0
 MonitorsSendNothing {N = N} {G = G} view gate = (s t : Standing) (key : ℕ) (m : Message) (p : Peer) (conn : Conn) (w v : World N G) →
-    p.watches ≡ true → RunsTo view gate (serve_at s key m p (Named conn)) w t v →
+    p.watches ≡ true → RunsTo view gate (serving_at s key m p (Named conn)) w t v →
     (t ≡ with_peer s key (Some (closing_peer p))) × ((action : Action N) × IsDoneBy action (Closes key MonitorSent) × (v ≡ having_done w (action ∷ [])))
 
 -- The table of connections grows only where each of its keys has its connection, and then each has.
@@ -100,7 +100,7 @@ NotesAreOwn {N = N} {G = G} view gate = (before after : State G) (event : Event 
 abbrev pub OneThreadIsAFunction : Type 0
 OneThreadIsAFunction = (readers : Readers) (before after : Rest) (occasion : Occasion) (asked : List Exchange) (deeds : List Deed) →
     IsServedBy true before.standing before.view occasion asked deeds after.standing after.view → IsGranted asked → AreReadBy readers asked →
-    (deeds ≡ (given readers before occasion).0) × (after ≡ (given readers before occasion).1)
+    (deeds ≡ (effect readers before occasion).0) × (after ≡ (effect readers before occasion).1)
 
 -- So for every list of occasions the bytes that go to each connection are a function of the occasions and of what was read.
 abbrev pub BytesAreAFunction : Type 0

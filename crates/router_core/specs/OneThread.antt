@@ -72,13 +72,13 @@ abbrev pub rest_of : Standing × Course → Rest
 rest_of end = record { standing = end.0; view = end.1.view }
 
 -- what an event brings, and what it leaves
-abbrev pub given : Readers → Rest → Occasion → List Deed × Rest
-given readers r occasion = let end = alone readers (script r.standing occasion) (record { view = r.view; deeds = [] }) in (end.1.deeds, rest_of end)
+abbrev pub effect : Readers → Rest → Occasion → List Deed × Rest
+effect readers r occasion = let end = alone readers (script r.standing occasion) (record { view = r.view; deeds = [] }) in (end.1.deeds, rest_of end)
 
 -- the engine after these events
 abbrev pub rest_after : Readers → Rest → List Occasion → Rest
 rest_after readers r [] = r
-rest_after readers r (occasion ∷ occasions) = rest_after readers (given readers r occasion).1 occasions
+rest_after readers r (occasion ∷ occasions) = rest_after readers (effect readers r occasion).1 occasions
 
 -- ## The bytes to each connection
 
@@ -96,17 +96,17 @@ abbrev pub bytes_if : ℕ → ℕ → List ℕ → List ℕ
 bytes_if opening other bytes = if opening == other then bytes else []
 
 -- what is written to the connection of this opening
-abbrev pub written_to : ℕ → List ℕ → List Deed → List ℕ
-written_to opening keys [] = []
-written_to opening keys (Writes key bytes ∷ deeds) = bytes_if opening (opening_of key keys) bytes ++ written_to opening keys deeds
-written_to opening keys (Sends key message ∷ deeds) = bytes_if opening (opening_of key keys) (message_bytes message) ++ written_to opening keys deeds
-written_to opening keys (other ∷ deeds) = written_to opening keys deeds
+abbrev pub bytes_to : ℕ → List ℕ → List Deed → List ℕ
+bytes_to opening keys [] = []
+bytes_to opening keys (Writes key bytes ∷ deeds) = bytes_if opening (opening_of key keys) bytes ++ bytes_to opening keys deeds
+bytes_to opening keys (Sends key message ∷ deeds) = bytes_if opening (opening_of key keys) (message_bytes message) ++ bytes_to opening keys deeds
+bytes_to opening keys (other ∷ deeds) = bytes_to opening keys deeds
 
 -- All the bytes that go to the connection which came as this one of all, from the first; its key may be another's later.
 abbrev pub bus_bytes : Readers → ℕ → List ℕ → Rest → List Occasion → List ℕ
 bus_bytes readers opening keys r [] = []
 bus_bytes readers opening keys r (occasion ∷ occasions) =
-    written_to opening (keys_after occasion keys) (given readers r occasion).0 ++ bus_bytes readers opening (keys_after occasion keys) (given readers r occasion).1 occasions
+    bytes_to opening (keys_after occasion keys) (effect readers r occasion).0 ++ bus_bytes readers opening (keys_after occasion keys) (effect readers r occasion).1 occasions
 
 -- The occasions come one after the other, nothing is refused, and these bytes go to the connection of this opening.
 abbrev pub IsRun : Readers → ℕ → List ℕ → Rest → List Occasion → List ℕ → Rest → Type 0
@@ -114,4 +114,4 @@ IsRun readers opening keys before [] bytes after = (bytes ≡ []) × (after ≡ 
 IsRun readers opening keys before (occasion ∷ occasions) bytes after =
     (asked : List Exchange) × (deeds : List Deed) × (between : Rest) × (later : List ℕ)
     × IsServedBy true before.standing before.view occasion asked deeds between.standing between.view × IsGranted asked × AreReadBy readers asked
-    × IsRun readers opening (keys_after occasion keys) between occasions later after × (bytes ≡ written_to opening (keys_after occasion keys) deeds ++ later)
+    × IsRun readers opening (keys_after occasion keys) between occasions later after × (bytes ≡ bytes_to opening (keys_after occasion keys) deeds ++ later)

@@ -217,54 +217,54 @@ abbrev pub waiting_call : Message → CallHead
 waiting_call m = record { serial = m.serial; flags = m.flags }
 
 -- A call that waits is answered once its service runs, or does not.
-abbrev pub start_by : Message → Conn → Text → Outcome → Reply → OfFate
-start_by m caller name o reply.Gone = closes_for Left
-start_by m caller name o (reply.Held ticket) = and_stays (running name o.start)
-start_by m caller name o reply.AlreadyRunning = and_stays (replying m caller (Number 2))
-start_by m caller name o reply.ServiceUnknown = and_stays (erring m caller error.ServiceUnknown)
-start_by m caller name o reply.LimitsExceeded = and_stays (erring m caller error.LimitsExceeded)
+abbrev pub after_start_by : Message → Conn → Text → Outcome → Reply → OfFate
+after_start_by m caller name o reply.Gone = closes_for Left
+after_start_by m caller name o (reply.Held ticket) = and_stays (running name o.start)
+after_start_by m caller name o reply.AlreadyRunning = and_stays (replying m caller (Number 2))
+after_start_by m caller name o reply.ServiceUnknown = and_stays (erring m caller error.ServiceUnknown)
+after_start_by m caller name o reply.LimitsExceeded = and_stays (erring m caller error.LimitsExceeded)
 -- these are no replies to a start
-start_by m caller name o reply.Done = and_stays (replying m caller Nothing)
-start_by m caller name o (reply.OfQueue r) = and_stays (replying m caller (Number (code_of r)))
-start_by m caller name o reply.InvalidName = and_stays (erring m caller error.InvalidArgs)
-start_by m caller name o reply.RuleNotFound = and_stays (erring m caller error.MatchRuleNotFound)
-start_by m caller name o reply.AccessDenied = and_stays (erring m caller error.AccessDenied)
-start_by m caller name o (reply.Welcome conn) = and_stays (erring m caller error.Failed)
-start_by m caller name o (reply.Pass owner) = and_stays (erring m caller error.Failed)
-start_by m caller name o reply.Ignored = and_stays (erring m caller error.Failed)
+after_start_by m caller name o reply.Done = and_stays (replying m caller Nothing)
+after_start_by m caller name o (reply.OfQueue r) = and_stays (replying m caller (Number (code_of r)))
+after_start_by m caller name o reply.InvalidName = and_stays (erring m caller error.InvalidArgs)
+after_start_by m caller name o reply.RuleNotFound = and_stays (erring m caller error.MatchRuleNotFound)
+after_start_by m caller name o reply.AccessDenied = and_stays (erring m caller error.AccessDenied)
+after_start_by m caller name o (reply.Welcome conn) = and_stays (erring m caller error.Failed)
+after_start_by m caller name o (reply.Pass owner) = and_stays (erring m caller error.Failed)
+after_start_by m caller name o reply.Ignored = and_stays (erring m caller error.Failed)
 
 abbrev pub after_start : Message → Conn → Text → Heard Outcome → OfFate
 after_start m caller name (Refuses refusal) = and_stays (erring m caller (error_for refusal))
-after_start m caller name (Says o) = start_by m caller name o o.reply
+after_start m caller name (Says o) = after_start_by m caller name o o.reply
 
-abbrev pub start_if : Message → Conn → Text → Bool → OfFate
-start_if m caller name true = Changing (change.Start caller.number name (waiting_call m)) (λ heard. after_start m caller name heard)
-start_if m caller name false = and_stays (erring m caller error.NoMemory)
+abbrev pub starting_if : Message → Conn → Text → Bool → OfFate
+starting_if m caller name true = Changing (change.Start caller.number name (waiting_call m)) (λ heard. after_start m caller name heard)
+starting_if m caller name false = and_stays (erring m caller error.NoMemory)
 
 -- Whoever became a monitor is told so as one.
-abbrev pub watch_by : Message → Conn → Outcome → Reply → OfFate
-watch_by m caller o reply.Gone = closes_for Left
-watch_by m caller o reply.Done = and_then (telling_change m caller o) (λ done. Gives fate.Watches)
-watch_by m caller o reply.AccessDenied = and_stays (telling_change m caller o)
+abbrev pub after_watch_by : Message → Conn → Outcome → Reply → OfFate
+after_watch_by m caller o reply.Gone = closes_for Left
+after_watch_by m caller o reply.Done = and_then (telling_change m caller o) (λ done. Gives fate.Watches)
+after_watch_by m caller o reply.AccessDenied = and_stays (telling_change m caller o)
 -- these are no replies to it
-watch_by m caller o (reply.OfQueue r) = and_stays (telling_change m caller o)
-watch_by m caller o reply.InvalidName = and_stays (telling_change m caller o)
-watch_by m caller o reply.RuleNotFound = and_stays (telling_change m caller o)
-watch_by m caller o reply.LimitsExceeded = and_stays (telling_change m caller o)
-watch_by m caller o reply.ServiceUnknown = and_stays (telling_change m caller o)
-watch_by m caller o reply.AlreadyRunning = and_stays (telling_change m caller o)
-watch_by m caller o (reply.Welcome conn) = and_stays (telling_change m caller o)
-watch_by m caller o (reply.Held ticket) = and_stays (telling_change m caller o)
-watch_by m caller o (reply.Pass owner) = and_stays (telling_change m caller o)
-watch_by m caller o reply.Ignored = and_stays (telling_change m caller o)
+after_watch_by m caller o (reply.OfQueue r) = and_stays (telling_change m caller o)
+after_watch_by m caller o reply.InvalidName = and_stays (telling_change m caller o)
+after_watch_by m caller o reply.RuleNotFound = and_stays (telling_change m caller o)
+after_watch_by m caller o reply.LimitsExceeded = and_stays (telling_change m caller o)
+after_watch_by m caller o reply.ServiceUnknown = and_stays (telling_change m caller o)
+after_watch_by m caller o reply.AlreadyRunning = and_stays (telling_change m caller o)
+after_watch_by m caller o (reply.Welcome conn) = and_stays (telling_change m caller o)
+after_watch_by m caller o (reply.Held ticket) = and_stays (telling_change m caller o)
+after_watch_by m caller o (reply.Pass owner) = and_stays (telling_change m caller o)
+after_watch_by m caller o reply.Ignored = and_stays (telling_change m caller o)
 
 abbrev pub after_watch : Message → Conn → Heard Outcome → OfFate
 after_watch m caller (Refuses refusal) = and_stays (erring m caller (error_for refusal))
-after_watch m caller (Says o) = watch_by m caller o o.reply
+after_watch m caller (Says o) = after_watch_by m caller o o.reply
 
-abbrev pub watch_if : Message → Conn → List Rule → Bool → OfFate
-watch_if m caller rules true = Changing (change.BecomeMonitor caller.number rules) (λ heard. after_watch m caller heard)
-watch_if m caller rules false = and_stays (erring m caller error.NoMemory)
+abbrev pub watching_if : Message → Conn → List Rule → Bool → OfFate
+watching_if m caller rules true = Changing (change.BecomeMonitor caller.number rules) (λ heard. after_watch m caller heard)
+watching_if m caller rules false = and_stays (erring m caller error.NoMemory)
 
 abbrev pub answering_if : Message → Conn → Answer → Bool → Work
 answering_if m caller told true = replying m caller (Answered told)
@@ -279,20 +279,20 @@ abbrev pub serving_request : Message → Conn → Result Request ErrorKind → O
 serving_request m caller (Err error) = and_stays (erring m caller error)
 serving_request m caller (Ok (Asks q)) = Asking q (λ heard. and_stays (after_answer m caller heard))
 serving_request m caller (Ok (Makes c)) = Changing c (λ heard. after_change m caller heard)
-serving_request m caller (Ok (Starts name)) = Wanting (λ granted. start_if m caller name granted)
-serving_request m caller (Ok (Watches rules)) = Wanting (λ granted. watch_if m caller rules granted)
+serving_request m caller (Ok (Starts name)) = Wanting (λ granted. starting_if m caller name granted)
+serving_request m caller (Ok (Watches rules)) = Wanting (λ granted. watching_if m caller rules granted)
 
 -- Each call that reads well is shown to the gate before it is served.
 abbrev pub serving_reading : Message → Conn → Reading Call → OfFate
 serving_reading m caller (Err fault) = and_stays (erring m caller (error_of fault))
 serving_reading m caller (Ok c) = Gating c (serving_request m caller (request_of caller.number c))
 
-abbrev pub read_if : Message → Conn → Bool → OfFate
-read_if m caller true = Calling m (λ reading. serving_reading m caller reading)
-read_if m caller false = and_stays (erring m caller error.NoMemory)
+abbrev pub serving_call_if : Message → Conn → Bool → OfFate
+serving_call_if m caller true = Calling m (λ reading. serving_reading m caller reading)
+serving_call_if m caller false = and_stays (erring m caller error.NoMemory)
 
 abbrev pub serving_call : Message → Conn → OfFate
-serving_call m caller = Wanting (λ granted. read_if m caller granted)
+serving_call m caller = Wanting (λ granted. serving_call_if m caller granted)
 
 -- Other messages to the bus are ignored.
 abbrev pub serving_bus : Message → Conn → OfFate
@@ -346,14 +346,14 @@ abbrev pub after_hold : Message → Conn → Text → Heard Outcome → OfFate
 after_hold m caller name (Refuses refusal) = and_stays (erring m caller (error_for refusal))
 after_hold m caller name (Says o) = after_hold_by m caller name o o.reply
 
-abbrev pub hold_if : Message → Conn → Text → Bool → OfFate
-hold_if m caller name true =
+abbrev pub holding_if : Message → Conn → Text → Bool → OfFate
+holding_if m caller name true =
     Changing (change.Hold caller.number name (waiting_call m) (message_bytes (with_sender m caller))) (λ heard. after_hold m caller name heard)
-hold_if m caller name false = and_stays (erring m caller error.NoMemory)
+holding_if m caller name false = and_stays (erring m caller error.NoMemory)
 
 abbrev pub holding : Message → Conn → Option Text → OfFate
 holding m caller None = stays_open
-holding m caller (Some name) = Wanting (λ granted. hold_if m caller name granted)
+holding m caller (Some name) = Wanting (λ granted. holding_if m caller name granted)
 
 -- ## Where the message goes
 

@@ -65,34 +65,34 @@ pub data Joining : Type 0 where
   Parts : OfFate → Joining
 
 -- The gate is shown it.
-abbrev pub joins : RuleCall → Script Joining
-joins c = Gating (call_of_rule c) (Gives Joins)
+abbrev pub joining_gated : RuleCall → Script Joining
+joining_gated c = Gating (call_of_rule c) (Gives Joins)
 
-abbrev pub parts : OfFate → Script Joining
-parts work = Gives (Parts work)
+abbrev pub parting_with : OfFate → Script Joining
+parting_with work = Gives (Parts work)
 
 -- Without memory the message is dropped whole, and the call is answered so.
-abbrev pub join_copied_if : Message → Conn → List Conn → RuleCall → Bool → Script Joining
-join_copied_if m caller monitors c true = Doing (Puts monitors (Relays (message_bytes (with_sender m caller)))) (joins c)
-join_copied_if m caller monitors c false = parts (and_stays (erring_if_call m caller error.NoMemory))
+abbrev pub joining_copied_if : Message → Conn → List Conn → RuleCall → Bool → Script Joining
+joining_copied_if m caller monitors c true = Doing (Puts monitors (Relays (message_bytes (with_sender m caller)))) (joining_gated c)
+joining_copied_if m caller monitors c false = parting_with (and_stays (erring_if_call m caller error.NoMemory))
 
 -- Whoever sends a message that is too long once it has its sender's name is closed.
-abbrev pub join_relayed : Message → Conn → List Conn → RuleCall → Script Joining
-join_relayed m caller monitors c = if is_too_long (with_sender m caller) then parts (closes_for TooLong) else Wanting (λ granted. join_copied_if m caller monitors c granted)
+abbrev pub joining_relayed : Message → Conn → List Conn → RuleCall → Script Joining
+joining_relayed m caller monitors c = if is_too_long (with_sender m caller) then parting_with (closes_for TooLong) else Wanting (λ granted. joining_copied_if m caller monitors c granted)
 
 -- The monitors are shown it.
 abbrev pub joining_shown : Message → Conn → List Conn → RuleCall → Script Joining
-joining_shown m caller [] c = joins c
-joining_shown m caller (conn ∷ conns) c = join_relayed m caller (conn ∷ conns) c
+joining_shown m caller [] c = joining_gated c
+joining_shown m caller (conn ∷ conns) c = joining_relayed m caller (conn ∷ conns) c
 
 abbrev pub joining_to : Message → Conn → Verdict → RuleCall → VerdictKind → Script Joining
 joining_to m caller v c verdict.Bus = joining_shown m caller v.monitors c
-joining_to m caller v c other = parts (routing m caller (Says v))
+joining_to m caller v c other = parting_with (routing m caller (Says v))
 
-abbrev pub join_routed : Message → Conn → RuleCall → Heard Verdict → Script Joining
-join_routed m caller c (Refuses refusal) = parts (routing m caller (Refuses refusal))
-join_routed m caller c (Says v) = joining_to m caller v c v.kind
+abbrev pub joining_routed : Message → Conn → RuleCall → Heard Verdict → Script Joining
+joining_routed m caller c (Refuses refusal) = parting_with (routing m caller (Refuses refusal))
+joining_routed m caller c (Says v) = joining_to m caller v c v.kind
 
 -- It is routed first, as any message is.
 abbrev pub joining : Message → Conn → RuleCall → Script Joining
-joining m caller c = Routing caller.number (facts_of m) (λ heard. join_routed m caller c heard)
+joining m caller c = Routing caller.number (facts_of m) (λ heard. joining_routed m caller c heard)

@@ -4,7 +4,7 @@ use Rattle.std.specs.List.{range_with_len}
 use Rattle.router_core.specs.Acts.{Exchange, IsGranted}
 use Rattle.router_core.specs.Deeds.{Deed, GatedCall}
 use Rattle.router_core.specs.Events.{Occasion}
-use Rattle.router_core.specs.OneThread.{AreReadBy, Readers, Rest, bus_bytes, given, rest_after}
+use Rattle.router_core.specs.OneThread.{AreReadBy, Readers, Rest, bus_bytes, effect, rest_after}
 use Rattle.router_core.proofs.Functions.{bytes_are_a_function, one_thread_is_a_function}
 use Rattle.router.proofs.Grants.{granted_parts, read_parts}
 use Rattle.router_laws.specs.Turns.{AreServedBy, Turn, asked_in, keys_of, written_by}
@@ -29,7 +29,7 @@ run_right before after occasions turns run = turns_right before after occasions 
 module _ (readers : Readers) where
   abbrev all_given : Rest → List Occasion → List (List Deed)
   all_given r [] = []
-  all_given r (occasion ∷ occasions) = (given readers r occasion).0 ∷ all_given (given readers r occasion).1 occasions
+  all_given r (occasion ∷ occasions) = (effect readers r occasion).0 ∷ all_given (effect readers r occasion).1 occasions
 
   deeds_given : (before after : Rest) (occasions : List Occasion) (turns : List Turn) → AreServedBy true before occasions turns after → IsGranted (asked_in turns) → AreReadBy readers (asked_in turns) →
       deeds_of turns ≡ all_given before occasions
@@ -42,7 +42,7 @@ module _ (readers : Readers) where
       let first = one_thread_is_a_function readers before served.0 occasion turn.asked turn.deeds served.1 grants.0 reads.0 in
       let others = deeds_given served.0 after occasions turns served.2 grants.1 reads.1 in
       ap (λ (deeds : List Deed). deeds ∷ deeds_of turns) first.0
-      ∙ ap (λ (all : List (List Deed)). (given readers before occasion).0 ∷ all) (others ∙ ap (λ (r : Rest). all_given r occasions) first.1)
+      ∙ ap (λ (all : List (List Deed)). (effect readers before occasion).0 ∷ all) (others ∙ ap (λ (r : Rest). all_given r occasions) first.1)
 
   pub bytes_alone : (opening : ℕ) (before after : Rest) (occasions : List Occasion) (turns : List Turn) → IsGrantedRun before occasions turns after → AreReadBy readers (asked_in turns) →
       (written_by opening [] occasions turns ≡ bus_bytes readers opening [] before occasions) × (after ≡ rest_after readers before occasions)

@@ -5,7 +5,7 @@ use Rattle.message_core.specs.declared.fault.FrameFault.{FrameFault}
 use Rattle.router_core.specs.Deeds.{Deed}
 use Rattle.router_core.specs.Events.{Bytes, Mail, Next, Occasion, Opened}
 use Rattle.router_core.specs.Incoming.{Incoming, Waits, Whole, Faulty}
-use Rattle.router_core.specs.OneThread.{Readers, Rest, given}
+use Rattle.router_core.specs.OneThread.{Readers, Rest, effect}
 use Rattle.router_core.specs.Standing.{Peer, Stage, Authenticating, Unnamed, Named, Closing, peer_at}
 use Rattle.router.proofs.Feeding.{TakesBytes, authenticating_given, bytes_given, end_more, mail_given, none_given, nothing_fed, pieces_joined, rest_more, closing_given, waiting_given}
 use Rattle.router.proofs.Speaking.{SpeaksAt, comes_speaking, mail_speaks, more_speaks, next_speaks}
@@ -51,7 +51,7 @@ module _ (readers : Readers) (seat key : ℕ) where
   mailed_more : (piece : List ℕ) (r : Rest) (deliveries : List Delivery) → mailed readers seat key (rest_more piece key r) deliveries ≡ end_fed piece (mailed readers seat key r deliveries)
   mailed_more piece r [] = refl
   mailed_more piece r (delivery ∷ deliveries) =
-      let brought : List Deed × Rest = given readers r (Mail delivery.slot delivery.number None delivery.said) in
+      let brought : List Deed × Rest = effect readers r (Mail delivery.slot delivery.number None delivery.said) in
       ap (λ (end : List Deed × Rest). let later : List ℕ × Rest = mailed readers seat key end.1 deliveries in let all : List ℕ × Rest = (bytes_done key end.0 ++ later.0, later.1) in all)
       (mail_given readers piece key r delivery.slot delivery.number delivery.said)
       ∙ ap (λ (later : List ℕ × Rest). let all : List ℕ × Rest = (bytes_done key brought.0 ++ later.0, later.1) in all) (mailed_more piece brought.1 deliveries)
@@ -70,7 +70,7 @@ module _ (readers : Readers) (seat key : ℕ) where
   abbrev Rests : Rest → Type 0
   Rests r = happened readers seat key r (Next key) ≡ ([], r)
 
-  at_rest : (r : Rest) → given readers r (Next key) ≡ ([], r) → Rests r
+  at_rest : (r : Rest) → effect readers r (Next key) ≡ ([], r) → Rests r
   at_rest r e = ap by_deeds e
 
   -- it makes no difference that these bytes come behind
@@ -78,7 +78,7 @@ module _ (readers : Readers) (seat key : ℕ) where
   Goes_first later r = happened readers seat key (rest_more later key r) (Next key) ≡ end_fed later (happened readers seat key r (Next key))
 
   goes_first : (later : List ℕ) (r : Rest) → Commutes readers key later r → Goes_first later r
-  goes_first later r e = ap by_deeds e ∙ by_deeds_more later (given readers r (Next key))
+  goes_first later r e = ap by_deeds e ∙ by_deeds_more later (effect readers r (Next key))
 
   -- What stands at the front of the connection's bytes is read so also with these behind it.
   abbrev pub Settled : List ℕ → Rest → Type 0
@@ -119,10 +119,10 @@ module _ (readers : Readers) (seat key : ℕ) where
   mailed_speaks : (r : Rest) (deliveries : List Delivery) → SpeaksAt key r.standing → SpeaksAt key (mailed readers seat key r deliveries).1.standing
   mailed_speaks r [] speaks = speaks
   mailed_speaks r (delivery ∷ deliveries) speaks =
-      mailed_speaks (given readers r (Mail delivery.slot delivery.number None delivery.said)).1 deliveries (mail_speaks readers key r delivery.slot delivery.number delivery.said speaks)
+      mailed_speaks (effect readers r (Mail delivery.slot delivery.number None delivery.said)).1 deliveries (mail_speaks readers key r delivery.slot delivery.number delivery.said speaks)
 
   happened_speaks : (r : Rest) → SpeaksAt key r.standing → SpeaksAt key (happened readers seat key r (Next key)).1.standing
-  happened_speaks r speaks = let brought = given readers r (Next key) in mailed_speaks brought.1 (mail_done seat brought.0) (next_speaks readers key r speaks)
+  happened_speaks r speaks = let brought = effect readers r (Next key) in mailed_speaks brought.1 (mail_done seat brought.0) (next_speaks readers key r speaks)
 
   -- ## Events
 
@@ -178,7 +178,7 @@ module _ (readers : Readers) (seat key : ℕ) where
 
   pub all_at_once : (occasions : List Occasion) (r : Rest) (read : List ℕ) → AllByRecursion (Serving key) occasions → read ≡ flat_map bytes_in occasions →
       AllSettled occasions (happened readers seat key r (Opened key None)).1 →
-      given readers (all_happened readers seat key r (Opened key None ∷ occasions)).1 (Next key) ≡ ([], (all_happened readers seat key r (Opened key None ∷ occasions)).1) →
+      effect readers (all_happened readers seat key r (Opened key None ∷ occasions)).1 (Next key) ≡ ([], (all_happened readers seat key r (Opened key None ∷ occasions)).1) →
       (n : ℕ) → length occasions ≤ n → served n (arrived r read) ≡ all_happened readers seat key (happened readers seat key r (Opened key None)).1 occasions
   all_at_once occasions r read serving reads settled quiet n many =
       let opened : List ℕ × Rest = happened readers seat key r (Opened key None) in

@@ -7,7 +7,7 @@ use Rattle.router_core.specs.declared.event.Event.{Event}
 use Rattle.router_core.specs.Acts.{State, Brings}
 use Rattle.router_core.specs.Deeds.{GatedCall}
 use Rattle.router_core.specs.Events.{Occasion, Opened, Bytes, Next, Turn, Mail, Closed, Full, Child, Tick}
-use Rattle.router_core.specs.OneThread.{keys_after, written_to}
+use Rattle.router_core.specs.OneThread.{keys_after, bytes_to}
 use Rattle.router_core.specs.Standing.{Standing}
 use Rattle.router_core.proofs.Asked.{answers_are_lawful}
 use Rattle.router.proofs.OneEvent.{gate_of, view_of}
@@ -16,7 +16,7 @@ use Rattle.router_laws.specs.declared.fault.RunFault.TheVariants.{WrongKey, NoLo
 use Rattle.router.specs.OneEvent.{rest_in}
 use Rattle.router_laws.specs.Turns.{AreServedBy, keys_of, written_by}
 use Rattle.router_laws.specs.Runs.{IsFaultOf, IsRunOf, IsStopped, LacksKey, LacksLogin, LacksTurn, happening, occasions_of}
-use Rattle.router_laws.specs.Outputs.{Adds, IsCourse, IsRefused, IsTurn, Output, bytes_by, bytes_by_all, met, no_output}
+use Rattle.router_laws.specs.Outputs.{Adds, IsCourse, IsRefused, IsTurn, Output, bytes_by, bytes_by_all, output_at, no_output}
 use Rattle.router_laws.proofs.Appending.{served_more, keys_more, written_more, shown_more}
 use Rattle.router_laws.proofs.Keeping.{turns_keep}
 use Rattle.router_laws.proofs.Places.{all_places, nothing_yet}
@@ -47,7 +47,7 @@ takes_more {N = N} actions i action first mid last inside is before here =
 
 -- ## A connection that came
 
-met_keys : (occasion : Occasion) (out : Output) → (met occasion out).keys ≡ keys_after occasion out.keys
+met_keys : (occasion : Occasion) (out : Output) → (output_at occasion out).keys ≡ keys_after occasion out.keys
 met_keys (Opened key challenge) out = refl
 met_keys (Bytes key piece) out = refl
 met_keys (Next key) out = refl
@@ -58,7 +58,7 @@ met_keys (Full number) out = refl
 met_keys (Child ended) out = refl
 met_keys Tick out = refl
 
-met_each : (occasion : Occasion) (out : Output) (k : ℕ) → get_or (met occasion out).written k [] ≡ get_or out.written k []
+met_each : (occasion : Occasion) (out : Output) (k : ℕ) → get_or (output_at occasion out).written k [] ≡ get_or out.written k []
 met_each (Opened key challenge) out k = nothing_yet out.written k
 met_each (Bytes key piece) out k = refl
 met_each (Next key) out k = refl
@@ -69,7 +69,7 @@ met_each (Full number) out k = refl
 met_each (Child ended) out k = refl
 met_each Tick out k = refl
 
-met_count : (occasion : Occasion) (out : Output) → length out.written ≡ length out.keys → length (met occasion out).written ≡ length (met occasion out).keys
+met_count : (occasion : Occasion) (out : Output) → length out.written ≡ length out.keys → length (output_at occasion out).written ≡ length (output_at occasion out).keys
 met_count (Opened key challenge) out h = length-append out.written ([] ∷ []) ∙ omega (arith, h)
 met_count (Bytes key piece) out h = h
 met_count (Next key) out h = h
@@ -85,16 +85,16 @@ met_count Tick out h = h
 module _ {G : Type 0} (passes : G → GatedCall → G → Type 0) where
   pub turn_of : (before after : State G) (sent sends : Output) (event : Event (Unit {0})) (actions : List (Action (Unit {0}))) →
       Brings (λ _. []) (λ _. 0) passes true before event actions after →
-      Adds (met (happening event) sent) (λ opening. bytes_by_all opening (met (happening event) sent).keys actions) sends →
+      Adds (output_at (happening event) sent) (λ opening. bytes_by_all opening (output_at (happening event) sent).keys actions) sends →
       IsTurn passes before sent event after sends
   turn_of before after sent sends event actions brings added =
       let h = answers_are_lawful (view_of (λ (note : Unit {0}). []) (λ _. 0) true) (gate_of passes) before after event actions brings in
-      let out : Output = met (happening event) sent in
+      let out : Output = output_at (happening event) sent in
       record {
         turn = record { asked = h.asked; deeds = h.deeds };
         served = h.served;
         shown = h.shown;
-        added = adds_same out sends (λ opening. bytes_by_all opening out.keys actions) (λ opening. written_to opening out.keys h.deeds)
+        added = adds_same out sends (λ opening. bytes_by_all opening out.keys actions) (λ opening. bytes_to opening out.keys h.deeds)
             (λ opening. sym (actions_are opening out.keys actions h.deeds h.done)) added;
       }
 
@@ -107,7 +107,7 @@ module _ {G : Type 0} (passes : G → GatedCall → G → Type 0) where
       let old : List Occasion = occasions_of events in
       let new : Occasion = happening event in
       let all : occasions_of (events ++ event ∷ []) ≡ old ++ new ∷ [] = map-append happening events (event ∷ []) in
-      let out : Output = met new sent in
+      let out : Output = output_at new sent in
       let names : out.keys ≡ keys_after new (keys_of old []) = met_keys new sent ∙ ap (λ (ks : List ℕ). keys_after new ks) c.keys in
       record {
         turns = c.turns ++ t.turn ∷ [];
@@ -119,8 +119,8 @@ module _ {G : Type 0} (passes : G → GatedCall → G → Type 0) where
         count = t.added.count ∙ met_count new sent c.count ∙ ap (λ (ks : List ℕ). length ks) (sym t.added.keys);
         each = λ k.
             t.added.each k
-            ∙ ap (λ (bs : List ℕ). bs ++ written_to (k + 1) out.keys t.turn.deeds) (met_each new sent k ∙ c.each k)
-            ∙ ap (λ (ks : List ℕ). written_by (k + 1) [] old c.turns ++ written_to (k + 1) ks t.turn.deeds) names
+            ∙ ap (λ (bs : List ℕ). bs ++ bytes_to (k + 1) out.keys t.turn.deeds) (met_each new sent k ∙ c.each k)
+            ∙ ap (λ (ks : List ℕ). written_by (k + 1) [] old c.turns ++ bytes_to (k + 1) ks t.turn.deeds) names
             ∙ sym (written_more true (rest_in before) (rest_in now) (k + 1) [] old c.turns new t.turn c.served)
             ∙ ap (λ (os : List Occasion). written_by (k + 1) [] os (c.turns ++ t.turn ∷ [])) (sym all);
       }

@@ -5,7 +5,7 @@ use Rattle.router_core.specs.declared.cause.CloseCause.TheVariants as cause
 use Rattle.router_core.specs.Deeds.{Deed, Closes}
 use Rattle.router_core.specs.Events.{Next, with_bytes}
 use Rattle.router_core.specs.Incoming.{Incoming, Waits, Whole, Faulty}
-use Rattle.router_core.specs.OneThread.{Readers, Rest, given}
+use Rattle.router_core.specs.OneThread.{Readers, Rest, effect}
 use Rattle.router_core.specs.Standing.{Peer, Stage, Authenticating, Unnamed, Named, Closing, peer_at}
 use Rattle.router.proofs.Feeding.{TakesBytes, authenticating_given, closed_more, end_more, faulty_given, more, more_if, next_given, peer_with_more, rest_more, closing_given}
 use Rattle.router_laws.specs.Readings.{with_behind}
@@ -13,7 +13,7 @@ use Rattle.router_laws.specs.Readings.{with_behind}
 module _ (readers : Readers) where
   -- the next message is served in the same way with these bytes behind it
   abbrev pub Commutes : ℕ → List ℕ → Rest → Type 0
-  Commutes key piece r = given readers (rest_more piece key r) (Next key) ≡ end_more piece key (given readers r (Next key))
+  Commutes key piece r = effect readers (rest_more piece key r) (Next key) ≡ end_more piece key (effect readers r (Next key))
 
   more_taken : (key : ℕ) (piece : List ℕ) (p : Peer) → TakesBytes p.stage → TakesBytes (more piece key p).stage × ((more piece key p).unread ≡ p.unread ++ piece)
   more_taken key piece p takes = by_stage p.stage refl takes

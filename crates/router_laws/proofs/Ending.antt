@@ -9,7 +9,7 @@ use Rattle.router_core.specs.Acts.{Exchange, Framed, IsGranted, State}
 use Rattle.router_core.specs.Deeds.{GatedCall}
 use Rattle.router_core.specs.Events.{Closed, Next, Occasion, occasion_of}
 use Rattle.router_core.specs.Incoming.{Waits}
-use Rattle.router_core.specs.OneThread.{AreReadBy, Readers, Rest, given}
+use Rattle.router_core.specs.OneThread.{AreReadBy, Readers, Rest, effect}
 use Rattle.router_core.specs.Standing.{Peer, Stage, Authenticating, Unnamed, Named, Closing, peer_at}
 use Rattle.router_steps.specs.Quiet.{IsQuiet, IsQuietAt}
 use Rattle.router.specs.OneEvent.{rest_in}
@@ -46,16 +46,16 @@ left_right (Some p) quiet = by_stage p.stage refl quiet
     by_stage (Named conn) is waits = rw is (waits, tt)
     by_stage (Closing conn) is waits = rw is tt
 
-quiet_given : (readers : Readers) (key : ℕ) (r : Rest) → AreReadBy readers (left_of (peer_at r.standing key)) → given readers r (Next key) ≡ ([], r)
+quiet_given : (readers : Readers) (key : ℕ) (r : Rest) → AreReadBy readers (left_of (peer_at r.standing key)) → effect readers r (Next key) ≡ ([], r)
 quiet_given readers key r read = by_peer (peer_at r.standing key) refl read
   where
-    by_stage : (p : Peer) → peer_at r.standing key ≡ Some p → (stage : Stage) → p.stage ≡ stage → AreReadBy readers (left_of (Some p)) → given readers r (Next key) ≡ ([], r)
+    by_stage : (p : Peer) → peer_at r.standing key ≡ Some p → (stage : Stage) → p.stage ≡ stage → AreReadBy readers (left_of (Some p)) → effect readers r (Next key) ≡ ([], r)
     by_stage p here (Authenticating setting state) is so = authenticating_given readers key r p setting state here is
     by_stage p here (Unnamed privileged) is so = let waits : AreReadBy readers (Framed p.unread Waits ∷ []) = rw is at so in waiting_given readers key r p here (sym waits.0)
     by_stage p here (Named conn) is so = let waits : AreReadBy readers (Framed p.unread Waits ∷ []) = rw is at so in waiting_given readers key r p here (sym waits.0)
     by_stage p here (Closing conn) is so = closing_given readers key r p conn here is
 
-    by_peer : (o : Option Peer) → peer_at r.standing key ≡ o → AreReadBy readers (left_of o) → given readers r (Next key) ≡ ([], r)
+    by_peer : (o : Option Peer) → peer_at r.standing key ≡ o → AreReadBy readers (left_of o) → effect readers r (Next key) ≡ ([], r)
     by_peer None here so = none_given readers key r here
     by_peer (Some p) here so = by_stage p here p.stage refl so
 
@@ -103,7 +103,7 @@ module _ {N G : Type 0} (told : N → History) (passes : G → GatedCall → G �
       let came = one_so told passes alone seat key is readers before (event.Opened key None) happen.1 happen.0 happen.3 here.0 there.0 in
       let settled = subst (λ (r : Rest). AllSettled readers seat key occasions r) came.1
       (all_settled told passes alone seat key is readers happen.0 g.later happen.2 g.between happen.4 g.serves.life.1 here.1 there.1 behind.1) in
-      let quiet = subst (λ (r : Rest). given readers r (Next key) ≡ ([], r)) so.1 (quiet_given readers key (rest_in g.between) mores.1) in
+      let quiet = subst (λ (r : Rest). effect readers r (Next key) ≡ ([], r)) so.1 (quiet_given readers key (rest_in g.between) mores.1) in
       record {
         turns = length occasions;
         served_so = λ n many.

@@ -4,7 +4,7 @@ use Rattle.std.specs.List.{range_with_len}
 use Rattle.router_core.specs.Acts.{Exchange, Changed, ChangedAll, Asked, Routed, AskedPresence, Noted, Framed, Called, Gated, Wanted, IsGranted}
 use Rattle.router_core.specs.Answers.{Says, Refuses}
 use Rattle.router_core.specs.Events.{Occasion}
-use Rattle.router_core.specs.OneThread.{Rest, keys_after, written_to}
+use Rattle.router_core.specs.OneThread.{Rest, keys_after, bytes_to}
 use Rattle.router.proofs.Grants.{granted_parts}
 use Rattle.router_laws.specs.Turns.{Turn, asked_in, keys_of, written_by}
 use Rattle.router_laws.specs.GrantedRuns.{ComeToTheSame, IsGrantedRun}
@@ -74,7 +74,7 @@ written_joined opening keys before now (occasion ∷ first) later [] late a = ab
 written_joined opening keys before now (occasion ∷ first) later (turn ∷ early) late a =
     let grants = granted_parts turn.asked (asked_in early) a.granted in
     let next : List ℕ = keys_after occasion keys in
-    let here : List ℕ = written_to opening next turn.deeds in
+    let here : List ℕ = bytes_to opening next turn.deeds in
     ap (λ (bytes : List ℕ). here ++ bytes) (written_joined opening next a.served.0 now first later early late (record { served = a.served.2; granted = grants.1 }))
     ∙ sym (append_assoc here (written_by opening next first early) (written_by opening (keys_of first next) later late))
 

@@ -9,9 +9,9 @@ use Rattle.message_core.specs.Said.{said as message_said}
 use Rattle.bus_view.specs.Views.{Knowledge}
 use Rattle.router_core.specs.Acts.{Exchange, Framed, Wanted, Goes, IsGranted, IsLawful, IsServedBy}
 use Rattle.router_core.specs.Deeds.{Deed}
-use Rattle.router_core.specs.Events.{Occasion, Bytes, Next, Stands, answering, conversed_to, with_bytes, for_peer, hearing, coming_next, next_at, read, serve_at}
+use Rattle.router_core.specs.Events.{Occasion, Bytes, Next, Stands, answering, after_conversing, with_bytes, for_peer, hearing, coming_next, next_at, serving_incoming, serving_at}
 use Rattle.router_core.specs.Incoming.{Incoming, Waits, Whole, Faulty, IsIncoming}
-use Rattle.router_core.specs.OneThread.{Course, Readers, Rest, alone, doing, given, written_to}
+use Rattle.router_core.specs.OneThread.{Course, Readers, Rest, alone, doing, effect, bytes_to}
 use Rattle.router_core.specs.Scripts.{Script, Gives, Changing, ChangingAll, Asking, Routing, AskingPresence, Noting, Framing, Calling, Gating, Wanting, Requiring, Doing, Announcing, and_then}
 use Rattle.router_core.specs.Standing.{Peer, Stage, Standing, SpeaksDBus, Authenticating, Unnamed, Named, Closing, peer_at, closing_peer, with_peer}
 use Rattle.router_core.proofs.Functions.{one_thread_is_a_function}
@@ -109,7 +109,7 @@ module _ (readers : Readers) {X : Type 0} where
 module _ (key : ℕ) (piece : List ℕ) where
   -- what a conversation comes to is written, and kept
   abbrev conversing : Standing → Setting → Conversed → Peer → List ℕ → Phase → Stands
-  conversing s setting said p sent phase = and_then (and_then (answering key sent (conversed_to key setting said phase p)) (λ q. Gives (Some q))) (λ q. Gives (with_peer s key q))
+  conversing s setting said p sent phase = and_then (and_then (answering key sent (after_conversing key setting said phase p)) (λ q. Gives (Some q))) (λ q. Gives (with_peer s key q))
 
   phase_asks_nothing : (s : Standing) (setting : Setting) (said : Conversed) (p : Peer) (phase : Phase) → AsksNothing (conversing s setting said p [] phase)
   phase_asks_nothing s setting said p WaitingForNul = tt
@@ -139,7 +139,7 @@ module _ (key : ℕ) (piece : List ℕ) where
   abbrev MayBring : Rest → List Deed × Rest → Type 0
   MayBring r end = (asked : List Exchange) × IsServedBy true r.standing r.view (Bytes key piece) asked end.0 end.1.standing end.1.view × IsGranted asked
 
-  bytes_may : (readers : Readers) (r : Rest) → MayBring r (given readers r (Bytes key piece))
+  bytes_may : (readers : Readers) (r : Rest) → MayBring r (effect readers r (Bytes key piece))
   bytes_may readers r =
       let s : Stands = for_peer r.standing key (peer_at r.standing key) (λ p. hearing key piece p p.stage) in
       let c : Course = record { view = r.view; deeds = [] } in
@@ -158,32 +158,32 @@ turn_of asked deeds = record { asked = asked; deeds = deeds }
 
 -- two pieces bring the bytes that both at once bring, and leave the same
 given_joined : (readers : Readers) (key : ℕ) (r : Rest) (first second : List ℕ) (opening : ℕ) (keys : List ℕ) →
-    (written_to opening keys (given readers r (Bytes key first)).0 ++ written_to opening keys (given readers (given readers r (Bytes key first)).1 (Bytes key second)).0
-    ≡ written_to opening keys (given readers r (Bytes key (first ++ second))).0)
-    × ((given readers (given readers r (Bytes key first)).1 (Bytes key second)).1 ≡ (given readers r (Bytes key (first ++ second))).1)
+    (bytes_to opening keys (effect readers r (Bytes key first)).0 ++ bytes_to opening keys (effect readers (effect readers r (Bytes key first)).1 (Bytes key second)).0
+    ≡ bytes_to opening keys (effect readers r (Bytes key (first ++ second))).0)
+    × ((effect readers (effect readers r (Bytes key first)).1 (Bytes key second)).1 ≡ (effect readers r (Bytes key (first ++ second))).1)
 given_joined readers key r first second opening keys = by_peer (peer_at r.standing key) refl
   where
     one : List Deed × Rest
-    one = given readers r (Bytes key first)
+    one = effect readers r (Bytes key first)
 
     two : List Deed × Rest
-    two = given readers one.1 (Bytes key second)
+    two = effect readers one.1 (Bytes key second)
 
     all : List Deed × Rest
-    all = given readers r (Bytes key (first ++ second))
+    all = effect readers r (Bytes key (first ++ second))
 
     Joined : Type 0
-    Joined = (written_to opening keys one.0 ++ written_to opening keys two.0 ≡ written_to opening keys all.0) × (two.1 ≡ all.1)
+    Joined = (bytes_to opening keys one.0 ++ bytes_to opening keys two.0 ≡ bytes_to opening keys all.0) × (two.1 ≡ all.1)
 
     speaking : SpeaksAt key r.standing → Joined
     speaking speaks =
         let fed_first = bytes_given readers first key r speaks in
         let fed_both : two ≡ ([], rest_more second key (rest_more first key r)) =
-        ap (λ (end : List Deed × Rest). given readers end.1 (Bytes key second)) fed_first ∙ bytes_given readers second key (rest_more first key r) (more_speaks first key r speaks) in
+        ap (λ (end : List Deed × Rest). effect readers end.1 (Bytes key second)) fed_first ∙ bytes_given readers second key (rest_more first key r) (more_speaks first key r speaks) in
         let at_once = bytes_given readers (first ++ second) key r speaks in (
-          ap (λ (end : List Deed × Rest). written_to opening keys end.0 ++ written_to opening keys two.0) fed_first
-              ∙ ap (λ (end : List Deed × Rest). written_to opening keys end.0) fed_both
-              ∙ sym (ap (λ (end : List Deed × Rest). written_to opening keys end.0) at_once),
+          ap (λ (end : List Deed × Rest). bytes_to opening keys end.0 ++ bytes_to opening keys two.0) fed_first
+              ∙ ap (λ (end : List Deed × Rest). bytes_to opening keys end.0) fed_both
+              ∙ sym (ap (λ (end : List Deed × Rest). bytes_to opening keys end.0) at_once),
           ap (λ (end : List Deed × Rest). end.1) fed_both ∙ pieces_joined key first second r ∙ sym (ap (λ (end : List Deed × Rest). end.1) at_once),
         )
 
@@ -211,22 +211,22 @@ joined key first second r (one ∷ two ∷ []) after run =
     let reads = read_parts readers one.asked (two.asked ++ []) read in
     let last_grants = granted_parts two.asked [] grants.1 in
     let last_reads = read_parts readers two.asked [] reads.1 in
-    let first_end : List Deed × Rest = given readers r (Bytes key first) in
-    let last_end : List Deed × Rest = given readers first_end.1 (Bytes key second) in
-    let all : List Deed × Rest = given readers r (Bytes key (first ++ second)) in
+    let first_end : List Deed × Rest = effect readers r (Bytes key first) in
+    let last_end : List Deed × Rest = effect readers first_end.1 (Bytes key second) in
+    let all : List Deed × Rest = effect readers r (Bytes key (first ++ second)) in
     let a = one_thread_is_a_function readers r run.served.0 (Bytes key first) one.asked one.deeds run.served.1 grants.0 reads.0 in
     let b = one_thread_is_a_function readers run.served.0 run.served.2.0 (Bytes key second) two.asked two.deeds run.served.2.1 last_grants.0 last_reads.0 in
-    let same : given readers run.served.0 (Bytes key second) ≡ last_end = ap (λ (s : Rest). given readers s (Bytes key second)) a.1 in
+    let same : effect readers run.served.0 (Bytes key second) ≡ last_end = ap (λ (s : Rest). effect readers s (Bytes key second)) a.1 in
     let may = bytes_may key (first ++ second) readers r in
     let end : after ≡ all.1 = run.served.2.2 ∙ b.1 ∙ ap (λ (e : List Deed × Rest). e.1) same ∙ (given_joined readers key r first second 0 []).1 in (
       turn_of may.0 all.0 ∷ [],
       record { served = (all.1, may.1, end); granted = granted_append may.0 [] may.2 tt },
       λ opening keys.
-          let here : List ℕ = written_to opening keys first_end.0 in
-          let there : List ℕ = written_to opening keys last_end.0 in
+          let here : List ℕ = bytes_to opening keys first_end.0 in
+          let there : List ℕ = bytes_to opening keys last_end.0 in
           sym (
-          ap (λ (ds : List Deed). written_to opening keys ds ++ (written_to opening keys two.deeds ++ [])) a.0
-          ∙ ap (λ (ds : List Deed). here ++ (written_to opening keys ds ++ [])) (b.0 ∙ ap (λ (e : List Deed × Rest). e.0) same)
+          ap (λ (ds : List Deed). bytes_to opening keys ds ++ (bytes_to opening keys two.deeds ++ [])) a.0
+          ∙ ap (λ (ds : List Deed). here ++ (bytes_to opening keys ds ++ [])) (b.0 ∙ ap (λ (e : List Deed × Rest). e.0) same)
           ∙ sym (append_assoc here there [])
           ∙ ap (λ (bytes : List ℕ). bytes ++ []) (given_joined readers key r first second opening keys).0
           ),
@@ -240,11 +240,11 @@ module _ (key : ℕ) (s : Standing) (p : Peer) where
   IsLeft stage = (k m : Knowledge) (asked : List Exchange) (deeds : List Deed) (x : Standing) → Goes (next_at s key p stage) asked deeds x → IsLawful true k asked m →
       (deeds ≡ []) × (x ≡ s) × (m ≡ k)
 
-  reads_nothing : IsIncoming p.unread Waits → (k m : Knowledge) (asked : List Exchange) (deeds : List Deed) (x : Standing) → Goes (Framing p.unread (λ incoming. read s key p incoming)) asked deeds x → IsLawful true k asked m →
+  reads_nothing : IsIncoming p.unread Waits → (k m : Knowledge) (asked : List Exchange) (deeds : List Deed) (x : Standing) → Goes (Framing p.unread (λ incoming. serving_incoming s key p incoming)) asked deeds x → IsLawful true k asked m →
       (deeds ≡ []) × (x ≡ s) × (m ≡ k)
   reads_nothing is k m asked deeds x goes lawful =
       let there = subst (λ (a : List Exchange). IsLawful true k a m) goes.2 lawful in
-      let so = subst (λ (f : Incoming). Goes (read s key p f) goes.1 deeds x) (incoming_is_one p.unread goes.0 Waits there.0 is) goes.3 in
+      let so = subst (λ (f : Incoming). Goes (serving_incoming s key p f) goes.1 deeds x) (incoming_is_one p.unread goes.0 Waits there.0 is) goes.3 in
       (so.1, so.2, subst (λ (a : List Exchange). IsLawful true k a m) so.0 there.1)
 
   short_is_left : IsIncoming p.unread Waits → (stage : Stage) → IsLeft stage
@@ -268,7 +268,7 @@ waits key r p here is_left (one ∷ []) after run =
     let so = is_left r.view run.served.0.view one.asked one.deeds run.served.0.standing goes h.lawful in (
       [],
       record { served = run.served.2 ∙ same_rest run.served.0 r.standing r.view so.1 so.2; granted = tt },
-      λ opening keys. sym (ap (λ (ds : List Deed). written_to opening keys ds ++ []) so.0),
+      λ opening keys. sym (ap (λ (ds : List Deed). bytes_to opening keys ds ++ []) so.0),
     )
 
 -- ## A message, or a fault, with more bytes behind it
@@ -316,16 +316,16 @@ module _ (key : ℕ) (piece : List ℕ) (r : Rest) (p : Peer) where
   grown stage t = ap (λ (st : Stage). with_bytes piece p st) t.is ∙ t.grows
 
   -- what is read goes on in the same way
-  read_more : (stage : Stage) → Takes stage → (incoming : Incoming) → incoming ≢ Waits → (asked : List Exchange) (deeds : List Deed) (x : Standing) → Goes (read r.standing key p incoming) asked deeds x →
-      Goes (read later_standing key later_peer (with_behind piece incoming)) asked deeds (with_more piece key x)
+  read_more : (stage : Stage) → Takes stage → (incoming : Incoming) → incoming ≢ Waits → (asked : List Exchange) (deeds : List Deed) (x : Standing) → Goes (serving_incoming r.standing key p incoming) asked deeds x →
+      Goes (serving_incoming later_standing key later_peer (with_behind piece incoming)) asked deeds (with_more piece key x)
   read_more stage t Waits not_so asked deeds x goes = absurd (not_so refl)
   read_more stage t (Whole message rest) not_so asked deeds x goes =
       let here : more piece key (left_with p rest) ≡ left_with p (rest ++ piece) = ap (λ (st : Stage). with_bytes piece (left_with p rest) st) t.is ∙ t.left rest in
-      let same : read later_standing key later_peer (Whole message (rest ++ piece)) ≡ seen_as (with_more piece key) (read r.standing key p (Whole message rest)) =
-      ap (λ (q : Peer). read later_standing key q (Whole message (rest ++ piece))) (grown stage t)
-      ∙ ap (λ (q : Peer). serve_at later_standing key (message_said message) q p.stage) (sym here)
+      let same : serving_incoming later_standing key later_peer (Whole message (rest ++ piece)) ≡ seen_as (with_more piece key) (serving_incoming r.standing key p (Whole message rest)) =
+      ap (λ (q : Peer). serving_incoming later_standing key q (Whole message (rest ++ piece))) (grown stage t)
+      ∙ ap (λ (q : Peer). serving_at later_standing key (message_said message) q p.stage) (sym here)
       ∙ serve_more piece key r.standing (message_said message) (left_with p rest) p.stage refl in
-      subst (λ (script : Stands). Goes script asked deeds (with_more piece key x)) (sym same) (goes_seen (with_more piece key) (read r.standing key p (Whole message rest)) asked deeds x goes)
+      subst (λ (script : Stands). Goes script asked deeds (with_more piece key x)) (sym same) (goes_seen (with_more piece key) (serving_incoming r.standing key p (Whole message rest)) asked deeds x goes)
   read_more stage t (Faulty fault) not_so asked deeds x goes =
       let closed : with_peer later_standing key (Some (closing_peer later_peer)) ≡ with_more piece key (with_peer r.standing key (Some (closing_peer p))) = ap (λ (rest : Rest). rest.standing) (closed_more key piece r p) in
       (goes.0, goes.1, (goes.2.0, goes.2.1, ap (λ (standing : Standing). with_more piece key standing) goes.2.2 ∙ sym closed))
@@ -341,11 +341,11 @@ module _ (key : ℕ) (piece : List ℕ) (r : Rest) (p : Peer) where
     abbrev behind : Incoming
     behind = with_behind piece incoming
 
-    framing : (stage : Stage) → Takes stage → Goes (Framing p.unread (λ f. read r.standing key p f)) asked deeds x → IsLawful true k asked m →
-        (later : List Exchange) × Goes (read later_standing key later_peer behind) later deeds (with_more piece key x) × IsIncoming later_peer.unread behind × IsLawful true k later m × (IsGranted asked → IsGranted later)
+    framing : (stage : Stage) → Takes stage → Goes (Framing p.unread (λ f. serving_incoming r.standing key p f)) asked deeds x → IsLawful true k asked m →
+        (later : List Exchange) × Goes (serving_incoming later_standing key later_peer behind) later deeds (with_more piece key x) × IsIncoming later_peer.unread behind × IsLawful true k later m × (IsGranted asked → IsGranted later)
     framing stage t goes lawful =
         let there = subst (λ (a : List Exchange). IsLawful true k a m) goes.2 lawful in
-        let so = subst (λ (f : Incoming). Goes (read r.standing key p f) goes.1 deeds x) (incoming_is_one p.unread goes.0 incoming there.0 is_incoming) goes.3 in (
+        let so = subst (λ (f : Incoming). Goes (serving_incoming r.standing key p f) goes.1 deeds x) (incoming_is_one p.unread goes.0 incoming there.0 is_incoming) goes.3 in (
           goes.1,
           read_more stage t incoming not_so goes.1 deeds x so,
           subst (λ (q : Peer). IsIncoming q.unread behind) (sym (grown stage t)) (incoming_stays p.unread piece incoming not_so is_incoming),
@@ -392,7 +392,7 @@ module _ (key : ℕ) (piece : List ℕ) (r : Rest) (p : Peer) where
           served = (rest_more piece key r, may.1, (rest_more piece key now, record { goes = again; lawful = h.lawful }, run.served.2.2 ∙ came.1));
           granted = granted_append may.0 (h.again ++ []) may.2 (granted_append h.again [] granted tt);
         },
-        λ opening keys. sym (ap (λ (ds : List Deed). written_to opening keys one.deeds ++ (written_to opening keys ds ++ [])) came.0),
+        λ opening keys. sym (ap (λ (ds : List Deed). bytes_to opening keys one.deeds ++ (bytes_to opening keys ds ++ [])) came.0),
       )
 
 -- ## In whole runs

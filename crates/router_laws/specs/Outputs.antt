@@ -3,10 +3,10 @@ use Rattle.std.specs.Prelude.{◌≡◌, ℕ, ◌+◌, true, List, [], ◌∷◌
 use Rattle.router_core.specs.declared.action.Action.{Action}
 use Rattle.router_core.specs.declared.action.Action.TheVariants.{Write}
 use Rattle.router_core.specs.declared.event.Event.{Event}
-use Rattle.router_core.specs.Acts.{IsServedBy, State, gated_in}
+use Rattle.router_core.specs.Acts.{IsServedBy, State, gated_calls}
 use Rattle.router_core.specs.Deeds.{GatedCall, PassesAll}
 use Rattle.router_core.specs.Events.{Occasion, Opened}
-use Rattle.router_core.specs.OneThread.{bytes_if, opening_of, written_to}
+use Rattle.router_core.specs.OneThread.{bytes_if, opening_of, bytes_to}
 use Rattle.router_laws.specs.declared.fault.RunFault.{RunFault}
 use Rattle.router_laws.specs.declared.fault.RunFault.TheVariants.{WrongKey, NoLogin, NoTurn, NoMemory}
 use Rattle.router_laws.specs.Runs.{LacksKey, LacksLogin, LacksTurn, happening, occasions_of}
@@ -37,22 +37,22 @@ bytes_by_all opening keys [] = []
 bytes_by_all opening keys (action ∷ actions) = bytes_by opening keys action ++ bytes_by_all opening keys actions
 
 -- A connection that came has got nothing yet.
-abbrev pub met : Occasion → Output → Output
-met (Opened key challenge) out = record { keys = key ∷ out.keys; written = out.written ++ [] ∷ [] }
-met other out = out
+abbrev pub output_at : Occasion → Output → Output
+output_at (Opened key challenge) out = record { keys = key ∷ out.keys; written = out.written ++ [] ∷ [] }
+output_at other out = out
 
 -- One event is served, and its bytes go to the connections.
 pub record IsTurn {G : Type 0} (passes : G → GatedCall → G → Type 0) (before : State G) (sent : Output) (event : Event (Unit {0})) (after : State G) (sends : Output) : Type 0 where
   pub turn : Turn
   pub served : IsServedBy true before.standing before.view (happening event) turn.asked turn.deeds after.standing after.view
-  pub shown : PassesAll passes before.gate (gated_in before.view.seat turn.asked) after.gate
-  pub added : Adds (met (happening event) sent) (λ opening. written_to opening (met (happening event) sent).keys turn.deeds) sends
+  pub shown : PassesAll passes before.gate (gated_calls before.view.seat turn.asked) after.gate
+  pub added : Adds (output_at (happening event) sent) (λ opening. bytes_to opening (output_at (happening event) sent).keys turn.deeds) sends
 
 -- Events are served from the beginning on.
 pub record IsCourse {G : Type 0} (passes : G → GatedCall → G → Type 0) (before : State G) (events : List (Event (Unit {0}))) (after : State G) (sent : Output) : Type 0 where
   pub turns : List Turn
   pub served : AreServedBy true (rest_in before) (occasions_of events) turns (rest_in after)
-  pub shown : PassesAll passes before.gate (gated_in before.view.seat (asked_in turns)) after.gate
+  pub shown : PassesAll passes before.gate (gated_calls before.view.seat (asked_in turns)) after.gate
   pub keys : sent.keys ≡ keys_of (occasions_of events) []
   pub count : length sent.written ≡ length sent.keys
   pub each : (k : ℕ) → slice_index_or sent.written k [] ≡ written_by (k + 1) [] (occasions_of events) turns

@@ -6,7 +6,7 @@ use Rattle.seq_bus.specs.PlainBus.{PlainBus}
 use Rattle.seq_bus.specs.PlainViews.{knowledge_of}
 use Rattle.router_core.specs.declared.event.Event.{Event}
 use Rattle.router_core.specs.declared.event.Event.TheVariants as event
-use Rattle.router_core.specs.Acts.{gated_in}
+use Rattle.router_core.specs.Acts.{gated_calls}
 use Rattle.router_core.specs.Deeds.{GatedCall, PassesAll}
 use Rattle.router_core.specs.Events.{Occasion, CanBeAsked, IsFree, occasion_of, IsTurnOf}
 use Rattle.router_core.specs.OneThread.{Rest}
@@ -36,7 +36,7 @@ pub record IsRunOf {G : Type 0} (passes : G → GatedCall → G → Type 0) (gat
   pub after : Rest
   pub left : G
   pub served : AreServedBy true before occasions turns after
-  pub shown : PassesAll passes gate (gated_in before.view.seat (asked_in turns)) left
+  pub shown : PassesAll passes gate (gated_calls before.view.seat (asked_in turns)) left
   pub written : bytes ≡ for_each occasions (λ opening. written_by opening [] occasions turns)
 
 -- A connection comes, and its key is not the least that none has.

@@ -3,7 +3,7 @@ use Rattle.std.specs.Prelude.{◌≡◌, ℕ, Bool, List, [], ◌∷◌, ◌++�
 use Rattle.router_core.specs.Acts.{Exchange, IsServedBy}
 use Rattle.router_core.specs.Deeds.{Deed}
 use Rattle.router_core.specs.Events.{Occasion}
-use Rattle.router_core.specs.OneThread.{Rest, keys_after, written_to}
+use Rattle.router_core.specs.OneThread.{Rest, keys_after, bytes_to}
 
 -- what was asked and answered while one event was served, and what was done
 pub record Turn : Type 0 where
@@ -29,5 +29,5 @@ keys_of (occasion ∷ occasions) keys = keys_of occasions (keys_after occasion k
 
 -- the bytes that the deeds write to the connection of this opening
 abbrev pub written_by : ℕ → List ℕ → List Occasion → List Turn → List ℕ
-written_by opening keys (occasion ∷ occasions) (turn ∷ turns) = written_to opening (keys_after occasion keys) turn.deeds ++ written_by opening (keys_after occasion keys) occasions turns
+written_by opening keys (occasion ∷ occasions) (turn ∷ turns) = bytes_to opening (keys_after occasion keys) turn.deeds ++ written_by opening (keys_after occasion keys) occasions turns
 written_by opening keys occasions turns = []

@@ -2,7 +2,7 @@
 
 ghost use Rattle.std.specs.Prelude.{◌≡◌, ◌++◌, map, OnOk, IfOk};
 ghost use Rattle.router_core.specs.OneThread.{bytes_if, opening_of};
-ghost use Rattle.router_laws.specs.Outputs.{Adds, bytes_by, bytes_by_all, met, no_output};
+ghost use Rattle.router_laws.specs.Outputs.{Adds, bytes_by, bytes_by_all, output_at, no_output};
 ghost use Rattle.router_laws.specs.Runs.{happening};
 
 use router_core::{Action, Event};
@@ -59,7 +59,7 @@ impl Outlets {
 
     /// The connection comes that comes at an event.
     pub(crate) fn meet(&mut self, event: &Event<()>) -> Result<(), AllocError>
-        ensures { OnOk result (self.new ≡ met (happening event.now) self.old) }
+        ensures { OnOk result (self.new ≡ output_at (happening event.now) self.old) }
     {
         if let Event::Opened { key, challenge: _ } = event {
             let outlet = Outlet {

@@ -10,7 +10,7 @@ use Rattle.router_core.specs.declared.cause.CloseCause.TheVariants.{Unauthentica
 use Rattle.bus_view.specs.declared.view.BusView.{Ghosts as BusView}
 use Rattle.router_core.specs.declared.gate.Gate.{Ghosts as Gate}
 use Rattle.router_core.specs.Deeds.{Writes}
-use Rattle.router_core.specs.Events.{OfPeer, closing, answering, conversed_to, hearing}
+use Rattle.router_core.specs.Events.{OfPeer, closing, answering, after_conversing, hearing}
 use Rattle.router_core.specs.Scripts.{World, Performs, RunsTo}
 use Rattle.router_core.specs.Standing.{Stage, Authenticating, Closing, Peer, conn_of, closing_peer}
 use Rattle.router_steps.specs.Turns.{IsAlike, stage_after, IsOutcome, IsConversed, IsSent}
@@ -38,7 +38,7 @@ module _ {V N R G : Type 0} (view : BusView V N R) (gate : Gate G) (key : ℕ) w
 
     -- the conversation has not failed
     by_phase : (phase : Phase) → ((fault : AuthenticationFault) → phase ≢ Closed fault) → (v : World N G) (q : Peer) → q ≡ record p { stage = stage_after setting said.state phase; unread = said.left } →
-        RunsTo view gate (conversed_to key setting said phase p) v q v
+        RunsTo view gate (after_conversing key setting said phase p) v q v
     by_phase WaitingForNul fine v q same = (same, refl)
     by_phase WaitingForAuth fine v q same = (same, refl)
     by_phase (WaitingForData due) fine v q same = (same, refl)
@@ -48,7 +48,7 @@ module _ {V N R G : Type 0} (view : BusView V N R) (gate : Gate G) (key : ℕ) w
 
     pub goes_on : (sent : List ℕ) (w v : World N G) (q : Peer) → IsOutcome said setting p sent None q → IsSent view key sent w v → RunsTo view gate (hearing key piece p p.stage) w q v
     goes_on sent w v q outcome written =
-        at_stage w v q (true, answered said.sent (conversed_to key setting said said.state.phase p) w v v q (subst (λ bytes. IsSent view key bytes w v) outcome.1 written) (by_phase said.state.phase outcome.0 v q outcome.2))
+        at_stage w v q (true, answered said.sent (after_conversing key setting said said.state.phase p) w v v q (subst (λ bytes. IsSent view key bytes w v) outcome.1 written) (by_phase said.state.phase outcome.0 v q outcome.2))
 
     -- one that is closed is the same, whatever was said
     closing_alike : (q r : Peer) → IsAlike p r → conn_of r.stage ≡ conn_of p.stage → q ≡ closing_peer r → q ≡ closing_peer p
@@ -64,8 +64,8 @@ module _ {V N R G : Type 0} (view : BusView V N R) (gate : Gate G) (key : ℕ) w
         by_outcome : IsOutcome said setting p sent (Some fault) r → RunsTo view gate (hearing key piece p (Authenticating setting state)) w q v
         by_outcome (inl failed) = (
           true,
-          answered said.sent (conversed_to key setting said said.state.phase p) w m v q (subst (λ bytes. IsSent view key bytes w m) failed.1 written)
-              (subst (λ (phase : Phase). RunsTo view gate (conversed_to key setting said phase p) m q v) (sym failed.0) closes_it),
+          answered said.sent (after_conversing key setting said said.state.phase p) w m v q (subst (λ bytes. IsSent view key bytes w m) failed.1 written)
+              (subst (λ (phase : Phase). RunsTo view gate (after_conversing key setting said phase p) m q v) (sym failed.0) closes_it),
         )
         by_outcome (inr refused) =
             let nothing : IsSent view key [] w m = subst (λ bytes. IsSent view key bytes w m) refused.1 written in

@@ -11,7 +11,7 @@ use Rattle.outbox_core.specs.Contents.{Said, Own, Tells, Errs, bus_message}
 use Rattle.outbox_core.specs.Deliveries.{deliveries_of}
 use Rattle.router_core.specs.Answers.{Heard}
 use Rattle.router_core.specs.Deeds.{GatedCall, Sends}
-use Rattle.router_core.specs.Events.{OfPeer, for_entry, refuse, refuse_with}
+use Rattle.router_core.specs.Events.{OfPeer, for_entry, refusing_routed, refusing_hello}
 use Rattle.router_core.specs.Scripts.{Gives, Routing, World, Routes, Does, Comes, putting}
 use Rattle.router_core.specs.Serving.{nothing, monitors_in}
 use Rattle.router_core.specs.Standing.{Peer, next_serial}
@@ -27,17 +27,17 @@ module _ {N G : Type 0} (told : N → History) (registry_of : N → ℕ) (passes
   -- the error is written, and put to the monitors
   pub refused : (key : ℕ) (own : Own) (p : Peer) (w r s n : World N G) (heard : Heard Verdict) (monitors : List Conn) → Routes alone 0 (facts_of (bus_message 1 own)) w heard r → monitors ≡ monitors_in heard →
       Does told registry_of alone (Sends key (bus_message (next_serial p.serial) own)) r s → Comes told registry_of passes alone (putting (deliveries_of [] monitors) (Tells own) nothing) s tt n →
-      Comes told registry_of passes alone (Routing 0 (facts_of (bus_message 1 own)) (λ (h : Heard Verdict). refuse key own p h)) w (record p { serial = next_serial p.serial }) n
+      Comes told registry_of passes alone (Routing 0 (facts_of (bus_message 1 own)) (λ (h : Heard Verdict). refusing_routed key own p h)) w (record p { serial = next_serial p.serial }) n
   refused key own p w r s n heard monitors routes are does put =
       let to_monitors = subst (λ (to : List Conn). Comes told registry_of passes alone (putting to (Tells own) nothing) s tt n) (deliveries_of_none monitors ∙ are) put in
       (heard, r, routes, (s, does, put_then (monitors_in heard) (Tells own) (record p { serial = next_serial p.serial }) s n to_monitors))
 
   -- a Hello that wants an answer
   pub refused_with : (key : ℕ) (m : Message) (error : ErrorKind) (own : Own) (p q : Peer) (w n : World N G) → expects_reply m ≡ true → own ≡ Errs (hello_of m) error →
-      Comes told registry_of passes alone (Routing 0 (facts_of (bus_message 1 own)) (λ (h : Heard Verdict). refuse key own p h)) w q n → Comes told registry_of passes alone (refuse_with key m error p) w q n
+      Comes told registry_of passes alone (Routing 0 (facts_of (bus_message 1 own)) (λ (h : Heard Verdict). refusing_routed key own p h)) w q n → Comes told registry_of passes alone (refusing_hello key m error p) w q n
   refused_with key m error own p q w n wants is done =
-      subst (λ (b : Bool). Comes told registry_of passes alone (if b then Routing 0 (facts_of (bus_message 1 (Errs (hello_of m) error))) (λ (h : Heard Verdict). refuse key (Errs (hello_of m) error) p h) else Gives p) w q n) (sym wants)
-      (subst (λ (o : Own). Comes told registry_of passes alone (Routing 0 (facts_of (bus_message 1 o)) (λ (h : Heard Verdict). refuse key o p h)) w q n) is done)
+      subst (λ (b : Bool). Comes told registry_of passes alone (if b then Routing 0 (facts_of (bus_message 1 (Errs (hello_of m) error))) (λ (h : Heard Verdict). refusing_routed key (Errs (hello_of m) error) p h) else Gives p) w q n) (sym wants)
+      (subst (λ (o : Own). Comes told registry_of passes alone (Routing 0 (facts_of (bus_message 1 o)) (λ (h : Heard Verdict). refusing_routed key o p h)) w q n) is done)
 
   pub for_there : (p q : Peer) (work : Peer → OfPeer) (w n : World N G) → Comes told registry_of passes alone (work p) w q n → Comes told registry_of passes alone (for_entry (Some p) work) w (Some q) n
   for_there p q work w n done = comes_then told registry_of passes alone (λ (r : Peer). Gives (Some r)) q n (Some q) n (refl, refl) (work p) w done

@@ -9,7 +9,7 @@ use Rattle.driver.specs.Calls.{is_hello}
 use Rattle.router_core.specs.declared.fate.PeerFate.{PeerFate}
 use Rattle.router_core.specs.declared.cause.CloseCause.TheVariants as cause
 use Rattle.router_core.specs.Deeds.{GatedCall}
-use Rattle.router_core.specs.Events.{OfPeer, closing, after_serving, for_entry, for_peer, serving_hello, serve_named, serve_at, read, next_at, coming_next}
+use Rattle.router_core.specs.Events.{OfPeer, closing, after_serving, for_entry, for_peer, serving_hello, serving_named, serving_at, serving_incoming, next_at, coming_next}
 use Rattle.router_core.specs.Incoming.{Waits, Whole, Faulty, IsIncoming}
 use Rattle.router_core.specs.Scripts.{Gives, Framing, World, Comes, and_then}
 use Rattle.router_core.specs.Serving.{serving}
@@ -28,7 +28,7 @@ module _ {N G : Type 0} (told : N → History) (registry_of : N → ℕ) (passes
   module _ (key : ℕ) (p : Peer) (w v : World N G) where
     -- the front of its bytes is read, and it is served
     abbrev pub Reads : Standing → Peer → Type 0
-    Reads s q = Comes told registry_of passes alone (Framing p.unread (λ incoming. read s key p incoming)) w (with_peer s key (Some q)) v
+    Reads s q = Comes told registry_of passes alone (Framing p.unread (λ incoming. serving_incoming s key p incoming)) w (with_peer s key (Some q)) v
 
     pub reads_waiting : (s : Standing) (q : Peer) → q ≡ p → peer_at s key ≡ Some p → IsIncoming p.unread Waits → v ≡ w → Reads s q
     reads_waiting s q is there waits same =
@@ -47,9 +47,9 @@ module _ {N G : Type 0} (told : N → History) (registry_of : N → ℕ) (passes
         let t : Standing = with_peer s key (Some q) in
         let here = subst (λ (x : Peer). Comes told registry_of passes alone (for_peer s key (Some x) (closing key cause.NotHello)) w t v) rest (for_some s key r q (closing key cause.NotHello) w v done) in
         let x : Peer = record p { unread = r.unread } in
-        let chosen : Comes told registry_of passes alone (serve_at s key (said message) x (Unnamed privileged)) w t v =
+        let chosen : Comes told registry_of passes alone (serving_at s key (said message) x (Unnamed privileged)) w t v =
         subst (λ (b : Bool). Comes told registry_of passes alone (if b then serving_hello s key (said message) x privileged else for_peer s key (Some x) (closing key cause.NotHello)) w t v) (sym other) here in
-        (Whole message r.unread, incoming, subst (λ (stage : Stage). Comes told registry_of passes alone (serve_at s key (said message) x stage) w t v) (sym unnamed) chosen)
+        (Whole message r.unread, incoming, subst (λ (stage : Stage). Comes told registry_of passes alone (serving_at s key (said message) x stage) w t v) (sym unnamed) chosen)
 
     pub reads_named : (s : Standing) (message : List ℕ) (r q : Peer) (conn : Conn) (fate : PeerFate) (m : World N G) → IsIncoming p.unread (Whole message r.unread) → IsRest p r → p.stage ≡ Named conn → r.watches ≡ false →
         Comes told registry_of passes alone (serving (said message) conn) w fate m → Comes told registry_of passes alone (after_serving key fate r) m q v → Reads s q
@@ -60,9 +60,9 @@ module _ {N G : Type 0} (told : N → History) (registry_of : N → ℕ) (passes
         let here = subst (λ (x : Peer). Comes told registry_of passes alone (for_peer s key (Some x) work) w t v) rest (for_some s key r q work w v done) in
         let x : Peer = record p { unread = r.unread } in
         let same : p.watches ≡ false = sym (ap (λ (y : Peer). y.watches) rest) ∙ speaks in
-        let chosen : Comes told registry_of passes alone (serve_at s key (said message) x (Named conn)) w t v =
-        subst (λ (b : Bool). Comes told registry_of passes alone (serve_named s key (said message) x conn b) w t v) (sym same) here in
-        (Whole message r.unread, incoming, subst (λ (stage : Stage). Comes told registry_of passes alone (serve_at s key (said message) x stage) w t v) (sym named) chosen)
+        let chosen : Comes told registry_of passes alone (serving_at s key (said message) x (Named conn)) w t v =
+        subst (λ (b : Bool). Comes told registry_of passes alone (serving_named s key (said message) x conn b) w t v) (sym same) here in
+        (Whole message r.unread, incoming, subst (λ (stage : Stage). Comes told registry_of passes alone (serving_at s key (said message) x stage) w t v) (sym named) chosen)
 
     pub reads_watching : (s : Standing) (message : List ℕ) (r q : Peer) (conn : Conn) → IsIncoming p.unread (Whole message r.unread) → IsRest p r → p.stage ≡ Named conn → r.watches ≡ true →
         Comes told registry_of passes alone (closing key cause.MonitorSent r) w q v → Reads s q
@@ -71,9 +71,9 @@ module _ {N G : Type 0} (told : N → History) (registry_of : N → ℕ) (passes
         let here = subst (λ (x : Peer). Comes told registry_of passes alone (for_peer s key (Some x) (closing key cause.MonitorSent)) w t v) rest (for_some s key r q (closing key cause.MonitorSent) w v done) in
         let x : Peer = record p { unread = r.unread } in
         let same : p.watches ≡ true = sym (ap (λ (y : Peer). y.watches) rest) ∙ watches in
-        let chosen : Comes told registry_of passes alone (serve_at s key (said message) x (Named conn)) w t v =
-        subst (λ (b : Bool). Comes told registry_of passes alone (serve_named s key (said message) x conn b) w t v) (sym same) here in
-        (Whole message r.unread, incoming, subst (λ (stage : Stage). Comes told registry_of passes alone (serve_at s key (said message) x stage) w t v) (sym named) chosen)
+        let chosen : Comes told registry_of passes alone (serving_at s key (said message) x (Named conn)) w t v =
+        subst (λ (b : Bool). Comes told registry_of passes alone (serving_named s key (said message) x conn b) w t v) (sym same) here in
+        (Whole message r.unread, incoming, subst (λ (stage : Stage). Comes told registry_of passes alone (serving_at s key (said message) x stage) w t v) (sym named) chosen)
 
     -- so it is served next
     pub next_unnamed : (s : Standing) (q : Peer) (old : Option Peer) (privileged : Bool) → old ≡ Some p → p.stage ≡ Unnamed privileged → Reads s q → Comes told registry_of passes alone (coming_next s key old) w (with_peer s key (Some q)) v

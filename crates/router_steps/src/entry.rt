@@ -5,7 +5,7 @@ ghost use Rattle.message_core.specs.Said.{said};
 ghost use Rattle.outbox_core.specs.Contents.{said_of};
 ghost use Rattle.router_core.specs.Answers.{error_for, refusal_of};
 ghost use Rattle.router_core.specs.Deeds.{IsOwnNote};
-ghost use Rattle.router_core.specs.Events.{closing, hearing, for_entry, checking_presence, checking_each, refuse_with, turn_away, writing};
+ghost use Rattle.router_core.specs.Events.{closing, hearing, for_entry, checking_presence, checking_each, refusing_hello, dismissal, writing};
 ghost use Rattle.router_core.specs.Scripts.{RunsTo};
 ghost use Rattle.router_core.specs.Standing.{next_serial};
 ghost use Rattle.router_steps.specs.Noting.{once_noted};
@@ -85,7 +85,7 @@ impl<V: BusView, G: Gate> Context<V, G> {
         requires written { IfSome entry.old
             (λ p. AreRefusals (said hello.now) (next_serial p.serial) errors) }
         ensures { RunsTo V.BusView G.Gate
-            (for_entry entry.old (refuse_with key (said hello.now) (error_for (refusal_of why))))
+            (for_entry entry.old (refusing_hello key (said hello.now) (error_for (refusal_of why))))
             self.old.world entry.new self.new.world }
     {
         match entry {
@@ -107,7 +107,7 @@ impl<V: BusView, G: Gate> Context<V, G> {
         requires spare_verdicts { 0 < self.old.spare_verdicts }
         requires written { IfSome entry.old (λ p. IsRefusal (said hello.now)
             ErrorKind.LimitsExceeded (next_serial p.serial) bytes) }
-        ensures { RunsTo V.BusView G.Gate (for_entry entry.old (turn_away key (said hello.now)))
+        ensures { RunsTo V.BusView G.Gate (for_entry entry.old (dismissal key (said hello.now)))
             self.old.world entry.new self.new.world }
     {
         match entry {

@@ -6,7 +6,7 @@ ghost use Rattle.message_core.specs.Said.{said};
 ghost use Rattle.message.specs.FactsOf.{facts_of};
 ghost use Rattle.outbox_core.specs.Contents.{Errs, own_of, bus_message};
 ghost use Rattle.router_core.specs.Answers.{error_for, refusal_of};
-ghost use Rattle.router_core.specs.Events.{refuse, refuse_with, turn_away};
+ghost use Rattle.router_core.specs.Events.{refusing_routed, refusing_hello, dismissal};
 ghost use Rattle.router_core.specs.Scripts.{Routing, RunsTo};
 ghost use Rattle.router_core.specs.Standing.{next_serial};
 ghost use Rattle.router_steps.specs.Refusing.{IsRefusal, AreRefusals, hello_of};
@@ -96,7 +96,7 @@ impl<V: BusView, G: Gate> Context<V, G> {
             (bus_message (next_serial peer.old.serial) (own_of own)) }
         ensures comes { RunsTo V.BusView G.Gate
             (Routing 0 (facts_of (bus_message 1 (own_of own)))
-            (λ heard. refuse key (own_of own) peer.old heard))
+            (λ heard. refusing_routed key (own_of own) peer.old heard))
             self.old.world peer.new self.new.world }
         ensures room { self.old.room ≤ self.new.room + 2 }
     {
@@ -120,7 +120,7 @@ impl<V: BusView, G: Gate> Context<V, G> {
         requires room { 1 < self.old.room }
         requires spare_verdicts { 0 < self.old.spare_verdicts }
         requires written { IsRefusal (said hello.now) error (next_serial peer.old.serial) bytes }
-        ensures comes { RunsTo V.BusView G.Gate (refuse_with key (said hello.now) error peer.old)
+        ensures comes { RunsTo V.BusView G.Gate (refusing_hello key (said hello.now) error peer.old)
             self.old.world peer.new self.new.world }
         ensures room { self.old.room ≤ self.new.room + 2 }
     {
@@ -141,7 +141,7 @@ impl<V: BusView, G: Gate> Context<V, G> {
         requires spare_verdicts { 0 < self.old.spare_verdicts }
         requires written { IsRefusal (said hello.now) ErrorKind.LimitsExceeded
             (next_serial peer.old.serial) bytes }
-        ensures { RunsTo V.BusView G.Gate (turn_away key (said hello.now) peer.old)
+        ensures { RunsTo V.BusView G.Gate (dismissal key (said hello.now) peer.old)
             self.old.world peer.new self.new.world }
     {
         self.refuse_with(key, hello, peer, ErrorKind::LimitsExceeded, bytes);
@@ -161,7 +161,7 @@ impl<V: BusView, G: Gate> Context<V, G> {
         requires spare_verdicts { 0 < self.old.spare_verdicts }
         requires written { AreRefusals (said hello.now) (next_serial peer.old.serial) errors }
         ensures { RunsTo V.BusView G.Gate
-            (refuse_with key (said hello.now) (error_for (refusal_of why)) peer.old)
+            (refusing_hello key (said hello.now) (error_for (refusal_of why)) peer.old)
             self.old.world peer.new self.new.world }
     {
         match why {

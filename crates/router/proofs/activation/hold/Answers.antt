@@ -4,7 +4,7 @@ use Rattle.message_core.specs.HeaderFields.{text_field}
 use Rattle.message_core.specs.declared.header_field.HeaderField.TheVariants.{Destination}
 use Rattle.message_core.specs.Said.{said}
 use Rattle.router_core.specs.Scripts.{Comes}
-use Rattle.router_core.specs.Serving.{hold_if}
+use Rattle.router_core.specs.Serving.{holding_if}
 use Rattle.router.proofs.Waits.{waits_for_name}
 use Rattle.router.proofs.activation.hold.Goals as goal
 
@@ -17,7 +17,7 @@ returns-in-Ok-clause-comes g c =
     let m = said c.args.message.now in
     let w = c.args.context.now.world in
     let v = c.wait.new.context.world in
-    let waits = subst (λ (n : Text). Comes told registry_of passes alone (hold_if m c.args.sender n true) w c.wait.result v) c.in-Ok.ensures.name c.wait.ensures.comes in
+    let waits = subst (λ (n : Text). Comes told registry_of passes alone (holding_if m c.args.sender n true) w c.wait.result v) c.in-Ok.ensures.name c.wait.ensures.comes in
     waits_for_name told registry_of passes alone m c.args.sender c.destination.result (text_field Destination m.fields) c.destination.ensures c.in-Some.destination true c.wait.result w v c.in-Some.is waits
 
 pub returns-in-Err-clause-comes : goal.returns-in-Err-clause-comes

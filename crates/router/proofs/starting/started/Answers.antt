@@ -5,7 +5,7 @@ use Rattle.seq_bus_core.specs.declared.outcome.Reply.{Reply}
 use Rattle.outbox_core.specs.Contents.{Carried}
 use Rattle.router_core.specs.declared.fate.PeerFate.TheVariants.{Stays}
 use Rattle.router_core.specs.Scripts.{Comes}
-use Rattle.router_core.specs.Serving.{answering_with, running, start_by}
+use Rattle.router_core.specs.Serving.{answering_with, running, after_start_by}
 use Rattle.router.proofs.Answering.{stays}
 use Rattle.router.proofs.Waits.{start_still}
 use Rattle.router.proofs.starting.started.Goals as goal
@@ -19,7 +19,7 @@ returns-in-Held-clause-comes g c =
     let m = said c.args.call.now in
     let w = c.args.context.now.world in
     let v = c.run.new.self.world in
-    subst (λ (r : Reply). Comes told registry_of passes alone (start_by m c.args.caller c.args.name.value c.args.outcome r) w Stays v) (sym c.in-Held.is)
+    subst (λ (r : Reply). Comes told registry_of passes alone (after_start_by m c.args.caller c.args.name.value c.args.outcome r) w Stays v) (sym c.in-Held.is)
     (stays told registry_of passes alone (running c.args.name.value c.args.outcome.start) w v c.run.ensures.comes)
 
 pub returns-in_default : goal.returns-in_default

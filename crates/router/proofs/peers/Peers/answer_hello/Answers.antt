@@ -1,6 +1,6 @@
 use Rattle.std.proofs.Common.{Option, sym, ◌∙◌, subst}
 use Rattle.message_core.specs.Said.{said}
-use Rattle.router_core.specs.Events.{close_former, for_peer, turn_away, welcome}
+use Rattle.router_core.specs.Events.{closing_former, for_peer, dismissal, greeting}
 use Rattle.router_core.specs.Scripts.{RunsTo}
 use Rattle.router_core.specs.Standing.{Peer, Standing, peer_at}
 use Rattle.router.specs.Indexed.{IsNameless}
@@ -28,7 +28,7 @@ returns-in-Some g c p is =
     let v = c.welcome.new.self.work.world in
     let same = c.close_former.ensures.others key (nameless_slot conn.slot (peer_at s key) c.requires.nameless) in
     is_welcome g.V.BusView.told g.V.BusView.registry_of g.G.Gate.passes g.V.BusView.alone s key m p o w t v o.reply conn (sym c.in-Some.ensures)
-    (comes_then g.V.BusView.told g.V.BusView.registry_of g.G.Gate.passes g.V.BusView.alone (λ (u : Standing). welcome key m p o conn u) c.close_former.new.self.standing c.close_former.new.self.work.world t v (c.welcome.ensures p (same ∙ is)) (close_former s conn) w c.close_former.ensures.comes)
+    (comes_then g.V.BusView.told g.V.BusView.registry_of g.G.Gate.passes g.V.BusView.alone (λ (u : Standing). greeting key m p o conn u) c.close_former.new.self.standing c.close_former.new.self.work.world t v (c.welcome.ensures p (same ∙ is)) (closing_former s conn) w c.close_former.ensures.comes)
 
 pub returns-in-None : goal.returns-in-None
 returns-in-None g c p is =
@@ -40,4 +40,4 @@ returns-in-None g c p is =
     let t = c.turn_away_at.new.self.standing in
     let v = c.turn_away_at.new.self.work.world in
     is_turned_away g.V.BusView.told g.V.BusView.registry_of g.G.Gate.passes g.V.BusView.alone s key m p o w t v o.reply (sym c.in-None.ensures)
-    (subst (λ (q : Option Peer). RunsTo g.V.BusView g.G.Gate (for_peer s key q (turn_away key m)) w t v) is c.turn_away_at.ensures)
+    (subst (λ (q : Option Peer). RunsTo g.V.BusView g.G.Gate (for_peer s key q (dismissal key m)) w t v) is c.turn_away_at.ensures)

@@ -3,7 +3,7 @@ use Rattle.std.proofs.lemmas.Bool.{false≢true}
 use Rattle.std.proofs.lemmas.List.{get_or_read, get_or-set_other}
 use Rattle.std.proofs.lemmas.List.Quantifiers.{position-Some}
 use Rattle.router_core.specs.declared.cause.CloseCause.TheVariants.{Left}
-use Rattle.router_core.specs.Events.{closing, for_entry, close_former}
+use Rattle.router_core.specs.Events.{closing, for_entry, closing_former}
 use Rattle.router_core.specs.Scripts.{Comes}
 use Rattle.router_core.specs.Standing.{Peer, Standing, has_slot, peer_at, with_peer}
 use Rattle.router.specs.Tables.{Table}
@@ -25,7 +25,7 @@ returns-in-Some-clause-comes g c =
     let some : position test s.peers ≡ Some key = sym (c.in-Some.ensures ∙ ap (position test) c.deref.ensures.value) in
     let there : c.index_mut.result.now ≡ peer_at s key = get_or_read s.peers key c.index_mut.result.now (position-Some test s.peers key None some).0 c.index_mut.ensures.value None in
     let found = subst (λ (o : Option Peer). Comes g.V.BusView.told g.V.BusView.registry_of g.G.Gate.passes g.V.BusView.alone (for_entry o (λ (p : Peer). closing key Left p)) w q v) there c.close_left.ensures.comes in
-    subst (λ (k : Table g.row.V-Note.Denot g.row.G.Denot). Comes g.V.BusView.told g.V.BusView.registry_of g.G.Gate.passes g.V.BusView.alone (close_former k.standing conn) k.work.world (with_peer s key q) v) c.self.view_is
+    subst (λ (k : Table g.row.V-Note.Denot g.row.G.Denot). Comes g.V.BusView.told g.V.BusView.registry_of g.G.Gate.passes g.V.BusView.alone (closing_former k.standing conn) k.work.world (with_peer s key q) v) c.self.view_is
     (closes_former g.V.BusView.told g.V.BusView.registry_of g.G.Gate.passes g.V.BusView.alone s conn key q w v some found)
 
 pub returns-in-Some-clause-vacant : goal.returns-in-Some-clause-vacant

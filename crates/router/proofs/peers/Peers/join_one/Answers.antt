@@ -2,7 +2,7 @@ use Rattle.std.proofs.Common.{◌≡◌, [], ◌∷◌, ◌++◌, Some, true, Li
 use Rattle.message_core.specs.Said.{said}
 use Rattle.router_core.specs.declared.joint.Joint.{Joint}
 use Rattle.router_core.specs.declared.joint.RuleCall.{RuleCall}
-use Rattle.router_core.specs.Events.{Gathered, done_for, after_joining}
+use Rattle.router_core.specs.Events.{Gathered, work_for, after_joining}
 use Rattle.router_core.specs.Scripts.{Comes, and_then}
 use Rattle.router_core.specs.Standing.{Standing}
 use Rattle.router_core.specs.Together.{Joins, Parts, joining}
@@ -61,7 +61,7 @@ returns-in-Parts-clause-comes g c call is =
     let joint : Joint = record { key = key; message = c.args.message; caller = conn; call = call } in
     let end : Gathered = record { joints = []; standing = u; served = true } in
     let came = subst (λ (r : Joining). Comes told registry_of passes alone (joining m conn call) w (joining_of m conn r) n) c.in-Parts.is (c.join.ensures.comes call is) in
-    let later = parts_from told registry_of passes alone joints s t u (λ (x : Standing). done_for x key work) n q v c.make_all.ensures.comes c.part_one.ensures.comes in
+    let later = parts_from told registry_of passes alone joints s t u (λ (x : Standing). work_for x key work) n q v c.make_all.ensures.comes c.part_one.ensures.comes in
     let done = comes_then told registry_of passes alone (λ it. after_joining joints s joint it) (Parts work) n end v later (joining m conn call) w came in
     let kept = subst (λ (js : List Joint). let x : Gathered = record { joints = js; standing = u; served = true } in Comes told registry_of passes alone (and_then (joining m conn call) (λ it. after_joining joints s joint it)) w x v) (sym c.make_all.ensures.none) done in
     subst

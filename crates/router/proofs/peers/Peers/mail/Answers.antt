@@ -3,7 +3,7 @@ use Rattle.std.proofs.lemmas.List.{get_or_read}
 use Rattle.std.proofs.lemmas.List.Quantifiers.{position-Some}
 use Rattle.std.proofs.lemmas.Result.{on_ok_weaker}
 use Rattle.outbox_core.specs.Contents.{said_of}
-use Rattle.router_core.specs.Events.{writing, for_entry, mail_found, after_note}
+use Rattle.router_core.specs.Events.{writing, for_entry, mail_delivery, after_note}
 use Rattle.router_core.specs.Scripts.{Comes}
 use Rattle.router_core.specs.Standing.{Standing, is_conn, peer_at}
 use Rattle.router_steps.specs.Noting.{once_noted, IsNoteTaken}
@@ -26,7 +26,7 @@ returns-in-None-clause-comes g c =
     let m = c.take_note_of.new.self.world in
     let none : position test s.peers ≡ None = sym (c.in-None.ensures ∙ ap (position test) c.deref.ensures.value) in
     let takes_note = subst (λ k. IsNoteTaken alone held k m) c.reserve.ensures.world c.take_note_of.ensures.takes_note in
-    subst (λ (k : Table g.row.V-Note.Denot g.row.G.Denot). Comes told registry_of passes alone (after_note held (mail_found k.standing said (position test k.standing.peers))) k.work.world s m) c.self.view_is
+    subst (λ (k : Table g.row.V-Note.Denot g.row.G.Denot). Comes told registry_of passes alone (after_note held (mail_delivery k.standing said (position test k.standing.peers))) k.work.world s m) c.self.view_is
     (dropped told registry_of passes alone held c.self.inside.context.world m s s said (position test s.peers) none refl takes_note)
 
 pub returns-in-Some-clause-comes : goal.returns-in-Some-clause-comes
@@ -50,7 +50,7 @@ returns-in-Some-clause-comes g c =
     (λ brought.
     let here = subst (λ k. Comes told registry_of passes alone (once_noted held (for_entry c.index_mut.result.now (writing key said))) k q v) c.reserve.ensures.world brought in
     let found = subst (λ o. Comes told registry_of passes alone (once_noted held (for_entry o (writing key said))) w q v) there here in
-    subst (λ (k : Table g.row.V-Note.Denot g.row.G.Denot). Comes told registry_of passes alone (after_note held (mail_found k.standing said (position test k.standing.peers))) k.work.world t v) c.self.view_is
+    subst (λ (k : Table g.row.V-Note.Denot g.row.G.Denot). Comes told registry_of passes alone (after_note held (mail_delivery k.standing said (position test k.standing.peers))) k.work.world t v) c.self.view_is
     (delivered told registry_of passes alone w v held s said (position test s.peers) key q some found))
     c.deliver_to.ensures.comes
 

@@ -1,6 +1,6 @@
 use Rattle.std.proofs.Common.{◌≡◌, true, sym, subst, ◌∙◌}
 use Rattle.message_core.specs.Said.{said}
-use Rattle.router_core.specs.Events.{done_for}
+use Rattle.router_core.specs.Events.{work_for}
 use Rattle.router_core.specs.Scripts.{Changing, Comes}
 use Rattle.router_core.specs.Serving.{after_change}
 use Rattle.router_core.specs.Standing.{peer_at}
@@ -24,5 +24,5 @@ pub returns-clause-comes : goal.returns-clause-comes
 returns-clause-comes g c =
     let joint = c.args.joint.now in
     let work = Changing (change_of_joint joint) (λ heard. after_change (said joint.message) joint.caller heard) in
-    subst (λ (k : Table g.row.V-Note.Denot g.row.G.Denot). Comes g.V.BusView.told g.V.BusView.registry_of g.G.Gate.passes g.V.BusView.alone (done_for k.standing joint.key work) k.work.world c.settle.new.self.standing c.settle.new.self.work.world) c.self.view_is
+    subst (λ (k : Table g.row.V-Note.Denot g.row.G.Denot). Comes g.V.BusView.told g.V.BusView.registry_of g.G.Gate.passes g.V.BusView.alone (work_for k.standing joint.key work) k.work.world c.settle.new.self.standing c.settle.new.self.work.world) c.self.view_is
     (c.settle.ensures.comes work c.self.inside.context.world c.make-fate.ensures.comes)

@@ -1,6 +1,6 @@
 use Rattle.std.proofs.Common.{◌≡◌, true, sym, subst, ◌∙◌}
 use Rattle.message_core.specs.Said.{said}
-use Rattle.router_core.specs.Events.{done_for}
+use Rattle.router_core.specs.Events.{work_for}
 use Rattle.router_core.specs.Scripts.{Comes}
 use Rattle.router_core.specs.Standing.{peer_at}
 use Rattle.router.specs.Joinings.{parting_of}
@@ -24,6 +24,6 @@ pub returns : goal.returns
 returns g c =
     let work = parting_of (said c.args.message.now) c.args.caller c.args.parting in
     record {
-      comes = subst (λ (k : Table g.row.V-Note.Denot g.row.G.Denot). Comes g.V.BusView.told g.V.BusView.registry_of g.G.Gate.passes g.V.BusView.alone (done_for k.standing c.args.key work) k.work.world c.settle.new.self.standing c.settle.new.self.work.world) c.self.view_is
+      comes = subst (λ (k : Table g.row.V-Note.Denot g.row.G.Denot). Comes g.V.BusView.told g.V.BusView.registry_of g.G.Gate.passes g.V.BusView.alone (work_for k.standing c.args.key work) k.work.world c.settle.new.self.standing c.settle.new.self.work.world) c.self.view_is
           (c.settle.ensures.comes work c.self.inside.context.world c.part-fate.ensures.comes);
     }

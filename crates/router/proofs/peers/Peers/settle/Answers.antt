@@ -1,6 +1,6 @@
 use Rattle.std.proofs.Common.{◌≡◌, true, None, sym, subst, ◌∙◌, ap, arith}
 use Rattle.std.proofs.lemmas.List.{get_or_read}
-use Rattle.router_core.specs.Events.{done_for}
+use Rattle.router_core.specs.Events.{work_for}
 use Rattle.router_core.specs.Scripts.{Comes}
 use Rattle.router_core.specs.Standing.{Standing, peer_at, with_peer}
 use Rattle.router.specs.Named.{is_named}
@@ -37,7 +37,7 @@ returns-clause-comes g c work w served =
     let named = subst (λ (k : Table g.row.V-Note.Denot g.row.G.Denot). is_named (peer_at k.standing key) ≡ true) (sym c.self.view_is) c.requires.named in
     let there : old ≡ peer_at s key = get_or_read s.peers key old (named_within s.peers key named) c.index_mut.ensures.value None in
     let begun = subst (λ (k : Table g.row.V-Note.Denot g.row.G.Denot). Comes told registry_of passes alone work w c.args.fate k.work.world) (sym c.self.view_is) served in
-    subst (λ (k : Table g.row.V-Note.Denot g.row.G.Denot). Comes told registry_of passes alone (done_for k.standing key work) w (with_peer s key new) v) c.self.view_is
+    subst (λ (k : Table g.row.V-Note.Denot g.row.G.Denot). Comes told registry_of passes alone (work_for k.standing key work) w (with_peer s key new) v) c.self.view_is
     (settles g.V.BusView g.G.Gate s key work c.args.fate old new w m v (ap is_named there ∙ named) (sym there) begun c.settle.ensures.settled)
 
 pub invariant_of-self : goal.invariant_of-self

@@ -1,7 +1,7 @@
 use Rattle.std.proofs.Common.{◌≡◌, ◌<◌, None, length, subst, sym}
 use Rattle.std.proofs.lemmas.List.{get_or_read}
 use Rattle.message_core.specs.Said.{said}
-use Rattle.router_core.specs.Events.{for_peer, turn_away}
+use Rattle.router_core.specs.Events.{for_peer, dismissal}
 use Rattle.router_core.specs.Scripts.{RunsTo}
 use Rattle.router_core.specs.Standing.{Standing, peer_at, with_peer}
 use Rattle.router.specs.Tables.{Table}
@@ -18,7 +18,7 @@ returns g c =
     let s : Standing = record { peers = c.self.inside.peers.items; due_leaves = c.self.inside.due_leaves.items; login = c.self.inside.login } in
     let w = c.self.inside.context.world in
     let v = c.turn_away_in.new.self.world in
-    let work = turn_away key (said c.args.hello.now) in
+    let work = dismissal key (said c.args.hello.now) in
     let within : key < length s.peers = subst (λ (k : Table g.row.V-Note.Denot g.row.G.Denot). key < length k.standing.peers) (sym c.self.view_is) c.requires.key in
     let there : old ≡ peer_at s key = get_or_read s.peers key old within c.index_mut.ensures.value None in
     subst (λ (k : Table g.row.V-Note.Denot g.row.G.Denot). RunsTo g.V.BusView g.G.Gate (for_peer k.standing key (peer_at k.standing key) work) k.work.world (with_peer s key new) v) c.self.view_is

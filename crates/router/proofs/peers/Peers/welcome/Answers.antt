@@ -2,7 +2,7 @@ use Rattle.std.proofs.Common.{◌≡◌, ◌<◌, Option, Some, None, length, se
 use Rattle.std.proofs.lemmas.List.{get_or_read}
 use Rattle.message_core.specs.Said.{said}
 use Rattle.outbox_core.specs.Contents.{UniqueName}
-use Rattle.router_core.specs.Events.{welcome}
+use Rattle.router_core.specs.Events.{greeting}
 use Rattle.router_core.specs.Scripts.{Gives, Announcing, RunsTo}
 use Rattle.router_core.specs.Serving.{replying}
 use Rattle.router_core.specs.Standing.{Peer, Standing, Named, peer_at, with_peer}
@@ -42,8 +42,8 @@ returns g c p is =
     comes_then g.V.BusView.told g.V.BusView.registry_of g.G.Gate.passes g.V.BusView.alone (λ (done : Unit {0}). Announcing o.signals (Gives (with_peer s key (Some named)))) tt c.reply_with.new.self.world (with_peer s key (Some named)) v (v, c.announce.ensures.announces, (refl, refl))
     (replying m conn (UniqueName conn.number)) w c.reply_with.ensures.comes
     in
-    subst (λ (k : Table g.row.V-Note.Denot g.row.G.Denot). RunsTo g.V.BusView g.G.Gate (welcome key m p o conn k.standing) k.work.world (with_peer s key c.name_in.new.entry) v) c.self.view_is
-    (subst (λ (q : Option Peer). RunsTo g.V.BusView g.G.Gate (welcome key m p o conn s) w (with_peer s key q) v) (sym (c.name_in.ensures p (there ∙ here))) done)
+    subst (λ (k : Table g.row.V-Note.Denot g.row.G.Denot). RunsTo g.V.BusView g.G.Gate (greeting key m p o conn k.standing) k.work.world (with_peer s key c.name_in.new.entry) v) c.self.view_is
+    (subst (λ (q : Option Peer). RunsTo g.V.BusView g.G.Gate (greeting key m p o conn s) w (with_peer s key q) v) (sym (c.name_in.ensures p (there ∙ here))) done)
 
 pub invariant_of-self : goal.invariant_of-self
 invariant_of-self g c =
