@@ -21,17 +21,17 @@ use Rattle.outbox_core.specs.Answers.{IsAnswerTo}
 use Rattle.outbox_core.specs.Contents.{Carried}
 use Rattle.router_core.specs.declared.fate.PeerFate.{PeerFate}
 use Rattle.router_core.specs.declared.fate.PeerFate.TheVariants.{Stays}
-use Rattle.router_core.specs.Answers.{Heard, Says, Refuses, error_for, unanswered_for}
+use Rattle.router_core.specs.Answers.{Heard, Says, Refuses, error_for, refusal_of_query}
 use Rattle.router_core.specs.Deeds.{GatedCall}
 use Rattle.router_core.specs.Scripts.{Asking, World, Asks, Passes, Announces, Comes}
-use Rattle.router_core.specs.Serving.{Work, and_stays, stays_open, answer_of_reply, answering_with, after_answer, erring, after_change_by, releasing_all, request_of, serving_call, serving_reading, serving_request, telling_change}
+use Rattle.router_core.specs.Serving.{Work, staying_after, staying_open, answer_of_reply, answering_with, after_answer, erring, after_change_by, releasing_all, request_of, serving_call, serving_reading, serving_request, telling_change}
 use Rattle.router_steps.specs.Hearing.{IsTold}
 use Rattle.router_steps.proofs.Sequels.{comes_then}
 
 module _ {N G : Type 0} (told : N → History) (registry_of : N → ℕ) (passes : G → GatedCall → G → Type 0) (alone : Bool) where
   -- after the work the connection stays open
-  pub stays : (work : Work) (w v : World N G) → Comes told registry_of passes alone work w tt v → Comes told registry_of passes alone (and_stays work) w Stays v
-  stays work w v comes = comes_then told registry_of passes alone (λ done. stays_open) tt v Stays v (refl, refl) work w comes
+  pub stays : (work : Work) (w v : World N G) → Comes told registry_of passes alone work w tt v → Comes told registry_of passes alone (staying_after work) w Stays v
+  stays work w v comes = comes_then told registry_of passes alone (λ done. staying_open) tt v Stays v (refl, refl) work w comes
 
   module _ (m : Message) (caller : Conn) where
     -- the signals come first, then the answer, then the calls that waited
@@ -49,27 +49,27 @@ module _ {N G : Type 0} (told : N → History) (registry_of : N → ℕ) (passes
     module _ (query : Query) (r : Result Asked AskFault) (bytes : List ℕ) (w n v : World N G) (asks : (heard : Heard (Option Answer)) × Asks alone query w heard n × IsTold r heard bytes) where
       pub asked_body : r ≡ Ok Body →
           ((a : Answer) → IsAnswerTo query bytes a → Comes told registry_of passes alone (after_answer m caller (Says (Some a))) n tt v) →
-          Comes told registry_of passes alone (Asking query (λ heard. and_stays (after_answer m caller heard))) w Stays v
+          Comes told registry_of passes alone (Asking query (λ heard. staying_after (after_answer m caller heard))) w Stays v
       asked_body is comes =
           let so : IsTold (Ok Body) asks.0 bytes = subst (λ (x : Result Asked AskFault). IsTold x asks.0 bytes) is asks.2 in
           let says : Asks alone query w (Says (Some so.0)) n = subst (λ (h : Heard (Option Answer)). Asks alone query w h n) so.1 asks.1 in
           let carries : IsAnswerTo query bytes so.0 = record { state = (bus_seen n.view).state; told_so = sym says.hears.1; is_body = so.2 } in
           (Says (Some so.0), n, says, stays (after_answer m caller (Says (Some so.0))) n v (comes so.0 carries))
 
-      pub asked_none : (fate : PeerFate) → r ≡ Ok NameHasNoOwner → Comes told registry_of passes alone (and_stays (erring m caller error.NameHasNoOwner)) n fate v →
-          Comes told registry_of passes alone (Asking query (λ heard. and_stays (after_answer m caller heard))) w fate v
+      pub asked_none : (fate : PeerFate) → r ≡ Ok NameHasNoOwner → Comes told registry_of passes alone (staying_after (erring m caller error.NameHasNoOwner)) n fate v →
+          Comes told registry_of passes alone (Asking query (λ heard. staying_after (after_answer m caller heard))) w fate v
       asked_none fate is comes =
           let so : IsTold (Ok NameHasNoOwner) asks.0 bytes = subst (λ (x : Result Asked AskFault). IsTold x asks.0 bytes) is asks.2 in
           let says : Asks alone query w (Says None) n = subst (λ (h : Heard (Option Answer)). Asks alone query w h n) so.0 asks.1 in
           (Says None, n, says, comes)
 
-      pub asked_fault : (fate : PeerFate) (why : AskFault) (told_so : ErrorKind) → r ≡ Err why → told_so ≡ error_for (unanswered_for why) → Comes told registry_of passes alone (and_stays (erring m caller told_so)) n fate v →
-          Comes told registry_of passes alone (Asking query (λ heard. and_stays (after_answer m caller heard))) w fate v
+      pub asked_fault : (fate : PeerFate) (why : AskFault) (told_so : ErrorKind) → r ≡ Err why → told_so ≡ error_for (refusal_of_query why) → Comes told registry_of passes alone (staying_after (erring m caller told_so)) n fate v →
+          Comes told registry_of passes alone (Asking query (λ heard. staying_after (after_answer m caller heard))) w fate v
       asked_fault fate why told_so is errs comes =
           let so : IsTold (Err why) asks.0 bytes = subst (λ (x : Result Asked AskFault). IsTold x asks.0 bytes) is asks.2 in
-          let says : Asks alone query w (Refuses (unanswered_for why)) n = subst (λ (h : Heard (Option Answer)). Asks alone query w h n) so.0 asks.1 in
-          let first : Comes told registry_of passes alone (and_stays (after_answer m caller (Refuses (unanswered_for why)))) n fate v = subst (λ (e : ErrorKind). Comes told registry_of passes alone (and_stays (erring m caller e)) n fate v) errs comes in
-          (Refuses (unanswered_for why), n, says, first)
+          let says : Asks alone query w (Refuses (refusal_of_query why)) n = subst (λ (h : Heard (Option Answer)). Asks alone query w h n) so.0 asks.1 in
+          let first : Comes told registry_of passes alone (staying_after (after_answer m caller (Refuses (refusal_of_query why)))) n fate v = subst (λ (e : ErrorKind). Comes told registry_of passes alone (staying_after (erring m caller e)) n fate v) errs comes in
+          (Refuses (refusal_of_query why), n, says, first)
 
     pub reads_call : (reading : Reading Call) (call : Call) (w n v : World N G) (fate : PeerFate) → reading ≡ Ok call → Passes passes call w n →
         Comes told registry_of passes alone (serving_request m caller (request_of caller.number call)) n fate v → Comes told registry_of passes alone (serving_reading m caller reading) w fate v
@@ -77,9 +77,9 @@ module _ {N G : Type 0} (told : N → History) (registry_of : N → ℕ) (passes
         subst (λ (x : Reading Call). Comes told registry_of passes alone (serving_reading m caller x) w fate v) (sym is) (n, shown, comes)
 
     pub reads_fault : (reading : Reading Call) (why : DriverFault) (error : ErrorKind) (w v : World N G) (fate : PeerFate) → reading ≡ Err why → error ≡ error_of why →
-        Comes told registry_of passes alone (and_stays (erring m caller error)) w fate v → Comes told registry_of passes alone (serving_reading m caller reading) w fate v
+        Comes told registry_of passes alone (staying_after (erring m caller error)) w fate v → Comes told registry_of passes alone (serving_reading m caller reading) w fate v
     reads_fault reading why error w v fate is errs comes =
-        let first = subst (λ (e : ErrorKind). Comes told registry_of passes alone (and_stays (erring m caller e)) w fate v) errs comes in
+        let first = subst (λ (e : ErrorKind). Comes told registry_of passes alone (staying_after (erring m caller e)) w fate v) errs comes in
         subst (λ (x : Reading Call). Comes told registry_of passes alone (serving_reading m caller x) w fate v) (sym is) first
 
     -- a call as it was read, if there was memory

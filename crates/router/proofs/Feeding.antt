@@ -28,7 +28,7 @@ use Rattle.router_core.specs.declared.fate.PeerFate.{PeerFate}
 use Rattle.router_core.specs.declared.fate.PeerFate.TheVariants as fate
 use Rattle.router_core.specs.Answers.{Heard, Says, Refuses, error_for}
 use Rattle.router_core.specs.Deeds.{Deed, Closes, Sends}
-use Rattle.router_core.specs.Events.{Bytes, Mail, Next, OfPeer, Stands, hearing, closing, after_serving, sending, writing, for_entry, for_peer, with_bytes, refusing_routed, refusing_hello, closing_if_found, closing_former, greeting, dismissal, after_hello_by, after_hello, serving_hello, serving_named, serving_at, serving_incoming, next_at, coming_next, mail_delivery}
+use Rattle.router_core.specs.Events.{Bytes, Mail, Next, OfPeer, Stands, hearing, closing, after_serving, sending, writing, for_entry, for_peer, with_bytes, refusing_routed, refusing_hello, closing_if_found, closing_former, greeting, dismissal, after_hello_by, after_hello, serving_hello, serving_named, serving_at, serving_incoming, next_at, serving_next, mail_delivery}
 use Rattle.router_core.specs.Incoming.{Incoming, Waits, Whole, Faulty}
 use Rattle.router_core.specs.OneThread.{Readers, Rest, Course, alone, effect, rest_of}
 use Rattle.router_core.specs.Scripts.{Script, Gives, Changing, ChangingAll, Asking, Routing, AskingPresence, Noting, Framing, Calling, Gating, Wanting, Requiring, Doing, Announcing, and_then, putting}
@@ -463,11 +463,11 @@ module _ (readers : Readers) (piece : List ℕ) (key : ℕ) where
       let s2 : Standing = with_more piece key s in
       let c : Course = record { view = r.view; deeds = [] } in
       let now : peer_at s2 key ≡ Some (more piece key p) = peer_with_more piece key s ∙ ap (λ (o : Option Peer). more_if piece key o) here in
-      ap (λ (o : Option Peer). come_to readers r (coming_next s2 key o)) now
+      ap (λ (o : Option Peer). come_to readers r (serving_next s2 key o)) now
       ∙ ap (λ (st : Stage). come_to readers r (next_at s2 key (more piece key p) st)) (stage_same piece key p p.stage)
       ∙ ap (λ (end : Standing × Course). let at : List Deed × Rest = (end.1.deeds, rest_of end) in at) (turn_at s p message rest p.stage refl incoming later c)
       ∙ come_to_more r (next_at s key p p.stage)
-      ∙ ap (λ (o : Option Peer). end_more piece key (come_to readers r (coming_next s key o))) (sym here)
+      ∙ ap (λ (o : Option Peer). end_more piece key (come_to readers r (serving_next s key o))) (sym here)
 
 -- ## When nothing is to be served, or no message comes
 
@@ -489,7 +489,7 @@ module _ (key : ℕ) where
 
 module _ (readers : Readers) (key : ℕ) where
   abbrev next_so : Rest → Option Peer → List Deed × Rest
-  next_so r o = come_to readers r (coming_next r.standing key o)
+  next_so r o = come_to readers r (serving_next r.standing key o)
 
   pub none_given : (r : Rest) → peer_at r.standing key ≡ None → effect readers r (Next key) ≡ ([], r)
   none_given r here = ap (next_so r) here

@@ -13,7 +13,7 @@ use Rattle.router_core.specs.Scripts.{Gives, World, Comes, and_then}
 use Rattle.router_core.specs.Standing.{Stage, Authenticating, Unnamed, Named, Closing, Peer, Standing, SpeaksDBus, peer_at, with_peer, has_slot}
 use Rattle.router_steps.proofs.Sequels.{comes_then}
 use Rattle.router.specs.Indexed.{IsNameless, IsUnnamed}
-use Rattle.router.specs.Welcomes.{welcomed}
+use Rattle.router.specs.Welcomes.{welcome_conn}
 
 -- one without a name has begun its messages
 pub speaks : (stage : Stage) → IsUnnamed stage → SpeaksDBus stage
@@ -54,13 +54,13 @@ module _ {N G : Type 0} (told : N → History) (registry_of : N → ℕ) (passes
       (comes_then told registry_of passes alone (λ (o : Option Peer). Gives (with_peer s key o)) q n (with_peer s key q) n (refl, refl) (for_entry (peer_at s key) (λ (p : Peer). closing key cause.Left p)) w done)
 
   module _ (s : Standing) (key : ℕ) (m : Message) (p : Peer) (o : Outcome) (w : World N G) (t : Standing) (v : World N G) where
-    pub is_welcome : (reply : Reply) (conn : Conn) → welcomed reply ≡ Some conn → Comes told registry_of passes alone (and_then (closing_former s conn) (λ (u : Standing). greeting key m p o conn u)) w t v →
+    pub is_welcome : (reply : Reply) (conn : Conn) → welcome_conn reply ≡ Some conn → Comes told registry_of passes alone (and_then (closing_former s conn) (λ (u : Standing). greeting key m p o conn u)) w t v →
         Comes told registry_of passes alone (after_hello_by s key m p o reply) w t v
     is_welcome (Welcome c) conn is done =
         let same : conn ≡ c = cc in
         subst (λ (d : Conn). Comes told registry_of passes alone (and_then (closing_former s d) (λ (u : Standing). greeting key m p o d u)) w t v) same done
     is_welcome other conn is done = let never : ⊥ = cc in absurd never
 
-    pub is_turned_away : (reply : Reply) → welcomed reply ≡ None → Comes told registry_of passes alone (for_peer s key (Some p) (dismissal key m)) w t v → Comes told registry_of passes alone (after_hello_by s key m p o reply) w t v
+    pub is_turned_away : (reply : Reply) → welcome_conn reply ≡ None → Comes told registry_of passes alone (for_peer s key (Some p) (dismissal key m)) w t v → Comes told registry_of passes alone (after_hello_by s key m p o reply) w t v
     is_turned_away (Welcome c) is done = let never : ⊥ = cc in absurd never
     is_turned_away other is done = done

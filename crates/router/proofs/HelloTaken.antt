@@ -16,7 +16,7 @@ use Rattle.outbox_core.specs.Contents.{UniqueName}
 use Rattle.router_core.specs.declared.cause.CloseCause.TheVariants as cause
 use Rattle.router_core.specs.Answers.{Heard, Says, Refuses, error_for}
 use Rattle.router_core.specs.Deeds.{GatedCall, Closes}
-use Rattle.router_core.specs.Events.{OfPeer, Stands, closing, for_entry, for_peer, closing_if_found, greeting, dismissal, refusing_hello, after_hello_by, after_hello, serving_hello, serving_at, next_at, coming_next}
+use Rattle.router_core.specs.Events.{OfPeer, Stands, closing, for_entry, for_peer, closing_if_found, greeting, dismissal, refusing_hello, after_hello_by, after_hello, serving_hello, serving_at, next_at, serving_next}
 use Rattle.router_core.specs.Incoming.{Whole, IsIncoming}
 use Rattle.router_core.specs.Scripts.{Gives, Doing, Announcing, World, Comes, and_then}
 use Rattle.router_core.specs.Serving.{replying}
@@ -103,7 +103,7 @@ module _ (s : Standing) (key : ℕ) (left : Option Peer) where
 -- It is served as the next message of its connection.
 pub hello_next : {N G : Type 0} (told : N → History) (registry_of : N → ℕ) (passes : G → GatedCall → G → Type 0) (alone : Bool) (s : Standing) (key : ℕ) (p q : Peer) (privileged : Bool) (message : List ℕ) (w : World N G) (t : Standing) (v : World N G) →
     peer_at s key ≡ Some p → p.stage ≡ Unnamed privileged → IsIncoming p.unread (Whole message q.unread) → IsRest p q → is_hello (said message) ≡ true →
-    Comes told registry_of passes alone (serving_hello s key (said message) q privileged) w t v → Comes told registry_of passes alone (coming_next s key (peer_at s key)) w t v
+    Comes told registry_of passes alone (serving_hello s key (said message) q privileged) w t v → Comes told registry_of passes alone (serving_next s key (peer_at s key)) w t v
 hello_next told registry_of passes alone s key p q privileged message w t v there unnamed incoming rest hello done =
     let m = said message in
     let x : Peer = record p { unread = q.unread } in
@@ -112,4 +112,4 @@ hello_next told registry_of passes alone s key p q privileged message w t v ther
     subst (λ (b : Bool). Comes told registry_of passes alone (if b then serving_hello s key m x privileged else for_peer s key (Some x) (closing key cause.NotHello)) w t v) (sym hello) serves_it in
     let served = subst (λ (stage : Stage). Comes told registry_of passes alone (serving_at s key m x stage) w t v) (sym unnamed) chosen in
     let reads : Comes told registry_of passes alone (next_at s key p (Unnamed privileged)) w t v = (Whole message q.unread, incoming, served) in
-    subst (λ (o : Option Peer). Comes told registry_of passes alone (coming_next s key o) w t v) (sym there) (subst (λ (stage : Stage). Comes told registry_of passes alone (next_at s key p stage) w t v) (sym unnamed) reads)
+    subst (λ (o : Option Peer). Comes told registry_of passes alone (serving_next s key o) w t v) (sym there) (subst (λ (stage : Stage). Comes told registry_of passes alone (next_at s key p stage) w t v) (sym unnamed) reads)

@@ -13,10 +13,10 @@ use Rattle.outbox_core.specs.Contents.{Relays}
 use Rattle.router_core.specs.declared.joint.RuleCall.{RuleCall}
 use Rattle.router_core.specs.Deeds.{GatedCall}
 use Rattle.router_core.specs.Scripts.{Script, Wanting, World, Passes, Comes, putting}
-use Rattle.router_core.specs.Serving.{closes_for, nothing, with_sender}
+use Rattle.router_core.specs.Serving.{closing_for, nothing, with_sender}
 use Rattle.router_core.specs.Together.{Joining, Joins, Parts, call_of_rule, joining_copied_if, joining_shown, joining_gated, parting_with, rule_call}
 use Rattle.router_core.specs.declared.cause.CloseCause.TheVariants.{TooLong as For_length}
-use Rattle.router_steps.specs.OncePut.{is_for_length, not_put}
+use Rattle.router_steps.specs.OncePut.{is_for_length, after_relay_fault}
 
 -- what a call adds or removes says which call it is
 call_is : (call : Call) (c : RuleCall) → rule_call (Ok call) ≡ Some c → call_of_rule c ≡ call
@@ -26,7 +26,7 @@ call_is other c is = absurd (none-some c is)
 
 module _ {N G : Type 0} (told : N → History) (registry_of : N → ℕ) (passes : G → GatedCall → G → Type 0) (alone : Bool) (m : Message) (caller : Conn) (c : RuleCall) where
   abbrev joins_if : (monitors : List Conn) → Bool → Script Joining
-  joins_if monitors long = if long then parting_with (closes_for For_length) else Wanting (λ granted. joining_copied_if m caller monitors c granted)
+  joins_if monitors long = if long then parting_with (closing_for For_length) else Wanting (λ granted. joining_copied_if m caller monitors c granted)
 
   module _ (call : Call) (w n v : World N G) (is : rule_call (Ok call) ≡ Some c) (passed : Passes passes call n v) where
     passes_rule : Passes passes (call_of_rule c) n v
@@ -44,9 +44,9 @@ module _ {N G : Type 0} (told : N → History) (registry_of : N → ℕ) (passes
 
   -- it was not put to them
   pub parts_unput : (fault : RelayFault) (monitors : List Conn) (w : World N G) → monitors ≢ [] → (monitors ≢ [] → is_too_long (with_sender m caller) ≡ is_for_length fault) →
-      Comes told registry_of passes alone (joining_shown m caller monitors c) w (Parts (not_put fault m caller)) w
+      Comes told registry_of passes alone (joining_shown m caller monitors c) w (Parts (after_relay_fault fault m caller)) w
   parts_unput fault [] w some long = absurd (some refl)
   parts_unput NoMemory (conn ∷ conns) w some long =
-      subst (λ (b : Bool). Comes told registry_of passes alone (joins_if (conn ∷ conns) b) w (Parts (not_put NoMemory m caller)) w) (sym (long some)) (false, (refl, refl))
+      subst (λ (b : Bool). Comes told registry_of passes alone (joins_if (conn ∷ conns) b) w (Parts (after_relay_fault NoMemory m caller)) w) (sym (long some)) (false, (refl, refl))
   parts_unput TooLong (conn ∷ conns) w some long =
-      subst (λ (b : Bool). Comes told registry_of passes alone (joins_if (conn ∷ conns) b) w (Parts (not_put TooLong m caller)) w) (sym (long some)) (refl, refl)
+      subst (λ (b : Bool). Comes told registry_of passes alone (joins_if (conn ∷ conns) b) w (Parts (after_relay_fault TooLong m caller)) w) (sym (long some)) (refl, refl)

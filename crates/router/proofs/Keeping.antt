@@ -26,12 +26,12 @@ use Rattle.router_core.specs.declared.fate.PeerFate.{PeerFate}
 use Rattle.router_core.specs.declared.fate.PeerFate.TheVariants as fate
 use Rattle.router_core.specs.Answers.{Heard, Says, Refuses, error_for}
 use Rattle.router_core.specs.Deeds.{GatedCall}
-use Rattle.router_core.specs.Events.{OfPeer, closing, after_serving, closing_at, closing_if_found, closing_former, writing, for_entry, for_peer, hearing, answering, after_conversing, conversing_if, refusing_routed, refusing_hello, dismissal, greeting, after_hello, after_hello_by, serving_hello, serving_named, serving_at, serving_incoming, coming_next, next_at, after_check, checking_presence, checking_each}
+use Rattle.router_core.specs.Events.{OfPeer, closing, after_serving, closing_at, closing_if_found, closing_former, writing, for_entry, for_peer, hearing, answering, after_conversing, conversing_if, refusing_routed, refusing_hello, dismissal, greeting, after_hello, after_hello_by, serving_hello, serving_named, serving_at, serving_incoming, serving_next, next_at, after_check, checking_presence, checking_each}
 use Rattle.router_core.specs.Incoming.{Incoming, Waits, Whole, Faulty}
 use Rattle.router_core.specs.Scripts.{Gives, Routing, Announcing, World, Comes, and_then}
 use Rattle.router_core.specs.Serving.{monitors_in, replying, serving}
 use Rattle.router_core.specs.Standing.{Peer, Standing, Stage, Authenticating, Unnamed, Named, Closing, peer_at, with_peer, next_serial, has_slot, closing_peer}
-use Rattle.router_steps.specs.Noting.{once_noted}
+use Rattle.router_steps.specs.Noting.{after_noting}
 use Rattle.router_steps.specs.Refusing.{hello_of}
 use Rattle.router.proofs.Endings.{AllGive, given, then_give, all_give, weaker_give, if_give, putting_give}
 use Rattle.router.proofs.Indexing.{Keeps, KeepsAll, like_keeps}
@@ -81,7 +81,7 @@ writing_keeps : (key : ℕ) (said : Said) (old : Option Peer) → AllGive (λ ne
 writing_keeps key said None = λ slot has. has
 writing_keeps key said (Some p) = writing_there key said p
 
-pub bringing : (held : Option History) (key : ℕ) (said : Said) (old : Option Peer) → AllGive (λ new. Keeps old new) (once_noted held (for_entry old (writing key said)))
+pub bringing : (held : Option History) (key : ℕ) (said : Said) (old : Option Peer) → AllGive (λ new. Keeps old new) (after_noting held (for_entry old (writing key said)))
 bringing None key said old = writing_keeps key said old
 bringing (Some told) key said old = writing_keeps key said old
 
@@ -312,7 +312,7 @@ module _ (slot key : ℕ) where
     reading p stage isnt (Faulty fault) = not_first (standing_of (Some (record p { stage = stage }))) (Some (closing_peer (record p { stage = stage }))) (λ has. false≢true has)
     reading p stage isnt (Whole bytes rest) = serving_keeps p (message_said bytes) rest stage isnt
 
-    coming : (x : Option Peer) → has_slot slot x ≡ false → AllGive NotBoth (coming_next (standing_of x) key x)
+    coming : (x : Option Peer) → has_slot slot x ≡ false → AllGive NotBoth (serving_next (standing_of x) key x)
     coming None isnt = as_it_was None isnt
     coming (Some p) isnt = in_stage p.stage isnt
       where
@@ -331,8 +331,8 @@ module _ {N G : Type 0} (told : N → History) (registry_of : N → ℕ) (passes
   pub closed_has_none : (key : ℕ) (why : CloseCause) (old new : Option Peer) → Comes told registry_of passes alone (for_entry old (λ p. closing key why p)) w new v → Keeps None new
   closed_has_none key why old new came = given told registry_of passes alone (λ o. Keeps None o) new v (for_entry old (λ p. closing key why p)) w (leaving key why old) came
 
-  pub brought_keeps : (held : Option History) (key : ℕ) (said : Said) (old new : Option Peer) → Comes told registry_of passes alone (once_noted held (for_entry old (writing key said))) w new v → Keeps old new
-  brought_keeps held key said old new came = given told registry_of passes alone (λ o. Keeps old o) new v (once_noted held (for_entry old (writing key said))) w (bringing held key said old) came
+  pub brought_keeps : (held : Option History) (key : ℕ) (said : Said) (old new : Option Peer) → Comes told registry_of passes alone (after_noting held (for_entry old (writing key said))) w new v → Keeps old new
+  brought_keeps held key said old new came = given told registry_of passes alone (λ o. Keeps old o) new v (after_noting held (for_entry old (writing key said))) w (bringing held key said old) came
 
   pub checks_keep : (old new : List (Option Peer)) → Comes told registry_of passes alone (checking_each [] old) w new v → KeepsAll old new
   checks_keep old new came =
@@ -347,7 +347,7 @@ module _ {N G : Type 0} (told : N → History) (registry_of : N → ℕ) (passes
 
 -- A connection whose next message is served where it stands gets no slot, whoever else is there.
 pub next_keeps : {N G : Type 0} (told : N → History) (registry_of : N → ℕ) (passes : G → GatedCall → G → Type 0) (alone : Bool) (key : ℕ) (old new : Option Peer) (w v : World N G) →
-    ((s : Standing) → peer_at s key ≡ old → Comes told registry_of passes alone (coming_next s key old) w (with_peer s key new) v) → Keeps old new
+    ((s : Standing) → peer_at s key ≡ old → Comes told registry_of passes alone (serving_next s key old) w (with_peer s key new) v) → Keeps old new
 next_keeps told registry_of passes alone key old new w v comes slot has =
     let other : Option Peer = Some (record { stage = Named (record { number = 0; slot = slot; router = 0 }); unread = []; serial = 0; watches = false }) in
     let is : has_slot slot other ≡ true = eq-eqb slot slot refl in
@@ -356,7 +356,7 @@ next_keeps told registry_of passes alone key old new w v comes slot has =
       | inl had ↦ had
       | inr hadnt ↦
           let done = comes s (first_of key old other) in
-          let never = given told registry_of passes alone (NotBoth slot key) (with_peer s key new) v (coming_next s key old) w (coming slot key other is old hadnt) done in
+          let never = given told registry_of passes alone (NotBoth slot key) (with_peer s key new) v (serving_next s key old) w (coming slot key other is old hadnt) done in
           let first : get_or (set s.peers key new) key None ≡ new = ap (λ xs. get_or xs key None) (set_first key old other new) ∙ first_of key new other in
           let second : get_or (set s.peers key new) (suc key) None ≡ other = ap (λ xs. get_or xs (suc key) None) (set_first key old other new) ∙ second_of key new other in
           absurd (never (subst (λ o. has_slot slot o ≡ true) (sym first) has) (subst (λ o. has_slot slot o ≡ true) (sym second) is))

@@ -18,7 +18,7 @@ use Rattle.router_core.specs.declared.cause.CloseCause.TheVariants as cause
 use Rattle.router_core.specs.declared.fate.PeerFate.{PeerFate}
 use Rattle.router_core.specs.declared.fate.PeerFate.TheVariants as fate
 use Rattle.router_core.specs.Answers.{Heard, Says, Refuses, error_for}
-use Rattle.router_core.specs.Events.{Mail, Next, OfPeer, with_bytes, closing, after_serving, closing_if_found, closing_former, writing, for_entry, for_peer, refusing_hello, dismissal, greeting, after_hello, after_hello_by, serving_hello, serving_named, serving_at, serving_incoming, next_at, coming_next, mail_delivery}
+use Rattle.router_core.specs.Events.{Mail, Next, OfPeer, with_bytes, closing, after_serving, closing_if_found, closing_former, writing, for_entry, for_peer, refusing_hello, dismissal, greeting, after_hello, after_hello_by, serving_hello, serving_named, serving_at, serving_incoming, next_at, serving_next, mail_delivery}
 use Rattle.router_core.specs.Incoming.{Incoming, Waits, Whole, Faulty}
 use Rattle.router_core.specs.OneThread.{Readers, Rest, Course, alone, effect}
 use Rattle.router_core.specs.Scripts.{Script, Gives, Changing, ChangingAll, Asking, Routing, AskingPresence, Noting, Framing, Calling, Gating, Wanting, Requiring, Doing, Announcing, and_then}
@@ -136,7 +136,7 @@ module _ (key : ℕ) where
   next_at_speaks s p (Named conn) speaks begun = λ incoming. read_speaks s p incoming speaks begun
   next_at_speaks s p (Closing conn) speaks begun = speaks
 
-  next_speaks_at : (s : Standing) (o : Option Peer) → SpeaksAt key s → IfSome o Speaks → AllGive (SpeaksAt key) (coming_next s key o)
+  next_speaks_at : (s : Standing) (o : Option Peer) → SpeaksAt key s → IfSome o Speaks → AllGive (SpeaksAt key) (serving_next s key o)
   next_speaks_at s None speaks begun = speaks
   next_speaks_at s (Some p) speaks begun = next_at_speaks s p p.stage speaks begun
 
@@ -164,7 +164,7 @@ module _ (key : ℕ) where
 
 module _ (readers : Readers) (key : ℕ) where
   pub next_speaks : (r : Rest) → SpeaksAt key r.standing → SpeaksAt key (effect readers r (Next key)).1.standing
-  next_speaks r speaks = alone_gives readers (SpeaksAt key) (coming_next r.standing key (peer_at r.standing key)) (record { view = r.view; deeds = [] }) (next_speaks_at key r.standing (peer_at r.standing key) speaks speaks)
+  next_speaks r speaks = alone_gives readers (SpeaksAt key) (serving_next r.standing key (peer_at r.standing key)) (record { view = r.view; deeds = [] }) (next_speaks_at key r.standing (peer_at r.standing key) speaks speaks)
 
   pub mail_speaks : (r : Rest) (slot number : ℕ) (said : Said) → SpeaksAt key r.standing → SpeaksAt key (effect readers r (Mail slot number None said)).1.standing
   mail_speaks r slot number said speaks =

@@ -20,7 +20,7 @@ use Rattle.bus_view.specs.declared.view.BusView.{Ghosts as BusView}
 use Rattle.router_core.specs.declared.gate.Gate.{Ghosts as Gate}
 use Rattle.router_core.specs.Answers.{Says}
 use Rattle.router_core.specs.Deeds.{GatedCall}
-use Rattle.router_core.specs.Events.{Gathered, Stands, answering_each, serving_apart, work_at, work_for, work_in, after_serving, gathering, gathering_at, serving_incoming_apart, gathering_incoming, gathering_message, gathering_of_one, joining_call, joining_if, joining_reading, making_all, making_each, making_if, coming_next, after_joints, turning}
+use Rattle.router_core.specs.Events.{Gathered, Stands, answering_each, serving_apart, work_at, work_for, work_in, after_serving, gathering, gathering_at, serving_incoming_apart, gathering_incoming, gathering_message, gathering_of_one, joining_call, joining_if, joining_reading, making_all, making_each, making_if, serving_next, after_joints, turning}
 use Rattle.router_core.specs.Incoming.{Incoming, Waits, Whole, Faulty, IsIncoming}
 use Rattle.router_core.specs.Scripts.{Changing, Wanting, World, Comes, and_then}
 use Rattle.router_core.specs.Serving.{OfFate, after_change}
@@ -111,11 +111,11 @@ module _ {N G : Type 0} (told : N → History) (registry_of : N → ℕ) (passes
       (making_all joints s) w making
 
   pub serves_apart : {T E : Type 0} (r : Result T E) (joints left : List Joint) (key : ℕ) (s t u : Standing) (w m v : World N G) → left ≡ [] → Comes told registry_of passes alone (making_all joints s) w t m →
-      OnOk r (Comes told registry_of passes alone (coming_next t key (peer_at t key)) m u v) → OnOk r (Comes told registry_of passes alone (serving_apart joints s key) w (record { joints = left; standing = u; served = true }) v)
+      OnOk r (Comes told registry_of passes alone (serving_next t key (peer_at t key)) m u v) → OnOk r (Comes told registry_of passes alone (serving_apart joints s key) w (record { joints = left; standing = u; served = true }) v)
   serves_apart (Err e) joints left key s t u w m v none making served = tt
   serves_apart (Ok x) joints left key s t u w m v none making served =
       subst (λ (js : List Joint). let end : Gathered = record { joints = js; standing = u; served = true } in Comes told registry_of passes alone (serving_apart joints s key) w end v) (sym none)
-      (parts_from joints s t u (λ (y : Standing). coming_next y key (peer_at y key)) w m v making served)
+      (parts_from joints s t u (λ (y : Standing). serving_next y key (peer_at y key)) w m v making served)
 
   -- nothing is coming_next
   pub gathers_none : (joints : List Joint) (s : Standing) (key : ℕ) (p : Peer) (w : World N G) → IsQuiet p → Comes told registry_of passes alone (gathering joints s key (Some p)) w (record { joints = joints; standing = s; served = false }) w

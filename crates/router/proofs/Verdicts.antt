@@ -20,7 +20,7 @@ use Rattle.bus_view.specs.Views.{Knowledge}
 use Rattle.router_core.specs.Answers.{Heard, Says, Refuses, HearsVerdict}
 use Rattle.router_core.specs.Deeds.{GatedCall}
 use Rattle.router_core.specs.Scripts.{Routing, World, Routes, Comes}
-use Rattle.router_core.specs.Serving.{stays_open, is_unknown, routing, serving}
+use Rattle.router_core.specs.Serving.{staying_open, is_unknown, routing, serving}
 
 -- Whatever sender its facts name, a message goes where one of its own sender goes.
 hears_own : (alone : Bool) (from sender : ℕ) (facts : Facts) (before after : Knowledge) (heard : Heard Verdict) → HearsVerdict alone from (record facts { sender = sender }) before heard after → HearsVerdict alone from facts before heard after
@@ -51,5 +51,5 @@ module _ {N G : Type 0} (told : N → History) (registry_of : N → ℕ) (passes
   pub serves : (heard : Heard Verdict) → is_unknown (kind_of m.kind) ≡ false → Routes alone sender.number (facts_of m) w heard r →
       Comes told registry_of passes alone (routing m sender heard) r fate v → Comes told registry_of passes alone (serving m sender) w fate v
   serves heard known routes done =
-      subst (λ (b : Bool). Comes told registry_of passes alone (if b then stays_open else Routing sender.number (facts_of m) (λ h. routing m sender h)) w fate v) (sym known)
+      subst (λ (b : Bool). Comes told registry_of passes alone (if b then staying_open else Routing sender.number (facts_of m) (λ h. routing m sender h)) w fate v) (sym known)
       (heard, r, routes, done)

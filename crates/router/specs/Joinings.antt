@@ -6,7 +6,7 @@ use Rattle.seq_bus_core.specs.declared.outcome.Outcome.{Outcome}
 use Rattle.router_core.specs.Serving.{OfFate, routing}
 use Rattle.router_core.specs.Together.{Joining as Joins_in, Joins, Parts}
 use Rattle.router_steps.specs.Hearing.{heard_verdict}
-use Rattle.router_steps.specs.OncePut.{not_put}
+use Rattle.router_steps.specs.OncePut.{after_relay_fault}
 use Rattle.router.specs.declared.joining.Joining.{Joining}
 use Rattle.router.specs.declared.joining.Joining.TheVariants as joining
 use Rattle.router.specs.declared.joining.Parting.{Parting}
@@ -15,7 +15,7 @@ use Rattle.router.specs.declared.joining.Parting.TheVariants as parting
 -- what is done for it instead
 abbrev pub parting_of : Message → Conn → Parting → OfFate
 parting_of m caller (parting.Routed heard verdict) = routing m caller (heard_verdict heard verdict.value)
-parting_of m caller (parting.NotPut fault) = not_put fault m caller
+parting_of m caller (parting.NotPut fault) = after_relay_fault fault m caller
 
 abbrev pub joining_of : Message → Conn → Joining → Joins_in
 joining_of m caller joining.Joins = Joins

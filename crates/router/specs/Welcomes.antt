@@ -5,6 +5,6 @@ use Rattle.seq_bus_core.specs.declared.outcome.Reply.{Reply}
 use Rattle.seq_bus_core.specs.declared.outcome.Reply.TheVariants.{Welcome}
 
 -- the connection that is welcome
-abbrev pub welcomed : Reply → Option Conn
-welcomed (Welcome conn) = Some conn
-welcomed other = None
+abbrev pub welcome_conn : Reply → Option Conn
+welcome_conn (Welcome conn) = Some conn
+welcome_conn other = None

@@ -7,9 +7,9 @@ ghost use Rattle.seq_bus_core.specs.Answers.{Answer};
 ghost use Rattle.router_core.specs.declared.limits.TheConstants.{MAX_EFFECTS};
 ghost use Rattle.driver.specs.declared.call.Call.TheVariants.{RequestName, ReleaseName, AddMatch, RemoveMatch};
 ghost use Rattle.outbox_core.specs.Answers.{IsAnswerTo};
-ghost use Rattle.router_core.specs.Answers.{Says, error_for, refusal_of, unanswered_for};
+ghost use Rattle.router_core.specs.Answers.{Says, error_for, refusal_of, refusal_of_query};
 ghost use Rattle.router_core.specs.Scripts.{RunsTo};
-ghost use Rattle.router_core.specs.Serving.{Asks, Makes, and_stays, after_answer, answer_of_reply, erring, after_change, request_of, serving_bus, serving_call, serving_reading, serving_request, telling_change};
+ghost use Rattle.router_core.specs.Serving.{Asks, Makes, staying_after, after_answer, answer_of_reply, erring, after_change, request_of, serving_bus, serving_call, serving_reading, serving_request, telling_change};
 ghost use Rattle.router_steps.specs.Carrying.{answer_of};
 ghost use Rattle.router_steps.specs.Hearing.{heard_change};
 
@@ -63,7 +63,7 @@ pub(crate) fn error_for(cause: Cause) -> ErrorKind
 
 /// The error for a query that was not answered.
 fn error_unanswered(fault: AskFault) -> ErrorKind
-    ensures { result ≡ error_for (unanswered_for fault) }
+    ensures { result ≡ error_for (refusal_of_query fault) }
 {
     match fault {
         AskFault::NoMemory => ErrorKind::NoMemory,
@@ -80,7 +80,7 @@ pub(crate) fn refuse<V: BusView, G: Gate>(
 ) -> PeerFate
     requires room { 0 < context.old.room }
     requires spare_verdicts { 0 < context.old.spare_verdicts }
-    ensures comes { RunsTo V.BusView G.Gate (and_stays (erring (said call.now) caller error))
+    ensures comes { RunsTo V.BusView G.Gate (staying_after (erring (said call.now) caller error))
         context.old.world result context.new.world }
     ensures room { context.old.room ≤ context.new.room + 1 }
 {

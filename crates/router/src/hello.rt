@@ -11,7 +11,7 @@ ghost use Rattle.router_core.specs.Standing.{Peer as Standing_peer, Named, has_s
 ghost use Rattle.router_steps.specs.Hearing.{heard_change};
 ghost use Rattle.router_steps.specs.Refusing.{IsRefusal, AreRefusals};
 ghost use Rattle.router.specs.Indexed.{slot_count, IsIndexed, IsNameless, IsVacant};
-ghost use Rattle.router.specs.Welcomes.{welcomed};
+ghost use Rattle.router.specs.Welcomes.{welcome_conn};
 
 use crate::peers::{Peers, SLOT_COUNT};
 use bus_view::{BusView, Cause};
@@ -23,7 +23,7 @@ use seq_bus_core::{Change, Conn, ErrorKind, Outcome, Reply};
 
 /// The connection that is welcome.
 fn welcomed(reply: Reply) -> Option<Conn>
-    ensures { result ≡ welcomed reply }
+    ensures { result ≡ welcome_conn reply }
 {
     match reply {
         Reply::Welcome(conn) => Some(conn),

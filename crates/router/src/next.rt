@@ -1,7 +1,7 @@
 //! Connections whose next message is served.
 
 ghost use Rattle.std.specs.Prelude.{◌≡◌, true, false, IfSome, OnOk, OnErr};
-ghost use Rattle.router_core.specs.Events.{coming_next};
+ghost use Rattle.router_core.specs.Events.{serving_next};
 ghost use Rattle.router_core.specs.Scripts.{RunsTo};
 ghost use Rattle.router_core.specs.Standing.{peer_at};
 ghost use Rattle.router_steps.specs.Quiet.{IsQuiet};
@@ -46,7 +46,7 @@ impl<V: BusView, G: Gate> Peers<V, G> {
     #[tactic(auto, using(crate::proofs::Slots::none_beyond))]
     pub fn next(&mut self, right: &V::Right, key: usize) -> Result<(), AllocError>
         ensures comes { OnOk result (RunsTo V.BusView G.Gate
-            (coming_next self.old.standing key (peer_at self.old.standing key))
+            (serving_next self.old.standing key (peer_at self.old.standing key))
             self.old.work.world self.new.standing self.new.work.world) }
         ensures err { OnErr result (self.new.standing ≡ self.old.standing) }
         ensures world { OnErr result (self.new.work.world ≡ self.old.work.world) }

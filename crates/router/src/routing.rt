@@ -7,9 +7,9 @@ ghost use Rattle.message_core.specs.Said.{said};
 ghost use Rattle.router_core.specs.declared.limits.TheConstants.{MAX_EFFECTS};
 ghost use Rattle.message.specs.FactsOf.{facts_of, first_arguments};
 ghost use Rattle.router_core.specs.Scripts.{Routes, RunsTo};
-ghost use Rattle.router_core.specs.Serving.{and_stays, erring_if_call, is_unknown, relaying, routing, serving};
+ghost use Rattle.router_core.specs.Serving.{staying_after, erring_if_call, is_unknown, relaying, routing, serving};
 ghost use Rattle.router_steps.specs.Hearing.{heard_verdict};
-ghost use Rattle.router_steps.specs.OncePut.{not_put};
+ghost use Rattle.router_steps.specs.OncePut.{after_relay_fault};
 
 use crate::activation::hold;
 use crate::calls::serve_bus;
@@ -33,7 +33,7 @@ fn err_and_stay<V: BusView, G: Gate>(
     requires room { 0 < context.old.room }
     requires spare_verdicts { 0 < context.old.spare_verdicts }
     ensures comes { RunsTo V.BusView G.Gate
-        (and_stays (erring_if_call (said message.now) sender error))
+        (staying_after (erring_if_call (said message.now) sender error))
         context.old.world result context.new.world }
     ensures room { context.old.room ≤ context.new.room + 1 }
 {
@@ -50,7 +50,7 @@ pub(crate) fn not_put<V: BusView, G: Gate>(
 ) -> PeerFate
     requires room { 0 < context.old.room }
     requires spare_verdicts { 0 < context.old.spare_verdicts }
-    ensures comes { RunsTo V.BusView G.Gate (not_put fault (said message.now) sender)
+    ensures comes { RunsTo V.BusView G.Gate (after_relay_fault fault (said message.now) sender)
         context.old.world result context.new.world }
     ensures room { context.old.room ≤ context.new.room + 1 }
 {

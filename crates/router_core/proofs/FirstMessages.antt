@@ -7,7 +7,7 @@ use Rattle.sasl.specs.declared.phase.Phase.TheVariants.{WaitingForNul, WaitingFo
 use Rattle.sasl.specs.Settings.{Setting}
 use Rattle.sasl.specs.Conversations.{State as AuthState}
 use Rattle.sasl.specs.Hearing.{Conversed, conversed}
-use Rattle.router_core.specs.Events.{Gathered, gathering, gathering_at, gathering_of_none, turning, coming_next, next_at, for_peer, hearing, answering, after_conversing, conversing_if, is_user, closing, serving_hello, serving_named}
+use Rattle.router_core.specs.Events.{Gathered, gathering, gathering_at, gathering_of_none, turning, serving_next, next_at, for_peer, hearing, answering, after_conversing, conversing_if, is_user, closing, serving_hello, serving_named}
 use Rattle.router_core.specs.declared.cause.CloseCause.TheVariants.{NotHello, MonitorSent}
 use Rattle.bus_view.specs.declared.view.BusView.{Ghosts as BusView}
 use Rattle.router_core.specs.declared.gate.Gate.{Ghosts as Gate}
@@ -16,7 +16,7 @@ use Rattle.router_core.specs.Scripts.{Script, Gives, and_then, World, RunsTo}
 use Rattle.router_core.specs.Standing.{Authenticating, Unnamed, Closing, Peer, Standing, peer_at, with_peer}
 
 pub closed_are_not_served : ClosedAreNotServed
-closed_are_not_served s key p is = ap (coming_next s key) is.0 ∙ ap (next_at s key p) is.1.1
+closed_are_not_served s key p is = ap (serving_next s key) is.0 ∙ ap (next_at s key p) is.1.1
 
 -- it is passed over
 not_gathered : (s : Standing) (key : ℕ) (p : Peer) → IsClosing s key p → gathering [] s key (peer_at s key) ≡ gathering_of_none [] s
@@ -36,7 +36,7 @@ pub closed_get_no_mail : ClosedGetNoMail
 closed_get_no_mail slot number p conn is = rw is refl
 
 pub nobody_speaks_before_begin : NobodySpeaksBeforeBegin
-nobody_speaks_before_begin s key p setting state is = (ap (coming_next s key) is.0 ∙ ap (next_at s key p) is.1, λ slot number. rw is.1 refl)
+nobody_speaks_before_begin s key p setting state is = (ap (serving_next s key) is.0 ∙ ap (next_at s key p) is.1, λ slot number. rw is.1 refl)
 
 -- it is passed over
 not_begun : (s : Standing) (key : ℕ) (p : Peer) (setting : Setting) (state : AuthState) → HasNotBegun s key p setting state → gathering [] s key (peer_at s key) ≡ gathering_of_none [] s

@@ -39,9 +39,9 @@ abbrev pub refusal_of_batch : BatchCause → Refusal
 refusal_of_batch (batch.Refused why) = refusal_of why
 refusal_of_batch batch.Batch = Lost
 
-abbrev pub unanswered_for : AskFault → Refusal
-unanswered_for fault.NoMemory = NoMemory
-unanswered_for fault.Gone = Lost
+abbrev pub refusal_of_query : AskFault → Refusal
+refusal_of_query fault.NoMemory = NoMemory
+refusal_of_query fault.Gone = Lost
 
 -- Want of memory may pass; what is lost is lost for good.
 abbrev pub is_final : Refusal → Bool

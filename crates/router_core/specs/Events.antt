@@ -208,9 +208,9 @@ next_at s key p (Authenticating setting state) = Gives s
 next_at s key p (Closing conn) = Gives s
 next_at s key p stage = Framing p.unread (λ incoming. serving_incoming s key p incoming)
 
-abbrev pub coming_next : Standing → ℕ → Option Peer → Stands
-coming_next s key None = Gives s
-coming_next s key (Some p) = next_at s key p p.stage
+abbrev pub serving_next : Standing → ℕ → Option Peer → Stands
+serving_next s key None = Gives s
+serving_next s key (Some p) = next_at s key p p.stage
 
 -- ## Several messages, one after the other
 
@@ -274,7 +274,7 @@ after_joints joints s work = and_then (making_all joints s) (λ t. and_then (wor
 
 -- it is served as any message is
 abbrev pub serving_apart : List Joint → Standing → ℕ → Script Gathered
-serving_apart joints s key = after_joints joints s (λ t. coming_next t key (peer_at t key))
+serving_apart joints s key = after_joints joints s (λ t. serving_next t key (peer_at t key))
 
 -- The call has come to this before its change.
 abbrev pub after_joining : List Joint → Standing → Joint → Joining → Script Gathered
@@ -458,7 +458,7 @@ ending_child s e = Changing (change_of e) (λ heard. after_end s e.how heard)
 abbrev pub script : Standing → Occasion → Stands
 script s (Opened key challenge) = Gives (with_newcomer s key challenge)
 script s (Bytes key piece) = for_peer s key (peer_at s key) (λ p. hearing key piece p p.stage)
-script s (Next key) = coming_next s key (peer_at s key)
+script s (Next key) = serving_next s key (peer_at s key)
 script s (Turn keys) = turning [] keys false s
 script s (Mail slot number told said) = after_note told (mail_delivery s said (position (is_conn slot number) s.peers))
 script s (Closed key) = removing s key (peer_at s key)

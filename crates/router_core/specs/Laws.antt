@@ -20,7 +20,7 @@ use Rattle.router_core.specs.Deeds.{Deed, Closes, IsDoneBy, CarriesOwn}
 use Rattle.router_core.specs.Events.{Occasion, Bytes, Next, Turn, IsFree, hearing, is_user, script, serving_at}
 use Rattle.router_core.specs.OneThread.{Readers, Rest, effect, rest_after, bus_bytes, AreReadBy, IsRun}
 use Rattle.router_core.specs.Scripts.{Gives, World, having_done, RunsTo}
-use Rattle.router_core.specs.Serving.{serving, is_unknown, stays_open}
+use Rattle.router_core.specs.Serving.{serving, is_unknown, staying_open}
 use Rattle.router_core.specs.Standing.{Authenticating, Unnamed, Named, Closing, Peer, Standing, peer_at, with_peer, with_newcomer, closing_peer, is_conn}
 
 -- the bus closed the connection of this key, and it is not gone yet
@@ -65,7 +65,7 @@ OnlyBeginBegins {N = N} {G = G} view gate = (p q : Peer) (key : ℕ) (piece : Li
 
 -- A message of a type that the standard does not define brings nothing.
 abbrev pub UnknownTypesBringNothing : Type 0
-UnknownTypesBringNothing = (m : Message) (sender : Conn) → is_unknown (kind_of m.kind) ≡ true → serving m sender ≡ stays_open
+UnknownTypesBringNothing = (m : Message) (sender : Conn) → is_unknown (kind_of m.kind) ≡ true → serving m sender ≡ staying_open
 
 -- Before its Hello a connection is closed for anything else.
 abbrev pub OnlyHelloIsServed : {V N R G : Type 0} → BusView V N R → Gate G → Type 0

@@ -58,16 +58,16 @@ OfFate = Script PeerFate
 abbrev pub nothing : Work
 nothing = Gives tt
 
-abbrev pub stays_open : OfFate
-stays_open = Gives fate.Stays
+abbrev pub staying_open : OfFate
+staying_open = Gives fate.Stays
 
 -- the bus closes the connection
-abbrev pub closes_for : CloseCause → OfFate
-closes_for cause = Gives (fate.Closes cause)
+abbrev pub closing_for : CloseCause → OfFate
+closing_for cause = Gives (fate.Closes cause)
 
 -- a piece of work, after which the connection stays open
-abbrev pub and_stays : Work → OfFate
-and_stays work = and_then work (λ done. stays_open)
+abbrev pub staying_after : Work → OfFate
+staying_after work = and_then work (λ done. staying_open)
 
 -- ## Messages of the bus
 
@@ -188,23 +188,23 @@ telling_change m caller o = Announcing o.signals (and_then (answering_with m cal
 
 -- A change of a connection that left in the meantime is made by nobody: the connection is closed.
 abbrev pub after_change_by : Message → Conn → Outcome → Reply → OfFate
-after_change_by m caller o reply.Gone = closes_for Left
-after_change_by m caller o reply.Done = and_stays (telling_change m caller o)
-after_change_by m caller o (reply.OfQueue r) = and_stays (telling_change m caller o)
-after_change_by m caller o reply.InvalidName = and_stays (telling_change m caller o)
-after_change_by m caller o reply.RuleNotFound = and_stays (telling_change m caller o)
-after_change_by m caller o reply.LimitsExceeded = and_stays (telling_change m caller o)
+after_change_by m caller o reply.Gone = closing_for Left
+after_change_by m caller o reply.Done = staying_after (telling_change m caller o)
+after_change_by m caller o (reply.OfQueue r) = staying_after (telling_change m caller o)
+after_change_by m caller o reply.InvalidName = staying_after (telling_change m caller o)
+after_change_by m caller o reply.RuleNotFound = staying_after (telling_change m caller o)
+after_change_by m caller o reply.LimitsExceeded = staying_after (telling_change m caller o)
 -- these are no replies to such a change
-after_change_by m caller o reply.ServiceUnknown = and_stays (telling_change m caller o)
-after_change_by m caller o reply.AccessDenied = and_stays (telling_change m caller o)
-after_change_by m caller o reply.AlreadyRunning = and_stays (telling_change m caller o)
-after_change_by m caller o (reply.Welcome conn) = and_stays (telling_change m caller o)
-after_change_by m caller o (reply.Held ticket) = and_stays (telling_change m caller o)
-after_change_by m caller o (reply.Pass owner) = and_stays (telling_change m caller o)
-after_change_by m caller o reply.Ignored = and_stays (telling_change m caller o)
+after_change_by m caller o reply.ServiceUnknown = staying_after (telling_change m caller o)
+after_change_by m caller o reply.AccessDenied = staying_after (telling_change m caller o)
+after_change_by m caller o reply.AlreadyRunning = staying_after (telling_change m caller o)
+after_change_by m caller o (reply.Welcome conn) = staying_after (telling_change m caller o)
+after_change_by m caller o (reply.Held ticket) = staying_after (telling_change m caller o)
+after_change_by m caller o (reply.Pass owner) = staying_after (telling_change m caller o)
+after_change_by m caller o reply.Ignored = staying_after (telling_change m caller o)
 
 abbrev pub after_change : Message → Conn → Heard Outcome → OfFate
-after_change m caller (Refuses refusal) = and_stays (erring m caller (error_for refusal))
+after_change m caller (Refuses refusal) = staying_after (erring m caller (error_for refusal))
 after_change m caller (Says o) = after_change_by m caller o o.reply
 
 -- a start that is asked for
@@ -218,53 +218,53 @@ waiting_call m = record { serial = m.serial; flags = m.flags }
 
 -- A call that waits is answered once its service runs, or does not.
 abbrev pub after_start_by : Message → Conn → Text → Outcome → Reply → OfFate
-after_start_by m caller name o reply.Gone = closes_for Left
-after_start_by m caller name o (reply.Held ticket) = and_stays (running name o.start)
-after_start_by m caller name o reply.AlreadyRunning = and_stays (replying m caller (Number 2))
-after_start_by m caller name o reply.ServiceUnknown = and_stays (erring m caller error.ServiceUnknown)
-after_start_by m caller name o reply.LimitsExceeded = and_stays (erring m caller error.LimitsExceeded)
+after_start_by m caller name o reply.Gone = closing_for Left
+after_start_by m caller name o (reply.Held ticket) = staying_after (running name o.start)
+after_start_by m caller name o reply.AlreadyRunning = staying_after (replying m caller (Number 2))
+after_start_by m caller name o reply.ServiceUnknown = staying_after (erring m caller error.ServiceUnknown)
+after_start_by m caller name o reply.LimitsExceeded = staying_after (erring m caller error.LimitsExceeded)
 -- these are no replies to a start
-after_start_by m caller name o reply.Done = and_stays (replying m caller Nothing)
-after_start_by m caller name o (reply.OfQueue r) = and_stays (replying m caller (Number (code_of r)))
-after_start_by m caller name o reply.InvalidName = and_stays (erring m caller error.InvalidArgs)
-after_start_by m caller name o reply.RuleNotFound = and_stays (erring m caller error.MatchRuleNotFound)
-after_start_by m caller name o reply.AccessDenied = and_stays (erring m caller error.AccessDenied)
-after_start_by m caller name o (reply.Welcome conn) = and_stays (erring m caller error.Failed)
-after_start_by m caller name o (reply.Pass owner) = and_stays (erring m caller error.Failed)
-after_start_by m caller name o reply.Ignored = and_stays (erring m caller error.Failed)
+after_start_by m caller name o reply.Done = staying_after (replying m caller Nothing)
+after_start_by m caller name o (reply.OfQueue r) = staying_after (replying m caller (Number (code_of r)))
+after_start_by m caller name o reply.InvalidName = staying_after (erring m caller error.InvalidArgs)
+after_start_by m caller name o reply.RuleNotFound = staying_after (erring m caller error.MatchRuleNotFound)
+after_start_by m caller name o reply.AccessDenied = staying_after (erring m caller error.AccessDenied)
+after_start_by m caller name o (reply.Welcome conn) = staying_after (erring m caller error.Failed)
+after_start_by m caller name o (reply.Pass owner) = staying_after (erring m caller error.Failed)
+after_start_by m caller name o reply.Ignored = staying_after (erring m caller error.Failed)
 
 abbrev pub after_start : Message → Conn → Text → Heard Outcome → OfFate
-after_start m caller name (Refuses refusal) = and_stays (erring m caller (error_for refusal))
+after_start m caller name (Refuses refusal) = staying_after (erring m caller (error_for refusal))
 after_start m caller name (Says o) = after_start_by m caller name o o.reply
 
 abbrev pub starting_if : Message → Conn → Text → Bool → OfFate
 starting_if m caller name true = Changing (change.Start caller.number name (waiting_call m)) (λ heard. after_start m caller name heard)
-starting_if m caller name false = and_stays (erring m caller error.NoMemory)
+starting_if m caller name false = staying_after (erring m caller error.NoMemory)
 
 -- Whoever became a monitor is told so as one.
 abbrev pub after_watch_by : Message → Conn → Outcome → Reply → OfFate
-after_watch_by m caller o reply.Gone = closes_for Left
+after_watch_by m caller o reply.Gone = closing_for Left
 after_watch_by m caller o reply.Done = and_then (telling_change m caller o) (λ done. Gives fate.Watches)
-after_watch_by m caller o reply.AccessDenied = and_stays (telling_change m caller o)
+after_watch_by m caller o reply.AccessDenied = staying_after (telling_change m caller o)
 -- these are no replies to it
-after_watch_by m caller o (reply.OfQueue r) = and_stays (telling_change m caller o)
-after_watch_by m caller o reply.InvalidName = and_stays (telling_change m caller o)
-after_watch_by m caller o reply.RuleNotFound = and_stays (telling_change m caller o)
-after_watch_by m caller o reply.LimitsExceeded = and_stays (telling_change m caller o)
-after_watch_by m caller o reply.ServiceUnknown = and_stays (telling_change m caller o)
-after_watch_by m caller o reply.AlreadyRunning = and_stays (telling_change m caller o)
-after_watch_by m caller o (reply.Welcome conn) = and_stays (telling_change m caller o)
-after_watch_by m caller o (reply.Held ticket) = and_stays (telling_change m caller o)
-after_watch_by m caller o (reply.Pass owner) = and_stays (telling_change m caller o)
-after_watch_by m caller o reply.Ignored = and_stays (telling_change m caller o)
+after_watch_by m caller o (reply.OfQueue r) = staying_after (telling_change m caller o)
+after_watch_by m caller o reply.InvalidName = staying_after (telling_change m caller o)
+after_watch_by m caller o reply.RuleNotFound = staying_after (telling_change m caller o)
+after_watch_by m caller o reply.LimitsExceeded = staying_after (telling_change m caller o)
+after_watch_by m caller o reply.ServiceUnknown = staying_after (telling_change m caller o)
+after_watch_by m caller o reply.AlreadyRunning = staying_after (telling_change m caller o)
+after_watch_by m caller o (reply.Welcome conn) = staying_after (telling_change m caller o)
+after_watch_by m caller o (reply.Held ticket) = staying_after (telling_change m caller o)
+after_watch_by m caller o (reply.Pass owner) = staying_after (telling_change m caller o)
+after_watch_by m caller o reply.Ignored = staying_after (telling_change m caller o)
 
 abbrev pub after_watch : Message → Conn → Heard Outcome → OfFate
-after_watch m caller (Refuses refusal) = and_stays (erring m caller (error_for refusal))
+after_watch m caller (Refuses refusal) = staying_after (erring m caller (error_for refusal))
 after_watch m caller (Says o) = after_watch_by m caller o o.reply
 
 abbrev pub watching_if : Message → Conn → List Rule → Bool → OfFate
 watching_if m caller rules true = Changing (change.BecomeMonitor caller.number rules) (λ heard. after_watch m caller heard)
-watching_if m caller rules false = and_stays (erring m caller error.NoMemory)
+watching_if m caller rules false = staying_after (erring m caller error.NoMemory)
 
 abbrev pub answering_if : Message → Conn → Answer → Bool → Work
 answering_if m caller told true = replying m caller (Answered told)
@@ -276,27 +276,27 @@ after_answer m caller (Says None) = erring m caller error.NameHasNoOwner
 after_answer m caller (Says (Some told)) = Wanting (λ granted. answering_if m caller told granted)
 
 abbrev pub serving_request : Message → Conn → Result Request ErrorKind → OfFate
-serving_request m caller (Err error) = and_stays (erring m caller error)
-serving_request m caller (Ok (Asks q)) = Asking q (λ heard. and_stays (after_answer m caller heard))
+serving_request m caller (Err error) = staying_after (erring m caller error)
+serving_request m caller (Ok (Asks q)) = Asking q (λ heard. staying_after (after_answer m caller heard))
 serving_request m caller (Ok (Makes c)) = Changing c (λ heard. after_change m caller heard)
 serving_request m caller (Ok (Starts name)) = Wanting (λ granted. starting_if m caller name granted)
 serving_request m caller (Ok (Watches rules)) = Wanting (λ granted. watching_if m caller rules granted)
 
 -- Each call that reads well is shown to the gate before it is served.
 abbrev pub serving_reading : Message → Conn → Reading Call → OfFate
-serving_reading m caller (Err fault) = and_stays (erring m caller (error_of fault))
+serving_reading m caller (Err fault) = staying_after (erring m caller (error_of fault))
 serving_reading m caller (Ok c) = Gating c (serving_request m caller (request_of caller.number c))
 
 abbrev pub serving_call_if : Message → Conn → Bool → OfFate
 serving_call_if m caller true = Calling m (λ reading. serving_reading m caller reading)
-serving_call_if m caller false = and_stays (erring m caller error.NoMemory)
+serving_call_if m caller false = staying_after (erring m caller error.NoMemory)
 
 abbrev pub serving_call : Message → Conn → OfFate
 serving_call m caller = Wanting (λ granted. serving_call_if m caller granted)
 
 -- Other messages to the bus are ignored.
 abbrev pub serving_bus : Message → Conn → OfFate
-serving_bus m caller = if is_method_call m then serving_call m caller else stays_open
+serving_bus m caller = if is_method_call m then serving_call m caller else staying_open
 
 -- ## Messages to others
 
@@ -307,7 +307,7 @@ with_sender m sender = sent_by (unique_text sender.number) m
 -- Without memory the message is dropped whole, and a call is answered so.
 abbrev pub putting_copies_if : Message → Conn → List Conn → OfFate → Bool → OfFate
 putting_copies_if m sender to goes_on true = Doing (Puts to (Relays (message_bytes (with_sender m sender)))) goes_on
-putting_copies_if m sender to goes_on false = and_stays (erring_if_call m sender error.NoMemory)
+putting_copies_if m sender to goes_on false = staying_after (erring_if_call m sender error.NoMemory)
 
 -- The message is put to these connections.
 abbrev pub putting_copies : Message → Conn → List Conn → OfFate → OfFate
@@ -316,7 +316,7 @@ putting_copies m sender (conn ∷ conns) goes_on = Wanting (λ granted. putting_
 
 -- Whoever sends a message that is too long once it has its sender's name is closed.
 abbrev pub relaying_to : Message → Conn → List Conn → OfFate → OfFate
-relaying_to m sender to goes_on = if is_too_long (with_sender m sender) then closes_for TooLong else putting_copies m sender to goes_on
+relaying_to m sender to goes_on = if is_too_long (with_sender m sender) then closing_for TooLong else putting_copies m sender to goes_on
 
 -- A message to the bus is measured only where a monitor is shown it.
 abbrev pub showing : Message → Conn → List Conn → OfFate → OfFate
@@ -327,45 +327,45 @@ showing m sender (conn ∷ conns) goes_on = relaying_to m sender (conn ∷ conns
 
 -- By now the name has an owner, to which the call goes, or the call waits; or there is no service.
 abbrev pub after_hold_by : Message → Conn → Text → Outcome → Reply → OfFate
-after_hold_by m caller name o reply.Gone = closes_for Left
-after_hold_by m caller name o (reply.Pass owner) = Doing (Puts (owner ∷ []) (Relays (message_bytes (with_sender m caller)))) stays_open
-after_hold_by m caller name o (reply.Held ticket) = and_stays (running name o.start)
-after_hold_by m caller name o reply.ServiceUnknown = and_stays (erring m caller error.ServiceUnknown)
-after_hold_by m caller name o reply.LimitsExceeded = and_stays (erring m caller error.LimitsExceeded)
+after_hold_by m caller name o reply.Gone = closing_for Left
+after_hold_by m caller name o (reply.Pass owner) = Doing (Puts (owner ∷ []) (Relays (message_bytes (with_sender m caller)))) staying_open
+after_hold_by m caller name o (reply.Held ticket) = staying_after (running name o.start)
+after_hold_by m caller name o reply.ServiceUnknown = staying_after (erring m caller error.ServiceUnknown)
+after_hold_by m caller name o reply.LimitsExceeded = staying_after (erring m caller error.LimitsExceeded)
 -- these are no replies to a call that is to wait
-after_hold_by m caller name o reply.Done = stays_open
-after_hold_by m caller name o (reply.OfQueue r) = stays_open
-after_hold_by m caller name o reply.InvalidName = stays_open
-after_hold_by m caller name o reply.RuleNotFound = stays_open
-after_hold_by m caller name o reply.AccessDenied = stays_open
-after_hold_by m caller name o reply.AlreadyRunning = stays_open
-after_hold_by m caller name o (reply.Welcome conn) = stays_open
-after_hold_by m caller name o reply.Ignored = stays_open
+after_hold_by m caller name o reply.Done = staying_open
+after_hold_by m caller name o (reply.OfQueue r) = staying_open
+after_hold_by m caller name o reply.InvalidName = staying_open
+after_hold_by m caller name o reply.RuleNotFound = staying_open
+after_hold_by m caller name o reply.AccessDenied = staying_open
+after_hold_by m caller name o reply.AlreadyRunning = staying_open
+after_hold_by m caller name o (reply.Welcome conn) = staying_open
+after_hold_by m caller name o reply.Ignored = staying_open
 
 abbrev pub after_hold : Message → Conn → Text → Heard Outcome → OfFate
-after_hold m caller name (Refuses refusal) = and_stays (erring m caller (error_for refusal))
+after_hold m caller name (Refuses refusal) = staying_after (erring m caller (error_for refusal))
 after_hold m caller name (Says o) = after_hold_by m caller name o o.reply
 
 abbrev pub holding_if : Message → Conn → Text → Bool → OfFate
 holding_if m caller name true =
     Changing (change.Hold caller.number name (waiting_call m) (message_bytes (with_sender m caller))) (λ heard. after_hold m caller name heard)
-holding_if m caller name false = and_stays (erring m caller error.NoMemory)
+holding_if m caller name false = staying_after (erring m caller error.NoMemory)
 
 abbrev pub holding : Message → Conn → Option Text → OfFate
-holding m caller None = stays_open
+holding m caller None = staying_open
 holding m caller (Some name) = Wanting (λ granted. holding_if m caller name granted)
 
 -- ## Where the message goes
 
 abbrev pub relaying : Message → Conn → Verdict → VerdictKind → OfFate
-relaying m sender v verdict.Absent = closes_for Left
+relaying m sender v verdict.Absent = closing_for Left
 relaying m sender v verdict.Bus = showing m sender v.monitors (serving_bus m sender)
-relaying m sender v verdict.Plain = relaying_to m sender (deliveries_of v.to v.monitors) stays_open
-relaying m sender v verdict.Nobody = relaying_to m sender v.monitors (and_stays (erring_if_call m sender error.ServiceUnknown))
+relaying m sender v verdict.Plain = relaying_to m sender (deliveries_of v.to v.monitors) staying_open
+relaying m sender v verdict.Nobody = relaying_to m sender v.monitors (staying_after (erring_if_call m sender error.ServiceUnknown))
 relaying m sender v verdict.Start = relaying_to m sender v.monitors (holding m sender (text_field field.Destination m.fields))
 
 abbrev pub routing : Message → Conn → Heard Verdict → OfFate
-routing m sender (Refuses refusal) = and_stays (erring_if_call m sender (error_for refusal))
+routing m sender (Refuses refusal) = staying_after (erring_if_call m sender (error_for refusal))
 routing m sender (Says v) = relaying m sender v v.kind
 
 -- a type that the standard does not define
@@ -376,5 +376,5 @@ is_unknown other = false
 -- A message of a type that the standard does not define is dropped.
 abbrev pub serving : Message → Conn → OfFate
 serving m sender =
-    if is_unknown (kind_of m.kind) then stays_open
+    if is_unknown (kind_of m.kind) then staying_open
     else Routing sender.number (facts_of m) (λ heard. routing m sender heard)

@@ -26,7 +26,7 @@ use Rattle.router_core.specs.declared.joint.RuleCall.TheVariants.{Adds, Removes}
 use Rattle.router_core.specs.Answers.{Heard, Says, Refuses}
 use Rattle.router_core.specs.Deeds.{Puts}
 use Rattle.router_core.specs.Scripts.{Script, Gives, Routing, Gating, Wanting, Doing}
-use Rattle.router_core.specs.Serving.{OfFate, and_stays, closes_for, erring_if_call, routing, with_sender}
+use Rattle.router_core.specs.Serving.{OfFate, staying_after, closing_for, erring_if_call, routing, with_sender}
 
 -- ## Which they are
 
@@ -74,11 +74,11 @@ parting_with work = Gives (Parts work)
 -- Without memory the message is dropped whole, and the call is answered so.
 abbrev pub joining_copied_if : Message → Conn → List Conn → RuleCall → Bool → Script Joining
 joining_copied_if m caller monitors c true = Doing (Puts monitors (Relays (message_bytes (with_sender m caller)))) (joining_gated c)
-joining_copied_if m caller monitors c false = parting_with (and_stays (erring_if_call m caller error.NoMemory))
+joining_copied_if m caller monitors c false = parting_with (staying_after (erring_if_call m caller error.NoMemory))
 
 -- Whoever sends a message that is too long once it has its sender's name is closed.
 abbrev pub joining_relayed : Message → Conn → List Conn → RuleCall → Script Joining
-joining_relayed m caller monitors c = if is_too_long (with_sender m caller) then parting_with (closes_for TooLong) else Wanting (λ granted. joining_copied_if m caller monitors c granted)
+joining_relayed m caller monitors c = if is_too_long (with_sender m caller) then parting_with (closing_for TooLong) else Wanting (λ granted. joining_copied_if m caller monitors c granted)
 
 -- The monitors are shown it.
 abbrev pub joining_shown : Message → Conn → List Conn → RuleCall → Script Joining

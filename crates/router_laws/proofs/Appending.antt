@@ -5,7 +5,7 @@ use Rattle.router_core.specs.Acts.{Exchange, Changed, ChangedAll, Asked, Routed,
 use Rattle.router_core.specs.Deeds.{GatedCall, PassesAll}
 use Rattle.router_core.specs.Events.{Occasion}
 use Rattle.router_core.specs.OneThread.{Rest, keys_after, bytes_to}
-use Rattle.router_laws.specs.Turns.{AreServedBy, Turn, asked_in, keys_of, written_by}
+use Rattle.router_laws.specs.Turns.{AreServedBy, Turn, exchanges_of, keys_of, run_bytes}
 
 pub served_more : (alone : Bool) (before now after : Rest) (occasions : List Occasion) (turns : List Turn) (occasion : Occasion) (turn : Turn) →
     AreServedBy alone before occasions turns now → IsServedBy alone now.standing now.view occasion turn.asked turn.deeds after.standing after.view →
@@ -22,18 +22,18 @@ keys_more (o ∷ occasions) occasion keys = keys_more occasions occasion (keys_a
 
 pub written_more : (alone : Bool) (before now : Rest) (opening : ℕ) (keys : List ℕ) (occasions : List Occasion) (turns : List Turn) (occasion : Occasion) (turn : Turn) →
     AreServedBy alone before occasions turns now →
-    written_by opening keys (occasions ++ occasion ∷ []) (turns ++ turn ∷ []) ≡ written_by opening keys occasions turns ++ bytes_to opening (keys_after occasion (keys_of occasions keys)) turn.deeds
+    run_bytes opening keys (occasions ++ occasion ∷ []) (turns ++ turn ∷ []) ≡ run_bytes opening keys occasions turns ++ bytes_to opening (keys_after occasion (keys_of occasions keys)) turn.deeds
 written_more alone before now opening keys [] [] occasion turn h = append-nil (bytes_to opening (keys_after occasion keys) turn.deeds)
 written_more alone before now opening keys [] (t ∷ turns) occasion turn h = absurd h
 written_more alone before now opening keys (o ∷ occasions) [] occasion turn h = absurd h
 written_more alone before now opening keys (o ∷ occasions) (t ∷ turns) occasion turn h =
     let here : List ℕ = bytes_to opening (keys_after o keys) t.deeds in
     ap (λ (later : List ℕ). here ++ later) (written_more alone h.0 now opening (keys_after o keys) occasions turns occasion turn h.2)
-    ∙ sym (append_assoc here (written_by opening (keys_after o keys) occasions turns) (bytes_to opening (keys_after occasion (keys_of occasions (keys_after o keys))) turn.deeds))
+    ∙ sym (append_assoc here (run_bytes opening (keys_after o keys) occasions turns) (bytes_to opening (keys_after occasion (keys_of occasions (keys_after o keys))) turn.deeds))
 
-asked_more : (turns : List Turn) (turn : Turn) → asked_in (turns ++ turn ∷ []) ≡ asked_in turns ++ turn.asked
+asked_more : (turns : List Turn) (turn : Turn) → exchanges_of (turns ++ turn ∷ []) ≡ exchanges_of turns ++ turn.asked
 asked_more [] turn = append-nil turn.asked
-asked_more (t ∷ turns) turn = ap (λ (later : List Exchange). t.asked ++ later) (asked_more turns turn) ∙ sym (append_assoc t.asked (asked_in turns) turn.asked)
+asked_more (t ∷ turns) turn = ap (λ (later : List Exchange). t.asked ++ later) (asked_more turns turn) ∙ sym (append_assoc t.asked (exchanges_of turns) turn.asked)
 
 gated_append : (seat : ℕ) (first later : List Exchange) → gated_calls seat (first ++ later) ≡ gated_calls seat first ++ gated_calls seat later
 gated_append seat [] later = refl
@@ -55,10 +55,10 @@ passes_append passes before now after (call ∷ first) later p q = (p.0, p.1, pa
 
 -- the gate is shown the calls of one event more
 pub shown_more : {G : Type 0} (passes : G → GatedCall → G → Type 0) (before now after : G) (seat other : ℕ) (turns : List Turn) (turn : Turn) → other ≡ seat →
-    PassesAll passes before (gated_calls seat (asked_in turns)) now → PassesAll passes now (gated_calls other turn.asked) after →
-    PassesAll passes before (gated_calls seat (asked_in (turns ++ turn ∷ []))) after
+    PassesAll passes before (gated_calls seat (exchanges_of turns)) now → PassesAll passes now (gated_calls other turn.asked) after →
+    PassesAll passes before (gated_calls seat (exchanges_of (turns ++ turn ∷ []))) after
 shown_more passes before now after seat other turns turn same first later =
     let here = subst (λ (n : ℕ). PassesAll passes now (gated_calls n turn.asked) after) same later in
     subst (λ (calls : List GatedCall). PassesAll passes before calls after)
-    (sym (ap (λ (asked : List Exchange). gated_calls seat asked) (asked_more turns turn) ∙ gated_append seat (asked_in turns) turn.asked))
-    (passes_append passes before now after (gated_calls seat (asked_in turns)) (gated_calls seat turn.asked) first here)
+    (sym (ap (λ (asked : List Exchange). gated_calls seat asked) (asked_more turns turn) ∙ gated_append seat (exchanges_of turns) turn.asked))
+    (passes_append passes before now after (gated_calls seat (exchanges_of turns)) (gated_calls seat turn.asked) first here)

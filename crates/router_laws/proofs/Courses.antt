@@ -14,7 +14,7 @@ use Rattle.router.proofs.OneEvent.{gate_of, view_of}
 use Rattle.router_laws.specs.declared.fault.RunFault.{RunFault}
 use Rattle.router_laws.specs.declared.fault.RunFault.TheVariants.{WrongKey, NoLogin, NoTurn, NoMemory}
 use Rattle.router.specs.OneEvent.{rest_in}
-use Rattle.router_laws.specs.Turns.{AreServedBy, keys_of, written_by}
+use Rattle.router_laws.specs.Turns.{AreServedBy, keys_of, run_bytes}
 use Rattle.router_laws.specs.Runs.{IsFaultOf, IsRunOf, IsStopped, LacksKey, LacksLogin, LacksTurn, happening, occasions_of}
 use Rattle.router_laws.specs.Outputs.{Adds, IsCourse, IsRefused, IsTurn, Output, bytes_by, bytes_by_all, output_at, no_output}
 use Rattle.router_laws.proofs.Appending.{served_more, keys_more, written_more, shown_more}
@@ -120,9 +120,9 @@ module _ {G : Type 0} (passes : G → GatedCall → G → Type 0) where
         each = λ k.
             t.added.each k
             ∙ ap (λ (bs : List ℕ). bs ++ bytes_to (k + 1) out.keys t.turn.deeds) (met_each new sent k ∙ c.each k)
-            ∙ ap (λ (ks : List ℕ). written_by (k + 1) [] old c.turns ++ bytes_to (k + 1) ks t.turn.deeds) names
+            ∙ ap (λ (ks : List ℕ). run_bytes (k + 1) [] old c.turns ++ bytes_to (k + 1) ks t.turn.deeds) names
             ∙ sym (written_more true (rest_in before) (rest_in now) (k + 1) [] old c.turns new t.turn c.served)
-            ∙ ap (λ (os : List Occasion). written_by (k + 1) [] os (c.turns ++ t.turn ∷ [])) (sym all);
+            ∙ ap (λ (os : List Occasion). run_bytes (k + 1) [] os (c.turns ++ t.turn ∷ [])) (sym all);
       }
 
   pub course_ends : (before after : State G) (events : List (Event (Unit {0}))) (sent : Output) → IsCourse passes before events after sent →
@@ -136,7 +136,7 @@ module _ {G : Type 0} (passes : G → GatedCall → G → Type 0) where
         left = after.gate;
         served = c.served;
         shown = c.shown;
-        written = all_places sent.written (length (keys_of occasions [])) (λ opening. written_by opening [] occasions c.turns) count c.each;
+        written = all_places sent.written (length (keys_of occasions [])) (λ opening. run_bytes opening [] occasions c.turns) count c.each;
       }
 
   pub course_stops : (lacks : Standing → Event (Unit {0}) → Type 0) (before now : State G) (events : List (Event (Unit {0}))) (index : ℕ) (event : Event (Unit {0})) (sent : Output) →

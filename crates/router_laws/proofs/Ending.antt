@@ -20,7 +20,7 @@ use Rattle.busd_core.specs.Sessions.{Goes, piece_of, asked_in}
 use Rattle.router_laws.proofs.Readers.{AreRight, read_so, readers_of, right_append}
 use Rattle.bus_view.specs.declared.view.BusView.{Ghosts as BusView}
 use Rattle.router_core.specs.declared.gate.Gate.{Ghosts as Gate}
-use Rattle.router_laws.specs.Streams.{StreamsAgree, asked_at, asked_until_gone}
+use Rattle.router_laws.specs.Streams.{StreamsAgree, exchanges_at, exchanges_until_gone}
 use Rattle.router_laws.proofs.AtOnce.{AllSettled, all_at_once, arrived, served}
 use Rattle.router_laws.proofs.Extending.{all_right, all_settled, asked_of, bytes_are, extended, extended_all, extended_all_right, happens_right, one_so, serving_is}
 
@@ -73,9 +73,9 @@ module _ {N G : Type 0} (told : N → History) (passes : G → GatedCall → G �
       (extended_all_right told passes alone seat key before (event.Opened key None ∷ g.later) g.first g.between g.serves.happen)
       (left_right (peer_at g.between.standing key) g.quiet)
 
-  pub asked_right : AreRight (asked_until_gone told passes alone seat key g)
+  pub asked_right : AreRight (exchanges_until_gone told passes alone seat key g)
   asked_right =
-      right_append (asked_in told passes alone seat key g.serves) (asked_at told passes alone seat key g.goes)
+      right_append (asked_in told passes alone seat key g.serves) (exchanges_at told passes alone seat key g.goes)
       (all_right told passes alone seat key before (event.Opened key None ∷ g.later) g.first g.between g.serves.happen)
       (happens_right told passes alone seat key g.between (event.Closed key) g.last after g.goes)
 
@@ -86,14 +86,14 @@ module _ {N G : Type 0} (told : N → History) (passes : G → GatedCall → G �
     pub written_last : g.last ≡ (happened readers seat key (rest_in g.between) (Closed key)).0
     pub left : rest_in after ≡ (happened readers seat key (rest_in g.between) (Closed key)).1
 
-  pub at_once : alone ≡ true → (readers : Readers) → IsGranted (asked_until_gone told passes alone seat key g) → AreReadBy readers (asked_until_gone told passes alone seat key g) → AreReadBy readers besides → IsAtOnce readers
+  pub at_once : alone ≡ true → (readers : Readers) → IsGranted (exchanges_until_gone told passes alone seat key g) → AreReadBy readers (exchanges_until_gone told passes alone seat key g) → AreReadBy readers besides → IsAtOnce readers
   at_once is readers granted reads more =
       let events : List (Event N) = event.Opened key None ∷ g.later in
       let occasions : List Occasion = map (occasion_of told) g.later in
       let happen = g.serves.happen in
       let asked : List Exchange = asked_in told passes alone seat key g.serves in
-      let grants = granted_parts asked (asked_at told passes alone seat key g.goes) granted in
-      let read_of = read_parts readers asked (asked_at told passes alone seat key g.goes) reads in
+      let grants = granted_parts asked (exchanges_at told passes alone seat key g.goes) granted in
+      let read_of = read_parts readers asked (exchanges_at told passes alone seat key g.goes) reads in
       let mores = read_parts readers (extended_all told passes alone seat key before events g.first g.between happen) (left_of (peer_at g.between.standing key)) more in
       let so = g.serves.one_thread is readers grants.0 read_of.0 in
       let gone = one_so told passes alone seat key is readers g.between (event.Closed key) g.last after g.goes grants.1 read_of.1 in
@@ -135,12 +135,12 @@ module _ {N G H : Type 0} (told : N → History) (passes : G → GatedCall → G
 -- all that a stream asked, and what is besides
 abbrev all_of : {N G : Type 0} (told : N → History) (passes : G → GatedCall → G → Type 0) (alone : Bool) (seat key : ℕ) (before after : State G) (read written : List ℕ) →
     Goes told passes alone seat key before read written after → List Exchange
-all_of told passes alone seat key before after read written g = asked_until_gone told passes alone seat key g ++ besides told passes alone seat key before after read written g
+all_of told passes alone seat key before after read written g = exchanges_until_gone told passes alone seat key g ++ besides told passes alone seat key before after read written g
 
 all_of_right : {N G : Type 0} (told : N → History) (passes : G → GatedCall → G → Type 0) (alone : Bool) (seat key : ℕ) (before after : State G) (read written : List ℕ)
     (g : Goes told passes alone seat key before read written after) → AreRight (all_of told passes alone seat key before after read written g)
 all_of_right told passes alone seat key before after read written g =
-    right_append (asked_until_gone told passes alone seat key g) (besides told passes alone seat key before after read written g)
+    right_append (exchanges_until_gone told passes alone seat key g) (besides told passes alone seat key before after read written g)
     (asked_right told passes alone seat key before after read written g) (besides_right told passes alone seat key before after read written g)
 
 -- by readers who read all of it so
@@ -148,13 +148,13 @@ read_both : {N G H : Type 0} (told : N → History) (passes : G → GatedCall �
     (before after : State G) (start end : State H) (read written others : List ℕ)
     (one : Goes told passes alone seat key before read written after) (other : Goes told others_pass alone seat key start read others end) →
     alone ≡ true → rest_in before ≡ rest_in start →
-    IsGranted (asked_until_gone told passes alone seat key one) → IsGranted (asked_until_gone told others_pass alone seat key other) → (readers : Readers) →
+    IsGranted (exchanges_until_gone told passes alone seat key one) → IsGranted (exchanges_until_gone told others_pass alone seat key other) → (readers : Readers) →
     AreReadBy readers (all_of told passes alone seat key before after read written one ++ all_of told others_pass alone seat key start end read others other) →
     (written ≡ others) × (rest_in after ≡ rest_in end)
 read_both told passes others_pass alone seat key before after start end read written others one other is same granted also readers all =
     let both = read_parts readers (all_of told passes alone seat key before after read written one) (all_of told others_pass alone seat key start end read others other) all in
-    let reads = read_parts readers (asked_until_gone told passes alone seat key one) (besides told passes alone seat key before after read written one) both.0 in
-    let reads_too = read_parts readers (asked_until_gone told others_pass alone seat key other) (besides told others_pass alone seat key start end read others other) both.1 in
+    let reads = read_parts readers (exchanges_until_gone told passes alone seat key one) (besides told passes alone seat key before after read written one) both.0 in
+    let reads_too = read_parts readers (exchanges_until_gone told others_pass alone seat key other) (besides told others_pass alone seat key start end read others other) both.1 in
     both_at_once told passes others_pass alone seat key before after start end read written others one other readers same
     (at_once told passes alone seat key before after read written one is readers granted reads.0 reads.1)
     (at_once told others_pass alone seat key start end read others other is readers also reads_too.0 reads_too.1)

@@ -8,7 +8,7 @@ use Rattle.router_core.specs.declared.event.Event.{Event}
 use Rattle.router_core.specs.declared.event.Event.TheVariants as event
 use Rattle.router_core.specs.Acts.{Exchange, Changed, ChangedAll, Asked, Routed, AskedPresence, Noted, Framed, Called, Gated, Wanted, Goes, IsGranted, State}
 use Rattle.router_core.specs.Deeds.{Deed, GatedCall}
-use Rattle.router_core.specs.Events.{Next, coming_next, next_at, occasion_of, script}
+use Rattle.router_core.specs.Events.{Next, serving_next, next_at, occasion_of, script}
 use Rattle.router_core.specs.Incoming.{Incoming, Waits, Whole, Faulty, IsIncoming}
 use Rattle.router_core.specs.OneThread.{AreReadBy, Readers, Rest}
 use Rattle.router_core.specs.Standing.{Peer, Stage, Standing, Authenticating, Unnamed, Named, Closing, peer_at}
@@ -76,7 +76,7 @@ module _ (readers : Readers) (key : ℕ) (later : List ℕ) where
   next_settled : (s : Standing) (asked : List Exchange) (deeds : List Deed) (x : Standing) (p : Peer) → peer_at s key ≡ Some p → TakesBytes p.stage → Goes (script s (Next key)) asked deeds x →
       AreReadBy readers asked → AreReadBy readers (extended later asked) → readers.incoming p.unread ≢ Waits → readers.incoming (p.unread ++ later) ≡ with_behind later (readers.incoming p.unread)
   next_settled s asked deeds x p here takes goes read more not_so =
-      by_stage p.stage takes (subst (λ (o : Option Peer). Goes (coming_next s key o) asked deeds x) here goes)
+      by_stage p.stage takes (subst (λ (o : Option Peer). Goes (serving_next s key o) asked deeds x) here goes)
     where
       read_first : (incoming : Incoming) (others : List Exchange) → asked ≡ Framed p.unread incoming ∷ others → readers.incoming (p.unread ++ later) ≡ with_behind later (readers.incoming p.unread)
       read_first incoming others is =

@@ -4,22 +4,22 @@ use Rattle.router_core.specs.Acts.{IsGranted}
 use Rattle.router_core.specs.Events.{Occasion}
 use Rattle.router_core.specs.OneThread.{AreReadBy, IsRun, Readers, Rest, keys_after}
 use Rattle.router.proofs.Grants.{granted_parts, read_parts}
-use Rattle.router_laws.specs.Turns.{AreServedBy, Turn, asked_in, written_by}
+use Rattle.router_laws.specs.Turns.{AreServedBy, Turn, exchanges_of, run_bytes}
 
 pub is_run : (readers : Readers) (opening : ℕ) (keys : List ℕ) (before after : Rest) (occasions : List Occasion) (turns : List Turn) →
-    AreServedBy true before occasions turns after → IsGranted (asked_in turns) → AreReadBy readers (asked_in turns) →
-    IsRun readers opening keys before occasions (written_by opening keys occasions turns) after
+    AreServedBy true before occasions turns after → IsGranted (exchanges_of turns) → AreReadBy readers (exchanges_of turns) →
+    IsRun readers opening keys before occasions (run_bytes opening keys occasions turns) after
 is_run readers opening keys before after [] [] served granted read = (refl, served)
 is_run readers opening keys before after [] (turn ∷ turns) served granted read = absurd served
 is_run readers opening keys before after (occasion ∷ occasions) [] served granted read = absurd served
 is_run readers opening keys before after (occasion ∷ occasions) (turn ∷ turns) served granted read =
     let now = keys_after occasion keys in
-    let grants = granted_parts turn.asked (asked_in turns) granted in
-    let reads = read_parts readers turn.asked (asked_in turns) read in (
+    let grants = granted_parts turn.asked (exchanges_of turns) granted in
+    let reads = read_parts readers turn.asked (exchanges_of turns) read in (
       turn.asked,
       turn.deeds,
       served.0,
-      written_by opening now occasions turns,
+      run_bytes opening now occasions turns,
       served.1,
       grants.0,
       reads.0,

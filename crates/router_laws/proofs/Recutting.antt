@@ -9,7 +9,7 @@ use Rattle.message_core.specs.Said.{said as message_said}
 use Rattle.bus_view.specs.Views.{Knowledge}
 use Rattle.router_core.specs.Acts.{Exchange, Framed, Wanted, Goes, IsGranted, IsLawful, IsServedBy}
 use Rattle.router_core.specs.Deeds.{Deed}
-use Rattle.router_core.specs.Events.{Occasion, Bytes, Next, Stands, answering, after_conversing, with_bytes, for_peer, hearing, coming_next, next_at, serving_incoming, serving_at}
+use Rattle.router_core.specs.Events.{Occasion, Bytes, Next, Stands, answering, after_conversing, with_bytes, for_peer, hearing, serving_next, next_at, serving_incoming, serving_at}
 use Rattle.router_core.specs.Incoming.{Incoming, Waits, Whole, Faulty, IsIncoming}
 use Rattle.router_core.specs.OneThread.{Course, Readers, Rest, alone, doing, effect, bytes_to}
 use Rattle.router_core.specs.Scripts.{Script, Gives, Changing, ChangingAll, Asking, Routing, AskingPresence, Noting, Framing, Calling, Gating, Wanting, Requiring, Doing, Announcing, and_then}
@@ -19,7 +19,7 @@ use Rattle.router.proofs.Conversations.{hears_joined}
 use Rattle.router.proofs.Feeding.{bytes_given, closed_more, more, more_if, peer_with_more, pieces_joined, rest_more, seen_as, serve_more, with_more}
 use Rattle.router.proofs.Grants.{granted_parts, read_parts}
 use Rattle.router.proofs.Speaking.{Speaks, SpeaksAt, more_speaks, next_speaks}
-use Rattle.router_laws.specs.Turns.{Turn, asked_in}
+use Rattle.router_laws.specs.Turns.{Turn, exchanges_of}
 use Rattle.router_laws.specs.Cuts.{HasCome, LinesAreNotServed, PiecesAreJoined, ShortMessagesWait, WholeMessagesComeFirst}
 use Rattle.router_laws.specs.GrantedRuns.{IsGrantedRun}
 use Rattle.router_laws.specs.Readings.{with_behind}
@@ -205,8 +205,8 @@ joined key first second r [] after run = absurd run.served
 joined key first second r (one ∷ []) after run = absurd run.served.2
 joined key first second r (one ∷ two ∷ three ∷ turns) after run = absurd run.served.2.2
 joined key first second r (one ∷ two ∷ []) after run =
-    let readers : Readers = readers_of (asked_in (one ∷ two ∷ [])) in
-    let read = read_so (asked_in (one ∷ two ∷ [])) (run_right r after (Bytes key first ∷ Bytes key second ∷ []) (one ∷ two ∷ []) run) in
+    let readers : Readers = readers_of (exchanges_of (one ∷ two ∷ [])) in
+    let read = read_so (exchanges_of (one ∷ two ∷ [])) (run_right r after (Bytes key first ∷ Bytes key second ∷ []) (one ∷ two ∷ []) run) in
     let grants = granted_parts one.asked (two.asked ++ []) run.granted in
     let reads = read_parts readers one.asked (two.asked ++ []) read in
     let last_grants = granted_parts two.asked [] grants.1 in
@@ -264,7 +264,7 @@ waits key r p here is_left [] after run = absurd run.served
 waits key r p here is_left (one ∷ two ∷ turns) after run = absurd run.served.2
 waits key r p here is_left (one ∷ []) after run =
     let h = run.served.1 in
-    let goes = subst (λ (o : Option Peer). Goes (coming_next r.standing key o) one.asked one.deeds run.served.0.standing) here h.goes in
+    let goes = subst (λ (o : Option Peer). Goes (serving_next r.standing key o) one.asked one.deeds run.served.0.standing) here h.goes in
     let so = is_left r.view run.served.0.view one.asked one.deeds run.served.0.standing goes h.lawful in (
       [],
       record { served = run.served.2 ∙ same_rest run.served.0 r.standing r.view so.1 so.2; granted = tt },
@@ -284,8 +284,8 @@ bytes_after : (key : ℕ) (piece : List ℕ) (r after : Rest) (one two : Turn) (
     (two.deeds ≡ []) × (run.served.2.0 ≡ rest_more piece key run.served.0)
 bytes_after key piece r after one two run speaks =
     let now : Rest = run.served.0 in
-    let readers : Readers = readers_of (asked_in (one ∷ two ∷ [])) in
-    let read = read_so (asked_in (one ∷ two ∷ [])) (run_right r after (Next key ∷ Bytes key piece ∷ []) (one ∷ two ∷ []) run) in
+    let readers : Readers = readers_of (exchanges_of (one ∷ two ∷ [])) in
+    let read = read_so (exchanges_of (one ∷ two ∷ [])) (run_right r after (Next key ∷ Bytes key piece ∷ []) (one ∷ two ∷ []) run) in
     let grants = granted_parts one.asked (two.asked ++ []) run.granted in
     let reads = read_parts readers one.asked (two.asked ++ []) read in
     let last_grants = granted_parts two.asked [] grants.1 in
@@ -378,10 +378,10 @@ module _ (key : ℕ) (piece : List ℕ) (r : Rest) (p : Peer) where
   in_turn incoming not_so is here begun (one ∷ two ∷ three ∷ turns) after run = absurd run.served.2.2
   in_turn incoming not_so is here begun (one ∷ two ∷ []) after run =
       let now : Rest = run.served.0 in
-      let goes = subst (λ (o : Option Peer). Goes (coming_next r.standing key o) one.asked one.deeds now.standing) here run.served.1.goes in
+      let goes = subst (λ (o : Option Peer). Goes (serving_next r.standing key o) one.asked one.deeds now.standing) here run.served.1.goes in
       let h = next_again incoming not_so is r.view now.view one.asked one.deeds now.standing p.stage refl goes run.served.1.lawful in
       let there : peer_at later_standing key ≡ Some later_peer = peer_with_more piece key r.standing ∙ ap (λ (o : Option Peer). more_if piece key o) here in
-      let again = subst (λ (o : Option Peer). Goes (coming_next later_standing key o) h.again one.deeds (with_more piece key now.standing)) (sym there)
+      let again = subst (λ (o : Option Peer). Goes (serving_next later_standing key o) h.again one.deeds (with_more piece key now.standing)) (sym there)
       (subst (λ (stage : Stage). Goes (next_at later_standing key later_peer stage) h.again one.deeds (with_more piece key now.standing)) (sym (kept_stage p.stage)) h.goes) in
       let speaks : SpeaksAt key r.standing = subst (λ (o : Option Peer). IfSome o Speaks) (sym here) begun in
       let came = bytes_after key piece r after one two run speaks in

@@ -5,16 +5,16 @@ use Rattle.router_core.specs.Deeds.{Deed, GatedCall}
 use Rattle.router_core.specs.Events.{Occasion}
 use Rattle.router_core.specs.OneThread.{Rest}
 use Rattle.router_laws.specs.Runs.{IsRunOf, for_each}
-use Rattle.router_laws.specs.Turns.{AreServedBy, Turn, asked_in, written_by}
+use Rattle.router_laws.specs.Turns.{AreServedBy, Turn, exchanges_of, run_bytes}
 
 -- The occasions come one after the other, each is served so, and nothing is refused.
 pub record IsGrantedRun (before : Rest) (occasions : List Occasion) (turns : List Turn) (after : Rest) : Type 0 where
   pub served : AreServedBy true before occasions turns after
-  pub granted : IsGranted (asked_in turns)
+  pub granted : IsGranted (exchanges_of turns)
 
 -- the bytes to each connection, in the order in which they came
 abbrev pub bytes_of : List Occasion → List Turn → List (List ℕ)
-bytes_of occasions turns = for_each occasions (λ opening. written_by opening [] occasions turns)
+bytes_of occasions turns = for_each occasions (λ opening. run_bytes opening [] occasions turns)
 
 -- all that is done, event by event
 abbrev pub deeds_of : List Turn → List (List Deed)
@@ -29,7 +29,7 @@ RunsAreOne = (before after end : Rest) (occasions : List Occasion) (turns others
 abbrev pub RunsAgree : {G H : Type 0} → (G → GatedCall → G → Type 0) → (H → GatedCall → H → Type 0) → Type 0
 RunsAgree {G = G} {H = H} passes others_pass = (gate : G) (other_gate : H) (before : Rest) (occasions : List Occasion) (bytes others : List (List ℕ))
     (one : IsRunOf passes gate before occasions bytes) (other : IsRunOf others_pass other_gate before occasions others) →
-    IsGranted (asked_in one.turns) → IsGranted (asked_in other.turns) → bytes ≡ others
+    IsGranted (exchanges_of one.turns) → IsGranted (exchanges_of other.turns) → bytes ≡ others
 
 -- ## Lists of events that come to the same
 
@@ -43,4 +43,4 @@ ComeToTheSame before these those = (turns : List Turn) (after : Rest) → IsGran
 abbrev pub AlikeRunsAgree : {G H : Type 0} → (G → GatedCall → G → Type 0) → (H → GatedCall → H → Type 0) → Type 0
 AlikeRunsAgree {G = G} {H = H} passes others_pass = (gate : G) (other_gate : H) (before : Rest) (these those : List Occasion) (bytes others : List (List ℕ)) →
     ComeToTheSame before these those → (one : IsRunOf passes gate before these bytes) (other : IsRunOf others_pass other_gate before those others) →
-    IsGranted (asked_in one.turns) → IsGranted (asked_in other.turns) → bytes ≡ others
+    IsGranted (exchanges_of one.turns) → IsGranted (exchanges_of other.turns) → bytes ≡ others

@@ -11,7 +11,7 @@ use Rattle.router_laws.specs.declared.fault.RunFault.{RunFault}
 use Rattle.router_laws.specs.declared.fault.RunFault.TheVariants.{WrongKey, NoLogin, NoTurn, NoMemory}
 use Rattle.router_laws.specs.Runs.{LacksKey, LacksLogin, LacksTurn, happening, occasions_of}
 use Rattle.router.specs.OneEvent.{rest_in}
-use Rattle.router_laws.specs.Turns.{AreServedBy, Turn, asked_in, keys_of, written_by}
+use Rattle.router_laws.specs.Turns.{AreServedBy, Turn, exchanges_of, keys_of, run_bytes}
 
 -- the keys of the connections that came, the last first, and the bytes to each, the first first
 pub record Output : Type 0 where
@@ -52,10 +52,10 @@ pub record IsTurn {G : Type 0} (passes : G → GatedCall → G → Type 0) (befo
 pub record IsCourse {G : Type 0} (passes : G → GatedCall → G → Type 0) (before : State G) (events : List (Event (Unit {0}))) (after : State G) (sent : Output) : Type 0 where
   pub turns : List Turn
   pub served : AreServedBy true (rest_in before) (occasions_of events) turns (rest_in after)
-  pub shown : PassesAll passes before.gate (gated_calls before.view.seat (asked_in turns)) after.gate
+  pub shown : PassesAll passes before.gate (gated_calls before.view.seat (exchanges_of turns)) after.gate
   pub keys : sent.keys ≡ keys_of (occasions_of events) []
   pub count : length sent.written ≡ length sent.keys
-  pub each : (k : ℕ) → slice_index_or sent.written k [] ≡ written_by (k + 1) [] (occasions_of events) turns
+  pub each : (k : ℕ) → slice_index_or sent.written k [] ≡ run_bytes (k + 1) [] (occasions_of events) turns
 
 -- why the event of this index is not served
 abbrev pub IsRefused : {G : Type 0} → State G → ℕ → Event (Unit {0}) → RunFault → Type 0

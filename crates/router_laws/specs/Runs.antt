@@ -13,7 +13,7 @@ use Rattle.router_core.specs.OneThread.{Rest}
 use Rattle.router_core.specs.Standing.{Standing, fresh}
 use Rattle.router_laws.specs.declared.fault.RunFault.{RunFault}
 use Rattle.router_laws.specs.declared.fault.RunFault.TheVariants.{WrongKey, NoLogin, NoTurn, NoMemory}
-use Rattle.router_laws.specs.Turns.{AreServedBy, Turn, asked_in, keys_of, written_by}
+use Rattle.router_laws.specs.Turns.{AreServedBy, Turn, exchanges_of, keys_of, run_bytes}
 
 -- no connection, over a plain bus
 abbrev pub fresh_over : Option Login → PlainBus → Rest
@@ -36,8 +36,8 @@ pub record IsRunOf {G : Type 0} (passes : G → GatedCall → G → Type 0) (gat
   pub after : Rest
   pub left : G
   pub served : AreServedBy true before occasions turns after
-  pub shown : PassesAll passes gate (gated_calls before.view.seat (asked_in turns)) left
-  pub written : bytes ≡ for_each occasions (λ opening. written_by opening [] occasions turns)
+  pub shown : PassesAll passes gate (gated_calls before.view.seat (exchanges_of turns)) left
+  pub written : bytes ≡ for_each occasions (λ opening. run_bytes opening [] occasions turns)
 
 -- A connection comes, and its key is not the least that none has.
 abbrev pub LacksKey : Standing → Event (Unit {0}) → Type 0

@@ -18,9 +18,9 @@ AreServedBy alone before (occasion ∷ occasions) (turn ∷ turns) after =
 AreServedBy alone before occasions turns after = ⊥
 
 -- all that was asked and answered, in order
-abbrev pub asked_in : List Turn → List Exchange
-asked_in [] = []
-asked_in (turn ∷ turns) = turn.asked ++ asked_in turns
+abbrev pub exchanges_of : List Turn → List Exchange
+exchanges_of [] = []
+exchanges_of (turn ∷ turns) = turn.asked ++ exchanges_of turns
 
 -- the keys of all the connections that came, the last first
 abbrev pub keys_of : List Occasion → List ℕ → List ℕ
@@ -28,6 +28,6 @@ keys_of [] keys = keys
 keys_of (occasion ∷ occasions) keys = keys_of occasions (keys_after occasion keys)
 
 -- the bytes that the deeds write to the connection of this opening
-abbrev pub written_by : ℕ → List ℕ → List Occasion → List Turn → List ℕ
-written_by opening keys (occasion ∷ occasions) (turn ∷ turns) = bytes_to opening (keys_after occasion keys) turn.deeds ++ written_by opening (keys_after occasion keys) occasions turns
-written_by opening keys occasions turns = []
+abbrev pub run_bytes : ℕ → List ℕ → List Occasion → List Turn → List ℕ
+run_bytes opening keys (occasion ∷ occasions) (turn ∷ turns) = bytes_to opening (keys_after occasion keys) turn.deeds ++ run_bytes opening (keys_after occasion keys) occasions turns
+run_bytes opening keys occasions turns = []

@@ -9,7 +9,7 @@ use Rattle.driver.specs.Calls.{is_hello}
 use Rattle.router_core.specs.declared.fate.PeerFate.{PeerFate}
 use Rattle.router_core.specs.declared.cause.CloseCause.TheVariants as cause
 use Rattle.router_core.specs.Deeds.{GatedCall}
-use Rattle.router_core.specs.Events.{OfPeer, closing, after_serving, for_entry, for_peer, serving_hello, serving_named, serving_at, serving_incoming, next_at, coming_next}
+use Rattle.router_core.specs.Events.{OfPeer, closing, after_serving, for_entry, for_peer, serving_hello, serving_named, serving_at, serving_incoming, next_at, serving_next}
 use Rattle.router_core.specs.Incoming.{Waits, Whole, Faulty, IsIncoming}
 use Rattle.router_core.specs.Scripts.{Gives, Framing, World, Comes, and_then}
 use Rattle.router_core.specs.Serving.{serving}
@@ -76,8 +76,8 @@ module _ {N G : Type 0} (told : N → History) (registry_of : N → ℕ) (passes
         (Whole message r.unread, incoming, subst (λ (stage : Stage). Comes told registry_of passes alone (serving_at s key (said message) x stage) w t v) (sym named) chosen)
 
     -- so it is served next
-    pub next_unnamed : (s : Standing) (q : Peer) (old : Option Peer) (privileged : Bool) → old ≡ Some p → p.stage ≡ Unnamed privileged → Reads s q → Comes told registry_of passes alone (coming_next s key old) w (with_peer s key (Some q)) v
+    pub next_unnamed : (s : Standing) (q : Peer) (old : Option Peer) (privileged : Bool) → old ≡ Some p → p.stage ≡ Unnamed privileged → Reads s q → Comes told registry_of passes alone (serving_next s key old) w (with_peer s key (Some q)) v
     next_unnamed s q old privileged is unnamed reads =
         let t : Standing = with_peer s key (Some q) in
-        subst (λ (o : Option Peer). Comes told registry_of passes alone (coming_next s key o) w t v) (sym is)
+        subst (λ (o : Option Peer). Comes told registry_of passes alone (serving_next s key o) w t v) (sym is)
         (subst (λ (stage : Stage). Comes told registry_of passes alone (next_at s key p stage) w t v) (sym unnamed) reads)

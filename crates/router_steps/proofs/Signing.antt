@@ -13,8 +13,8 @@ use Rattle.router_core.specs.declared.cause.CloseCause.TheVariants as cause
 use Rattle.seq_bus_core.specs.declared.error_kind.ErrorKind.TheVariants as error
 use Rattle.router_core.specs.Deeds.{GatedCall}
 use Rattle.router_core.specs.Scripts.{World, Comes, putting}
-use Rattle.router_core.specs.Serving.{OfFate, nothing, closes_for, with_sender, putting_copies, relaying_to, and_stays, erring_if_call}
-use Rattle.router_steps.specs.OncePut.{is_for_length, is_long, not_put}
+use Rattle.router_core.specs.Serving.{OfFate, nothing, closing_for, with_sender, putting_copies, relaying_to, staying_after, erring_if_call}
+use Rattle.router_steps.specs.OncePut.{is_for_length, is_long, after_relay_fault}
 
 pub long_is : {A : Type 0} (r : Result A RelayFault) (b : Bool) → (IsErrOf r relay.TooLong ↔ IsTrue b) → b ≡ is_long r
 long_is (Ok done) true h = let e : Ok done ≡ Err relay.TooLong = h.1 refl in cc
@@ -35,7 +35,7 @@ deliveries_of_one to monitors conn is = sym (ap (λ (conns : List Conn). deliver
 
 module _ {N G : Type 0} (told : N → History) (registry_of : N → ℕ) (passes : G → GatedCall → G → Type 0) (alone : Bool) (m : Message) (sender : Conn) (goes_on : OfFate) (fate : PeerFate) (end : World N G) where
   fits : (to : List Conn) (w : World N G) → is_too_long (with_sender m sender) ≡ false → Comes told registry_of passes alone (putting_copies m sender to goes_on) w fate end → Comes told registry_of passes alone (relaying_to m sender to goes_on) w fate end
-  fits to w short p = subst (λ (b : Bool). Comes told registry_of passes alone (if b then closes_for cause.TooLong else putting_copies m sender to goes_on) w fate end) (sym short) p
+  fits to w short p = subst (λ (b : Bool). Comes told registry_of passes alone (if b then closing_for cause.TooLong else putting_copies m sender to goes_on) w fate end) (sym short) p
 
   put : (to : List Conn) (w n : World N G) → Comes told registry_of passes alone (putting to (Relays (message_bytes (with_sender m sender))) nothing) w tt n → Comes told registry_of passes alone goes_on n fate end → Comes told registry_of passes alone (putting_copies m sender to goes_on) w fate end
   put [] w n p q = subst (λ (u : World N G). Comes told registry_of passes alone goes_on u fate end) p.1 q
@@ -45,13 +45,13 @@ module _ {N G : Type 0} (told : N → History) (registry_of : N → ℕ) (passes
       Comes told registry_of passes alone goes_on n fate end → Comes told registry_of passes alone (relaying_to m sender to goes_on) w fate end
   relays to said w n short is p q = fits to w short (put to w n (subst (λ (s : Said). Comes told registry_of passes alone (putting to s nothing) w tt n) is p) q)
 
-  dropped : (to monitors : List Conn) (w : World N G) → ((to ≡ []) × (monitors ≡ []) → ⊥) → Comes told registry_of passes alone (and_stays (erring_if_call m sender error.NoMemory)) w fate end →
+  dropped : (to monitors : List Conn) (w : World N G) → ((to ≡ []) × (monitors ≡ []) → ⊥) → Comes told registry_of passes alone (staying_after (erring_if_call m sender error.NoMemory)) w fate end →
       Comes told registry_of passes alone (putting_copies m sender (deliveries_of to monitors) goes_on) w fate end
   dropped (conn ∷ conns) monitors w some p = (false, p)
   dropped [] (conn ∷ conns) w some p = (false, p)
   dropped [] [] w some p = absurd (some (refl, refl))
 
   pub refuses : (fault : RelayFault) (to monitors : List Conn) (w : World N G) → is_too_long (with_sender m sender) ≡ is_for_length fault → ((to ≡ []) × (monitors ≡ []) → ⊥) →
-      Comes told registry_of passes alone (not_put fault m sender) w fate end → Comes told registry_of passes alone (relaying_to m sender (deliveries_of to monitors) goes_on) w fate end
+      Comes told registry_of passes alone (after_relay_fault fault m sender) w fate end → Comes told registry_of passes alone (relaying_to m sender (deliveries_of to monitors) goes_on) w fate end
   refuses relay.NoMemory to monitors w long some p = fits (deliveries_of to monitors) w long (dropped to monitors w some p)
-  refuses relay.TooLong to monitors w long some p = subst (λ (b : Bool). Comes told registry_of passes alone (if b then closes_for cause.TooLong else putting_copies m sender (deliveries_of to monitors) goes_on) w fate end) (sym long) p
+  refuses relay.TooLong to monitors w long some p = subst (λ (b : Bool). Comes told registry_of passes alone (if b then closing_for cause.TooLong else putting_copies m sender (deliveries_of to monitors) goes_on) w fate end) (sym long) p

@@ -10,7 +10,7 @@ use Rattle.bus_view.specs.declared.answer.Asked.TheVariants.{Body, NameHasNoOwne
 use Rattle.bus_view.specs.declared.refusal.Cause.{Cause}
 use Rattle.bus_view.specs.declared.refusal.Gone.{Gone}
 use Rattle.bus_view.specs.declared.refusal.RefusedAll.{RefusedAll}
-use Rattle.router_core.specs.Answers.{Heard, Says, Refuses, Lost, refusal_of, refusal_of_batch, unanswered_for}
+use Rattle.router_core.specs.Answers.{Heard, Says, Refuses, Lost, refusal_of, refusal_of_batch, refusal_of_query}
 
 abbrev pub heard_change : Result Outcome Cause → Heard Outcome
 heard_change (Ok outcome) = Says outcome
@@ -33,4 +33,4 @@ heard_present (Err gone) = Refuses Lost
 abbrev pub IsTold : Result Asked AskFault → Heard (Option Answer) → List ℕ → Type 0
 IsTold (Ok Body) heard bytes = (answer : Answer) × (heard ≡ Says (Some answer)) × IsBody answer bytes
 IsTold (Ok NameHasNoOwner) heard bytes = (heard ≡ Says None) × (bytes ≡ [])
-IsTold (Err fault) heard bytes = (heard ≡ Refuses (unanswered_for fault)) × (bytes ≡ [])
+IsTold (Err fault) heard bytes = (heard ≡ Refuses (refusal_of_query fault)) × (bytes ≡ [])

@@ -4,7 +4,7 @@ use Rattle.message_core.specs.Said.{said}
 use Rattle.driver.specs.Calls.{is_hello}
 use Rattle.bus_view.specs.declared.view.BusView.{Ghosts as BusView}
 use Rattle.router_core.specs.declared.gate.Gate.{Ghosts as Gate}
-use Rattle.router_core.specs.Events.{coming_next}
+use Rattle.router_core.specs.Events.{serving_next}
 use Rattle.router_core.specs.Incoming.{Waits, Whole, Faulty, IsIncoming}
 use Rattle.router_core.specs.Scripts.{World, RunsTo}
 use Rattle.router_core.specs.Standing.{Unnamed, Peer, Standing, peer_at, with_peer, next_serial}
@@ -56,5 +56,5 @@ pub record SaysHello (call : HelloCall) (old new : Peer) : Type 0 where
 
 -- The next message was served, or it is a Hello that is to be served yet.
 abbrev pub ComesOfNext : {V N R G : Type 0} → BusView V N R → Gate G → ℕ → Option HelloCall → Option Peer → Option Peer → World N G → World N G → Type 0
-ComesOfNext view gate key None old new w v = (s : Standing) → peer_at s key ≡ old → RunsTo view gate (coming_next s key old) w (with_peer s key new) v
+ComesOfNext view gate key None old new w v = (s : Standing) → peer_at s key ≡ old → RunsTo view gate (serving_next s key old) w (with_peer s key new) v
 ComesOfNext view gate key (Some call) old new w v = (p q : Peer) × (old ≡ Some p) × (new ≡ Some q) × SaysHello call p q × (v ≡ w)

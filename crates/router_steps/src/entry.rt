@@ -8,7 +8,7 @@ ghost use Rattle.router_core.specs.Deeds.{IsOwnNote};
 ghost use Rattle.router_core.specs.Events.{closing, hearing, for_entry, checking_presence, checking_each, refusing_hello, dismissal, writing};
 ghost use Rattle.router_core.specs.Scripts.{RunsTo};
 ghost use Rattle.router_core.specs.Standing.{next_serial};
-ghost use Rattle.router_steps.specs.Noting.{once_noted};
+ghost use Rattle.router_steps.specs.Noting.{after_noting};
 ghost use Rattle.router_steps.specs.Refusing.{AreRefusals, IsRefusal};
 
 use crate::context::Context;
@@ -56,7 +56,7 @@ impl<V: BusView, G: Gate> Context<V, G> {
         requires room { 0 < self.old.room }
         requires own { IsOwnNote V.registry_of self.old.world.view.registry envelope.now.note }
         ensures comes { OnOk result (RunsTo V.BusView G.Gate
-            (once_noted (option_map V.told envelope.now.note)
+            (after_noting (option_map V.told envelope.now.note)
             (for_entry entry.old (writing key (said_of envelope.now.content))))
             self.old.world entry.new self.new.world) }
         ensures err { OnErr result (entry.new ≡ entry.old) }

@@ -6,7 +6,7 @@ ghost use Rattle.router_core.specs.Deeds.{IsOwnNote};
 ghost use Rattle.router_core.specs.Events.{writing};
 ghost use Rattle.router_core.specs.Scripts.{RunsTo};
 ghost use Rattle.router_core.specs.Standing.{next_serial};
-ghost use Rattle.router_steps.specs.Noting.{once_noted, IsNoteTaken};
+ghost use Rattle.router_steps.specs.Noting.{after_noting, IsNoteTaken};
 ghost use Rattle.router_steps.specs.Writing.{IsSpelled};
 
 use crate::context::Context;
@@ -88,7 +88,7 @@ impl<V: BusView, G: Gate> Context<V, G> {
         requires room { 0 < self.old.room }
         requires own { IsOwnNote V.registry_of self.old.world.view.registry envelope.now.note }
         ensures comes { OnOk result (RunsTo V.BusView G.Gate
-            (once_noted (option_map V.told envelope.now.note)
+            (after_noting (option_map V.told envelope.now.note)
             (writing key (said_of envelope.now.content) peer.old))
             self.old.world peer.new self.new.world) }
         ensures err { OnErr result (peer.new ≡ peer.old) }

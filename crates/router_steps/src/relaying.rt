@@ -8,7 +8,7 @@ ghost use Rattle.outbox_core.specs.Deliveries.{deliveries_of};
 ghost use Rattle.router_core.specs.Scripts.{World, RunsTo, putting};
 ghost use Rattle.router_core.specs.Serving.{OfFate, nothing, with_sender, relaying_to, showing};
 ghost use Rattle.router_core.specs.declared.fate.PeerFate.{PeerFate as Fate};
-ghost use Rattle.router_steps.specs.OncePut.{is_long, once_put};
+ghost use Rattle.router_steps.specs.OncePut.{is_long, after_put};
 
 use crate::context::Context;
 use crate::verdicts::{is_for_nobody, tell_monitors_alone};
@@ -54,7 +54,7 @@ impl<V: BusView, G: Gate> Context<V, G> {
         requires { 0 < self.old.room }
         ensures comes { (goes_on : OfFate) (fate : Fate) (end : World V.Note G) →
             RunsTo V.BusView G.Gate
-            (once_put result (said message.now) sender goes_on) self.new.world fate end →
+            (after_put result (said message.now) sender goes_on) self.new.world fate end →
             RunsTo V.BusView G.Gate
             (relaying_to (said message.now) sender
             (deliveries_of verdict.value.to verdict.value.monitors) goes_on)
@@ -99,7 +99,7 @@ impl<V: BusView, G: Gate> Context<V, G> {
         requires { 0 < self.old.room }
         ensures comes { (goes_on : OfFate) (fate : Fate) (end : World V.Note G) →
             RunsTo V.BusView G.Gate
-            (once_put result (said message.now) sender goes_on) self.new.world fate end →
+            (after_put result (said message.now) sender goes_on) self.new.world fate end →
             RunsTo V.BusView G.Gate
             (relaying_to (said message.now) sender verdict.value.monitors goes_on)
             self.old.world fate end }
@@ -132,7 +132,7 @@ impl<V: BusView, G: Gate> Context<V, G> {
         requires { 0 < self.old.room }
         ensures comes { (goes_on : OfFate) (fate : Fate) (end : World V.Note G) →
             RunsTo V.BusView G.Gate
-            (once_put result (said message.now) sender goes_on) self.new.world fate end →
+            (after_put result (said message.now) sender goes_on) self.new.world fate end →
             RunsTo V.BusView G.Gate
             (showing (said message.now) sender verdict.value.monitors goes_on)
             self.old.world fate end }

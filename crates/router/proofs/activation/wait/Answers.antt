@@ -6,7 +6,7 @@ use Rattle.seq_bus_core.specs.declared.change.Change.TheVariants.{Hold}
 use Rattle.seq_bus_core.specs.declared.error_kind.ErrorKind.{ErrorKind}
 use Rattle.router_core.specs.Answers.{Says, Refuses, refusal_of}
 use Rattle.router_core.specs.Scripts.{Changes, Comes}
-use Rattle.router_core.specs.Serving.{and_stays, erring, waiting_call}
+use Rattle.router_core.specs.Serving.{staying_after, erring, waiting_call}
 use Rattle.router.proofs.activation.wait.Goals as goal
 
 pub returns-in-Ok-clause-comes : goal.returns-in-Ok-clause-comes
@@ -35,5 +35,5 @@ returns-in-Err-clause-comes g c =
     let named = subst (λ (name : Text). Changes alone (Hold c.args.sender.number name c.waiting_call.result c.args.parcel.held) w (Refuses why) n) c.deref.ensures c.in-Err.ensures.changes in
     let called = subst (λ (call : CallHead). Changes alone (Hold c.args.sender.number c.args.parcel.name.value call c.args.parcel.held) w (Refuses why) n) c.waiting_call.ensures named in
     let changes = subst (λ (bytes : List ℕ). Changes alone (Hold c.args.sender.number c.args.parcel.name.value (waiting_call m) bytes) w (Refuses why) n) c.requires.held called in
-    let errs = subst (λ (e : ErrorKind). Comes told registry_of passes alone (and_stays (erring m c.args.sender e)) n c.refuse.result v) c.error_for.ensures c.refuse.ensures.comes in
+    let errs = subst (λ (e : ErrorKind). Comes told registry_of passes alone (staying_after (erring m c.args.sender e)) n c.refuse.result v) c.error_for.ensures c.refuse.ensures.comes in
     (Refuses why, n, changes, errs)

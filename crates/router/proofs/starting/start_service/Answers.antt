@@ -6,7 +6,7 @@ use Rattle.seq_bus_core.specs.declared.change.Change.TheVariants.{Start}
 use Rattle.seq_bus_core.specs.declared.error_kind.ErrorKind.{ErrorKind}
 use Rattle.router_core.specs.Answers.{Says, Refuses, refusal_of}
 use Rattle.router_core.specs.Scripts.{Changes, Comes}
-use Rattle.router_core.specs.Serving.{and_stays, erring, after_start}
+use Rattle.router_core.specs.Serving.{staying_after, erring, after_start}
 use Rattle.router.proofs.starting.start_service.Goals as goal
 
 pub returns-in-Ok-change-clause-comes : goal.returns-in-Ok-change-clause-comes
@@ -36,5 +36,5 @@ returns-in-Err-clause-comes g c =
     let n = c.change.new.self.world in
     let v = c.refuse-in-Err.new.context.world in
     let changes = subst (λ (call : CallHead). Changes alone (Start c.args.caller.number c.args.name.now call) w (Refuses why) n) c.waiting_call.ensures c.in-Err.ensures.changes in
-    let errs = subst (λ (e : ErrorKind). Comes told registry_of passes alone (and_stays (erring m c.args.caller e)) n c.refuse-in-Err.result v) c.error_for.ensures c.refuse-in-Err.ensures.comes in
+    let errs = subst (λ (e : ErrorKind). Comes told registry_of passes alone (staying_after (erring m c.args.caller e)) n c.refuse-in-Err.result v) c.error_for.ensures c.refuse-in-Err.ensures.comes in
     (true, (Refuses why, n, changes, errs))

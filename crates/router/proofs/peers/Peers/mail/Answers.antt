@@ -6,7 +6,7 @@ use Rattle.outbox_core.specs.Contents.{said_of}
 use Rattle.router_core.specs.Events.{writing, for_entry, mail_delivery, after_note}
 use Rattle.router_core.specs.Scripts.{Comes}
 use Rattle.router_core.specs.Standing.{Standing, is_conn, peer_at}
-use Rattle.router_steps.specs.Noting.{once_noted, IsNoteTaken}
+use Rattle.router_steps.specs.Noting.{after_noting, IsNoteTaken}
 use Rattle.router.specs.Tables.{Table}
 use Rattle.router.proofs.FoundMail.{dropped, delivered}
 use Rattle.router.proofs.Indexing.{index_at, same_keeps, either_way}
@@ -48,8 +48,8 @@ returns-in-Some-clause-comes g c =
     let there : c.index_mut.result.now ≡ peer_at s key = get_or_read s.peers key c.index_mut.result.now (position-Some test s.peers key None some).0 c.index_mut.ensures.value None in
     on_ok_weaker c.deliver_to.result
     (λ brought.
-    let here = subst (λ k. Comes told registry_of passes alone (once_noted held (for_entry c.index_mut.result.now (writing key said))) k q v) c.reserve.ensures.world brought in
-    let found = subst (λ o. Comes told registry_of passes alone (once_noted held (for_entry o (writing key said))) w q v) there here in
+    let here = subst (λ k. Comes told registry_of passes alone (after_noting held (for_entry c.index_mut.result.now (writing key said))) k q v) c.reserve.ensures.world brought in
+    let found = subst (λ o. Comes told registry_of passes alone (after_noting held (for_entry o (writing key said))) w q v) there here in
     subst (λ (k : Table g.row.V-Note.Denot g.row.G.Denot). Comes told registry_of passes alone (after_note held (mail_delivery k.standing said (position test k.standing.peers))) k.work.world t v) c.self.view_is
     (delivered told registry_of passes alone w v held s said (position test s.peers) key q some found))
     c.deliver_to.ensures.comes

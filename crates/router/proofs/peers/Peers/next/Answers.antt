@@ -1,7 +1,7 @@
 use Rattle.std.proofs.Common.{◌≡◌, ◌<◌, ℕ, Option, Some, None, IfSome, get_or, set, length, arith, sym, ap, ◌∙◌, subst}
 use Rattle.std.proofs.lemmas.List.{get_or_read, get_or-set_same}
 use Rattle.message_core.specs.Said.{said}
-use Rattle.router_core.specs.Events.{coming_next, serving_hello}
+use Rattle.router_core.specs.Events.{serving_next, serving_hello}
 use Rattle.router_core.specs.Scripts.{RunsTo}
 use Rattle.router_core.specs.Standing.{Peer, Stage, Standing, Unnamed, next_serial, peer_at, with_peer}
 use Rattle.router_steps.specs.Reading.{ComesOfNext}
@@ -40,7 +40,7 @@ returns-in-Some-clause-comes g c =
     let m = said hello.hello in
     let begun = subst (λ k. RunsTo g.V.BusView g.G.Gate (serving_hello (with_peer s key new) key m q hello.privileged) k t v) (next_is.5 ∙ c.reserve_verdicts.ensures.world ∙ c.reserve.ensures.world) (c.serve_hello.ensures q left) in
     let done = serves_hello s key new m q p hello.privileged is_there says.stage slotless told registry_of passes alone hello.privileged w t v begun in
-    subst (λ (k : Table g.row.V-Note.Denot g.row.G.Denot). RunsTo g.V.BusView g.G.Gate (coming_next k.standing key (peer_at k.standing key)) k.work.world t v) c.self.view_is
+    subst (λ (k : Table g.row.V-Note.Denot g.row.G.Denot). RunsTo g.V.BusView g.G.Gate (serving_next k.standing key (peer_at k.standing key)) k.work.world t v) c.self.view_is
     (hello_next told registry_of passes alone s key p q hello.privileged hello.hello w t v is_there says.stage says.bytes says.rest says.is_hello done)
 
 pub invariant_of-self-in-None : goal.invariant_of-self-in-None
