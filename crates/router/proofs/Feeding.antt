@@ -369,7 +369,7 @@ module _ (piece : List ℕ) (key : ℕ) where
     hello_more s true = serving_hello_more s
     hello_more s false = here s (closing key cause.NotHello) (closing_natural key cause.NotHello) (Some p)
 
-  -- ## The coming_next message
+  -- ## The next message
 
   watches_same : (p : Peer) (stage : Stage) → (with_bytes piece p stage).watches ≡ p.watches
   watches_same p (Authenticating setting state) = refl

@@ -56,7 +56,7 @@ module _ {N G : Type 0} (told : N → History) (registry_of : N → ℕ) (passes
 
   -- ---- the calls that joined
 
-  -- the change of the coming_next, then those of the rest
+  -- the change of the next, then those of the rest
   pub makes_more : (joints : List Joint) (i : ℕ) (j : Joint) → i < length joints → j ≡ get_or joints i j → (before after end : Standing) (w m v : World N G) →
       Comes told registry_of passes alone (work_for before j.key (Changing (change_of_joint j) (λ heard. after_change (said j.message) j.caller heard))) w after m →
       Comes told registry_of passes alone (making_each (drop (i + 1) joints) after) m end v → Comes told registry_of passes alone (making_each (drop i joints) before) w end v
@@ -64,7 +64,7 @@ module _ {N G : Type 0} (told : N → History) (registry_of : N → ℕ) (passes
       subst (λ (js : List Joint). Comes told registry_of passes alone (making_each js before) w end v) (sym (drop_more joints i j inside ∙ ap (λ (x : Joint). x ∷ drop (i + 1) joints) (sym is)))
       (comes_then told registry_of passes alone (λ (t : Standing). making_each (drop (i + 1) joints) t) after m end v later (work_for before j.key (Changing (change_of_joint j) (λ heard. after_change (said j.message) j.caller heard))) w this)
 
-  -- the coming_next is answered, then the rest
+  -- the next is answered, then the rest
   pub answers_more : (joints : List Joint) (i : ℕ) (j : Joint) (outcomes rest : List Outcome) (o : Outcome) → i < length joints → j ≡ get_or joints i j → outcomes ≡ o ∷ rest → (before after end : Standing) (w m v : World N G) →
       Comes told registry_of passes alone (work_for before j.key (after_change (said j.message) j.caller (Says o))) w after m →
       Comes told registry_of passes alone (answering_each (drop (i + 1) joints) rest after) m end v → Comes told registry_of passes alone (answering_each (drop i joints) outcomes before) w end v
@@ -99,7 +99,7 @@ module _ {N G : Type 0} (told : N → History) (registry_of : N → ℕ) (passes
     makes_many (j ∷ []) granted many done = absurd (omega (arith, many))
     makes_many (j ∷ k ∷ joints) granted many done = (granted, done)
 
-  -- ---- the coming_next message
+  -- ---- the next message
 
   -- the changes before it are made first
   pub parts_from : (joints : List Joint) (s t u : Standing) (work : Standing → Stands) (w m v : World N G) → Comes told registry_of passes alone (making_all joints s) w t m → Comes told registry_of passes alone (work t) m u v →
@@ -117,7 +117,7 @@ module _ {N G : Type 0} (told : N → History) (registry_of : N → ℕ) (passes
       subst (λ (js : List Joint). let end : Gathered = record { joints = js; standing = u; served = true } in Comes told registry_of passes alone (serving_apart joints s key) w end v) (sym none)
       (parts_from joints s t u (λ (y : Standing). serving_next y key (peer_at y key)) w m v making served)
 
-  -- nothing is coming_next
+  -- nothing is next
   pub gathers_none : (joints : List Joint) (s : Standing) (key : ℕ) (p : Peer) (w : World N G) → IsQuiet p → Comes told registry_of passes alone (gathering joints s key (Some p)) w (record { joints = joints; standing = s; served = false }) w
   gathers_none joints s key p w quiet = in_stage p.stage quiet
     where
@@ -169,7 +169,7 @@ module _ {N G : Type 0} (told : N → History) (registry_of : N → ℕ) (passes
       let of_client = subst (λ (b : Bool). Comes told registry_of passes alone (gathering_message joints s key message left conn b) w end v) (sym speaks) of_header in
       subst (λ (stage : Stage). Comes told registry_of passes alone (gathering_at joints s key old stage) w end v) (sym named) (Whole message new.unread, incoming, of_client)
 
-  -- the coming_next message, then the rest; memory is there
+  -- the next message, then the rest; memory is there
   pub turns_more : (keys : List ℕ) (i : ℕ) → i < length keys → (begun : Bool) (js : List Joint) (before end : Standing) (after : Gathered) (w m v : World N G) →
       Comes told registry_of passes alone (gathering js before (get_or keys i 0) (peer_at before (get_or keys i 0))) w after m →
       Comes told registry_of passes alone (turning after.joints (drop (i + 1) keys) (begun || after.served) after.standing) m end v → Comes told registry_of passes alone (turning js (drop i keys) begun before) w end v
@@ -183,7 +183,7 @@ module _ {N G : Type 0} (told : N → History) (registry_of : N → ℕ) (passes
       by_begun true rest =
           (true, comes_then told registry_of passes alone (λ (g : Gathered). turning g.joints (drop (i + 1) keys) true g.standing) after m end v rest (gathering js before (get_or keys i 0) (peer_at before (get_or keys i 0))) w this)
 
-  -- memory is refused before a later message: the turning ends
+  -- memory is refused before a later message: the turn ends
   pub turns_end : (keys : List ℕ) (i : ℕ) → i < length keys → (js : List Joint) (before end : Standing) (w v : World N G) → Comes told registry_of passes alone (making_all js before) w end v →
       Comes told registry_of passes alone (turning js (drop i keys) true before) w end v
   turns_end keys i inside js before end w v making =

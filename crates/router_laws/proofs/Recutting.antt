@@ -235,7 +235,7 @@ joined key first second r (one ∷ two ∷ []) after run =
 -- ## Nothing to be served
 
 module _ (key : ℕ) (s : Standing) (p : Peer) where
-  -- the coming_next message is not served
+  -- the next message is not served
   abbrev IsLeft : Stage → Type 0
   IsLeft stage = (k m : Knowledge) (asked : List Exchange) (deeds : List Deed) (x : Standing) → Goes (next_at s key p stage) asked deeds x → IsLawful true k asked m →
       (deeds ≡ []) × (x ≡ s) × (m ≡ k)
@@ -330,7 +330,7 @@ module _ (key : ℕ) (piece : List ℕ) (r : Rest) (p : Peer) where
       let closed : with_peer later_standing key (Some (closing_peer later_peer)) ≡ with_more piece key (with_peer r.standing key (Some (closing_peer p))) = ap (λ (rest : Rest). rest.standing) (closed_more key piece r p) in
       (goes.0, goes.1, (goes.2.0, goes.2.1, ap (λ (standing : Standing). with_more piece key standing) goes.2.2 ∙ sym closed))
 
-  -- the coming_next message is served in the same way
+  -- the next message is served in the same way
   record GoesAgain (stage : Stage) (k m : Knowledge) (asked : List Exchange) (deeds : List Deed) (x : Standing) : Type 0 where
     again : List Exchange
     goes : Goes (next_at later_standing key later_peer stage) again deeds (with_more piece key x)
