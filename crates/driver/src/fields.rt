@@ -1,17 +1,15 @@
 //! Header fields of the messages of the bus.
 
 ghost use Rattle.std.specs.Prelude.{◌≡◌, IsUtf8, ◌+◌, ◌≤◌, ◌++◌, ◌∷◌, [], length, false, List, Option, option_map, vec_capacity};
-ghost use Rattle.std.specs.Int.{w32};
 ghost use Rattle.names.specs.UniqueName.{unique_text};
 ghost use Rattle.marshal_core.specs.Types.{Tys};
-ghost use Rattle.marshal_core.specs.Values.{a_string, an_object_path, a_uint32};
+ghost use Rattle.marshal_core.specs.Values.{a_string, an_object_path};
 ghost use Rattle.marshal_core.specs.Signatures.{codes as signature_text, IsSignature};
-ghost use Rattle.marshal_core.specs.Spelling.{IsString, has_zero, number_bytes, ended, pads};
+ghost use Rattle.marshal_core.specs.Spelling.{has_zero, pads};
 ghost use Rattle.marshal_core.specs.declared.order.Order.TheVariants.{Little};
 ghost use Rattle.message_core.specs.declared.header_field.HeaderField.TheVariants as field_of;
 ghost use Rattle.message_core.specs.HeaderFields.{Field};
-ghost use Rattle.message_core.specs.Headers.{AreWritten, known_field, optional_field, signature_field};
-ghost use Rattle.message_core.specs.Kinds.{code_of};
+ghost use Rattle.message_core.specs.Headers.{AreWritten, known_field, optional_field, text_field};
 ghost use Rattle.driver.specs.OwnMessages.{bus_path};
 ghost use Rattle.driver.specs.Layout.{end_fields, IsNamed};
 
@@ -22,34 +20,18 @@ use names::{BUS_NAME, BUS_PATH, ConnectionName};
 /// The most bytes of the header fields of a message of the bus.
 pub const ROOM: usize = 512;
 
-/// Begins a field: puts what comes before its value, the padding, its code, its type.
-fn begin_field(fields: &mut Vec<u8>, field: HeaderField, letter: u8)
-    requires room { length fields.old.items + 11 ≤ ROOM }
-    requires capacity { ROOM ≤ vec_capacity fields.old }
-    ensures put { fields.new.items
-        ≡ fields.old.items ++ (pads 8 (length fields.old.items)
-        ++ (code_of field ∷ 1 ∷ letter ∷ 0 ∷ [])) }
-    ensures capacity { vec_capacity fields.old ≤ vec_capacity fields.new }
-    ensures room { length fields.new.items ≤ length fields.old.items + 11 }
-{
-    let at = fields.len();
-    in_room::put_start(fields, at, field, letter);
-}
-
 /// Puts a field whose value is a text.
 fn put_text(fields: &mut Vec<u8>, field: HeaderField, letter: u8, text: &str)
     requires room { length fields.old.items + length text.now + 16 ≤ ROOM }
     requires capacity { ROOM ≤ vec_capacity fields.old }
-    ensures put { fields.new.items
-        ≡ fields.old.items ++ (pads 8 (length fields.old.items)
-        ++ (code_of field ∷ 1 ∷ letter ∷ 0 ∷ [])
-        ++ (number_bytes Little w32 (length text.now) ++ ended text.now)) }
+    ensures put { fields.new.items ≡ fields.old.items
+        ++ (pads 8 (length fields.old.items) ++ text_field Little field letter text.now) }
     ensures utf8 { IsUtf8 text.now }
     ensures capacity { vec_capacity fields.old ≤ vec_capacity fields.new }
     ensures room { length fields.new.items ≤ length fields.old.items + length text.now + 16 }
 {
-    begin_field(fields, field, letter);
-    in_room::put_string(fields, Order::Little, text);
+    let at = fields.len();
+    in_room::put_text(fields, Order::Little, at, field, letter, text);
 }
 
 /// Puts a field of a string.
@@ -78,19 +60,6 @@ pub fn put_path(fields: &mut Vec<u8>)
     put_text(fields, HeaderField::Path, b'o', BUS_PATH);
 }
 
-pub fn put_reply_serial(fields: &mut Vec<u8>, serial: u32)
-    requires room { length fields.old.items + 16 ≤ ROOM }
-    requires capacity { ROOM ≤ vec_capacity fields.old }
-    ensures put { (sent : List Field) → AreWritten Little sent fields.old.items
-        → AreWritten Little (sent ++ known_field field_of.ReplySerial (a_uint32 serial)
-        ∷ []) fields.new.items }
-    ensures capacity { vec_capacity fields.old ≤ vec_capacity fields.new }
-    ensures room { length fields.new.items ≤ length fields.old.items + 16 }
-{
-    begin_field(fields, HeaderField::ReplySerial, b'u');
-    in_room::put_number(fields, Order::Little, serial);
-}
-
 /// Puts the destination, where there is one.
 fn put_destination(fields: &mut Vec<u8>, number: Option<u64>)
     requires room { length fields.old.items + 271 ≤ ROOM }
@@ -106,26 +75,6 @@ fn put_destination(fields: &mut Vec<u8>, number: Option<u64>)
         let name = ConnectionName::of(number);
         put_string(fields, HeaderField::Destination, name.as_str());
     }
-}
-
-/// Puts the signature of the body, where it has values.
-fn put_signature(fields: &mut Vec<u8>, signature: &str)
-    requires room { length fields.old.items + 32 ≤ ROOM }
-    requires capacity { ROOM ≤ vec_capacity fields.old }
-    requires short { length signature.now ≤ 16 }
-    ensures put { (types : Tys) (sent : List Field) → signature.now ≡ signature_text types
-        → IsSignature types → AreWritten Little sent fields.old.items
-        → AreWritten Little (sent ++ signature_field types) fields.new.items }
-    ensures capacity { vec_capacity fields.old ≤ vec_capacity fields.new }
-    ensures room { length fields.new.items ≤ length fields.old.items + 32 }
-{
-    if signature.is_empty() {
-        return;
-    }
-    begin_field(fields, HeaderField::Signature, b'g');
-    in_room::put(fields, &[signature.len() as u8]);
-    in_room::put(fields, signature.as_bytes());
-    in_room::put(fields, &[0]);
 }
 
 /// Puts the fields that all messages of the bus end with: the destination, where there is one, the
@@ -144,5 +93,5 @@ pub fn put_end(fields: &mut Vec<u8>, destination: Option<u64>, signature: &str)
 {
     put_destination(fields, destination);
     put_string(fields, HeaderField::Sender, BUS_NAME);
-    put_signature(fields, signature);
+    in_room::put_signature(fields, signature.as_bytes());
 }

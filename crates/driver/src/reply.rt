@@ -11,13 +11,15 @@ ghost use Rattle.message_core.specs.Headers.{message_of};
 ghost use Rattle.driver.specs.OwnMessages.{error_message, number_types, number_values, of_strings, reply_header, types_for, IsReplyBody, Writes};
 
 use crate::error_words::{error_name, error_text};
-use crate::fields::{ROOM, put_end, put_reply_serial, put_string};
+use crate::fields::{ROOM, put_end, put_string};
 use crate::layout::append_message;
 use crate::strings;
 use arrayvec::ArrayVec;
 use byteorder::{ByteOrder, LittleEndian};
+use marshal_core::Order;
 use match_rules::MessageKind;
 use message_core::HeaderField;
+use message_core::in_room::put_reply_serial;
 use seq_bus_core::ErrorKind;
 use std::alloc::AllocError;
 use std::marker::Model;
@@ -127,7 +129,7 @@ fn put_reply(
     ensures err { OnErr result (out.new.items ≡ out.old.items) }
 {
     let mut fields = Vec::with_capacity(*out.allocator(), ROOM)?;
-    put_reply_serial(&mut fields, to.call());
+    put_reply_serial(&mut fields, Order::Little, to.call());
     put_end(&mut fields, to.caller(), signature);
     append_message(MessageKind::MethodReturn, serial, &fields, body, out)
 }
@@ -207,7 +209,7 @@ pub fn write_error(
 {
     let mut fields = Vec::with_capacity(*out.allocator(), ROOM)?;
     put_string(&mut fields, HeaderField::ErrorName, error_name(error));
-    put_reply_serial(&mut fields, to.call());
+    put_reply_serial(&mut fields, Order::Little, to.call());
     put_end(&mut fields, to.caller(), "s");
     let mut text = ArrayVec::<u8, { strings::ROOM }>::new();
     strings::put_string(&mut text, error_text(error));

@@ -6,7 +6,7 @@ ghost use Rattle.message.specs.Layout.{AreWithin, fields_end, copied, sender_byt
 
 use crate::layout::behind;
 use marshal_core::Order;
-use message_core::in_room::{put, put_padding, put_start, put_string};
+use message_core::in_room::{put, put_padding, put_text};
 use message_core::{FieldPlace, HeaderField};
 
 /// Puts the fields at these places of a message one after the other, the first from a place on.
@@ -35,6 +35,5 @@ pub fn put_sender(output: &mut Vec<u8>, order: Order, name: &str, at: usize)
         ≡ output.old.items ++ (pads 8 at ++ sender_bytes order name.now) }
     ensures capacity { vec_capacity output.old ≤ vec_capacity output.new }
 {
-    put_start(output, at, HeaderField::Sender, b's');
-    put_string(output, order, name);
+    put_text(output, order, at, HeaderField::Sender, b's', name);
 }

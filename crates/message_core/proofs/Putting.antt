@@ -2,20 +2,19 @@
 use Rattle.std.proofs.Common.{◌≡◌, ℕ, ◌+◌, ◌<◌, ◌^◌, Bool, false, List, [], ◌∷◌, ◌++◌, length, nat_eq, Result, Ok, Err, OnOk, sym, ap, subst, ◌∙◌, append_assoc, arith}
 use Rattle.std.specs.Prelude.{replicate, IsUtf8}
 use Rattle.std.specs.List.{list_any}
-use Rattle.std.specs.Int.{w32}
 use Rattle.std.proofs.lemmas.List.{length-append, append-nil}
 use Rattle.names.specs.ObjectPath.{IsObjectPath}
 use Rattle.marshal_core.specs.declared.order.Order.{Order}
 use Rattle.marshal_core.specs.Types.{Ty, basic, variant, array, entry, struct, Tys, no_types, more_types}
 use Rattle.marshal_core.specs.Values.{BasicVal, a_string, an_object_path, a_signature}
 use Rattle.marshal_core.specs.Signatures.{code, codes, IsSignature}
-use Rattle.marshal_core.specs.Spelling.{IsBasicValue, IsString, ended, number_bytes, pads, pad_len}
+use Rattle.marshal_core.specs.Spelling.{IsBasicValue, IsString, ended, pads, pad_len}
 use Rattle.message_core.specs.declared.header_field.HeaderField.{HeaderField}
 use Rattle.message_core.specs.declared.header_field.HeaderField.TheVariants as field
 use Rattle.message_core.specs.Kinds.{code_of}
 use Rattle.message_core.specs.HeaderFields.{Field}
 use Rattle.message_core.specs.BasicFields.{basic_field}
-use Rattle.message_core.specs.Headers.{AreWritten, known_field, signature_field}
+use Rattle.message_core.specs.Headers.{AreWritten, known_field, signature_field, text_field}
 use Rattle.message_core.specs.Places.{SpellField}
 use Rattle.message_core.proofs.Strings.{has_zero_any}
 use Rattle.message_core.proofs.Shape.{basic_spelled, padded_spelled}
@@ -81,18 +80,16 @@ both_ok (Ok x) f p q = f p q
 both_ok (Err e) f p q = tt
 
 abbrev Put : HeaderField → ℕ → Order → List ℕ → List ℕ → List ℕ → Type 0
-Put k letter order t old new = new ≡ old ++ (pads 8 (length old) ++ (code_of k ∷ 1 ∷ letter ∷ 0 ∷ []) ++ (number_bytes order w32 (length t) ++ ended t))
+Put k letter order t old new = new ≡ old ++ (pads 8 (length old) ++ text_field order k letter t)
 
 pub path_put : (order : Order) (sent : List Field) (t path old new : List ℕ) → t ≡ path → IsObjectPath path → AreWritten order sent old → Put field.Path 111 order t old new → IsString t
     → AreWritten order (sent ++ known_field field.Path (an_object_path path) ∷ []) new
 path_put order sent t path old new e is h put string =
     subst (λ (x : List ℕ). AreWritten order (sent ++ known_field field.Path (an_object_path x) ∷ []) new) e
-    (one_more order sent field.Path (an_object_path t) old new (string, subst IsObjectPath (sym e) is) h
-    (text_bytes old (pads 8 (length old)) (1 ∷ 1 ∷ 111 ∷ 0 ∷ []) (number_bytes order w32 (length t) ++ ended t) new put))
+    (one_more order sent field.Path (an_object_path t) old new (string, subst IsObjectPath (sym e) is) h put)
 
 pub name_put : (order : Order) (sent : List Field) (k : HeaderField) (t name old new : List ℕ) → t ≡ name → AreWritten order sent old → Put k 115 order t old new → IsString t
     → AreWritten order (sent ++ known_field k (a_string name) ∷ []) new
 name_put order sent k t name old new e h put string =
     subst (λ (x : List ℕ). AreWritten order (sent ++ known_field k (a_string x) ∷ []) new) e
-    (one_more order sent k (a_string t) old new string h
-    (text_bytes old (pads 8 (length old)) (code_of k ∷ 1 ∷ 115 ∷ 0 ∷ []) (number_bytes order w32 (length t) ++ ended t) new put))
+    (one_more order sent k (a_string t) old new string h put)

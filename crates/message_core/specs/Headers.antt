@@ -4,7 +4,7 @@ use Rattle.std.specs.Int.{w32}
 use Rattle.marshal_core.specs.declared.order.Order.{Order}
 use Rattle.marshal_core.specs.Types.{Tys, no_types, more_types}
 use Rattle.marshal_core.specs.Values.{BasicVal, a_string, an_object_path, a_uint32, a_signature, Val, a_basic, values, Vals}
-use Rattle.marshal_core.specs.Spelling.{number_bytes, pads, IsBasicValue, SpellElements}
+use Rattle.marshal_core.specs.Spelling.{number_bytes, ended, pads, IsBasicValue, SpellElements}
 use Rattle.match_rules.specs.Kinds.{kind_number}
 use Rattle.message_core.specs.declared.header.Header.{Header}
 use Rattle.message_core.specs.declared.header_field.HeaderField.{HeaderField}
@@ -70,6 +70,10 @@ AreKnownValues (f ∷ fs) = IsKnownValue f.value × AreKnownValues fs
 -- the bytes of an array spell these fields
 abbrev pub AreWritten : Order → List Field → List ℕ → Type 0
 AreWritten order sent bytes = SpellElements (values (map field_value sent)) field_depth order fixed_length field_type bytes
+
+-- a field of a text, at a multiple of eight
+abbrev pub text_field : Order → HeaderField → (letter : ℕ) (text : List ℕ) → List ℕ
+text_field order k letter text = (code_of k ∷ 1 ∷ letter ∷ 0 ∷ []) ++ (number_bytes order w32 (length text) ++ ended text)
 
 -- ---- putting a message together
 

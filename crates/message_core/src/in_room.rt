@@ -1,8 +1,15 @@
 //! Putting the bytes of messages where there is room for them.
 
-ghost use Rattle.std.specs.Prelude.{◌≡◌, ◌+◌, ◌++◌, ◌∷◌, [], ◌^◌, ◌<◌, ◌≤◌, length, vec_capacity};
+ghost use Rattle.std.specs.Prelude.{◌≡◌, ◌+◌, ◌++◌, ◌∷◌, [], ◌^◌, ◌<◌, ◌≤◌, List, length, vec_capacity};
 ghost use Rattle.std.specs.Int.{w32};
-ghost use Rattle.marshal_core.specs.Spelling.{ended, pad_len, pads, number_bytes};
+ghost use Rattle.marshal_core.specs.declared.order.Order.{Order};
+ghost use Rattle.marshal_core.specs.Types.{Tys};
+ghost use Rattle.marshal_core.specs.Values.{a_uint32};
+ghost use Rattle.marshal_core.specs.Signatures.{codes, IsSignature};
+ghost use Rattle.marshal_core.specs.Spelling.{pad_len, pads, number_bytes};
+ghost use Rattle.message_core.specs.declared.header_field.HeaderField.TheVariants as field_of;
+ghost use Rattle.message_core.specs.HeaderFields.{Field};
+ghost use Rattle.message_core.specs.Headers.{AreWritten, known_field, signature_field, text_field};
 ghost use Rattle.message_core.specs.Kinds.{code_of};
 
 use crate::header_field::HeaderField;
@@ -61,15 +68,60 @@ pub fn put_start(output: &mut Vec<u8>, at: usize, field: HeaderField, letter: u8
     put(output, &[field.code(), 1, letter, 0]);
 }
 
-/// Puts a text behind its length, and a zero byte.
-pub fn put_string(output: &mut Vec<u8>, order: Order, text: &str)
+/// Puts a header field of a text, from a place of the message on.
+pub fn put_text(
+    output: &mut Vec<u8>,
+    order: Order,
+    at: usize,
+    field: HeaderField,
+    letter: u8,
+    text: &str,
+)
     requires short { length text.now < 2 ^ 32 }
-    requires room { length output.old.items + (5 + length text.now) ≤ vec_capacity output.old }
+    requires room { length output.old.items + (pad_len 8 at + (9 + length text.now))
+        ≤ vec_capacity output.old }
     ensures items { output.new.items
-        ≡ output.old.items ++ (number_bytes order w32 (length text.now) ++ ended text.now) }
+        ≡ output.old.items ++ (pads 8 at ++ text_field order field letter text.now) }
     ensures capacity { vec_capacity output.old ≤ vec_capacity output.new }
 {
+    put_start(output, at, field, letter);
     put_number(output, order, text.len() as u32);
     put(output, text.as_bytes());
     put(output, &[0]);
+}
+
+/// Puts REPLY_SERIAL behind the fields that stand there.
+pub fn put_reply_serial(fields: &mut Vec<u8>, order: Order, serial: u32)
+    requires room { length fields.old.items + 15 ≤ vec_capacity fields.old }
+    ensures put { (sent : List Field) → AreWritten order sent fields.old.items
+        → AreWritten order (sent ++ known_field field_of.ReplySerial (a_uint32 serial) ∷ [])
+        fields.new.items }
+    ensures capacity { vec_capacity fields.old ≤ vec_capacity fields.new }
+    ensures room { length fields.new.items ≤ length fields.old.items + 15 }
+{
+    let at = fields.len();
+    put_start(fields, at, HeaderField::ReplySerial, b'u');
+    put_number(fields, order, serial);
+}
+
+/// Puts SIGNATURE behind the fields that stand there, where the body has values.
+pub fn put_signature(fields: &mut Vec<u8>, signature: &[u8])
+    requires short { length signature.now ≤ 255 }
+    requires room { length fields.old.items + (13 + length signature.now)
+        ≤ vec_capacity fields.old }
+    ensures put { (order : Order) (types : Tys) (sent : List Field) → signature.now ≡ codes types
+        → IsSignature types → AreWritten order sent fields.old.items
+        → AreWritten order (sent ++ signature_field types) fields.new.items }
+    ensures capacity { vec_capacity fields.old ≤ vec_capacity fields.new }
+    ensures room { length fields.new.items
+        ≤ length fields.old.items + (13 + length signature.now) }
+{
+    if signature.is_empty() {
+        return;
+    }
+    let at = fields.len();
+    put_start(fields, at, HeaderField::Signature, b'g');
+    put(fields, &[signature.len() as u8]);
+    put(fields, signature);
+    put(fields, &[0]);
 }

@@ -1,18 +1,17 @@
 //! Putting messages of one's own together.
 
-ghost use Rattle.std.specs.Prelude.{◌≡◌, ◌≢◌, ◌≤◌, ◌⊎◌, ◌^◌, ◌++◌, ◌∷◌, [], ℕ, List, length, OnOk, IfOk, IfErr, false};
+ghost use Rattle.std.specs.Prelude.{◌≡◌, ◌≢◌, ◌≤◌, ◌⊎◌, ◌^◌, ◌++◌, [], ℕ, List, length, OnOk, IfOk, IfErr, false};
 ghost use Rattle.std.specs.Int.{w32};
 ghost use Rattle.marshal_core.specs.Types.{Tys};
 ghost use Rattle.marshal_core.specs.Values.{Vals, a_string, an_object_path, a_uint32};
 ghost use Rattle.marshal_core.specs.Signatures.{codes, IsSignature};
-ghost use Rattle.marshal_core.specs.Spelling.{IsString, ended, has_zero, number_bytes, pads};
+ghost use Rattle.marshal_core.specs.Spelling.{IsString, has_zero, number_bytes, pads};
 ghost use Rattle.message_core.specs.declared.fault.FrameFault.TheVariants.{NoMemory, TooLong};
 ghost use Rattle.message_core.specs.declared.header_field.HeaderField.TheVariants as field_of;
 ghost use Rattle.message_core.specs.HeaderFields.{Field};
-ghost use Rattle.message_core.specs.Headers.{AreWritten, AreKnownValues, IsLaidOut, optional_field, signature_field, fields_of, message_of};
+ghost use Rattle.message_core.specs.Headers.{AreWritten, AreKnownValues, IsLaidOut, optional_field, signature_field, fields_of, message_of, text_field};
 ghost use Rattle.message_core.specs.Announcements.{order_byte as order_byte_of};
 ghost use Rattle.marshal_core.specs.declared.order.Order.{Order};
-ghost use Rattle.message_core.specs.Kinds.{code_of};
 
 use crate::fault::FrameFault;
 use crate::header::Header;
@@ -84,19 +83,6 @@ fn put_padding(output: &mut Vec<u8>) -> Result<(), AllocError>
     Ok(())
 }
 
-/// Puts what comes before the value of a field of a basic type: the padding, its code, its
-/// signature.
-fn put_start(output: &mut Vec<u8>, field: HeaderField, letter: u8) -> Result<(), AllocError>
-    ensures { OnOk result (output.new.items
-        ≡ output.old.items ++ (pads 8 (length output.old.items)
-        ++ (code_of field ∷ 1 ∷ letter ∷ 0 ∷ []))) }
-{
-    output.reserve(12)?;
-    let at = output.len();
-    in_room::put_start(output, at, field, letter);
-    Ok(())
-}
-
 /// Puts a field of a text.
 fn put_text(
     output: &mut Vec<u8>,
@@ -106,10 +92,8 @@ fn put_text(
     text: &str,
 ) -> Result<(), FrameFault>
     requires clean { has_zero text.now ≡ false }
-    ensures put { OnOk result (output.new.items
-        ≡ output.old.items ++ (pads 8 (length output.old.items)
-        ++ (code_of field ∷ 1 ∷ letter ∷ 0 ∷ [])
-        ++ (number_bytes order w32 (length text.now) ++ ended text.now))) }
+    ensures put { OnOk result (output.new.items ≡ output.old.items
+        ++ (pads 8 (length output.old.items) ++ text_field order field letter text.now)) }
     ensures string { OnOk result (IsString text.now) }
     ensures refused { IfErr result (λ f. f ≢ NoMemory
         → (f ≡ TooLong) × (2 ^ 32 ≤ length text.now)) }
@@ -119,8 +103,7 @@ fn put_text(
     };
     output.reserve(17 + length as usize)?;
     let at = output.len();
-    in_room::put_start(output, at, field, letter);
-    in_room::put_string(output, order, text);
+    in_room::put_text(output, order, at, field, letter, text);
     Ok(())
 }
 
@@ -174,8 +157,8 @@ fn put_reply_serial(
 {
     match serial {
         Some(serial) => {
-            put_start(output, HeaderField::ReplySerial, b'u')?;
-            put_number(output, order, serial)?;
+            output.reserve(15)?;
+            in_room::put_reply_serial(output, order, serial);
             Ok(())
         }
         None => Ok(()),
@@ -190,16 +173,11 @@ fn put_signature(output: &mut Vec<u8>, signature: &[u8]) -> Result<(), FrameFaul
     ensures refused { IfErr result (λ f. f ≢ NoMemory → (types : Tys) → signature.now ≡ codes types
         → IsSignature types → ⊥) }
 {
-    if signature.is_empty() {
-        return Ok(());
-    }
-    let Ok(length) = u8::try_from(signature.len()) else {
+    if signature.len() > 255 {
         return Err(FrameFault::Field(8));
-    };
-    put_start(output, HeaderField::Signature, b'g')?;
-    output.push(length)?;
-    output.extend_from_slice(signature)?;
-    output.push(0)?;
+    }
+    output.reserve(13 + signature.len())?;
+    in_room::put_signature(output, signature);
     Ok(())
 }
 

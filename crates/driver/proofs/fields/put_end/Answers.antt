@@ -14,5 +14,5 @@ returns-clause-put c = λ types sent e valid h.
     let d : List Field = optional_field field.Destination a_string (option_map unique_text c.args.destination) in
     let s : List Field = optional_field field.Sender a_string (Some bus_text) in
     let g : List Field = signature_field types in
-    let whole = c.put_signature.ensures.put types ((sent ++ d) ++ s) e valid (c.put_string.ensures.put (sent ++ d) (c.put_destination.ensures.put sent h)) in
+    let whole = c.put_signature.ensures.put Little types ((sent ++ d) ++ s) (c.as_bytes.ensures.value ∙ e) valid (c.put_string.ensures.put (sent ++ d) (c.put_destination.ensures.put sent h)) in
     subst (λ (fs : List Field). AreWritten Little fs c.put_signature.new.fields.items) (ap (λ (fs : List Field). fs ++ g) (append_assoc sent d s) ∙ append_assoc sent (d ++ s) g) whole
