@@ -1,6 +1,5 @@
 pub mod Bodies
 pub mod Errors
-pub mod Laying
 pub mod Monitors
 pub mod Sound
 pub mod TooMany

@@ -4,13 +4,13 @@ use Rattle.names.specs.Texts.{Text}
 use Rattle.names.specs.BusName.{bus_text}
 use Rattle.names.specs.UniqueName.{unique_text, IsUniqueName}
 use Rattle.marshal_core.specs.declared.order.Order.TheVariants.{Little}
-use Rattle.marshal_core.specs.Types.{Tys, no_types}
-use Rattle.marshal_core.specs.Values.{a_string, no_values}
+use Rattle.marshal_core.specs.Types.{Tys}
+use Rattle.marshal_core.specs.Values.{a_string}
 use Rattle.marshal_core.specs.Spelling.{text_spelling}
 use Rattle.message_core.specs.declared.header_field.HeaderField.TheVariants as field
 use Rattle.message_core.specs.declared.header.TheConstants.{NO_REPLY_EXPECTED}
 use Rattle.message_core.specs.HeaderFields.{Field}
-use Rattle.message_core.specs.Headers.{laid_out, optional_field, signature_field}
+use Rattle.message_core.specs.Headers.{optional_field, signature_field, whole_bytes}
 use Rattle.std.specs.Prelude.{Option, Some, None, option_map}
 
 -- the fields that all messages of the bus end with
@@ -25,7 +25,7 @@ IsNamed (Some number) = IsUniqueName (unique_text number)
 -- a message of the bus as it lies in its bytes, with these fields and this body
 abbrev pub own_bytes : (kind serial : ℕ) (fields body : List ℕ) → List ℕ
 own_bytes kind serial fields body =
-    laid_out (record { order = Little; kind = kind; flags = NO_REPLY_EXPECTED; serial = serial; fields = []; types = no_types; body = no_values }) fields body
+    whole_bytes Little kind NO_REPLY_EXPECTED serial fields body
 
 -- strings one after the other, from a place on
 abbrev pub spelled_strings : ℕ → List Text → List ℕ

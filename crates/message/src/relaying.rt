@@ -3,7 +3,7 @@
 ghost use Rattle.std.specs.Prelude.{◌≡◌, ◌+◌, ◌-◌, ◌++◌, ◌^◌, ◌<◌, ◌≤◌, ◌↔◌, length, take, vec_capacity, nat_lt, Ok, Err, OnOk, OnErr, IsErrOf, IsTrue, if◌then◌else◌};
 ghost use Rattle.std.specs.Int.{w32};
 ghost use Rattle.names.specs.UniqueName.{IsUniqueName};
-ghost use Rattle.marshal_core.specs.Spelling.{pad_len, pads, number_bytes};
+ghost use Rattle.marshal_core.specs.Spelling.{pads, number_bytes};
 ghost use Rattle.message_core.specs.Messages.{IsWritten};
 ghost use Rattle.message_core.specs.Said.{said};
 ghost use Rattle.message.specs.declared.fault.RelayFault.TheVariants.{TooLong, NoMemory};
@@ -17,7 +17,7 @@ use crate::layout::{Layout, behind, fields_end, layout_of};
 use crate::parts::parts_of;
 use crate::putting::{put_fields, put_sender};
 use marshal_core::Order;
-use message_core::in_room::{put, put_number, put_padding};
+use message_core::in_room::{put, put_body, put_number};
 use message_core::{FIXED_LENGTH, MAXIMUM_LENGTH, Message};
 use names::{ConnectionName, UniqueName};
 
@@ -64,17 +64,6 @@ fn put_fixed_part(output: &mut Vec<u8>, order: Order, bytes: &[u8], end: usize)
 {
     put(output, &bytes[..12]);
     put_number(output, order, (end - FIXED_LENGTH) as u32);
-}
-
-/// Puts the padding behind the fields, and the body.
-fn put_body(output: &mut Vec<u8>, end: usize, body: &[u8])
-    requires { length output.old.items + (pad_len 8 end + length body.now)
-        ≤ vec_capacity output.old }
-    ensures items { output.new.items ≡ output.old.items ++ (pads 8 end ++ body.now) }
-    ensures capacity { vec_capacity output.old ≤ vec_capacity output.new }
-{
-    put_padding(output, end);
-    put(output, body);
 }
 
 /// Puts the fields with SENDER among them.

@@ -78,11 +78,14 @@ text_field order k letter text = (code_of k ∷ 1 ∷ letter ∷ 0 ∷ []) ++ (n
 -- ---- putting a message together
 
 -- the fixed part, the elements of the field array, the padding to a multiple of eight, the body
-abbrev pub laid_out : Message → List ℕ → List ℕ → List ℕ
-laid_out m fields body =
-    (order_byte m.order ∷ m.kind ∷ m.flags ∷ protocol_version ∷ [])
-    ++ (number_bytes m.order w32 (length body) ++ (number_bytes m.order w32 m.serial
-    ++ (number_bytes m.order w32 (length fields) ++ (fields ++ (pads 8 (fixed_length + length fields) ++ body)))))
+abbrev pub whole_bytes : Order → (kind flags serial : ℕ) → (fields body : List ℕ) → List ℕ
+whole_bytes order kind flags serial fields body =
+    (order_byte order ∷ kind ∷ flags ∷ protocol_version ∷ [])
+    ++ (number_bytes order w32 (length body) ++ (number_bytes order w32 serial
+    ++ (number_bytes order w32 (length fields) ++ (fields ++ (pads 8 (fixed_length + length fields) ++ body)))))
+
+abbrev pub laid_out : Message → (fields body : List ℕ) → List ℕ
+laid_out m fields body = whole_bytes m.order m.kind m.flags m.serial fields body
 
 -- The bytes are these parts of a message one after the other, and each number fits its four bytes.
 pub record IsLaidOut (m : Message) (fields body bytes : List ℕ) : Type 0 where

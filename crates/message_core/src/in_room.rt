@@ -56,6 +56,17 @@ pub fn put_padding(output: &mut Vec<u8>, at: usize)
     put(output, &zeros[..gap(at)]);
 }
 
+/// Puts the padding behind the header fields, which end at a place of the message, and the body.
+pub fn put_body(output: &mut Vec<u8>, end: usize, body: &[u8])
+    requires { length output.old.items + (pad_len 8 end + length body.now)
+        ≤ vec_capacity output.old }
+    ensures items { output.new.items ≡ output.old.items ++ (pads 8 end ++ body.now) }
+    ensures capacity { vec_capacity output.old ≤ vec_capacity output.new }
+{
+    put_padding(output, end);
+    put(output, body);
+}
+
 /// Puts what comes before the value of a header field of a basic type, from a place of the message
 /// on: the padding, its code, the letter of its type.
 pub fn put_start(output: &mut Vec<u8>, at: usize, field: HeaderField, letter: u8)

@@ -52,3 +52,4 @@ pub use header::{ALLOW_INTERACTIVE_AUTHORIZATION, Header, NO_AUTO_START, NO_REPL
 pub use header_field::HeaderField;
 pub use message::{Message, one_reading};
 pub use own_message::one_writing;
+pub use writing::lay_out;

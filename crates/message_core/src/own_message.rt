@@ -17,7 +17,7 @@ use crate::fault::FrameFault;
 use crate::header::Header;
 use crate::message::Message;
 use crate::reading::check_body;
-use crate::writing::{lay_out, put_fields};
+use crate::writing::{put_fields, whole_of};
 use marshal::encode;
 use marshal::parts::value_codes;
 use marshal_core::{MarshalFault, Value};
@@ -44,7 +44,7 @@ fn put_together(
     }
     let mut fields = Vec::new(alloc);
     put_fields(&mut fields, header, signature)?;
-    let bytes = lay_out(alloc, header, &fields, body)?;
+    let bytes = whole_of(alloc, header, &fields, body)?;
     announced_length(MAXIMUM_LENGTH, &bytes)?;
     Message::read(alloc, bytes)
 }

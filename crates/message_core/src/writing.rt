@@ -1,25 +1,27 @@
 //! Putting messages of one's own together.
 
-ghost use Rattle.std.specs.Prelude.{◌≡◌, ◌≢◌, ◌≤◌, ◌⊎◌, ◌^◌, ◌++◌, [], ℕ, List, length, OnOk, IfOk, IfErr, false};
-ghost use Rattle.std.specs.Int.{w32};
+ghost use Rattle.std.specs.Prelude.{◌≡◌, ◌≢◌, ◌<◌, ◌≤◌, ◌⊎◌, ◌^◌, ◌++◌, [], ℕ, List, length, OnOk, OnErr, IfOk, IfErr, false};
 ghost use Rattle.marshal_core.specs.Types.{Tys};
 ghost use Rattle.marshal_core.specs.Values.{Vals, a_string, an_object_path, a_uint32};
 ghost use Rattle.marshal_core.specs.Signatures.{codes, IsSignature};
-ghost use Rattle.marshal_core.specs.Spelling.{IsString, has_zero, number_bytes, pads};
+ghost use Rattle.marshal_core.specs.Spelling.{IsString, has_zero, pads};
 ghost use Rattle.message_core.specs.declared.fault.FrameFault.TheVariants.{NoMemory, TooLong};
 ghost use Rattle.message_core.specs.declared.header_field.HeaderField.TheVariants as field_of;
 ghost use Rattle.message_core.specs.HeaderFields.{Field};
-ghost use Rattle.message_core.specs.Headers.{AreWritten, AreKnownValues, IsLaidOut, optional_field, signature_field, fields_of, message_of, text_field};
+ghost use Rattle.message_core.specs.Headers.{AreWritten, AreKnownValues, IsLaidOut, optional_field, signature_field, fields_of, message_of, text_field, whole_bytes};
 ghost use Rattle.message_core.specs.Announcements.{order_byte as order_byte_of};
 ghost use Rattle.marshal_core.specs.declared.order.Order.{Order};
+ghost use Rattle.match_rules.specs.Kinds.{kind_number};
 
+use crate::announcement::FIXED_LENGTH;
 use crate::fault::FrameFault;
 use crate::header::Header;
 use crate::header_field::HeaderField;
-use crate::in_room;
+use crate::in_room::{self, gap, put, put_body, put_number};
 use marshal_core::Order;
+use match_rules::MessageKind;
 use names::{BusName, ErrorName, Interface, Member, ObjectPath};
-use std::alloc::{AllocError, Global};
+use std::alloc::Global;
 
 /// A name that a header field of a string holds.
 trait Name {
@@ -61,26 +63,6 @@ impl Name for BusName {
     fn as_text(&self) -> &str {
         self.as_str()
     }
-}
-
-/// Puts a number.
-fn put_number(output: &mut Vec<u8>, order: Order, number: u32) -> Result<(), AllocError>
-    ensures { OnOk result (output.new.items ≡ output.old.items ++ number_bytes order w32 number) }
-{
-    output.reserve(4)?;
-    in_room::put_number(output, order, number);
-    Ok(())
-}
-
-/// Puts the padding to the next multiple of eight.
-fn put_padding(output: &mut Vec<u8>) -> Result<(), AllocError>
-    ensures { OnOk result (output.new.items
-        ≡ output.old.items ++ pads 8 (length output.old.items)) }
-{
-    output.reserve(8)?;
-    let at = output.len();
-    in_room::put_padding(output, at);
-    Ok(())
 }
 
 /// Puts a field of a text.
@@ -213,8 +195,43 @@ fn order_byte(order: Order) -> u8
     }
 }
 
-/// Lays a message out: the fixed part, the fields, the padding, the body.
+/// Appends a message of the parts given: the fixed part, the fields, the padding, the body.
+/// Refused, the output is as before.
 pub fn lay_out(
+    output: &mut Vec<u8>,
+    order: Order,
+    kind: MessageKind,
+    flags: u8,
+    serial: u32,
+    fields: &[u8],
+    body: &[u8],
+) -> Result<(), FrameFault>
+    ensures laid { OnOk result (output.new.items ≡ output.old.items
+        ++ whole_bytes order (kind_number kind) flags serial fields.now body.now) }
+    ensures fits { OnOk result ((length fields.now < 2 ^ 32) × (length body.now < 2 ^ 32)) }
+    ensures kept { OnErr result (output.new.items ≡ output.old.items) }
+    ensures refused { IfErr result (λ f. f ≢ NoMemory
+        → (f ≡ TooLong) × ((2 ^ 32 ≤ length fields.now) ⊎ (2 ^ 32 ≤ length body.now))) }
+{
+    let (Ok(fields_length), Ok(body_length)) = (
+        u32::try_from(fields.len()),
+        u32::try_from(body.len()),
+    ) else {
+        return Err(FrameFault::TooLong);
+    };
+    let end = FIXED_LENGTH + fields.len();
+    output.reserve(end + gap(end) + body.len())?;
+    put(output, &[order_byte(order), kind.number(), flags, 1]);
+    put_number(output, order, body_length);
+    put_number(output, order, serial);
+    put_number(output, order, fields_length);
+    put(output, fields);
+    put_body(output, end, body);
+    Ok(())
+}
+
+/// The bytes of the message of a header, these fields and this body.
+pub fn whole_of(
     alloc: Global,
     header: &Header<'_>,
     fields: &[u8],
@@ -225,21 +242,15 @@ pub fn lay_out(
     ensures refused { IfErr result (λ f. f ≢ NoMemory
         → (f ≡ TooLong) × ((2 ^ 32 ≤ length fields.now) ⊎ (2 ^ 32 ≤ length body.now))) }
 {
-    let (Ok(fields_length), Ok(body_length)) = (
-        u32::try_from(fields.len()),
-        u32::try_from(body.len()),
-    ) else {
-        return Err(FrameFault::TooLong);
-    };
-    let order = header.order;
     let mut bytes = Vec::new(alloc);
-    let start = [order_byte(order), header.kind.number(), header.flags, 1];
-    bytes.extend_from_slice(&start)?;
-    put_number(&mut bytes, order, body_length)?;
-    put_number(&mut bytes, order, header.serial)?;
-    put_number(&mut bytes, order, fields_length)?;
-    bytes.extend_from_slice(fields)?;
-    put_padding(&mut bytes)?;
-    bytes.extend_from_slice(body)?;
+    lay_out(
+        &mut bytes,
+        header.order,
+        header.kind,
+        header.flags,
+        header.serial,
+        fields,
+        body,
+    )?;
     Ok(bytes)
 }
