@@ -8,8 +8,10 @@ ghost use Rattle.marshal_core.specs.Faults.{Gives, Tells};
 ghost use Rattle.marshal_core.specs.Reading.{array_at, as_a, basic_at, decode_at, decoded, elements_at, entry_at, fields_at, inside_at, sized_at, struct_at, struct_fields_at, value_at, variant_at};
 
 use crate::basic::basic;
+use crate::endian::Endian;
 use crate::fixed::{gap, number32, padding};
 use crate::text::variant_type;
+use byteorder::{BigEndian, LittleEndian};
 use marshal_core::limits::{MAX_ARRAY_LENGTH, MAX_CONTAINER_DEPTH};
 use marshal_core::{BasicType, BasicValue, DataType, MarshalFault, Order, Signature, Value};
 use std::alloc::Global;
@@ -52,8 +54,7 @@ fn sized(
 
 /// The same, with the length before it.
 #[tactic(auto, unfolding(marshal_core::specs::Reading::inside_at))]
-pub fn array_bytes(
-    order: Order,
+pub fn array_bytes<O: Endian>(
     short: MarshalFault,
     align: usize,
     at: usize,
@@ -63,18 +64,17 @@ pub fn array_bytes(
     requires most { align ≤ 8 }
     requires room { at + length bytes.now < 2 ^ 64 }
     ensures reads { Tells (λ x. ((x.0, x.1.now), x.2, x.3.now)) result
-        (inside_at order short align at bytes.now) }
+        (inside_at O.order short align at bytes.now) }
     ensures place { IfOk result (λ x. x.2 + length x.3.now ≡ at + length bytes.now) }
     ensures inside { IfOk result (λ x. x.0 + length x.1.now ≡ x.2) }
     ensures shorter { IfOk result (λ x. length x.3.now < length bytes.now) }
 {
-    let (len, at, rest) = number32(order, short, at, bytes)?;
+    let (len, at, rest) = number32::<O>(short, at, bytes)?;
     sized(short, align, len as usize, at, rest)
 }
 
-fn basic_value(
+fn basic_value<O: Endian>(
     alloc: Global,
-    order: Order,
     short: MarshalFault,
     of: BasicType,
     at: usize,
@@ -82,20 +82,19 @@ fn basic_value(
 ) -> Result<(Value, usize, &[u8]), MarshalFault>
     requires room { at + length bytes.now < 2 ^ 64 }
     ensures reads { Gives (λ x. (val_of x.0, x.1, x.2.now)) result
-        (as_a a_basic (basic_at order short of at bytes.now)) }
+        (as_a a_basic (basic_at O.order short of at bytes.now)) }
     ensures place { IfOk result (λ x. x.1 + length x.2.now ≡ at + length bytes.now) }
     ensures shorter { IfOk result (λ x. length x.2.now < length bytes.now) }
 {
-    let (one, at, rest) = basic(alloc, order, short, of, at, bytes)?;
+    let (one, at, rest) = basic::<O>(alloc, short, of, at, bytes)?;
     Ok((Value::Basic(one), at, rest))
 }
 
 /// A value, where so many containers may still stand in one another.
 #[cycle(values)]
-fn value<'a>(
+fn value<'a, O: Endian>(
     alloc: Global,
     depth: u8,
-    order: Order,
     short: MarshalFault,
     of: &DataType,
     at: usize,
@@ -103,66 +102,64 @@ fn value<'a>(
 ) -> Result<(Value, usize, &'a [u8]), MarshalFault>
     requires room { at + length bytes.now < 2 ^ 64 }
     ensures reads { Gives (λ x. (val_of x.0, x.1, x.2.now)) result
-        (value_at depth order short (ty_of of.now) at bytes.now) }
+        (value_at depth O.order short (ty_of of.now) at bytes.now) }
     ensures place { IfOk result (λ x. x.1 + length x.2.now ≡ at + length bytes.now) }
     ensures shorter { IfOk result (λ x. length x.2.now < length bytes.now) }
 {
     match of {
-        DataType::Basic(of) => basic_value(alloc, order, short, *of, at, bytes),
+        DataType::Basic(of) => basic_value::<O>(alloc, short, *of, at, bytes),
         DataType::Variant => {
             if depth == 0 {
                 return Err(MarshalFault::Depth);
             }
-            variant(alloc, depth - 1, order, short, at, bytes)
+            variant::<O>(alloc, depth - 1, short, at, bytes)
         }
         DataType::Array(element) => {
             if depth == 0 {
                 return Err(MarshalFault::Depth);
             }
-            array(alloc, depth - 1, order, short, element, at, bytes)
+            array::<O>(alloc, depth - 1, short, element, at, bytes)
         }
         DataType::Dictionary(key, of) => {
             if depth == 0 {
                 return Err(MarshalFault::Depth);
             }
-            dictionary(alloc, depth - 1, order, short, *key, of, at, bytes)
+            dictionary::<O>(alloc, depth - 1, short, *key, of, at, bytes)
         }
         DataType::Struct(fields) => {
             if depth == 0 {
                 return Err(MarshalFault::Depth);
             }
-            structure(alloc, depth - 1, order, short, fields, at, bytes)
+            structure::<O>(alloc, depth - 1, short, fields, at, bytes)
         }
     }
 }
 
 #[cycle(values)]
 #[tactic(auto, unfolding(marshal_core::specs::Reading::variant_at))]
-fn variant(
+fn variant<O: Endian>(
     alloc: Global,
     depth: u8,
-    order: Order,
     short: MarshalFault,
     at: usize,
     bytes: &[u8],
 ) -> Result<(Value, usize, &[u8]), MarshalFault>
     requires room { at + length bytes.now < 2 ^ 64 }
     ensures reads { Gives (λ x. (val_of x.0, x.1, x.2.now)) result
-        (variant_at (value_at depth order) short at bytes.now) }
+        (variant_at (value_at depth O.order) short at bytes.now) }
     ensures place { IfOk result (λ x. x.1 + length x.2.now ≡ at + length bytes.now) }
     ensures shorter { IfOk result (λ x. length x.2.now < length bytes.now) }
 {
     let (of, at, rest) = variant_type(alloc, short, at, bytes)?;
-    let (held, at, rest) = value(alloc, depth, order, short, &of, at, rest)?;
+    let (held, at, rest) = value::<O>(alloc, depth, short, &of, at, rest)?;
     Ok((Value::Variant(Box::new(alloc, held)?), at, rest))
 }
 
 #[cycle(values)]
 #[tactic(auto, unfolding(marshal_core::specs::Reading::array_at))]
-fn array<'a>(
+fn array<'a, O: Endian>(
     alloc: Global,
     depth: u8,
-    order: Order,
     short: MarshalFault,
     of: &DataType,
     at: usize,
@@ -170,22 +167,21 @@ fn array<'a>(
 ) -> Result<(Value, usize, &'a [u8]), MarshalFault>
     requires room { at + length bytes.now < 2 ^ 64 }
     ensures reads { Gives (λ x. (val_of x.0, x.1, x.2.now)) result
-        (array_at (value_at depth order) order short (ty_of of.now) at bytes.now) }
+        (array_at (value_at depth O.order) O.order short (ty_of of.now) at bytes.now) }
     ensures place { IfOk result (λ x. x.1 + length x.2.now ≡ at + length bytes.now) }
     ensures shorter { IfOk result (λ x. length x.2.now < length bytes.now) }
 {
-    let (place, inside, at, rest) = array_bytes(order, short, of.alignment(), at, bytes)?;
-    let items = elements(alloc, depth, order, of, place, inside)?;
+    let (place, inside, at, rest) = array_bytes::<O>(short, of.alignment(), at, bytes)?;
+    let items = elements::<O>(alloc, depth, of, place, inside)?;
     let of = of.try_clone(alloc)?;
     Ok((Value::Array(of, items), at, rest))
 }
 
 #[cycle(values)]
 #[tactic(auto, unfolding(marshal_core::specs::Reading::array_at))]
-fn dictionary<'a>(
+fn dictionary<'a, O: Endian>(
     alloc: Global,
     depth: u8,
-    order: Order,
     short: MarshalFault,
     key: BasicType,
     of: &DataType,
@@ -194,21 +190,20 @@ fn dictionary<'a>(
 ) -> Result<(Value, usize, &'a [u8]), MarshalFault>
     requires room { at + length bytes.now < 2 ^ 64 }
     ensures reads { Gives (λ x. (val_of x.0, x.1, x.2.now)) result
-        (array_at (value_at depth order) order short (entry key (ty_of of.now)) at bytes.now) }
+        (array_at (value_at depth O.order) O.order short (entry key (ty_of of.now)) at bytes.now) }
     ensures place { IfOk result (λ x. x.1 + length x.2.now ≡ at + length bytes.now) }
     ensures shorter { IfOk result (λ x. length x.2.now < length bytes.now) }
 {
-    let (place, inside, at, rest) = array_bytes(order, short, ENTRY_ALIGNMENT, at, bytes)?;
-    let items = entries(alloc, depth, order, key, of, place, inside)?;
+    let (place, inside, at, rest) = array_bytes::<O>(short, ENTRY_ALIGNMENT, at, bytes)?;
+    let items = entries::<O>(alloc, depth, key, of, place, inside)?;
     let of = of.try_clone(alloc)?;
     Ok((Value::Dictionary(key, of, items), at, rest))
 }
 
 #[cycle(values)]
-fn one_entry<'a>(
+fn one_entry<'a, O: Endian>(
     alloc: Global,
     depth: u8,
-    order: Order,
     key: BasicType,
     of: &DataType,
     at: usize,
@@ -216,22 +211,21 @@ fn one_entry<'a>(
 ) -> Result<((BasicValue, Value), usize, &'a [u8]), MarshalFault>
     requires room { at + length bytes.now < 2 ^ 64 }
     ensures reads { Gives (λ x. (entry_of x.0, x.1, x.2.now)) result
-        (value_at depth order MarshalFault.ArrayLength (entry key (ty_of of.now)) at bytes.now) }
+        (value_at depth O.order MarshalFault.ArrayLength (entry key (ty_of of.now)) at bytes.now) }
     ensures place { IfOk result (λ x. x.1 + length x.2.now ≡ at + length bytes.now) }
     ensures shorter { IfOk result (λ x. length x.2.now < length bytes.now) }
 {
     if depth == 0 {
         return Err(MarshalFault::Depth);
     }
-    key_and_value(alloc, depth - 1, order, key, of, at, bytes)
+    key_and_value::<O>(alloc, depth - 1, key, of, at, bytes)
 }
 
 #[cycle(values)]
 #[tactic(auto, unfolding(marshal_core::specs::Reading::entry_at))]
-fn key_and_value<'a>(
+fn key_and_value<'a, O: Endian>(
     alloc: Global,
     depth: u8,
-    order: Order,
     key: BasicType,
     of: &DataType,
     at: usize,
@@ -239,23 +233,22 @@ fn key_and_value<'a>(
 ) -> Result<((BasicValue, Value), usize, &'a [u8]), MarshalFault>
     requires room { at + length bytes.now < 2 ^ 64 }
     ensures reads { Gives (λ x. (entry_of x.0, x.1, x.2.now)) result
-        (entry_at (value_at depth order) order MarshalFault.ArrayLength key
+        (entry_at (value_at depth O.order) O.order MarshalFault.ArrayLength key
         (ty_of of.now) at bytes.now) }
     ensures place { IfOk result (λ x. x.1 + length x.2.now ≡ at + length bytes.now) }
     ensures shorter { IfOk result (λ x. length x.2.now < length bytes.now) }
 {
     let (at, rest) = padding(ENTRY_ALIGNMENT, MarshalFault::ArrayLength, at, bytes)?;
-    let (key, at, rest) = basic(alloc, order, MarshalFault::ArrayLength, key, at, rest)?;
-    let (one, at, rest) = value(alloc, depth, order, MarshalFault::ArrayLength, of, at, rest)?;
+    let (key, at, rest) = basic::<O>(alloc, MarshalFault::ArrayLength, key, at, rest)?;
+    let (one, at, rest) = value::<O>(alloc, depth, MarshalFault::ArrayLength, of, at, rest)?;
     Ok(((key, one), at, rest))
 }
 
 #[cycle(values)]
 #[tactic(auto, unfolding(marshal_core::specs::Reading::struct_at))]
-fn structure<'a>(
+fn structure<'a, O: Endian>(
     alloc: Global,
     depth: u8,
-    order: Order,
     short: MarshalFault,
     of: &[DataType],
     at: usize,
@@ -263,23 +256,22 @@ fn structure<'a>(
 ) -> Result<(Value, usize, &'a [u8]), MarshalFault>
     requires room { at + length bytes.now < 2 ^ 64 }
     ensures reads { Gives (λ x. (val_of x.0, x.1, x.2.now)) result
-        (struct_at (value_at depth order) short (types_of of.now) at bytes.now) }
+        (struct_at (value_at depth O.order) short (types_of of.now) at bytes.now) }
     ensures place { IfOk result (λ x. x.1 + length x.2.now ≡ at + length bytes.now) }
     ensures shorter { IfOk result (λ x. length x.2.now < length bytes.now) }
 {
     if of.is_empty() {
         return Err(MarshalFault::Signature);
     }
-    fields_of(alloc, depth, order, short, of, at, bytes)
+    fields_of::<O>(alloc, depth, short, of, at, bytes)
 }
 
 /// The fields of a struct that has some.
 #[cycle(values)]
 #[tactic(auto, unfolding(marshal_core::specs::Reading::struct_fields_at))]
-fn fields_of<'a>(
+fn fields_of<'a, O: Endian>(
     alloc: Global,
     depth: u8,
-    order: Order,
     short: MarshalFault,
     of: &[DataType],
     at: usize,
@@ -288,36 +280,34 @@ fn fields_of<'a>(
     requires some { 0 < length of.now }
     requires room { at + length bytes.now < 2 ^ 64 }
     ensures reads { Gives (λ x. (val_of x.0, x.1, x.2.now)) result
-        (struct_fields_at (value_at depth order) short (types_of of.now) at bytes.now) }
+        (struct_fields_at (value_at depth O.order) short (types_of of.now) at bytes.now) }
     ensures place { IfOk result (λ x. x.1 + length x.2.now ≡ at + length bytes.now) }
     ensures shorter { IfOk result (λ x. length x.2.now < length bytes.now) }
 {
     let (at, rest) = padding(STRUCT_ALIGNMENT, short, at, bytes)?;
-    let (items, at, rest) = fields(alloc, depth, order, short, of, at, rest)?;
+    let (items, at, rest) = fields::<O>(alloc, depth, short, of, at, rest)?;
     Ok((Value::Struct(items), at, rest))
 }
 
 #[cycle(values)]
-fn elements(
+fn elements<O: Endian>(
     alloc: Global,
     depth: u8,
-    order: Order,
     of: &DataType,
     at: usize,
     bytes: &[u8],
 ) -> Result<Vec<Value>, MarshalFault>
     requires room { at + length bytes.now < 2 ^ 64 }
     ensures { Gives (λ x. values_of x.items) result
-        (elements_at (value_at depth order) (ty_of of.now) (length bytes.now) at bytes.now) }
+        (elements_at (value_at depth O.order) (ty_of of.now) (length bytes.now) at bytes.now) }
 {
     let mut items = Vec::new(alloc);
     let mut rest = bytes;
     let mut place = at;
     'each: while !rest.is_empty() {
-        let (one, after, behind) = value(
+        let (one, after, behind) = value::<O>(
             alloc,
             depth,
-            order,
             MarshalFault::ArrayLength,
             of,
             place,
@@ -331,10 +321,9 @@ fn elements(
 }
 
 #[cycle(values)]
-fn entries(
+fn entries<O: Endian>(
     alloc: Global,
     depth: u8,
-    order: Order,
     key: BasicType,
     of: &DataType,
     at: usize,
@@ -342,14 +331,14 @@ fn entries(
 ) -> Result<Vec<(BasicValue, Value)>, MarshalFault>
     requires room { at + length bytes.now < 2 ^ 64 }
     ensures { Gives (λ x. values (map entry_of x.items)) result
-        (elements_at (value_at depth order) (entry key (ty_of of.now))
+        (elements_at (value_at depth O.order) (entry key (ty_of of.now))
         (length bytes.now) at bytes.now) }
 {
     let mut items = Vec::new(alloc);
     let mut rest = bytes;
     let mut place = at;
     'each: while !rest.is_empty() {
-        let (one, after, behind) = one_entry(alloc, depth, order, key, of, place, rest)?;
+        let (one, after, behind) = one_entry::<O>(alloc, depth, key, of, place, rest)?;
         items.push(one)?;
         place = after;
         rest = behind;
@@ -358,10 +347,9 @@ fn entries(
 }
 
 #[cycle(values)]
-fn fields<'a>(
+fn fields<'a, O: Endian>(
     alloc: Global,
     depth: u8,
-    order: Order,
     short: MarshalFault,
     of: &[DataType],
     at: usize,
@@ -369,7 +357,7 @@ fn fields<'a>(
 ) -> Result<(Vec<Value>, usize, &'a [u8]), MarshalFault>
     requires room { at + length bytes.now < 2 ^ 64 }
     ensures reads { Gives (λ x. (values_of x.0.items, x.1, x.2.now)) result
-        (fields_at (value_at depth order) short (types_of of.now) at bytes.now) }
+        (fields_at (value_at depth O.order) short (types_of of.now) at bytes.now) }
     ensures place { IfOk result (λ x. x.1 + length x.2.now ≡ at + length bytes.now) }
     ensures shorter { IfOk result (λ x. length x.2.now ≤ length bytes.now) }
     ensures some { IfOk result (λ x. 0 < length of.now → length x.2.now < length bytes.now) }
@@ -378,12 +366,33 @@ fn fields<'a>(
     let mut rest = bytes;
     let mut place = at;
     for one in of {
-        let (read, after, behind) = value(alloc, depth, order, short, one, place, rest)?;
+        let (read, after, behind) = value::<O>(alloc, depth, short, one, place, rest)?;
         items.push(read)?;
         place = after;
         rest = behind;
     }
     Ok((items, place, rest))
+}
+
+fn read<O: Endian>(
+    alloc: Global,
+    offset: usize,
+    of: &[DataType],
+    bytes: &[u8],
+) -> Result<(Vec<Value>, usize), MarshalFault>
+    ensures { Gives (λ x. (values_of x.0.items, x.1)) result
+        (decode_at O.order (types_of of.now) offset bytes.now) }
+{
+    let at = offset % 8;
+    let (items, end, _rest) = fields::<O>(
+        alloc,
+        MAX_CONTAINER_DEPTH,
+        MarshalFault::Truncated,
+        of,
+        at,
+        bytes,
+    )?;
+    Ok((items, end - at))
 }
 
 fn all_values(
@@ -396,17 +405,10 @@ fn all_values(
     ensures { Gives (λ x. (values_of x.0.items, x.1)) result
         (decode_at order (types_of of.now) offset bytes.now) }
 {
-    let at = offset % 8;
-    let (items, end, _rest) = fields(
-        alloc,
-        MAX_CONTAINER_DEPTH,
-        order,
-        MarshalFault::Truncated,
-        of,
-        at,
-        bytes,
-    )?;
-    Ok((items, end - at))
+    match order {
+        Order::Little => read::<LittleEndian>(alloc, offset, of, bytes),
+        Order::Big => read::<BigEndian>(alloc, offset, of, bytes),
+    }
 }
 
 /// The values of the signature's types that the bytes begin with, where the first byte stands at

@@ -15,10 +15,11 @@ ghost use Rattle.marshal_core.specs.Faults.{Gives};
 ghost use Rattle.marshal.specs.Writing.{and_then, array_written, padded, string_fault, basic_written, elements_written, encode_at, fields_written, type_of, types_of_values, value_written, variant_type_written};
 
 use crate::decoding::{ENTRY_ALIGNMENT, STRUCT_ALIGNMENT};
+use crate::endian::Endian;
 use crate::fixed::gap;
 use crate::text::any_zero;
 use crate::type_text::{type_code, type_codes, value_code, value_codes};
-use byteorder::{BigEndian, ByteOrder, LittleEndian};
+use byteorder::{BigEndian, LittleEndian};
 use marshal_core::limits::{MAX_ARRAY_LENGTH, MAX_CONTAINER_DEPTH};
 use marshal_core::{BasicType, BasicValue, DataType, MarshalFault, Order, Signature, Value};
 use names::ObjectPath;
@@ -36,47 +37,41 @@ fn padding(align: usize, at: usize, output: &mut Vec<u8>) -> Result<(), AllocErr
     output.extend_from_slice(&zeros[..count])
 }
 
-fn number16(order: Order, at: usize, number: u16, output: &mut Vec<u8>) -> Result<(), MarshalFault>
+fn number16<O: Endian>(at: usize, number: u16, output: &mut Vec<u8>) -> Result<(), MarshalFault>
     requires place { at < 8 }
     ensures { Gives (λ _. output.new.items) result
-        (Ok (output.old.items ++ number_spelling order w16 (at + length output.old.items) number)) }
+        (Ok (output.old.items
+        ++ number_spelling O.order w16 (at + length output.old.items) number)) }
 {
     padding(2, at, output)?;
     let mut two = [0; 2];
-    match order {
-        Order::Little => LittleEndian::write_u16(&mut two, number),
-        Order::Big => BigEndian::write_u16(&mut two, number),
-    }
+    O::write_u16(&mut two, number);
     output.extend_from_slice(&two)?;
     Ok(())
 }
 
-fn number32(order: Order, at: usize, number: u32, output: &mut Vec<u8>) -> Result<(), MarshalFault>
+fn number32<O: Endian>(at: usize, number: u32, output: &mut Vec<u8>) -> Result<(), MarshalFault>
     requires place { at < 8 }
     ensures { Gives (λ _. output.new.items) result
-        (Ok (output.old.items ++ number_spelling order w32 (at + length output.old.items) number)) }
+        (Ok (output.old.items
+        ++ number_spelling O.order w32 (at + length output.old.items) number)) }
 {
     padding(4, at, output)?;
     let mut four = [0; 4];
-    match order {
-        Order::Little => LittleEndian::write_u32(&mut four, number),
-        Order::Big => BigEndian::write_u32(&mut four, number),
-    }
+    O::write_u32(&mut four, number);
     output.extend_from_slice(&four)?;
     Ok(())
 }
 
-fn number64(order: Order, at: usize, number: u64, output: &mut Vec<u8>) -> Result<(), MarshalFault>
+fn number64<O: Endian>(at: usize, number: u64, output: &mut Vec<u8>) -> Result<(), MarshalFault>
     requires place { at < 8 }
     ensures { Gives (λ _. output.new.items) result
-        (Ok (output.old.items ++ number_spelling order w64 (at + length output.old.items) number)) }
+        (Ok (output.old.items
+        ++ number_spelling O.order w64 (at + length output.old.items) number)) }
 {
     padding(8, at, output)?;
     let mut eight = [0; 8];
-    match order {
-        Order::Little => LittleEndian::write_u64(&mut eight, number),
-        Order::Big => BigEndian::write_u64(&mut eight, number),
-    }
+    O::write_u64(&mut eight, number);
     output.extend_from_slice(&eight)?;
     Ok(())
 }
@@ -97,8 +92,7 @@ fn string_length(text: &str) -> Result<u32, MarshalFault>
 }
 
 /// A text after its length.
-fn text(
-    order: Order,
+fn text<O: Endian>(
     at: usize,
     len: u32,
     text: &str,
@@ -107,35 +101,35 @@ fn text(
     requires place { at < 8 }
     requires len { len ≡ length text.now }
     ensures { Gives (λ _. output.new.items) result
-        (Ok (output.old.items ++ text_spelling order (at + length output.old.items) text.now)) }
+        (Ok (output.old.items ++ text_spelling O.order (at + length output.old.items) text.now)) }
 {
-    number32(order, at, len, output)?;
+    number32::<O>(at, len, output)?;
     output.extend_from_slice(text.as_bytes())?;
     output.push(0)?;
     Ok(())
 }
 
 #[tactic(auto, unfolding(crate::specs::Writing::basic_written))]
-fn string(order: Order, at: usize, content: &str, output: &mut Vec<u8>) -> Result<(), MarshalFault>
+fn string<O: Endian>(at: usize, content: &str, output: &mut Vec<u8>) -> Result<(), MarshalFault>
     requires place { at < 8 }
     ensures { Gives (λ _. output.new.items) result
-        (basic_written order at (a_string content.now) output.old.items) }
+        (basic_written O.order at (a_string content.now) output.old.items) }
 {
     let len = string_length(content)?;
-    text(order, at, len, content, output)
+    text::<O>(at, len, content, output)
 }
 
 #[tactic(auto, unfolding(crate::specs::Writing::basic_written))]
-fn path(order: Order, at: usize, content: &str, output: &mut Vec<u8>) -> Result<(), MarshalFault>
+fn path<O: Endian>(at: usize, content: &str, output: &mut Vec<u8>) -> Result<(), MarshalFault>
     requires place { at < 8 }
     ensures { Gives (λ _. output.new.items) result
-        (basic_written order at (an_object_path content.now) output.old.items) }
+        (basic_written O.order at (an_object_path content.now) output.old.items) }
 {
     let len = string_length(content)?;
     if ObjectPath::parse(content).is_err() {
         return Err(MarshalFault::Path);
     }
-    text(order, at, len, content, output)
+    text::<O>(at, len, content, output)
 }
 
 /// The text of a signature after its length.
@@ -161,36 +155,35 @@ fn signature(alloc: Global, types: &[DataType], output: &mut Vec<u8>) -> Result<
 }
 
 #[tactic(auto, unfolding(crate::specs::Writing::basic_written))]
-fn basic(
+fn basic<O: Endian>(
     alloc: Global,
-    order: Order,
     value: &BasicValue,
     at: usize,
     output: &mut Vec<u8>,
 ) -> Result<(), MarshalFault>
     requires place { at < 8 }
     ensures { Gives (λ _. output.new.items) result
-        (basic_written order at (basic_of value.now) output.old.items) }
+        (basic_written O.order at (basic_of value.now) output.old.items) }
 {
     match value {
         BasicValue::Byte(number) => {
             output.push(*number)?;
             Ok(())
         }
-        BasicValue::Boolean(value) => number32(order, at, u32::from(*value), output),
-        BasicValue::Int16(number) => number16(order, at, number.cast_unsigned(), output),
-        BasicValue::Uint16(number) => number16(order, at, *number, output),
-        BasicValue::Int32(number) => number32(order, at, number.cast_unsigned(), output),
-        BasicValue::Uint32(number) => number32(order, at, *number, output),
-        BasicValue::Int64(number) => number64(order, at, number.cast_unsigned(), output),
-        BasicValue::Uint64(number) => number64(order, at, *number, output),
+        BasicValue::Boolean(value) => number32::<O>(at, u32::from(*value), output),
+        BasicValue::Int16(number) => number16::<O>(at, number.cast_unsigned(), output),
+        BasicValue::Uint16(number) => number16::<O>(at, *number, output),
+        BasicValue::Int32(number) => number32::<O>(at, number.cast_unsigned(), output),
+        BasicValue::Uint32(number) => number32::<O>(at, *number, output),
+        BasicValue::Int64(number) => number64::<O>(at, number.cast_unsigned(), output),
+        BasicValue::Uint64(number) => number64::<O>(at, *number, output),
         BasicValue::Double(eight) => {
             padding(8, at, output)?;
             output.extend_from_slice(eight)?;
             Ok(())
         }
-        BasicValue::String(content) => string(order, at, content, output),
-        BasicValue::ObjectPath(content) => path(order, at, content, output),
+        BasicValue::String(content) => string::<O>(at, content, output),
+        BasicValue::ObjectPath(content) => path::<O>(at, content, output),
         BasicValue::Signature(one) => signature(alloc, &one.types, output),
     }
 }
@@ -220,8 +213,7 @@ fn first(align: usize, at: usize) -> usize
 
 /// The bytes of an array's elements after their length.
 #[tactic(auto, unfolding(crate::specs::Writing::array_written))]
-fn sized(
-    order: Order,
+fn sized<O: Endian>(
     align: usize,
     at: usize,
     inside: &[u8],
@@ -231,12 +223,12 @@ fn sized(
     requires most { align ≤ 8 }
     requires place { at < 8 }
     ensures { Gives (λ _. output.new.items) result
-        (array_written order align at output.old.items inside.now) }
+        (array_written O.order align at output.old.items inside.now) }
 {
     if inside.len() > MAX_ARRAY_LENGTH {
         return Err(MarshalFault::ArrayLength);
     }
-    number32(order, at, inside.len() as u32, output)?;
+    number32::<O>(at, inside.len() as u32, output)?;
     padding(align, at, output)?;
     output.extend_from_slice(inside)?;
     Ok(())
@@ -257,52 +249,50 @@ fn has_code(alloc: Global, value: &Value, wanted: &[u8]) -> Result<bool, AllocEr
 /// A value, where so many containers may still stand in one another.
 #[cycle(writers)]
 #[tactic(auto, using(crate::proofs::ValueViews::val_dictionary))]
-fn value(
+fn value<O: Endian>(
     alloc: Global,
     depth: u8,
-    order: Order,
     one: &Value,
     at: usize,
     output: &mut Vec<u8>,
 ) -> Result<(), MarshalFault>
     requires place { at < 8 }
     ensures { Gives (λ _. output.new.items) result
-        (value_written (val_of one.now) depth order at output.old.items) }
+        (value_written (val_of one.now) depth O.order at output.old.items) }
 {
     match one {
-        Value::Basic(one) => basic(alloc, order, one, at, output),
+        Value::Basic(one) => basic::<O>(alloc, one, at, output),
         Value::Variant(held) => {
             if depth == 0 {
                 return Err(MarshalFault::Depth);
             }
-            variant(alloc, depth - 1, order, held, at, output)
+            variant::<O>(alloc, depth - 1, held, at, output)
         }
         Value::Array(of, items) => {
             if depth == 0 {
                 return Err(MarshalFault::Depth);
             }
-            array(alloc, depth - 1, order, of, items, at, output)
+            array::<O>(alloc, depth - 1, of, items, at, output)
         }
         Value::Dictionary(key, of, items) => {
             if depth == 0 {
                 return Err(MarshalFault::Depth);
             }
-            dictionary(alloc, depth - 1, order, *key, of, items, at, output)
+            dictionary::<O>(alloc, depth - 1, *key, of, items, at, output)
         }
         Value::Struct(fields) => {
             if depth == 0 {
                 return Err(MarshalFault::Depth);
             }
-            structure(alloc, depth - 1, order, fields, at, output)
+            structure::<O>(alloc, depth - 1, fields, at, output)
         }
     }
 }
 
 #[cycle(writers)]
-fn variant(
+fn variant<O: Endian>(
     alloc: Global,
     depth: u8,
-    order: Order,
     held: &Value,
     at: usize,
     output: &mut Vec<u8>,
@@ -310,17 +300,16 @@ fn variant(
     requires place { at < 8 }
     ensures { Gives (λ _. output.new.items) result
         (and_then (variant_type_written (type_of (val_of held.now)) output.old.items)
-        (value_written (val_of held.now) depth order at)) }
+        (value_written (val_of held.now) depth O.order at)) }
 {
     variant_type(alloc, held, output)?;
-    value(alloc, depth, order, held, at, output)
+    value::<O>(alloc, depth, held, at, output)
 }
 
 #[cycle(writers)]
-fn array(
+fn array<O: Endian>(
     alloc: Global,
     depth: u8,
-    order: Order,
     of: &DataType,
     items: &[Value],
     at: usize,
@@ -328,21 +317,20 @@ fn array(
 ) -> Result<(), MarshalFault>
     requires place { at < 8 }
     ensures { Gives (λ _. output.new.items) result
-        (and_then (elements_written (values_of items.now) depth order
+        (and_then (elements_written (values_of items.now) depth O.order
         (first_place (ty_of of.now) (at + length output.old.items) % 8) (ty_of of.now) [])
-        (array_written order (alignment (ty_of of.now)) at output.old.items)) }
+        (array_written O.order (alignment (ty_of of.now)) at output.old.items)) }
 {
     let align = of.alignment();
     let place = first(align, at + output.len());
-    let inside = elements(alloc, depth, order, of, items, place)?;
-    sized(order, align, at, &inside, output)
+    let inside = elements::<O>(alloc, depth, of, items, place)?;
+    sized::<O>(align, at, &inside, output)
 }
 
 #[cycle(writers)]
-fn dictionary(
+fn dictionary<O: Endian>(
     alloc: Global,
     depth: u8,
-    order: Order,
     key: BasicType,
     of: &DataType,
     items: &[(BasicValue, Value)],
@@ -351,20 +339,19 @@ fn dictionary(
 ) -> Result<(), MarshalFault>
     requires place { at < 8 }
     ensures { Gives (λ _. output.new.items) result
-        (and_then (elements_written (values (map entry_of items.now)) depth order
+        (and_then (elements_written (values (map entry_of items.now)) depth O.order
         (first_place (entry key (ty_of of.now)) (at + length output.old.items) % 8)
-        (entry key (ty_of of.now)) []) (array_written order 8 at output.old.items)) }
+        (entry key (ty_of of.now)) []) (array_written O.order 8 at output.old.items)) }
 {
     let place = first(ENTRY_ALIGNMENT, at + output.len());
-    let inside = entries(alloc, depth, order, key, of, items, place)?;
-    sized(order, ENTRY_ALIGNMENT, at, &inside, output)
+    let inside = entries::<O>(alloc, depth, key, of, items, place)?;
+    sized::<O>(ENTRY_ALIGNMENT, at, &inside, output)
 }
 
 #[cycle(writers)]
-fn one_entry(
+fn one_entry<O: Endian>(
     alloc: Global,
     depth: u8,
-    order: Order,
     key: &BasicValue,
     held: &Value,
     at: usize,
@@ -373,21 +360,20 @@ fn one_entry(
     requires place { at < 8 }
     ensures { Gives (λ _. output.new.items) result
         (value_written (an_entry (basic_of key.now) (val_of held.now))
-        depth order at output.old.items) }
+        depth O.order at output.old.items) }
 {
     if depth == 0 {
         return Err(MarshalFault::Depth);
     }
     padding(ENTRY_ALIGNMENT, at, output)?;
-    basic(alloc, order, key, at, output)?;
-    value(alloc, depth - 1, order, held, at, output)
+    basic::<O>(alloc, key, at, output)?;
+    value::<O>(alloc, depth - 1, held, at, output)
 }
 
 #[cycle(writers)]
-fn structure(
+fn structure<O: Endian>(
     alloc: Global,
     depth: u8,
-    order: Order,
     of: &[Value],
     at: usize,
     output: &mut Vec<u8>,
@@ -395,28 +381,27 @@ fn structure(
     requires place { at < 8 }
     ensures { Gives (λ _. output.new.items) result
         (if has_types (types_of_values (values_of of.now))
-        then fields_written (values_of of.now) depth order at (padded 8 at output.old.items)
+        then fields_written (values_of of.now) depth O.order at (padded 8 at output.old.items)
         else Err NotSigned) }
 {
     if of.is_empty() {
         return Err(MarshalFault::Signature);
     }
     padding(STRUCT_ALIGNMENT, at, output)?;
-    fields(alloc, depth, order, of, at, output)
+    fields::<O>(alloc, depth, of, at, output)
 }
 
 #[cycle(writers)]
-fn elements(
+fn elements<O: Endian>(
     alloc: Global,
     depth: u8,
-    order: Order,
     of: &DataType,
     items: &[Value],
     at: usize,
 ) -> Result<Vec<u8>, MarshalFault>
     requires place { at < 8 }
     ensures { Gives (λ x. x.items) result
-        (elements_written (values_of items.now) depth order at (ty_of of.now) []) }
+        (elements_written (values_of items.now) depth O.order at (ty_of of.now) []) }
 {
     let mut wanted = Vec::new(alloc);
     type_code(of, &mut wanted)?;
@@ -425,7 +410,7 @@ fn elements(
         if !has_code(alloc, one, &wanted)? {
             return Err(MarshalFault::Signature);
         }
-        value(alloc, depth, order, one, at, &mut inside)?;
+        value::<O>(alloc, depth, one, at, &mut inside)?;
     }
     Ok(inside)
 }
@@ -469,10 +454,9 @@ fn entry_has_code(
 }
 
 #[cycle(writers)]
-fn entries(
+fn entries<O: Endian>(
     alloc: Global,
     depth: u8,
-    order: Order,
     key: BasicType,
     of: &DataType,
     items: &[(BasicValue, Value)],
@@ -480,7 +464,7 @@ fn entries(
 ) -> Result<Vec<u8>, MarshalFault>
     requires place { at < 8 }
     ensures { Gives (λ x. x.items) result (elements_written (values (map entry_of items.now))
-        depth order at (entry key (ty_of of.now)) []) }
+        depth O.order at (entry key (ty_of of.now)) []) }
 {
     let mut of_value = Vec::new(alloc);
     type_code(of, &mut of_value)?;
@@ -491,28 +475,38 @@ fn entries(
         if !entry_has_code(alloc, &one.0, &one.1, &wanted)? {
             return Err(MarshalFault::Signature);
         }
-        one_entry(alloc, depth, order, &one.0, &one.1, at, &mut inside)?;
+        one_entry::<O>(alloc, depth, &one.0, &one.1, at, &mut inside)?;
     }
     Ok(inside)
 }
 
 #[cycle(writers)]
-fn fields(
+fn fields<O: Endian>(
     alloc: Global,
     depth: u8,
-    order: Order,
     of: &[Value],
     at: usize,
     output: &mut Vec<u8>,
 ) -> Result<(), MarshalFault>
     requires place { at < 8 }
     ensures { Gives (λ _. output.new.items) result
-        (fields_written (values_of of.now) depth order at output.old.items) }
+        (fields_written (values_of of.now) depth O.order at output.old.items) }
 {
     for one in of {
-        value(alloc, depth, order, one, at, output)?;
+        value::<O>(alloc, depth, one, at, output)?;
     }
     Ok(())
+}
+
+fn written<O: Endian>(alloc: Global, offset: usize, of: &[Value]) -> Result<Vec<u8>, MarshalFault>
+    ensures { Gives (λ x. x.items) result (encode_at O.order offset (values_of of.now)) }
+{
+    let mut text = Vec::new(alloc);
+    value_codes(of, &mut text)?;
+    Signature::from_bytes(alloc, &text)?;
+    let mut bytes = Vec::new(alloc);
+    fields::<O>(alloc, MAX_CONTAINER_DEPTH, of, offset % 8, &mut bytes)?;
+    Ok(bytes)
 }
 
 fn all_written(
@@ -523,19 +517,10 @@ fn all_written(
 ) -> Result<Vec<u8>, MarshalFault>
     ensures { Gives (λ x. x.items) result (encode_at order offset (values_of of.now)) }
 {
-    let mut text = Vec::new(alloc);
-    value_codes(of, &mut text)?;
-    Signature::from_bytes(alloc, &text)?;
-    let mut bytes = Vec::new(alloc);
-    fields(
-        alloc,
-        MAX_CONTAINER_DEPTH,
-        order,
-        of,
-        offset % 8,
-        &mut bytes,
-    )?;
-    Ok(bytes)
+    match order {
+        Order::Little => written::<LittleEndian>(alloc, offset, of),
+        Order::Big => written::<BigEndian>(alloc, offset, of),
+    }
 }
 
 /// Appends the bytes of the values, where the first byte stands at this offset of the message

@@ -9,8 +9,8 @@ ghost use Rattle.marshal_core.specs.Spelling.{pad_len};
 ghost use Rattle.marshal_core.specs.Faults.{Tells};
 ghost use Rattle.marshal_core.specs.Reading.{boolean_at, byte_at, fixed_at, number_at, padding_at, zeros_at};
 
-use byteorder::{BigEndian, ByteOrder, LittleEndian};
-use marshal_core::{MarshalFault, Order};
+use crate::endian::Endian;
+use marshal_core::MarshalFault;
 
 #[tactic(auto, unfolding(marshal_core::specs::Reading::zeros_at))]
 fn zeros(count: usize, short: MarshalFault, bytes: &[u8]) -> Result<&[u8], MarshalFault>
@@ -81,63 +81,51 @@ pub fn fixed(
 }
 
 #[tactic(auto, unfolding(marshal_core::specs::Reading::number_at))]
-pub fn number16(
-    order: Order,
+pub fn number16<O: Endian>(
     short: MarshalFault,
     at: usize,
     bytes: &[u8],
 ) -> Result<(u16, usize, &[u8]), MarshalFault>
     requires room { at + length bytes.now < 2 ^ 64 }
     ensures reads { Tells (λ x. (x.0, x.1, x.2.now)) result
-        (number_at order w16 short at bytes.now) }
+        (number_at O.order w16 short at bytes.now) }
     ensures place { IfOk result (λ x. x.1 + length x.2.now ≡ at + length bytes.now) }
     ensures shorter { IfOk result (λ x. length x.2.now < length bytes.now) }
 {
     let (front, at, rest) = fixed(2, short, at, bytes)?;
-    match order {
-        Order::Little => Ok((LittleEndian::read_u16(front), at, rest)),
-        Order::Big => Ok((BigEndian::read_u16(front), at, rest)),
-    }
+    Ok((O::read_u16(front), at, rest))
 }
 
 #[tactic(auto, unfolding(marshal_core::specs::Reading::number_at))]
-pub fn number32(
-    order: Order,
+pub fn number32<O: Endian>(
     short: MarshalFault,
     at: usize,
     bytes: &[u8],
 ) -> Result<(u32, usize, &[u8]), MarshalFault>
     requires room { at + length bytes.now < 2 ^ 64 }
     ensures reads { Tells (λ x. (x.0, x.1, x.2.now)) result
-        (number_at order w32 short at bytes.now) }
+        (number_at O.order w32 short at bytes.now) }
     ensures place { IfOk result (λ x. x.1 + length x.2.now ≡ at + length bytes.now) }
     ensures shorter { IfOk result (λ x. length x.2.now < length bytes.now) }
 {
     let (front, at, rest) = fixed(4, short, at, bytes)?;
-    match order {
-        Order::Little => Ok((LittleEndian::read_u32(front), at, rest)),
-        Order::Big => Ok((BigEndian::read_u32(front), at, rest)),
-    }
+    Ok((O::read_u32(front), at, rest))
 }
 
 #[tactic(auto, unfolding(marshal_core::specs::Reading::number_at))]
-pub fn number64(
-    order: Order,
+pub fn number64<O: Endian>(
     short: MarshalFault,
     at: usize,
     bytes: &[u8],
 ) -> Result<(u64, usize, &[u8]), MarshalFault>
     requires room { at + length bytes.now < 2 ^ 64 }
     ensures reads { Tells (λ x. (x.0, x.1, x.2.now)) result
-        (number_at order w64 short at bytes.now) }
+        (number_at O.order w64 short at bytes.now) }
     ensures place { IfOk result (λ x. x.1 + length x.2.now ≡ at + length bytes.now) }
     ensures shorter { IfOk result (λ x. length x.2.now < length bytes.now) }
 {
     let (front, at, rest) = fixed(8, short, at, bytes)?;
-    match order {
-        Order::Little => Ok((LittleEndian::read_u64(front), at, rest)),
-        Order::Big => Ok((BigEndian::read_u64(front), at, rest)),
-    }
+    Ok((O::read_u64(front), at, rest))
 }
 
 /// Eight bytes as they stand.
@@ -175,18 +163,18 @@ pub fn byte(
 }
 
 #[tactic(auto, unfolding(marshal_core::specs::Reading::boolean_at))]
-pub fn boolean(
-    order: Order,
+pub fn boolean<O: Endian>(
     short: MarshalFault,
     at: usize,
     bytes: &[u8],
 ) -> Result<(bool, usize, &[u8]), MarshalFault>
     requires room { at + length bytes.now < 2 ^ 64 }
-    ensures reads { Tells (λ x. (x.0, x.1, x.2.now)) result (boolean_at order short at bytes.now) }
+    ensures reads { Tells (λ x. (x.0, x.1, x.2.now)) result
+        (boolean_at O.order short at bytes.now) }
     ensures place { IfOk result (λ x. x.1 + length x.2.now ≡ at + length bytes.now) }
     ensures shorter { IfOk result (λ x. length x.2.now < length bytes.now) }
 {
-    let (number, at, rest) = number32(order, short, at, bytes)?;
+    let (number, at, rest) = number32::<O>(short, at, bytes)?;
     match number {
         0 => Ok((false, at, rest)),
         1 => Ok((true, at, rest)),

@@ -23,6 +23,7 @@
 mod basic;
 mod decoding;
 mod encoding;
+mod endian;
 mod fixed;
 pub mod parts;
 mod text;

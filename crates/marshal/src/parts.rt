@@ -6,6 +6,7 @@
 //! takes no memory ("Marshaling (Wire Format)" of the D-Bus Specification).
 
 pub use crate::decoding::array_bytes;
+pub use crate::endian::Endian;
 pub use crate::fixed::{boolean, byte, fixed, number32, padding};
 pub use crate::text::{path, short_text, string};
 pub use crate::type_text::{type_code, type_codes, value_codes};

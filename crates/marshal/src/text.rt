@@ -7,8 +7,9 @@ ghost use Rattle.marshal_core.specs.Spelling.{has_zero};
 ghost use Rattle.marshal_core.specs.Faults.{Gives, Tells};
 ghost use Rattle.marshal_core.specs.Reading.{content_at, path_at, short_text_at, signature_at, string_at, variant_type_at};
 
+use crate::endian::Endian;
 use crate::fixed::{byte, number32};
-use marshal_core::{DataType, MarshalFault, Order, Signature};
+use marshal_core::{DataType, MarshalFault, Signature};
 use names::ObjectPath;
 use std::alloc::Global;
 
@@ -56,19 +57,18 @@ fn content(
 
 /// A text as it lies there.
 #[tactic(auto, unfolding(marshal_core::specs::Reading::string_at))]
-pub fn string(
-    order: Order,
+pub fn string<O: Endian>(
     short: MarshalFault,
     at: usize,
     bytes: &[u8],
 ) -> Result<(&str, usize, &[u8]), MarshalFault>
     requires room { at + length bytes.now < 2 ^ 64 }
     ensures reads { Tells (λ x. (x.0.now, x.1, x.2.now)) result
-        (string_at order short at bytes.now) }
+        (string_at O.order short at bytes.now) }
     ensures place { IfOk result (λ x. x.1 + length x.2.now ≡ at + length bytes.now) }
     ensures shorter { IfOk result (λ x. length x.2.now < length bytes.now) }
 {
-    let (len, at, rest) = number32(order, short, at, bytes)?;
+    let (len, at, rest) = number32::<O>(short, at, bytes)?;
     let (content, at, rest) = content(short, len as usize, at, rest)?;
     match std::str::from_utf8(content) {
         Ok(text) => Ok((text, at, rest)),
@@ -78,18 +78,18 @@ pub fn string(
 
 /// An object path as it lies there.
 #[tactic(auto, unfolding(marshal_core::specs::Reading::path_at))]
-pub fn path(
-    order: Order,
+pub fn path<O: Endian>(
     short: MarshalFault,
     at: usize,
     bytes: &[u8],
 ) -> Result<(&str, usize, &[u8]), MarshalFault>
     requires room { at + length bytes.now < 2 ^ 64 }
-    ensures reads { Tells (λ x. (x.0.now, x.1, x.2.now)) result (path_at order short at bytes.now) }
+    ensures reads { Tells (λ x. (x.0.now, x.1, x.2.now)) result
+        (path_at O.order short at bytes.now) }
     ensures place { IfOk result (λ x. x.1 + length x.2.now ≡ at + length bytes.now) }
     ensures shorter { IfOk result (λ x. length x.2.now < length bytes.now) }
 {
-    let (text, at, rest) = string(order, short, at, bytes)?;
+    let (text, at, rest) = string::<O>(short, at, bytes)?;
     match ObjectPath::parse(text) {
         Ok(_) => Ok((text, at, rest)),
         Err(_) => Err(MarshalFault::Path),
