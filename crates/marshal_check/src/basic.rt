@@ -5,8 +5,8 @@ ghost use Rattle.marshal_core.specs.Reading.{basic_at, boolean_at, byte_at, fixe
 ghost use Rattle.marshal_check.specs.Checking.{HoldsType, Skips};
 
 use crate::recognizing::{is_one_type, is_signature};
-use marshal::parts;
-use marshal_core::{BasicType, MarshalFault, Order};
+use marshal::parts::{self, Endian};
+use marshal_core::{BasicType, MarshalFault};
 
 fn byte(short: MarshalFault, at: usize, bytes: &[u8]) -> Result<(usize, &[u8]), MarshalFault>
     requires room { at + length bytes.now < 2 ^ 64 }
@@ -18,18 +18,17 @@ fn byte(short: MarshalFault, at: usize, bytes: &[u8]) -> Result<(usize, &[u8]), 
     Ok((at, rest))
 }
 
-fn boolean(
-    order: Order,
+fn boolean<O: Endian>(
     short: MarshalFault,
     at: usize,
     bytes: &[u8],
 ) -> Result<(usize, &[u8]), MarshalFault>
     requires room { at + length bytes.now < 2 ^ 64 }
-    ensures reads { Skips (λ x. (x.0, x.1.now)) result (boolean_at order short at bytes.now) }
+    ensures reads { Skips (λ x. (x.0, x.1.now)) result (boolean_at O.order short at bytes.now) }
     ensures place { IfOk result (λ x. x.0 + length x.1.now ≡ at + length bytes.now) }
     ensures shorter { IfOk result (λ x. length x.1.now < length bytes.now) }
 {
-    let (_, at, rest) = parts::boolean(order, short, at, bytes)?;
+    let (_, at, rest) = parts::boolean::<O>(short, at, bytes)?;
     Ok((at, rest))
 }
 
@@ -50,33 +49,31 @@ fn fixed(
     Ok((at, rest))
 }
 
-fn string(
-    order: Order,
+fn string<O: Endian>(
     short: MarshalFault,
     at: usize,
     bytes: &[u8],
 ) -> Result<(usize, &[u8]), MarshalFault>
     requires room { at + length bytes.now < 2 ^ 64 }
-    ensures reads { Skips (λ x. (x.0, x.1.now)) result (string_at order short at bytes.now) }
+    ensures reads { Skips (λ x. (x.0, x.1.now)) result (string_at O.order short at bytes.now) }
     ensures place { IfOk result (λ x. x.0 + length x.1.now ≡ at + length bytes.now) }
     ensures shorter { IfOk result (λ x. length x.1.now < length bytes.now) }
 {
-    let (_, at, rest) = parts::string(order, short, at, bytes)?;
+    let (_, at, rest) = parts::string::<O>(short, at, bytes)?;
     Ok((at, rest))
 }
 
-fn path(
-    order: Order,
+fn path<O: Endian>(
     short: MarshalFault,
     at: usize,
     bytes: &[u8],
 ) -> Result<(usize, &[u8]), MarshalFault>
     requires room { at + length bytes.now < 2 ^ 64 }
-    ensures reads { Skips (λ x. (x.0, x.1.now)) result (path_at order short at bytes.now) }
+    ensures reads { Skips (λ x. (x.0, x.1.now)) result (path_at O.order short at bytes.now) }
     ensures place { IfOk result (λ x. x.0 + length x.1.now ≡ at + length bytes.now) }
     ensures shorter { IfOk result (λ x. length x.1.now < length bytes.now) }
 {
-    let (_, at, rest) = parts::path(order, short, at, bytes)?;
+    let (_, at, rest) = parts::path::<O>(short, at, bytes)?;
     Ok((at, rest))
 }
 
@@ -94,21 +91,20 @@ fn signature(short: MarshalFault, at: usize, bytes: &[u8]) -> Result<(usize, &[u
 
 /// A value of a basic type: the place after it, and the bytes there.
 #[tactic(auto, unfolding(marshal_core::specs::Reading::basic_at, marshal_core::specs::Reading::number_at), using(crate::proofs::Skipping::as_skips))]
-pub fn basic(
-    order: Order,
+pub fn basic<O: Endian>(
     short: MarshalFault,
     of: BasicType,
     at: usize,
     bytes: &[u8],
 ) -> Result<(usize, &[u8]), MarshalFault>
     requires room { at + length bytes.now < 2 ^ 64 }
-    ensures reads { Skips (λ x. (x.0, x.1.now)) result (basic_at order short of at bytes.now) }
+    ensures reads { Skips (λ x. (x.0, x.1.now)) result (basic_at O.order short of at bytes.now) }
     ensures place { IfOk result (λ x. x.0 + length x.1.now ≡ at + length bytes.now) }
     ensures shorter { IfOk result (λ x. length x.1.now < length bytes.now) }
 {
     match of {
         BasicType::Byte => byte(short, at, bytes),
-        BasicType::Boolean => boolean(order, short, at, bytes),
+        BasicType::Boolean => boolean::<O>(short, at, bytes),
         BasicType::Int16 => fixed(2, short, at, bytes),
         BasicType::Uint16 => fixed(2, short, at, bytes),
         BasicType::Int32 => fixed(4, short, at, bytes),
@@ -116,8 +112,8 @@ pub fn basic(
         BasicType::Int64 => fixed(8, short, at, bytes),
         BasicType::Uint64 => fixed(8, short, at, bytes),
         BasicType::Double => fixed(8, short, at, bytes),
-        BasicType::String => string(order, short, at, bytes),
-        BasicType::ObjectPath => path(order, short, at, bytes),
+        BasicType::String => string::<O>(short, at, bytes),
+        BasicType::ObjectPath => path::<O>(short, at, bytes),
         BasicType::Signature => signature(short, at, bytes),
     }
 }

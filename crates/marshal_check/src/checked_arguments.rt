@@ -6,11 +6,10 @@ ghost use Rattle.marshal_check.specs.SignatureTexts.{types_in};
 
 use crate::body_arguments::Argument;
 use crate::checked_text::checked_text;
-use crate::checking::value;
+use crate::checking::any_value;
 use crate::letters::skip_type;
 use crate::signature_text::Types;
-use marshal_core::limits::MAX_CONTAINER_DEPTH;
-use marshal_core::{MarshalFault, Order};
+use marshal_core::Order;
 
 /// The arguments that are left of a body which spells values of its types. Their texts are lent
 /// without being checked again.
@@ -84,14 +83,7 @@ impl<'a> CheckedArguments<'a> {
                 },
             ));
         }
-        let Ok((at, bytes)) = value(
-            MAX_CONTAINER_DEPTH,
-            self.order,
-            MarshalFault::Truncated,
-            self.types.text,
-            self.at,
-            self.bytes,
-        ) else {
+        let Ok((at, bytes)) = any_value(self.order, self.types.text, self.at, self.bytes) else {
             return None;
         };
         let types = Types {
