@@ -22,14 +22,15 @@ use seq_bus_core::limits::MAX_BATCH;
 use std::alloc::AllocError;
 
 /// How many messages of a connection are served before mail is taken: what they bring for one
-/// connection an outbox has room for.
+/// connection there is room for.
 const PART: usize = 32;
 
 /// How many such parts of a connection are served in a turn.
 const PARTS: u8 = 2;
 
-/// How many envelopes are taken of a slot at once.
-const HANDFUL: u32 = 256;
+/// How many envelopes are taken of a slot at once: as many as may wait there, 256 of its own router
+/// and 256 of others.
+const HANDFUL: u32 = 512;
 
 /// How many connections are served before the other routers are told of their mail: so many have
 /// less for one connection than an outbox has room for.
@@ -521,7 +522,7 @@ impl<V: BusView, G: Gate, P: Post<V>, S: Socket> Host<V, G, P, S> {
     }
 
     /// Lets go of a connection, where it is over, and takes the mail that this brought, and that
-    /// which came for it: whoever has its slot next is to find room in its outbox.
+    /// which came for it: whoever has its slot next is to find room there.
     fn close_and_drain(&mut self, right: &V::Right, key: usize) -> Result<(), AllocError>
         requires none { self.old.kept ≡ None }
         ensures does { DoesBy V.BusView G.Gate P.Post self.old self.new }

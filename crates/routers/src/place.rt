@@ -1,6 +1,7 @@
 //! The places of a router.
 
 ghost use Rattle.std.specs.Prelude.{◌≡◌, ◌≤◌, ◌∷◌, ◌++◌, [], length, IfOk, MatchOption, MatchResult};
+ghost use Rattle.outbox.specs.Lanes.{WasEmpty};
 ghost use Rattle.routers.specs.Posts.{HasNone, IsFull, Takes, kept, max_own, new_place};
 
 use outbox::Tap;
@@ -18,42 +19,59 @@ const ROOM: usize = 256;
 #[derive(Drop)]
 pub(crate) struct NoRoom<E>(pub E);
 
+/// An item, and how many of what others put come before it, counted from the first that was ever
+/// taken.
+#[derive(Drop)]
+struct Kept<E: Drop> {
+    item: E,
+    others: u64,
+}
+
 /// What a router put for a place of its own, the oldest first. Only its own thread sees it.
 #[derive(Drop)]
 struct OwnQueue<E: Drop> {
-    items: VecDeque<E>,
+    kept: VecDeque<Kept<E>>,
 }
 
 impl<E: Drop> Model for OwnQueue<E> {
-    ghost use Rattle.std.specs.Prelude.{◌≤◌, List};
+    ghost use Rattle.std.specs.Prelude.{◌≤◌, List, map};
     ghost use Rattle.std.specs.VecDeque.{deque_capacity};
     ghost use Rattle.routers.specs.Posts.{max_own};
 
     ghost Value = { List E };
 
-    ghost view = { λ q. q.items.items };
+    ghost view = { λ q. map (λ kept. kept.item) q.kept.items };
 
-    ghost invariant = { λ q. max_own ≤ deque_capacity q.items };
+    ghost invariant = { λ q. max_own ≤ deque_capacity q.kept };
 }
 
 impl<E: Drop> OwnQueue<E> {
     fn new(alloc: Global) -> Result<OwnQueue<E>, AllocError>
         ensures { IfOk result (λ q. q ≡ []) }
     {
-        let items = VecDeque::with_capacity(alloc, ROOM)?;
-        Ok(OwnQueue { items })
+        let kept = VecDeque::with_capacity(alloc, ROOM)?;
+        Ok(OwnQueue { kept })
     }
 
-    fn put(&mut self, item: E) -> Result<(), NoRoom<E>>
+    /// Puts an item behind so many that others put.
+    fn put(&mut self, item: E, others: u64) -> Result<(), NoRoom<E>>
         ensures { MatchResult result
             (λ _. self.new ≡ self.old ++ item ∷ [])
             (λ back. (back.0 ≡ item) × (self.new ≡ self.old) × (max_own ≤ length self.old)) }
     {
-        if self.items.len() >= ROOM {
+        if self.kept.len() >= ROOM {
             return Err(NoRoom(item));
         }
-        self.items.push_back_reserved(item);
+        self.kept.push_back_reserved(Kept { item, others });
         Ok(())
+    }
+
+    /// Whether the oldest item comes next, where so many that others put were taken.
+    fn is_next(&self, taken: u64) -> bool {
+        match self.kept.front() {
+            Some(kept) => kept.others <= taken,
+            None => false,
+        }
     }
 
     fn take(&mut self) -> Option<E>
@@ -61,11 +79,24 @@ impl<E: Drop> OwnQueue<E> {
             ((self.new ≡ self.old) × (self.old ≡ []))
             (λ item. self.old ≡ item ∷ self.new) }
     {
-        let item = self.items.pop_front()?;
-        if self.items.is_empty() {
+        let kept = self.kept.pop_front()?;
+        if self.kept.is_empty() {
             self.begin_anew();
         }
-        Some(item)
+        Some(kept.item)
+    }
+
+    /// The oldest item, where so many that others put were taken and it comes next.
+    fn take_next(&mut self, taken: u64) -> Option<E>
+        ensures { MatchOption result
+            (self.new ≡ self.old)
+            (λ item. self.old ≡ item ∷ self.new) }
+    {
+        if self.is_next(taken) {
+            self.take()
+        } else {
+            None
+        }
     }
 
     /// Empty, it begins at its first place once more: that was used last, so it is near.
@@ -73,22 +104,22 @@ impl<E: Drop> OwnQueue<E> {
         requires { self.old ≡ [] }
         ensures { self.new ≡ [] }
     {
-        let alloc = *self.items.allocator();
-        let items = mem::replace(&mut self.items, VecDeque::new(alloc));
-        self.items = VecDeque::from_vec(items.into_vec());
+        let alloc = *self.kept.allocator();
+        let kept = mem::replace(&mut self.kept, VecDeque::new(alloc));
+        self.kept = VecDeque::from_vec(kept.into_vec());
     }
 }
 
 /// A place of a router for a connection: the end that takes what others put into its outbox, and
-/// what its own router put for it.
+/// what its own router put for it. They are taken in the order in which they were put.
 ///
 /// Contracts see both.
 #[derive(Drop)]
 pub(crate) struct Place<E: Drop> {
     tap: Tap<E>,
     own: OwnQueue<E>,
-    /// Whose envelope is looked for first: each comes first in turn, so that none waits for ever.
-    own_first: bool,
+    /// How many were taken that others put.
+    taken: u64,
 }
 
 impl<E: Drop> Model for Place<E> {
@@ -104,39 +135,42 @@ impl<E: Drop> Place<E> {
         ensures { IfOk result (λ p. p ≡ new_place tap) }
     {
         let own = OwnQueue::new(alloc)?;
-        Ok(Place {
-            tap,
-            own,
-            own_first: true,
-        })
+        Ok(Place { tap, own, taken: 0 })
     }
 
-    /// Puts an item of its own router.
-    pub(crate) fn put(&mut self, item: E) -> Result<(), NoRoom<E>>
+    /// Puts an item of its own router, where so many wait that others put.
+    pub(crate) fn put(&mut self, item: E, waiting: usize) -> Result<(), NoRoom<E>>
         ensures { MatchResult result
             (λ _. self.new ≡ kept self.old item)
             (λ back. (back.0 ≡ item) × (self.new ≡ self.old) × IsFull self.old) }
     {
-        self.own.put(item)
+        self.own
+            .put(item, self.taken.saturating_add(waiting as u64))
     }
 
-    /// The oldest item of its own router, or of what others put.
+    /// Takes of what others put.
+    fn take_of_others<R: Wait>(&mut self, rt: &R) -> Option<E>
+        ensures { MatchOption result
+            ((self.new ≡ self.old) × WasEmpty self.old.tap)
+            (λ item. Takes self.old item self.new) }
+    {
+        let item = self.tap.take(rt)?;
+        self.taken = self.taken.saturating_add(1);
+        Some(item)
+    }
+
+    /// The item that was put first, by its own router or by others.
     pub(crate) fn take<R: Wait>(&mut self, rt: &R) -> Option<E>
         ensures { MatchOption result
             ((self.new ≡ self.old) × HasNone self.old)
             (λ item. Takes self.old item self.new) }
     {
-        self.own_first = !self.own_first;
-        if self.own_first {
-            match self.own.take() {
-                Some(item) => Some(item),
-                None => self.tap.take(rt),
-            }
-        } else {
-            match self.tap.take(rt) {
-                Some(item) => Some(item),
-                None => self.own.take(),
-            }
+        if let Some(item) = self.own.take_next(self.taken) {
+            return Some(item);
+        }
+        match self.take_of_others(rt) {
+            Some(item) => Some(item),
+            None => self.own.take(),
         }
     }
 }

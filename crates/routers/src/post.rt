@@ -124,8 +124,24 @@ impl<'a, J: Naming, W: Wake + Drop> LanePost<'a, J, W> {
         }
     }
 
-    /// Puts an envelope for a place of its own.
-    fn put_own(&mut self, place: usize, envelope: EnvelopeOf<J>) -> Result<(), Full<Note<J>>>
+    /// How many envelopes that others put wait for a slot.
+    fn waiting<R: Wait>(&mut self, right: &R, slot: usize) -> usize
+        ensures same { self.new ≡ self.old }
+    {
+        if slot < self.lane.slots() {
+            self.lane.len(right, slot)
+        } else {
+            0
+        }
+    }
+
+    /// Puts an envelope for a place of its own, behind those that others have put there.
+    fn put_own<R: Wait>(
+        &mut self,
+        right: &R,
+        place: usize,
+        envelope: EnvelopeOf<J>,
+    ) -> Result<(), Full<Note<J>>>
         requires { place < length self.old.places }
         ensures put { OnOk result
             (Sends self.old (self.old.first + place) envelope self.new) }
@@ -133,7 +149,8 @@ impl<'a, J: Naming, W: Wake + Drop> LanePost<'a, J, W> {
         ensures full { OnErr result (IsFullFor self.old (self.old.first + place)) }
         ensures back { IfErr result (λ full. full.0 ≡ envelope) }
     {
-        match self.places[place].put(envelope) {
+        let waiting = self.waiting(right, self.first.saturating_add(place));
+        match self.places[place].put(envelope, waiting) {
             Ok(()) => Ok(()),
             Err(NoRoom(back)) => Err(Full(back)),
         }
@@ -164,13 +181,9 @@ impl<'a, J: Naming, W: Wake + Drop> LanePost<'a, J, W> {
     }
 
     /// Whether it is to be looked how many envelopes wait for a slot of another router.
-    fn is_to_look(&mut self, slot: usize) -> bool
+    fn is_to_look(&mut self) -> bool
         ensures same { self.new ≡ self.old }
-        ensures there { result ≡ true → slot < length self.old.lane }
     {
-        if slot >= self.lane.slots() {
-            return false;
-        }
         self.unseen = self.unseen.saturating_add(1);
         if self.unseen < LOOK {
             return false;
@@ -183,12 +196,12 @@ impl<'a, J: Naming, W: Wake + Drop> LanePost<'a, J, W> {
     fn look<R: Wait>(&mut self, right: &R, slot: usize)
         ensures same { self.new ≡ self.old }
     {
-        if self.is_to_look(slot) && self.lane.len(right, slot) >= MUCH {
+        if self.is_to_look() && self.has_much(right, slot) {
             self.note_backlog(slot);
         }
     }
 
-    /// Much mail waits for a slot of another router.
+    /// Notes that much mail waits for a slot of another router.
     fn note_backlog(&mut self, slot: usize)
         ensures same { self.new ≡ self.old }
     {
@@ -200,11 +213,11 @@ impl<'a, J: Naming, W: Wake + Drop> LanePost<'a, J, W> {
         }
     }
 
-    /// Whether much mail waits for a slot still.
+    /// Whether much mail waits for a slot of another router.
     fn has_much<R: Wait>(&mut self, right: &R, slot: usize) -> bool
         ensures same { self.new ≡ self.old }
     {
-        slot < self.lane.slots() && self.lane.len(right, slot) >= MUCH
+        self.waiting(right, slot) >= MUCH
     }
 
     /// Whether a backlog is no reason to wait any more: it is gone, or its connection does not take
@@ -247,7 +260,7 @@ impl<'a, 'b, J: Naming, W: Wake + Drop, R: Wait> Post<Traced<Desk<'b, J, R>>>
     {
         let slot = usize::from(to.slot);
         match self.own_place(slot) {
-            Some(place) => self.put_own(place, envelope),
+            Some(place) => self.put_own(right, place, envelope),
             None => {
                 self.look(right, slot);
                 self.put_away(right, slot, envelope)
