@@ -48,7 +48,7 @@ fn deliver_to<V: BusView, G: Gate, W: Write>(
     Ok(())
 }
 
-/// Brings a message to its recipients, and then to the monitors that are none of them.
+/// Brings a message to the monitors that are none of its recipients, and then to these.
 fn deliver<V: BusView, G: Gate, W: Write>(
     engine: &mut Engine<V, G>,
     right: &V::Right,

@@ -1,6 +1,6 @@
 -- Who gets a message, and how often.
 use Rattle.std.proofs.Common.{◌≡◌, Bool, true, false, not, ◌||◌, ◌==◌, List, [], ◌∷◌, ◌++◌, filter, if◌then◌else◌, refl, sym, ap, ◌∙◌}
-use Rattle.std.proofs.lemmas.Bool.{true≢false, eqb-true}
+use Rattle.std.proofs.lemmas.Bool.{true≢false, eqb-true, eq-eqb}
 use Rattle.std.specs.List.{AllByRecursion as Each, IsDistinct, list_any}
 use Rattle.seq_bus_core.specs.Steps.{is_among}
 use Rattle.seq_bus_core.specs.declared.connection.Conn.{Conn}
@@ -24,18 +24,9 @@ module _ {X : Type 0} where
   each_both P [] ys f g = g
   each_both P (x ∷ xs) ys f g = (f.0, each_both P xs ys f.1 g)
 
-  heads : {Y : Type 0} (R : X → Y → Type 0) (x : X) (xs : List X) (ys : List Y) → Each (λ y. Each (λ z. R z y) (x ∷ xs)) ys → Each (λ y. R x y) ys
-  heads R x xs [] h = tt
-  heads R x xs (y ∷ ys) h = (h.0.0, heads R x xs ys h.1)
-
-  tails : {Y : Type 0} (R : X → Y → Type 0) (x : X) (xs : List X) (ys : List Y) → Each (λ y. Each (λ z. R z y) (x ∷ xs)) ys → Each (λ y. Each (λ z. R z y) xs) ys
-  tails R x xs [] h = tt
-  tails R x xs (y ∷ ys) h = (h.0.1, tails R x xs ys h.1)
-
-  -- by rows, as it is by columns
-  turned : {Y : Type 0} (R : X → Y → Type 0) (xs : List X) (ys : List Y) → Each (λ y. Each (λ x. R x y) xs) ys → Each (λ x. Each (λ y. R x y) ys) xs
-  turned R [] ys h = tt
-  turned R (x ∷ xs) ys h = (heads R x xs ys h, turned R xs ys (tails R x xs ys h))
+  each_as : (Q P : X → Type 0) → ((x : X) → Q x → P x) → (xs : List X) → Each Q xs → Each P xs
+  each_as Q P f [] h = tt
+  each_as Q P f (x ∷ xs) h = (f x h.0, each_as Q P f xs h.1)
 
   distinct_if : (e : X → X → Bool) (x : X) (xs : List X) (b : Bool) → Each (λ y. e x y ≡ false) xs → IsDistinct e xs → IsDistinct e (if b then x ∷ xs else xs)
   unfolding IsDistinct
@@ -73,12 +64,25 @@ is_none : (b : Bool) → not b ≡ true → b ≡ false
 is_none true is = absurd (true≢false (sym is))
 is_none false is = refl
 
+either_way : (a b : Bool) → (a || b) ≡ (b || a)
+either_way true true = refl
+either_way true false = refl
+either_way false true = refl
+either_way false false = refl
+
+other_way : (a b : Conn) → is_same a b ≡ false → is_same b a ≡ false
+other_way a b apart = by (is_same b a) refl
+  where
+    by : (q : Bool) → is_same b a ≡ q → q ≡ false
+    by true same = absurd (true≢false (sym (eq-eqb a.number b.number (sym (eqb-true b.number a.number same))) ∙ apart))
+    by false same = refl
+
 pub each_gets_it_once : EachGetsItOnce
 each_gets_it_once to monitors once shown =
     let test : Conn → Bool = λ m. not (is_among to m) in
-    let apart = each_kept (λ (m : Conn). Unit {0}) (λ m. Each (λ c. is_same c m ≡ false) to) test
-    (λ m is was. none_passes (λ c. is_same c m) to (is_none (is_among to m) is)) monitors (each_of (λ (m : Conn). Unit {0}) (λ m. tt) monitors) in
-    distinct_both is_same to (filter test monitors) once (distinct_kept is_same test monitors shown) (turned (λ c m. is_same c m ≡ false) to (filter test monitors) apart)
+    let apart = each_kept (λ (m : Conn). Unit {0}) (λ m. Each (λ c. is_same m c ≡ false) to) test
+    (λ m is was. each_as (λ c. is_same c m ≡ false) (λ c. is_same m c ≡ false) (λ c. other_way c m) to (none_passes (λ c. is_same c m) to (is_none (is_among to m) is))) monitors (each_of (λ (m : Conn). Unit {0}) (λ m. tt) monitors) in
+    distinct_both is_same (filter test monitors) to (distinct_kept is_same test monitors shown) once apart
 
 -- a monitor that is a recipient is found among those
 found : (to monitors : List Conn) (conn : Conn) → (is_among to conn || is_among (filter (λ m. not (is_among to m)) monitors) conn) ≡ (is_among to conn || is_among monitors conn)
@@ -99,4 +103,6 @@ found to (m ∷ monitors) conn = by (is_among to m) (m.number == conn.number) re
     by false false among same again = ap (λ q. is_among to conn || (q || is_among left conn)) same ∙ again
 
 pub nobody_else_gets_it : NobodyElseGetsIt
-nobody_else_gets_it to monitors conn = any_both (λ c. c.number == conn.number) to (filter (λ m. not (is_among to m)) monitors) ∙ found to monitors conn
+nobody_else_gets_it to monitors conn =
+    let shown = filter (λ m. not (is_among to m)) monitors in
+    any_both (λ c. c.number == conn.number) shown to ∙ either_way (is_among shown conn) (is_among to conn) ∙ found to monitors conn

@@ -4,9 +4,9 @@ use Rattle.std.specs.List.{IsDistinct}
 use Rattle.seq_bus_core.specs.Steps.{is_among}
 use Rattle.seq_bus_core.specs.declared.connection.Conn.{Conn}
 
--- each recipient, and then each monitor that is none of them
+-- each monitor that is no recipient, and then each recipient
 abbrev pub deliveries_of : List Conn → List Conn → List Conn
-deliveries_of to monitors = to ++ filter (λ m. not (is_among to m)) monitors
+deliveries_of to monitors = filter (λ m. not (is_among to m)) monitors ++ to
 
 -- ## Laws
 

@@ -7,28 +7,25 @@ ghost use Rattle.outbox_core.specs.Deliveries.{deliveries_of};
 use seq_bus_core::Conn;
 use std::marker::Model;
 
-/// Those that get one message, in order, each once: its recipients, and then the monitors that are
-/// shown it and are none of them ("Message Bus Message Routing" of the D-Bus Specification). It
-/// takes no memory.
+/// Those that get one message, in order, each once: the monitors that are shown it and are none of
+/// its recipients, and then these ("Message Bus Message Routing" of the D-Bus Specification). So a
+/// monitor is put a call before anybody can answer it. It takes no memory.
 ///
 /// Contracts see the list of those that are left.
 #[derive(Drop)]
 pub struct Deliveries<'a> {
-    recipients: &'a [Conn],
-    /// Those that are left, of the recipients and of the monitors.
     to: &'a [Conn],
     monitors: &'a [Conn],
 }
 
 impl<'a> Model for Deliveries<'a> {
-    ghost use Rattle.std.specs.Prelude.{List, ◌++◌, filter, not};
-    ghost use Rattle.seq_bus_core.specs.Steps.{is_among};
+    ghost use Rattle.std.specs.Prelude.{List};
     ghost use Rattle.seq_bus_core.specs.declared.connection.Conn.{Conn};
+    ghost use Rattle.outbox_core.specs.Deliveries.{deliveries_of};
 
     ghost Value = { List Conn };
 
-    ghost view = { λ d. d.to.now ++ filter
-        (λ m. not (is_among d.recipients.now m)) d.monitors.now };
+    ghost view = { λ d. deliveries_of d.to.now d.monitors.now };
 }
 
 fn is_among(conns: &[Conn], conn: Conn) -> bool
@@ -42,11 +39,7 @@ impl<'a> Deliveries<'a> {
     pub fn new(to: &'a [Conn], monitors: &'a [Conn]) -> Self
         ensures { result ≡ deliveries_of to.now monitors.now }
     {
-        Deliveries {
-            recipients: to,
-            to,
-            monitors,
-        }
+        Deliveries { to, monitors }
     }
 }
 
@@ -60,16 +53,14 @@ impl<'a> Iterator for Deliveries<'a> {
     ghost remaining = { item_count (λ d. d) };
 
     fn next(&mut self) -> Option<Conn> {
-        if let Some((first, rest)) = self.to.split_first() {
-            self.to = rest;
-            return Some(*first);
-        }
         while let Some((first, rest)) = self.monitors.split_first() {
             self.monitors = rest;
-            if !is_among(self.recipients, *first) {
+            if !is_among(self.to, *first) {
                 return Some(*first);
             }
         }
-        None
+        let (first, rest) = self.to.split_first()?;
+        self.to = rest;
+        Some(*first)
     }
 }

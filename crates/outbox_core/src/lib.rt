@@ -18,7 +18,7 @@
 //!     let mut deliveries = Deliveries::new(&to, &monitors);
 //!     let first = deliveries.next();
 //!     let second = deliveries.next();
-//!     first == Some(one) && second == Some(two) && deliveries.next().is_none()
+//!     first == Some(two) && second == Some(one) && deliveries.next().is_none()
 //! }
 //! ```
 #![tactic(auto)]

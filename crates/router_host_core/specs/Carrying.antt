@@ -70,7 +70,7 @@ module _ {P N : Type 0} (puts : P → Conn → Envelope N → P → Type 0) wher
       × (after ≡ record before { post = post }))
       ⊎ IsRefused conn before after
 
-  -- to the recipients, and to the monitors that are none of them
+  -- to the monitors that are no recipients, and then to the recipients
   abbrev pub ArePut : Option N → Content → List Conn → List Conn → Carried P → Carried P → Type 0
   ArePut note content to monitors before after =
       Each (IsPut note content) (deliveries_of to monitors) before after

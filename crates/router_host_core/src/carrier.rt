@@ -137,7 +137,7 @@ impl<V: BusView, P: Post<V>, S: Socket> Carrier<V, P, S> {
         }
     }
 
-    /// Puts a message to its recipients, and to the monitors that are none of them.
+    /// Puts a message to the monitors that are none of its recipients, and then to these.
     fn put(
         &mut self,
         right: &V::Right,

@@ -1,6 +1,7 @@
 -- The signals of a change, one after the other.
-use Rattle.std.proofs.Common.{◌≡◌, Option, List, [], ◌∷◌, refl, sym, ap, ◌∙◌, append_assoc}
+use Rattle.std.proofs.Common.{◌≡◌, Option, not, List, [], ◌∷◌, ◌++◌, filter, refl, sym, ap, ◌∙◌, append_assoc}
 use mathlib.Core.List.{append-nil}
+use Rattle.seq_bus_core.specs.Steps.{is_among}
 use Rattle.seq_bus_core.specs.declared.connection.Conn.{Conn}
 use Rattle.seq_bus_core.specs.declared.signal.AddressedSignal.{AddressedSignal}
 use Rattle.outbox_core.specs.declared.bus_message.BusMessage.TheVariants.{Signal}
@@ -19,7 +20,11 @@ module _ {N : Type 0} (note : Option N) (s : AddressedSignal) where
   put_to_none none = ap (λ (to : List Conn). put_of note s (deliveries_of to s.monitors)) none.0 ∙ ap (λ (monitors : List Conn). put_of note s (deliveries_of [] monitors)) none.1
 
   pub put_to_some : (to monitors : List Conn) → ((to ≡ []) × (monitors ≡ []) → ⊥) → put_of note s (deliveries_of to monitors) ≡ Put (record { to = s.to; monitors = s.monitors }) note (Own (Signal s.signal)) ∷ []
-  put_to_some (conn ∷ conns) monitors some = refl
+  put_to_some (conn ∷ conns) monitors some = by (filter (λ m. not (is_among (conn ∷ conns) m)) monitors)
+    where
+      by : (shown : List Conn) → put_of note s (shown ++ (conn ∷ conns)) ≡ Put (record { to = s.to; monitors = s.monitors }) note (Own (Signal s.signal)) ∷ []
+      by [] = refl
+      by (m ∷ shown) = refl
   put_to_some [] (conn ∷ conns) some = refl
   put_to_some [] [] some = absurd (some (refl, refl))
 

@@ -1,6 +1,7 @@
 -- A message is put with its sender's name, or it is not.
-use Rattle.std.proofs.Common.{◌≡◌, ℕ, Bool, true, false, Result, Ok, Err, List, [], ◌∷◌, refl, sym, ap, subst, ◌∙◌, if◌then◌else◌, IsErrOf, IsTrue, ◌↔◌}
+use Rattle.std.proofs.Common.{◌≡◌, ℕ, Bool, true, false, Result, Ok, Err, not, List, [], ◌∷◌, ◌++◌, filter, refl, sym, ap, subst, ◌∙◌, if◌then◌else◌, IsErrOf, IsTrue, ◌↔◌}
 use Rattle.seq_bus_core.specs.Histories.{History}
+use Rattle.seq_bus_core.specs.Steps.{is_among}
 use Rattle.seq_bus_core.specs.declared.connection.Conn.{Conn}
 use Rattle.message_core.specs.Messages.{Message}
 use Rattle.message.specs.declared.fault.RelayFault.{RelayFault}
@@ -47,7 +48,11 @@ module _ {N G : Type 0} (told : N → History) (registry_of : N → ℕ) (passes
 
   dropped : (to monitors : List Conn) (w : World N G) → ((to ≡ []) × (monitors ≡ []) → ⊥) → Comes told registry_of passes alone (staying_after (erring_if_call m sender error.NoMemory)) w fate end →
       Comes told registry_of passes alone (putting_copies m sender (deliveries_of to monitors) goes_on) w fate end
-  dropped (conn ∷ conns) monitors w some p = (false, p)
+  dropped (conn ∷ conns) monitors w some p = by (filter (λ m. not (is_among (conn ∷ conns) m)) monitors)
+    where
+      by : (shown : List Conn) → Comes told registry_of passes alone (putting_copies m sender (shown ++ (conn ∷ conns)) goes_on) w fate end
+      by [] = (false, p)
+      by (shown ∷ others) = (false, p)
   dropped [] (conn ∷ conns) w some p = (false, p)
   dropped [] [] w some p = absurd (some (refl, refl))
 

@@ -328,9 +328,8 @@ impl EngineScene {
         content: &Content,
         journal: &mut Journal,
     ) -> Result<()> {
-        let others: Vec<Conn> = Deliveries::new(to, monitors)
-            .skip(to.len())
-            .collect(self.alloc)?;
+        let mut others: Vec<Conn> = Deliveries::new(to, monitors).collect(self.alloc)?;
+        others.truncate(others.len().saturating_sub(to.len()));
         if to.is_empty() && others.is_empty() {
             return Ok(());
         }
