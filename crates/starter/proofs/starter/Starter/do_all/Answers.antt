@@ -1,6 +1,6 @@
 use Rattle.std.proofs.Common.{◌≡◌, ◌∷◌, ◌++◌, [], reverse, refl, sym, ap, ◌∙◌, inl, append-nil}
 use Rattle.starter.specs.Ends.{IsDone}
-use Rattle.starter.proofs.Doing.{one_more}
+use Rattle.router_host_core.proofs.Steps.{one_more}
 use Rattle.starter.proofs.starter.Starter.do_all.Goals as goal
 
 pub returns-in-Err-clause-done : goal.returns-in-Err-clause-done

@@ -1,7 +1,7 @@
 -- What was done so far; what is left stands with the first at the end.
 use Rattle.std.proofs.Common.{◌≡◌, reverse, length}
 use Rattle.starter.specs.Ends.{IsDone}
-use Rattle.starter.proofs.Doing.{SoFar}
+use Rattle.router_host_core.proofs.Steps.{SoFar}
 use Rattle.starter.proofs.starter.Starter.do_all.Given as goal
 
 abbrev pub invariant-loop-deed : goal.invariant-loop-deed
