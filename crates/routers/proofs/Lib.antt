@@ -1,3 +1,4 @@
 pub mod Slots
 pub mod Servings
+pub mod Taking
 pub mod Ways

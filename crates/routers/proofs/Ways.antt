@@ -1,9 +1,9 @@
--- What a lane puts.
-use Rattle.std.proofs.Common.{◌≡◌, ◌<◌, ℕ, List, length, inl, inr, arith}
+-- What a lane puts, and what a place keeps.
+use Rattle.std.proofs.Common.{◌≡◌, ◌+◌, ◌<◌, ℕ, List, length, get_or, inl, inr, refl, sym, ap, ◌∙◌, subst, arith}
 use Rattle.std.specs.Prelude.{Some, slice_get, slice_set}
-use Rattle.std.proofs.lemmas.Option.{slice_get_cases}
+use Rattle.std.proofs.lemmas.Option.{slice_get_cases, slice_get_read}
 use Rattle.outbox.specs.Lanes.{End, sent, with}
-use Rattle.routers.specs.Posts.{Puts}
+use Rattle.routers.specs.Posts.{Place, Puts, Sends, IsFull, IsFullFor, Waited, Ways, kept}
 
 module _ {E : Type 0} where
   pub is_put : (ends : List (End E)) (slot : ℕ) (item : E) (after : List (End E)) → slot < length ends
@@ -13,3 +13,22 @@ module _ {E : Type 0} where
     | inl found ↦ (found.0, found.2, put found.0 found.2)
     | inr past ↦ absurd (omega (arith, within, past.0))
   ]
+
+module _ {E S : Type 0} (ways : Ways E S) (slot place : ℕ) (p : Place E) (is : slot ≡ ways.first + place) (within : place < length ways.places) (at : p ≡ get_or ways.places place p) where
+  stands : slice_get ways.places place ≡ Some p
+  stands = slice_get_read ways.places (length ways.places) place p refl within at
+
+  pub is_kept : (q : Place E) (waiting : ℕ) (item : E) → Waited ways slot waiting → q ≡ kept p item waiting
+      → Sends ways slot item (record ways { places = slice_set ways.places place q })
+  is_kept q waiting item waited keeps =
+      inl (place, waiting, p, (is, stands), waited, ap (λ (r : Place E). record ways { places = slice_set ways.places place r }) keeps)
+
+  pub is_full : IsFull p → IsFullFor ways slot
+  is_full full = (
+    (λ other q there.
+        let same : other ≡ place = omega (arith, there.0, is) in
+        let gives : Some q ≡ Some p = sym there.1 ∙ ap (λ i. slice_get ways.places i) same ∙ stands in
+        let one : q ≡ p = cc in
+        subst IsFull (sym one) full),
+    (λ none e lane. absurd (none (place, p, (is, stands)))),
+  )

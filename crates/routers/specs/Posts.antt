@@ -1,8 +1,9 @@
 -- How routers reach one another, and whoever runs the programs of services.
-use Rattle.std.specs.Prelude.{◌≡◌, ◌+◌, ◌≤◌, ◌/◌, ◌⊎◌, max, ℕ, List, [], ◌∷◌, ◌++◌, length, map, Some, slice_get, slice_set}
+use Rattle.std.specs.Prelude.{◌≡◌, ◌+◌, ◌-◌, ◌^◌, ◌≤◌, ◌/◌, ◌⊎◌, max, min, ℕ, Bool, true, false, nat_le, List, [], ◌∷◌, ◌++◌, length, map, Some, slice_get, slice_set}
 use Rattle.seq_bus_core.specs.BusState.{max_connections}
 use Rattle.outbox.specs.declared.hand.Hand.{Hand}
-use Rattle.outbox.specs.Lanes.{End, Took, WasEmpty, WasFull, sent, with}
+use Rattle.outbox.specs.Lanes.{End, HadItems, Took, WasEmpty, WasFull, sent, with}
+use Rattle.routers.specs.declared.place.Kept.{Kept}
 
 -- how many places for connections each of so many routers has
 abbrev pub places_of : ℕ → ℕ
@@ -12,11 +13,17 @@ places_of routers = max_connections / max routers 1
 abbrev pub max_own : ℕ
 max_own = 256
 
--- A place of a router: the end that takes what others put for it, and what its own router put for
--- it and has not taken yet, the oldest first.
+-- A count of what was taken stops here.
+abbrev pub counted : ℕ → ℕ
+counted n = min n (2 ^ 64 - 1)
+
+-- A place of a router: the end that takes what others put for it; what its own router put for it
+-- and has not taken yet, the oldest first, each with how many of what others put come before it;
+-- and how many of these were taken.
 pub record Place (E : Type 0) : Type 0 where
   pub tap : End E
-  pub own : List E
+  pub own : List (Kept E)
+  pub taken : ℕ
 
 module _ {E : Type 0} where
   -- The item stands behind what the lane put for this slot before, and nothing else is put.
@@ -27,17 +34,42 @@ module _ {E : Type 0} where
 
   -- a place before anything was put for it
   abbrev pub new_place : End E → Place E
-  new_place tap = record { tap = tap; own = [] }
+  new_place tap = record { tap = tap; own = []; taken = 0 }
 
-  -- the item stands behind what the router put for its place before
-  abbrev pub kept : Place E → E → Place E
-  kept p item = record p { own = p.own ++ item ∷ [] }
+  abbrev pub kept_behind : List (Kept E) → E → ℕ → List (Kept E)
+  kept_behind own item others = own ++ record { item = item; others = others } ∷ []
 
-  -- The item is the oldest that the router itself put, or what the tap takes next.
+  -- The item stands behind what the router put for its place before, and behind so many of what
+  -- others put, which wait there.
+  abbrev pub kept : Place E → E → (waiting : ℕ) → Place E
+  kept p item waiting = record p { own = kept_behind p.own item (counted (p.taken + waiting)) }
+
+  -- All of what others put that comes before the oldest was taken, where it is so many.
+  abbrev pub is_due : (taken : ℕ) → List (Kept E) → Bool
+  is_due taken [] = false
+  is_due taken (oldest ∷ own) = nat_le oldest.others taken
+
+  abbrev pub IsFirst : E → List (Kept E) → List (Kept E) → Type 0
+  IsFirst item before after = (oldest : Kept E) × (oldest.item ≡ item) × (before ≡ oldest ∷ after)
+
+  -- the oldest that the router itself put, once it is due, or nothing else was there
+  abbrev pub TakesOfOwn : Place E → E → Place E → Type 0
+  TakesOfOwn before item after =
+      IsFirst item before.own after.own
+      × ((is_due before.taken before.own ≡ true) ⊎ WasEmpty before.tap)
+      × (after ≡ record before { own = after.own })
+
+  -- what the tap takes next
+  abbrev pub TakesOfOthers : Place E → E → Place E → Type 0
+  TakesOfOthers before item after =
+      (hand : Hand E) × Took before.tap.hand item hand
+      × (after ≡ record before { tap = with before.tap hand; taken = counted (before.taken + 1) })
+
+  -- An item is taken: of those of others only where none of its own is due.
   abbrev pub Takes : Place E → E → Place E → Type 0
   Takes before item after =
-      ((before.own ≡ item ∷ after.own) × (after.tap ≡ before.tap))
-      ⊎ ((hand : Hand E) × Took before.tap.hand item hand × (after ≡ record before { tap = with before.tap hand }))
+      TakesOfOwn before item after
+      ⊎ ((is_due before.taken before.own ≡ false) × TakesOfOthers before item after)
 
   -- Nothing of its own router waits, and what others put was empty at some moment.
   abbrev pub HasNone : Place E → Type 0
@@ -62,12 +94,16 @@ module _ {E S : Type 0} where
   abbrev pub IsOwn : Ways E S → ℕ → Type 0
   IsOwn ways slot = (place : ℕ) × (p : Place E) × IsAt ways slot place p
 
-  -- An envelope is put for a slot: where it is one of its own, it waits there, else it goes into
-  -- the outbox of the slot.
+  -- So many envelopes waited in the outbox of a slot at some moment.
+  abbrev pub Waited : Ways E S → ℕ → ℕ → Type 0
+  Waited ways slot count = (e : End E) → slice_get ways.lane slot ≡ Some e → HadItems count e
+
+  -- An envelope is put for a slot: where it is one of its own, it waits there behind what others
+  -- put, else it goes into the outbox of the slot.
   abbrev pub Sends : Ways E S → ℕ → E → Ways E S → Type 0
   Sends before slot envelope after =
-      ((place : ℕ) × (p : Place E) × IsAt before slot place p
-      × (after ≡ record before { places = slice_set before.places place (kept p envelope) }))
+      ((place waiting : ℕ) × (p : Place E) × IsAt before slot place p × Waited before slot waiting
+      × (after ≡ record before { places = slice_set before.places place (kept p envelope waiting) }))
       ⊎ ((IsOwn before slot → ⊥) × (lane : List (End E)) × Puts before.lane slot envelope lane
       × (after ≡ record before { lane = lane }))
 

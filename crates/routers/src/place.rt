@@ -1,8 +1,8 @@
 //! The places of a router.
 
-ghost use Rattle.std.specs.Prelude.{◌≡◌, ◌≤◌, ◌∷◌, ◌++◌, [], length, IfOk, MatchOption, MatchResult};
+ghost use Rattle.std.specs.Prelude.{◌≡◌, ◌≤◌, ◌∷◌, ◌++◌, [], false, length, true, IfOk, MatchOption, MatchResult};
 ghost use Rattle.outbox.specs.Lanes.{WasEmpty};
-ghost use Rattle.routers.specs.Posts.{HasNone, IsFull, Takes, kept, max_own, new_place};
+ghost use Rattle.routers.specs.Posts.{HasNone, IsFirst, IsFull, Takes, TakesOfOthers, is_due, kept, kept_behind, max_own, new_place};
 
 use outbox::Tap;
 use std::alloc::{AllocError, Global};
@@ -34,13 +34,14 @@ struct OwnQueue<E: Drop> {
 }
 
 impl<E: Drop> Model for OwnQueue<E> {
-    ghost use Rattle.std.specs.Prelude.{◌≤◌, List, map};
+    ghost use Rattle.std.specs.Prelude.{◌≤◌, List};
     ghost use Rattle.std.specs.VecDeque.{deque_capacity};
     ghost use Rattle.routers.specs.Posts.{max_own};
+    ghost use Rattle.routers.specs.declared.place.Kept.{Kept as Known};
 
-    ghost Value = { List E };
+    ghost Value = { List (Known E) };
 
-    ghost view = { λ q. map (λ kept. kept.item) q.kept.items };
+    ghost view = { λ q. q.kept.items };
 
     ghost invariant = { λ q. max_own ≤ deque_capacity q.kept };
 }
@@ -56,7 +57,7 @@ impl<E: Drop> OwnQueue<E> {
     /// Puts an item behind so many that others put.
     fn put(&mut self, item: E, others: u64) -> Result<(), NoRoom<E>>
         ensures { MatchResult result
-            (λ _. self.new ≡ self.old ++ item ∷ [])
+            (λ _. self.new ≡ kept_behind self.old item others)
             (λ back. (back.0 ≡ item) × (self.new ≡ self.old) × (max_own ≤ length self.old)) }
     {
         if self.kept.len() >= ROOM {
@@ -67,7 +68,9 @@ impl<E: Drop> OwnQueue<E> {
     }
 
     /// Whether the oldest item comes next, where so many that others put were taken.
-    fn is_next(&self, taken: u64) -> bool {
+    fn is_next(&self, taken: u64) -> bool
+        ensures { result ≡ is_due taken self.now }
+    {
         match self.kept.front() {
             Some(kept) => kept.others <= taken,
             None => false,
@@ -77,7 +80,7 @@ impl<E: Drop> OwnQueue<E> {
     fn take(&mut self) -> Option<E>
         ensures { MatchOption result
             ((self.new ≡ self.old) × (self.old ≡ []))
-            (λ item. self.old ≡ item ∷ self.new) }
+            (λ item. IsFirst item self.old self.new) }
     {
         let kept = self.kept.pop_front()?;
         if self.kept.is_empty() {
@@ -89,8 +92,8 @@ impl<E: Drop> OwnQueue<E> {
     /// The oldest item, where so many that others put were taken and it comes next.
     fn take_next(&mut self, taken: u64) -> Option<E>
         ensures { MatchOption result
-            (self.new ≡ self.old)
-            (λ item. self.old ≡ item ∷ self.new) }
+            ((self.new ≡ self.old) × (is_due taken self.old ≡ false))
+            (λ item. (is_due taken self.old ≡ true) × IsFirst item self.old self.new) }
     {
         if self.is_next(taken) {
             self.take()
@@ -127,7 +130,7 @@ impl<E: Drop> Model for Place<E> {
 
     ghost Value = { Known E };
 
-    ghost view = { λ p. record { tap = p.tap; own = p.own } };
+    ghost view = { λ p. record { tap = p.tap; own = p.own; taken = p.taken } };
 }
 
 impl<E: Drop> Place<E> {
@@ -141,7 +144,7 @@ impl<E: Drop> Place<E> {
     /// Puts an item of its own router, where so many wait that others put.
     pub(crate) fn put(&mut self, item: E, waiting: usize) -> Result<(), NoRoom<E>>
         ensures { MatchResult result
-            (λ _. self.new ≡ kept self.old item)
+            (λ _. self.new ≡ kept self.old item waiting)
             (λ back. (back.0 ≡ item) × (self.new ≡ self.old) × IsFull self.old) }
     {
         self.own
@@ -152,7 +155,7 @@ impl<E: Drop> Place<E> {
     fn take_of_others<R: Wait>(&mut self, rt: &R) -> Option<E>
         ensures { MatchOption result
             ((self.new ≡ self.old) × WasEmpty self.old.tap)
-            (λ item. Takes self.old item self.new) }
+            (λ item. TakesOfOthers self.old item self.new) }
     {
         let item = self.tap.take(rt)?;
         self.taken = self.taken.saturating_add(1);

@@ -1,7 +1,7 @@
 //! The ways between the routers of one process.
 
 ghost use Rattle.std.specs.Prelude.{◌≡◌, ◌+◌, ◌-◌, ◌*◌, ◌^◌, ◌<◌, true, length, map, min, IfErr, IfNone, IfOk, IfSome, OnOk, OnErr};
-ghost use Rattle.routers.specs.Posts.{AsksFor, IsFullFor, IsOwn, Sends, new_place, places_of};
+ghost use Rattle.routers.specs.Posts.{AsksFor, IsFullFor, IsOwn, Sends, Waited, new_place, places_of};
 
 use crate::coordinator::{Coordinator, Wake};
 use crate::place::{NoRoom, Place};
@@ -127,6 +127,7 @@ impl<'a, J: Naming, W: Wake + Drop> LanePost<'a, J, W> {
     /// How many envelopes that others put wait for a slot.
     fn waiting<R: Wait>(&mut self, right: &R, slot: usize) -> usize
         ensures same { self.new ≡ self.old }
+        ensures count { Waited self.old slot result }
     {
         if slot < self.lane.slots() {
             self.lane.len(right, slot)
@@ -135,21 +136,22 @@ impl<'a, J: Naming, W: Wake + Drop> LanePost<'a, J, W> {
         }
     }
 
-    /// Puts an envelope for a place of its own, behind those that others have put there.
+    /// Puts an envelope for a place of its own, which this slot is, behind those that others have
+    /// put there.
     fn put_own<R: Wait>(
         &mut self,
         right: &R,
+        slot: usize,
         place: usize,
         envelope: EnvelopeOf<J>,
     ) -> Result<(), Full<Note<J>>>
-        requires { place < length self.old.places }
-        ensures put { OnOk result
-            (Sends self.old (self.old.first + place) envelope self.new) }
+        requires { (slot ≡ self.old.first + place) × (place < length self.old.places) }
+        ensures put { OnOk result (Sends self.old slot envelope self.new) }
         ensures refused { OnErr result (self.new ≡ self.old) }
-        ensures full { OnErr result (IsFullFor self.old (self.old.first + place)) }
+        ensures full { OnErr result (IsFullFor self.old slot) }
         ensures back { IfErr result (λ full. full.0 ≡ envelope) }
     {
-        let waiting = self.waiting(right, self.first.saturating_add(place));
+        let waiting = self.waiting(right, slot);
         match self.places[place].put(envelope, waiting) {
             Ok(()) => Ok(()),
             Err(NoRoom(back)) => Err(Full(back)),
@@ -260,7 +262,7 @@ impl<'a, 'b, J: Naming, W: Wake + Drop, R: Wait> Post<Traced<Desk<'b, J, R>>>
     {
         let slot = usize::from(to.slot);
         match self.own_place(slot) {
-            Some(place) => self.put_own(right, place, envelope),
+            Some(place) => self.put_own(right, slot, place, envelope),
             None => {
                 self.look(right, slot);
                 self.put_away(right, slot, envelope)

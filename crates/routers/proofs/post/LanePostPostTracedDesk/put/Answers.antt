@@ -1,18 +1,16 @@
-use Rattle.std.proofs.Common.{rules, ◌≡◌, ◌+◌, ◌∙◌, sym, subst, OnOk, OnErr}
+use Rattle.std.proofs.Common.{rules, ◌≡◌, subst, OnOk, OnErr}
 use Rattle.routers.specs.Posts.{IsFullFor, Sends, Ways}
 use Rattle.routers.proofs.post.LanePostPostTracedDesk.put.Goals as goal
 
 pub returns-in-Some-clause-put : goal.returns-in-Some-clause-put
 returns-in-Some-clause-put g c =
     let is : c.from-slot.result ≡ c.args.to.slot = search rules in
-    let at : c.args.self.now.first + c.in-Some.place ≡ c.args.to.slot = sym c.in-Some.ensures.own.0 ∙ is in
-    subst (λ slot. OnOk c.put_own.result (Sends c.args.self.now slot c.args.envelope c.put_own.new.self)) at c.put_own.ensures.put
+    subst (λ slot. OnOk c.put_own.result (Sends c.args.self.now slot c.args.envelope c.put_own.new.self)) is c.put_own.ensures.put
 
 pub returns-in-Some-clause-full : goal.returns-in-Some-clause-full
 returns-in-Some-clause-full g c =
     let is : c.from-slot.result ≡ c.args.to.slot = search rules in
-    let at : c.args.self.now.first + c.in-Some.place ≡ c.args.to.slot = sym c.in-Some.ensures.own.0 ∙ is in
-    subst (λ slot. OnErr c.put_own.result (IsFullFor c.args.self.now slot)) at c.put_own.ensures.full
+    subst (λ slot. OnErr c.put_own.result (IsFullFor c.args.self.now slot)) is c.put_own.ensures.full
 
 pub returns-in-None-clause-put : goal.returns-in-None-clause-put
 returns-in-None-clause-put g c =
