@@ -6,7 +6,7 @@ use busd_sockets::PollWaker;
 use crossbeam_channel::Receiver;
 use crossbeam_queue::ArrayQueue;
 use names::BusName;
-use routers::Wake;
+use routers::{RETRY_AFTER, Wake};
 use service_files::Service;
 use std::alloc::{AllocError, Global};
 use std::rt::Clock;
@@ -18,9 +18,6 @@ use supervisor::Event;
 
 /// How many ends of programs wait for the main thread at most.
 const ENDS: usize = 512;
-
-/// How long a thread waits that can't tell of the end of its program yet, in milliseconds.
-const LATER: u64 = 100;
 
 /// The stack of a thread that waits for a program.
 const STACK: usize = 131_072;
@@ -81,7 +78,7 @@ impl Launch {
                 self.waker.wake();
                 return;
             }
-            thread::sleep(rt, Duration::from_millis(LATER));
+            thread::sleep(rt, Duration::from_millis(RETRY_AFTER));
         }
     }
 

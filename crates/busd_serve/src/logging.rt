@@ -39,15 +39,15 @@ impl fmt::Display for Notice {
 
 /// Writes of connections that were closed with a fault or are not served, where that is wanted.
 #[derive(Drop)]
-pub(crate) struct Log<'a, R: Eprint + Clock> {
+pub(crate) struct EndLogger<'a, R: Eprint + Clock> {
     rt: &'a R,
     is_wanted: bool,
     refusals: AcceptErrors<'a, R>,
 }
 
-impl<'a, R: Eprint + Clock> Log<'a, R> {
-    pub(crate) fn new(rt: &'a R, is_wanted: bool) -> Log<'a, R> {
-        Log {
+impl<'a, R: Eprint + Clock> EndLogger<'a, R> {
+    pub(crate) fn new(rt: &'a R, is_wanted: bool) -> EndLogger<'a, R> {
+        EndLogger {
             rt,
             is_wanted,
             refusals: AcceptErrors::new(rt, is_wanted),
@@ -55,7 +55,7 @@ impl<'a, R: Eprint + Clock> Log<'a, R> {
     }
 }
 
-impl<R: Eprint + Clock> EndLog for Log<'_, R> {
+impl<R: Eprint + Clock> EndLog for EndLogger<'_, R> {
     fn note(&mut self, ended: Ended) {
         let is_fault = !matches!(ended.cause, EndCause::EndOfInput | EndCause::HungUp);
         if self.is_wanted && is_fault {

@@ -7,7 +7,7 @@ ghost use Rattle.seq_bus_core.specs.Tickets.{opening_bus};
 use crate::bus::{Bus, Entrance, Listening};
 use crate::chores::SeatByClock;
 use crate::fault::{fault_of, poll_fault};
-use crate::logging::{AcceptErrors, Log};
+use crate::logging::{AcceptErrors, EndLogger};
 use crate::polls::push;
 use crate::programs::start_launcher;
 use crate::runtime::DaemonRuntime;
@@ -47,7 +47,7 @@ struct Parts<J: Naming, F> {
 
 /// What a seat is served by: its lanes, and where it writes what it recorded.
 #[derive(Drop)]
-struct Place<J: Naming, F> {
+struct SeatParts<J: Naming, F> {
     seat: Seat<J>,
     lane: Lane<EnvelopeOf<J>>,
     starts: Lane<StartRequest>,
@@ -56,12 +56,12 @@ struct Place<J: Naming, F> {
 
 impl<J: Naming, F: Drop> Parts<J, F> {
     /// The last seat that is not taken yet.
-    fn take_place(&mut self) -> Result<Place<J, F>, AllocError> {
+    fn take_seat(&mut self) -> Result<SeatParts<J, F>, AllocError> {
         let trace = self.traces.pop().ok_or(AllocError)?;
         let lane = self.lanes.pop().ok_or(AllocError)?;
         let starts = self.starts.pop().ok_or(AllocError)?;
         let seat = self.seats.pop().ok_or(AllocError)?;
-        Ok(Place {
+        Ok(SeatParts {
             seat,
             lane,
             starts,
@@ -106,7 +106,7 @@ fn open_registry<
 }
 
 /// What a router begins with.
-type Setup<'a, J, F, R> = RouterSetup<J, Sockets<'a, Log<'a, R>, R>, OpenGate, TraceFile<F>>;
+type Setup<'a, J, F, R> = RouterSetup<J, Sockets<'a, EndLogger<'a, R>, R>, OpenGate, TraceFile<F>>;
 
 /// What the routers begin with.
 type Setups<'a, J, F, R> = Vec<Setup<'a, J, F, R>>;
@@ -136,15 +136,15 @@ fn setup<'a, J: Naming, F: Drop, R: Net + Eprint + Clock + AllocGlobal>(
     let alloc = rt.alloc();
     let login = bus.login.login(alloc)?;
     let poll = parts.polls.pop().ok_or(AllocError)?;
-    let log = Log::new(rt, bus.options.is_verbose);
+    let log = EndLogger::new(rt, bus.options.is_verbose);
     let source = Sockets::new(rt, alloc, poll, new_connections, log)?;
     let taps = parts.taps.pop().ok_or(AllocError)?;
-    let Place {
+    let SeatParts {
         seat,
         lane,
         starts,
         trace,
-    } = parts.take_place()?;
+    } = parts.take_seat()?;
     Ok(RouterSetup {
         seat,
         lane,
@@ -162,16 +162,16 @@ fn main_seat<'a, J: Naming, F: Write + Drop, Q: Programs + Drop, R: Wait + Clock
     rt: &'a R,
     shared: &'a Shared<J>,
     coordinator: &'a Coordinator<PollWaker>,
-    place: Place<J, F>,
+    parts: SeatParts<J, F>,
     programs: Q,
 ) -> Result<SeatByClock<'a, J, Q, TraceFile<F>, R>, ServeFault> {
     let alloc = rt.alloc();
-    let Place {
+    let SeatParts {
         seat,
         lane,
         starts,
         trace,
-    } = place;
+    } = parts;
     let made = MainSeat::new(
         rt,
         alloc,
@@ -245,8 +245,8 @@ fn serve_with<
     programs: Q,
 ) -> Result<(), ServeFault> {
     let setups = setups(rt, bus, parts)?;
-    let place = parts.take_place()?;
-    let seat = main_seat(rt, shared, &bus.coordinator, place, programs)?;
+    let seat_parts = parts.take_seat()?;
+    let seat = main_seat(rt, shared, &bus.coordinator, seat_parts, programs)?;
     run_threads(rt, shared, bus, setups, entrance, seat)
 }
 

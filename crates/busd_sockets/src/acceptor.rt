@@ -4,7 +4,7 @@ use crate::new_connection::{NewConnection, NewConnections};
 use crate::waker::PollWaker;
 use mio::net::{UnixListener, UnixStream};
 use mio::{Events, Interest, Poll, Token};
-use routers::{Coordinator, Fault, MainTask};
+use routers::{Coordinator, Fault, MainTask, RETRY_AFTER};
 use std::alloc::Global;
 use std::io;
 use std::io::{BufReader, ErrorKind, Read};
@@ -13,9 +13,6 @@ use std::time::Duration;
 
 /// The token of the listener.
 const LISTENER: Token = Token(0);
-
-/// How long is waited where connections can't be accepted, in milliseconds.
-const LATER: u64 = 100;
 
 /// How many connections are accepted at once for each router.
 const SHARE: usize = 64;
@@ -148,8 +145,8 @@ fn wait_of(accepted: Accepted, due: Option<u64>) -> Option<Duration> {
     let due = match (accepted, due) {
         (Accepted::All, due) => due?,
         (Accepted::Some, _) => 0,
-        (Accepted::Later, Some(due)) => due.min(LATER),
-        (Accepted::Later, None) => LATER,
+        (Accepted::Later, Some(due)) => due.min(RETRY_AFTER),
+        (Accepted::Later, None) => RETRY_AFTER,
     };
     Some(Duration::from_millis(due))
 }

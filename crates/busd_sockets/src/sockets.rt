@@ -7,7 +7,7 @@ use crate::waker::WAKER;
 use mio::event::Event;
 use mio::{Events, Interest, Poll, Token};
 use router_host::{Ended, OpenFault};
-use routers::{Fault, Source, SourceEvent, Timeout};
+use routers::{Fault, RETRY_AFTER, Source, SourceEvent, Timeout};
 use std::alloc::{AllocError, Global};
 use std::fmt::Display;
 use std::rt::Clock;
@@ -19,9 +19,6 @@ const EVENTS: usize = 256;
 
 /// How many connections are told of at once.
 const NEW: usize = 64;
-
-/// How long a short timeout is, in milliseconds.
-const SHORT: u64 = 100;
 
 /// Who writes down which connections ended, or are not served.
 pub trait EndLog {
@@ -100,7 +97,7 @@ impl<'a, L: EndLog + Drop, R: Clock> Sockets<'a, L, R> {
     }
 
     /// What the last change tells first. The change goes once it has told all.
-    fn told(&mut self) -> Option<SourceEvent<ClientSocket>> {
+    fn next_told(&mut self) -> Option<SourceEvent<ClientSocket>> {
         let Change {
             key,
             readable,
@@ -136,7 +133,7 @@ impl<'a, L: EndLog + Drop, R: Clock> Source<ClientSocket> for Sockets<'a, L, R> 
     fn wait(&mut self, timeout: Timeout) -> Result<(), Fault> {
         let most = match timeout {
             Timeout::Zero => Some(Duration::from_millis(0)),
-            Timeout::Short => Some(Duration::from_millis(SHORT)),
+            Timeout::Short => Some(Duration::from_millis(RETRY_AFTER)),
             Timeout::Never => None,
         };
         // More connections may have come than were told of, and nobody tells that again.
@@ -154,7 +151,7 @@ impl<'a, L: EndLog + Drop, R: Clock> Source<ClientSocket> for Sockets<'a, L, R> 
     }
 
     fn next<W: Wait>(&mut self, rt: &W) -> Option<SourceEvent<ClientSocket>> {
-        if let Some(event) = self.told() {
+        if let Some(event) = self.next_told() {
             return Some(event);
         }
         self.left = self.left.checked_sub(1)?;

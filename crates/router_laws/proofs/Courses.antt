@@ -11,8 +11,8 @@ use Rattle.router_core.specs.OneThread.{keys_after, bytes_to}
 use Rattle.router_core.specs.Standing.{Standing}
 use Rattle.router_core.proofs.Asked.{answers_are_lawful}
 use Rattle.router.proofs.OneEvent.{gate_of, view_of}
-use Rattle.router_laws.specs.declared.fault.RunFault.{RunFault}
-use Rattle.router_laws.specs.declared.fault.RunFault.TheVariants.{WrongKey, NoLogin, NoTurn, NoMemory}
+use Rattle.router_laws.specs.declared.fault.EventFault.{EventFault}
+use Rattle.router_laws.specs.declared.fault.EventFault.TheVariants.{WrongKey, NoLogin, NoTurn, NoMemory}
 use Rattle.router.specs.OneEvent.{rest_in}
 use Rattle.router_laws.specs.Turns.{AreServedBy, keys_of, run_bytes}
 use Rattle.router_laws.specs.Runs.{IsFaultOf, IsRunOf, IsStopped, LacksKey, LacksLogin, LacksTurn, happening, occasions_of}
@@ -145,7 +145,7 @@ module _ {G : Type 0} (passes : G → GatedCall → G → Type 0) where
       record { turns = c.turns; now = rest_in now; served = c.served; event = event; reached = reached; impossible = impossible }
 
   -- why an event is not served is why the run ends
-  pub course_faults : (before now : State G) (events : List (Event (Unit {0}))) (index : ℕ) (event : Event (Unit {0})) (sent : Output) (fault : RunFault) →
+  pub course_faults : (before now : State G) (events : List (Event (Unit {0}))) (index : ℕ) (event : Event (Unit {0})) (sent : Output) (fault : EventFault) →
       IsCourse passes before (take index events) now sent → slice_get events index ≡ Some event → IsRefused now index event fault → IsFaultOf (rest_in before) events fault
   course_faults before now events index event sent (WrongKey at) c reached refused =
       subst (λ (n : ℕ). IsStopped LacksKey (rest_in before) events n) (sym refused.0) (course_stops LacksKey before now events index event sent c reached refused.1)

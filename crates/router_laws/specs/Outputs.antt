@@ -7,8 +7,8 @@ use Rattle.router_core.specs.Acts.{IsServedBy, State, gated_calls}
 use Rattle.router_core.specs.Deeds.{GatedCall, PassesAll}
 use Rattle.router_core.specs.Events.{Occasion, Opened}
 use Rattle.router_core.specs.OneThread.{bytes_if, opening_of, bytes_to}
-use Rattle.router_laws.specs.declared.fault.RunFault.{RunFault}
-use Rattle.router_laws.specs.declared.fault.RunFault.TheVariants.{WrongKey, NoLogin, NoTurn, NoMemory}
+use Rattle.router_laws.specs.declared.fault.EventFault.{EventFault}
+use Rattle.router_laws.specs.declared.fault.EventFault.TheVariants.{WrongKey, NoLogin, NoTurn, NoMemory}
 use Rattle.router_laws.specs.Runs.{LacksKey, LacksLogin, LacksTurn, happening, occasions_of}
 use Rattle.router.specs.OneEvent.{rest_in}
 use Rattle.router_laws.specs.Turns.{AreServedBy, Turn, exchanges_of, keys_of, run_bytes}
@@ -58,7 +58,7 @@ pub record IsCourse {G : Type 0} (passes : G → GatedCall → G → Type 0) (be
   pub each : (k : ℕ) → slice_index_or sent.written k [] ≡ run_bytes (k + 1) [] (occasions_of events) turns
 
 -- why the event of this index is not served
-abbrev pub IsRefused : {G : Type 0} → State G → ℕ → Event (Unit {0}) → RunFault → Type 0
+abbrev pub IsRefused : {G : Type 0} → State G → ℕ → Event (Unit {0}) → EventFault → Type 0
 IsRefused now index event (WrongKey at) = (at ≡ index) × LacksKey now.standing event
 IsRefused now index event (NoLogin at) = (at ≡ index) × LacksLogin now.standing event
 IsRefused now index event (NoTurn at) = (at ≡ index) × LacksTurn now.standing event

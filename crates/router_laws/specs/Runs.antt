@@ -11,8 +11,8 @@ use Rattle.router_core.specs.Deeds.{GatedCall, PassesAll}
 use Rattle.router_core.specs.Events.{Occasion, CanBeAsked, IsFree, occasion_of, IsTurnOf}
 use Rattle.router_core.specs.OneThread.{Rest}
 use Rattle.router_core.specs.Standing.{Standing, fresh}
-use Rattle.router_laws.specs.declared.fault.RunFault.{RunFault}
-use Rattle.router_laws.specs.declared.fault.RunFault.TheVariants.{WrongKey, NoLogin, NoTurn, NoMemory}
+use Rattle.router_laws.specs.declared.fault.EventFault.{EventFault}
+use Rattle.router_laws.specs.declared.fault.EventFault.TheVariants.{WrongKey, NoLogin, NoTurn, NoMemory}
 use Rattle.router_laws.specs.Turns.{AreServedBy, Turn, exchanges_of, keys_of, run_bytes}
 
 -- no connection, over a plain bus
@@ -64,7 +64,7 @@ pub record IsStopped (lacks : Standing → Event (Unit {0}) → Type 0) (before 
   pub impossible : lacks now.standing event
 
 -- why a run ends before its events do
-abbrev pub IsFaultOf : Rest → List (Event (Unit {0})) → RunFault → Type 0
+abbrev pub IsFaultOf : Rest → List (Event (Unit {0})) → EventFault → Type 0
 IsFaultOf before events (WrongKey index) = IsStopped LacksKey before events index
 IsFaultOf before events (NoLogin index) = IsStopped LacksLogin before events index
 IsFaultOf before events (NoTurn index) = IsStopped LacksTurn before events index

@@ -5,7 +5,7 @@ use thiserror::Error;
 
 /// Why a run ends before its events do.
 #[derive(Clone, Copy, Debug, PartialEq, Eq, Error)]
-pub enum RunFault {
+pub enum EventFault {
     /// A connection comes at the event of this index, and its key is not the least that none has.
     #[error("event {0}: the key is not the least that is free")]
     WrongKey(usize),
@@ -20,13 +20,13 @@ pub enum RunFault {
     NoMemory,
 }
 
-impl From<AllocError> for RunFault {
+impl From<AllocError> for EventFault {
     ghost use Rattle.std.specs.Prelude.{◌≡◌};
-    ghost use Rattle.router_laws.specs.declared.fault.RunFault.TheVariants.{NoMemory};
+    ghost use Rattle.router_laws.specs.declared.fault.EventFault.TheVariants.{NoMemory};
 
     ghost from_gives = { λ _ fault. fault ≡ NoMemory };
 
-    fn from(_error: AllocError) -> RunFault {
-        RunFault::NoMemory
+    fn from(_error: AllocError) -> EventFault {
+        EventFault::NoMemory
     }
 }

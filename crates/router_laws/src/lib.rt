@@ -57,5 +57,5 @@ pub mod runs;
 mod session;
 pub mod streams;
 
-pub use fault::RunFault;
+pub use fault::EventFault;
 pub use session::run;

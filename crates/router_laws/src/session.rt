@@ -5,11 +5,11 @@ ghost use Rattle.seq_bus.specs.PlainViews.{knowledge_of};
 ghost use Rattle.router_core.specs.Events.{CanBeAsked, CanHappen, IsFree, IsTurnOf};
 ghost use Rattle.router_core.specs.Standing.{fresh};
 ghost use Rattle.router_core.specs.declared.event.Event.TheVariants.{Opened};
-ghost use Rattle.router_laws.specs.declared.fault.RunFault.TheVariants.{NoTurn};
+ghost use Rattle.router_laws.specs.declared.fault.EventFault.TheVariants.{NoTurn};
 ghost use Rattle.router_laws.specs.Outputs.{IsRefused, IsTurn, no_output};
 ghost use Rattle.router_laws.specs.Runs.{IsFaultOf, IsRunOf, fresh_over, occasions_of};
 
-use crate::fault::RunFault;
+use crate::fault::EventFault;
 use crate::outlets::Outlets;
 use router::{Engine, Login};
 use router_core::{Event, Gate};
@@ -48,7 +48,7 @@ impl<G: Gate + Drop> Session<G> {
 
     /// Whether the event of this index can happen: a connection comes only where its key is free,
     /// and is asked who it is only where someone may log in; a turn has 1 to 64 keys.
-    fn admit(&self, index: usize, event: &Event<()>) -> Result<(), RunFault>
+    fn admit(&self, index: usize, event: &Event<()>) -> Result<(), EventFault>
         requires { self.now.engine.view.registry ≡ 0 }
         ensures happens { OnOk result
             (CanHappen (λ _. 0) self.now.engine.view.registry self.now.engine.standing event.now) }
@@ -67,7 +67,7 @@ impl<G: Gate + Drop> Session<G> {
         index: usize,
         key: usize,
         challenge: Option<[u8; 16]>,
-    ) -> Result<(), RunFault>
+    ) -> Result<(), EventFault>
         requires { self.now.engine.view.registry ≡ 0 }
         ensures happens { OnOk result (IsFree self.now.engine.standing key
             × CanBeAsked self.now.engine.standing.login challenge) }
@@ -75,16 +75,16 @@ impl<G: Gate + Drop> Session<G> {
             IsRefused self.now.engine index (Opened key challenge) fault) }
     {
         if key != self.engine.free_key() {
-            return Err(RunFault::WrongKey(index));
+            return Err(EventFault::WrongKey(index));
         }
         if challenge.is_some() && !self.engine.has_login() {
-            return Err(RunFault::NoLogin(index));
+            return Err(EventFault::NoLogin(index));
         }
         Ok(())
     }
 
     /// Serves the event of this index.
-    fn serve(&mut self, index: usize, event: Event<()>) -> Result<(), RunFault>
+    fn serve(&mut self, index: usize, event: Event<()>) -> Result<(), EventFault>
         requires { self.old.engine.view.registry ≡ 0 }
         ensures turn { OnOk result
             (IsTurn G.passes self.old.engine self.old.outlets event self.new.engine
@@ -101,13 +101,13 @@ impl<G: Gate + Drop> Session<G> {
 }
 
 /// Whether the event of this index can be a turn of these keys.
-fn admit_turn(index: usize, keys: &[usize]) -> Result<(), RunFault>
+fn admit_turn(index: usize, keys: &[usize]) -> Result<(), EventFault>
     ensures happens { OnOk result (IsTurnOf keys.now) }
     ensures fault { IfErr result (λ fault.
         (fault ≡ NoTurn index) × (IsTurnOf keys.now → ⊥)) }
 {
     if keys.is_empty() || keys.len() > MAX_BATCH {
-        return Err(RunFault::NoTurn(index));
+        return Err(EventFault::NoTurn(index));
     }
     Ok(())
 }
@@ -125,7 +125,7 @@ pub fn run<G: Gate + Drop>(
     gate: G,
     login: Option<Login>,
     events: Vec<Event<()>>,
-) -> Result<Vec<Vec<u8>>, RunFault>
+) -> Result<Vec<Vec<u8>>, EventFault>
     ensures run { IfOk result
         (λ all. IsRunOf G.passes gate (fresh_over login bus) (occasions_of events.items)
         (map (λ bytes. bytes.items) all.items)) }

@@ -12,7 +12,7 @@ use std::sync::{OnceLock, Wait};
 use std::time::Duration;
 
 /// How many places for connections a bus has.
-const PLACES: usize = MAX_CONNECTIONS;
+const SLOTS: usize = MAX_CONNECTIONS;
 
 /// How long a router waits at most until another one ends a turn, in milliseconds.
 const WAIT: u64 = 2;
@@ -137,8 +137,8 @@ fn states_of<W: Wake + Drop>(
 
 /// A flag for each place.
 fn flags(alloc: Global) -> Result<Vec<AtomicBool>, AllocError> {
-    let mut flags = Vec::with_capacity(alloc, PLACES)?;
-    for _slot in 0..PLACES {
+    let mut flags = Vec::with_capacity(alloc, SLOTS)?;
+    for _slot in 0..SLOTS {
         flags.push(AtomicBool::new(false))?;
     }
     Ok(flags)
@@ -182,7 +182,7 @@ impl<W: Wake + Drop> Coordinator<W> {
     pub fn places(&self) -> usize
         ensures { result ≡ places_of self.now }
     {
-        PLACES / self.states.len().max(1)
+        SLOTS / self.states.len().max(1)
     }
 
     /// The router of a place, counted from 0.

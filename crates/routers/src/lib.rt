@@ -42,6 +42,6 @@ pub use coordinator::{Coordinator, Wake};
 pub use fault::Fault;
 pub use post::LanePost;
 pub use router_loop::Router;
-pub use source::{Source, SourceEvent, Timeout};
+pub use source::{RETRY_AFTER, Source, SourceEvent, Timeout};
 pub use threads::{MainTask, RouterSetup, serve};
-pub use trace_sink::{Recorder, TraceSink, traced};
+pub use trace_sink::{TraceSink, TraceWriter, traced};

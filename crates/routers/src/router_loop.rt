@@ -6,7 +6,7 @@ ghost use Rattle.routers.specs.Serving.{WorksOnBy};
 use crate::coordinator::{Coordinator, Wake};
 use crate::fault::Fault;
 use crate::source::{Source, SourceEvent, Timeout};
-use crate::trace_sink::Recorder;
+use crate::trace_sink::TraceWriter;
 use bus_view::BusView;
 use router_core::Gate;
 use router_host::{Host, Post, Socket};
@@ -71,11 +71,11 @@ impl<'a, V: BusView, G: Gate, P: Post<V>, S: Socket, E: Source<S>, W: Wake + Dro
     /// # Errors
     ///
     /// Its source fails, or what it recorded can't be written.
-    pub fn run<R: Wait, T: Recorder<V, G, P, S>>(
+    pub fn run<R: Wait, T: TraceWriter<V, G, P, S>>(
         &mut self,
         rt: &R,
         right: &V::Right,
-        recorder: &mut T,
+        trace_writer: &mut T,
     ) -> Result<(), Fault>
         ensures serves { WorksOnBy V.BusView G.Gate P.Post self.old self.new }
     {
@@ -88,7 +88,7 @@ impl<'a, V: BusView, G: Gate, P: Post<V>, S: Socket, E: Source<S>, W: Wake + Dro
                 return Ok(());
             }
             self.turn(right);
-            recorder.record(&mut self.host)?;
+            trace_writer.record(&mut self.host)?;
         }
         unreachable!()
     }

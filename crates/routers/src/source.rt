@@ -4,12 +4,15 @@ use crate::fault::Fault;
 use router_host::{Ended, OpenFault, Socket};
 use std::sync::Wait;
 
+/// How long is waited before what the system or memory refused is tried again, in milliseconds.
+pub const RETRY_AFTER: u64 = 100;
+
 /// How long a router waits for what happens next.
 #[derive(Clone, Copy, Debug, PartialEq, Eq)]
 pub enum Timeout {
     /// Not at all: it has something to do.
     Zero,
-    /// A tenth of a second: something is to be tried again.
+    /// [`RETRY_AFTER`]: something is to be tried again.
     Short,
     /// Until something happens.
     Never,

@@ -8,7 +8,7 @@ use crate::fault::Fault;
 use crate::post::LanePost;
 use crate::router_loop::Router;
 use crate::source::Source;
-use crate::trace_sink::{Recorder, TraceSink, traced};
+use crate::trace_sink::{TraceSink, TraceWriter, traced};
 use bus_view::BusView;
 use outbox::{EnvelopeOf, Lane, Tap};
 use registry_snapshots::{Desk, Naming, Seat, Shared};
@@ -57,7 +57,7 @@ struct RouterParts<V, P, E, G, T> {
     source: E,
     gate: G,
     login: Option<Login>,
-    recorder: T,
+    trace_writer: T,
 }
 
 /// Serves as one router, over the desk of its seat and its lane.
@@ -95,7 +95,7 @@ fn serve_as_router<
         source,
         gate,
         login,
-        recorder: trace,
+        trace_writer: trace,
     };
     serve_with::<_, _, _, S, _, _, _, _>(rt, rt, alloc, me, coordinator, parts)
 }
@@ -108,7 +108,7 @@ fn serve_with<
     S: Socket,
     E: Source<S> + Drop,
     W: Wake + Drop,
-    T: Recorder<V, G, P, S> + Drop,
+    T: TraceWriter<V, G, P, S> + Drop,
     R: Wait,
 >(
     rt: &R,
@@ -126,7 +126,7 @@ fn serve_with<
         source,
         gate,
         login,
-        mut recorder,
+        mut trace_writer,
     } = parts;
     let Ok(engine) = Engine::new(alloc, view, gate, login) else {
         return Err(Fault::Memory);
@@ -139,7 +139,7 @@ fn serve_with<
         return Err(Fault::Memory);
     };
     let mut router = Router::new(me, coordinator, host, source);
-    let ended = router.run(rt, right, &mut recorder);
+    let ended = router.run(rt, right, &mut trace_writer);
     drop(router);
     ended
 }

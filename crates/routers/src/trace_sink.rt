@@ -37,7 +37,7 @@ pub fn traced<V: BusView>(alloc: Global, view: V, records: bool) -> Traced<V>
 }
 
 /// Who writes what a host recorded.
-pub trait Recorder<V: BusView, G: Gate, P: Post<V>, S: Socket> {
+pub trait TraceWriter<V: BusView, G: Gate, P: Post<V>, S: Socket> {
     /// Writes what the host recorded since this was done last.
     ///
     /// # Errors
@@ -47,7 +47,7 @@ pub trait Recorder<V: BusView, G: Gate, P: Post<V>, S: Socket> {
         ensures same { host.new ≡ host.old };
 }
 
-impl<'a, J: Naming, W: Wake + Drop, R: Wait, G: Gate, S: Socket, T: TraceSink> Recorder<
+impl<'a, J: Naming, W: Wake + Drop, R: Wait, G: Gate, S: Socket, T: TraceSink> TraceWriter<
     Traced<Desk<'a, J, R>>,
     G,
     LanePost<'a, J, W>,

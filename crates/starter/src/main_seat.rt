@@ -9,13 +9,10 @@ use registry_snapshots::{Desk, Naming, Seat, Shared};
 use router::Traced;
 use router_core::OpenGate;
 use router_host::{Socket, StartRequest};
-use routers::{Coordinator, Fault, LanePost, Recorder, TraceSink, Wake, traced};
+use routers::{Coordinator, Fault, LanePost, RETRY_AFTER, TraceSink, TraceWriter, Wake, traced};
 use std::alloc::{AllocError, Global};
 use std::marker::Model;
 use std::sync::Wait;
-
-/// How long is waited where there was no memory, in milliseconds.
-const LATER: u64 = 100;
 
 /// The seat and the lanes that are no router's, in the hands of the thread that started the
 /// routers. It serves no connection: it runs the programs of services, tells the bus how starts
@@ -86,7 +83,7 @@ impl<
         Ok(match turned {
             Ok(true) => Some(0),
             Ok(false) => self.starter.due().map(|due| due.saturating_sub(now)),
-            Err(AllocError) => Some(LATER),
+            Err(AllocError) => Some(RETRY_AFTER),
         })
     }
 }

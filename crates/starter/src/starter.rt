@@ -8,7 +8,7 @@ use names::BusName;
 use router::Engine;
 use router_core::{Gate, HowEnded, OpenGate, StartEnd};
 use router_host::{Host, Post, Socket};
-use routers::{Fault, Recorder};
+use routers::{Fault, TraceWriter};
 use seq_bus_core::Change;
 use std::alloc::{AllocError, Global};
 use std::sync::Wait;
@@ -142,10 +142,10 @@ impl<V: BusView, G: Gate, P: Post<V>, S: Socket, Q: Programs + Drop> Starter<V, 
     /// # Errors
     ///
     /// It can't be written, or there was no memory for a part of it.
-    pub fn record<T: Recorder<V, G, P, S>>(&mut self, recorder: &mut T) -> Result<(), Fault>
+    pub fn record<T: TraceWriter<V, G, P, S>>(&mut self, trace_writer: &mut T) -> Result<(), Fault>
         ensures same { self.new.host ≡ self.old.host }
     {
-        recorder.record(&mut self.host)
+        trace_writer.record(&mut self.host)
     }
 
     fn tell_all<R: Wait>(&mut self, rt: &R, right: &V::Right, now: u64) -> Result<bool, AllocError>

@@ -39,7 +39,7 @@ use outbox_core::{Content, Deliveries};
 use owner_queues::Profile;
 use router::Engine;
 use router_core::{Action, Addressees, Event, OpenGate};
-use router_laws::{RunFault, run};
+use router_laws::{EventFault, run};
 use seq_bus::SeqBus;
 use seq_bus_core::limits::MAX_BATCH;
 use seq_bus_core::{Conn, Recipients, Verdict};
@@ -219,7 +219,7 @@ impl EngineScene {
                 put_addressees(to.to(), to.monitors(), &mut journal.text)
             }
             "fault" => {
-                write!(journal.text, "{}", RunFault::from(AllocError))?;
+                write!(journal.text, "{}", EventFault::from(AllocError))?;
                 Ok(())
             }
             "next" | "free" | "ready" | "number" | "slot" | "unnamed" => self.tell(row, journal),
@@ -382,7 +382,7 @@ impl EngineScene {
                 }
             }
             Err(fault) => {
-                ensure!(fault != RunFault::NoMemory, "out of memory");
+                ensure!(fault != EventFault::NoMemory, "out of memory");
                 write!(journal.text, "{fault}")?;
             }
         }

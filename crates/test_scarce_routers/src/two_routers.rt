@@ -18,7 +18,7 @@ use registry_snapshots::{Desk, Naming, Seat, Serve, Shared, start};
 use router::{Engine, Traced};
 use router_core::{CloseCause, OpenGate};
 use router_host::{EndCause, Host, Post, StartRequest};
-use routers::{Coordinator, Fault, LanePost, Recorder, Router, TraceSink, Wake};
+use routers::{Coordinator, Fault, LanePost, Router, TraceSink, TraceWriter, Wake};
 use seq_bus_core::SharedBytes;
 use std::alloc::{AllocError, Global};
 use std::cell::RefCell;
@@ -132,7 +132,7 @@ fn go_on<
     V: BusView,
     P: Post<V>,
     W: Wake + Drop,
-    T: Recorder<V, OpenGate, P, Wire>,
+    T: TraceWriter<V, OpenGate, P, Wire>,
     F: Fill,
     R: Wait,
 >(
@@ -140,14 +140,14 @@ fn go_on<
     right: &V::Right,
     first: &mut Router<'c, V, OpenGate, P, Wire, Beats, W>,
     second: &mut Router<'c, V, OpenGate, P, Wire, Beats, W>,
-    recorder: &mut T,
+    trace_writer: &mut T,
     filler: &mut F,
 ) -> Result<(), AllocError> {
-    let mut has_failed = first.run(rt, right, recorder).is_err();
+    let mut has_failed = first.run(rt, right, trace_writer).is_err();
     filler.fill()?;
     for _round in 0..ROUNDS {
-        has_failed = second.run(rt, right, recorder).is_err() || has_failed;
-        has_failed = first.run(rt, right, recorder).is_err() || has_failed;
+        has_failed = second.run(rt, right, trace_writer).is_err() || has_failed;
+        has_failed = first.run(rt, right, trace_writer).is_err() || has_failed;
     }
     if has_failed { Err(AllocError) } else { Ok(()) }
 }
@@ -181,7 +181,7 @@ fn serve_both<
     V: BusView + Drop,
     P: Post<V> + Drop,
     W: Wake + Drop,
-    T: Recorder<V, OpenGate, P, Wire>,
+    T: TraceWriter<V, OpenGate, P, Wire>,
     F: Fill,
     R: Wait,
 >(
@@ -191,7 +191,7 @@ fn serve_both<
     coordinator: &Coordinator<W>,
     first: Side<V, P>,
     second: Side<V, P>,
-    recorder: &mut T,
+    trace_writer: &mut T,
     filler: &mut F,
 ) -> Result<Found, AllocError>
     requires { (P.registry first.post ≡ (V.knows first.view).registry)
@@ -208,7 +208,7 @@ fn serve_both<
         &mut first,
         second,
         second_beats,
-        recorder,
+        trace_writer,
         filler,
     );
     drop(first);
@@ -225,7 +225,7 @@ fn serve_beside<
     V: BusView + Drop,
     P: Post<V> + Drop,
     W: Wake + Drop,
-    T: Recorder<V, OpenGate, P, Wire>,
+    T: TraceWriter<V, OpenGate, P, Wire>,
     F: Fill,
     R: Wait,
 >(
@@ -236,13 +236,13 @@ fn serve_beside<
     first: &mut Router<'c, V, OpenGate, P, Wire, Beats, W>,
     second: Side<V, P>,
     source: Beats,
-    recorder: &mut T,
+    trace_writer: &mut T,
     filler: &mut F,
 ) -> Result<(), AllocError>
     requires { P.registry second.post ≡ (V.knows second.view).registry }
 {
     let mut second = router_of(alloc, 1, coordinator, second, source)?;
-    let served = go_on(rt, right, first, &mut second, recorder, filler);
+    let served = go_on(rt, right, first, &mut second, trace_writer, filler);
     drop(second);
     served
 }
