@@ -310,6 +310,10 @@ sleeps_two_seconds() {
     [ "$(waited)" = "$before" ]
 }
 
+has_name() {
+    "$client" "$address" ask ListNames | grep -qw "$1"
+}
+
 # A daemon that nobody calls sleeps, and is small.
 idle() {
     if [ ! -r /proc/self/task ]; then
@@ -328,6 +332,14 @@ daemons() {
     finish
     begin routers=8
     idle
+    finish
+    begin routers=8 --anonymous
+    "$client" "$address" own com.example.Still &
+    local still=$!
+    waits has_name com.example.Still || wrong "lets nobody own a name"
+    idle
+    kill "$still"
+    wait "$still" || true
     finish
 }
 
@@ -371,6 +383,20 @@ serves_within() {
 # The processor time of the daemon so far, in hundredths of a second.
 spent() {
     awk '{ print $14 + $15 }' "/proc/$bus/stat"
+}
+
+# Where its other files leave none for the source of random bytes, it says so.
+no_random_bytes() {
+    local count
+    start routers=1 --trace trace
+    for count in {4..16}; do
+        status=0
+        (ulimit -n "$count" && exec timeout 1 "$BUSD" "${words[@]}") > out 2> err < /dev/null || status=$?
+        tried=$((tried + 1))
+        [ "$status" != 4 ] || [ "$(< err)" != 'busd: device: random' ] || break
+    done
+    [ "$(< err)" = 'busd: device: random' ] || wrong "with few open files and a trace"
+    rm -f trace/* bus
 }
 
 # However few files may be open, it says what it could not open, or serves.
@@ -546,6 +572,7 @@ sessions() {
     printf '#!/bin/sh\nexit 9\n' > a=b/nine
     chmod +x a=b/nine
     session 9 ./a=b/nine
+    renewed_key
     sessions_at_once
     # The folder of the keyrings may stand elsewhere.
     mkdir -m 700 linked elsewhere
@@ -561,6 +588,19 @@ nobody_runs() {
 }
 
 # Sessions that begin and end beside others are as they are alone.
+# While a session lasts its key is renewed, which changes nothing but its time.
+renewed_key() {
+    local key=home/.dbus-keyrings/org_freedesktop_general
+    sed 's/^key_life=.*/key_life=1/' "$session" > young.sh
+    chmod +x young.sh
+    HOME=$room/home XDG_RUNTIME_DIR=$room/session timeout 20 ./young.sh \
+        sh -c "cat $key; sleep 2.5; cat $key" > out 2> err < /dev/null || wrong "in a session of two keys"
+    tried=$((tried + 1))
+    awk '{ number[NR] = $1; time[NR] = $2; cookie[NR] = $3 }
+        END { exit !(NR == 2 && number[1] == number[2] && time[1] < time[2] && cookie[1] == cookie[2]) }' out ||
+        wrong "in a session whose key is renewed"
+}
+
 sessions_at_once() {
     local number ends=()
     for number in 1 2 3 4; do
@@ -604,6 +644,7 @@ full_device
 help
 daemons
 logins
+no_random_bytes
 few_files
 starts routers=3
 traces
