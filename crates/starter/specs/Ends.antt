@@ -57,7 +57,23 @@ module _ {P N G : Type 0} (told : N → History) (passes : G → GatedCall → G
     pub happens : Each IsDone done before between
     pub catches_up : MayCatchUp between after
 
--- the same by a view, a gate and a post
+-- ## The same by a view, a gate and a post
+
+abbrev pub HasEndedBy : {V N R G P : Type 0} → BusView V N R → Gate G → Post P V N R →
+    Option StartEnd → Hosted P G N → Hosted P G N → Type 0
+HasEndedBy view gate post end before after =
+    HasEnded view.told gate.passes view.alone post.puts post.starts end before after
+
+abbrev pub IsDoneBy : {V N R G P : Type 0} → BusView V N R → Gate G → Post P V N R →
+    Deed → Hosted P G N → Hosted P G N → Type 0
+IsDoneBy view gate post deed before after =
+    IsDone view.told gate.passes view.alone post.puts post.starts deed before after
+
+abbrev pub AreDoneBy : {V N R G P : Type 0} → BusView V N R → Gate G → Post P V N R →
+    List Deed → Hosted P G N → List Deed → Hosted P G N → Type 0
+AreDoneBy view gate post due before left after =
+    AreDone view.told gate.passes view.alone post.puts post.starts due before left after
+
 abbrev pub MayCatchUpBy : {V N R G P : Type 0} → BusView V N R → Gate G → Post P V N R →
     Hosted P G N → Hosted P G N → Type 0
 MayCatchUpBy view gate post before after =

@@ -1,7 +1,7 @@
 //! The programs of services: which are run, and what routers are told of them.
 
 ghost use Rattle.std.specs.Prelude.{◌≡◌, ◌<◌, ◌++◌, ◌∷◌, [], IfErr, IfSome, OnOk, OnErr, reverse, vec_capacity, vec_len};
-ghost use Rattle.starter.specs.Ends.{AreDone, HasEnded, IsDone, MakesStepsBy, MayCatchUpBy, end_of};
+ghost use Rattle.starter.specs.Ends.{AreDoneBy, HasEndedBy, IsDoneBy, MakesStepsBy, MayCatchUpBy, end_of};
 
 use bus_view::BusView;
 use names::BusName;
@@ -195,7 +195,7 @@ impl<V: BusView, G: Gate, P: Post<V>, S: Socket, Q: Programs + Drop> Starter<V, 
 
     /// Does what is to be done.
     fn do_all(&mut self, right: &V::Right) -> Result<(), AllocError>
-        ensures done { AreDone V.told G.passes V.alone P.puts P.starts
+        ensures done { AreDoneBy V.BusView G.Gate P.Post
             (reverse self.old.deeds.items) self.old.host
             (reverse self.new.deeds.items) self.new.host }
         ensures all { OnOk result (self.new.deeds.items ≡ []) }
@@ -213,7 +213,7 @@ impl<V: BusView, G: Gate, P: Post<V>, S: Socket, Q: Programs + Drop> Starter<V, 
     /// Does one thing. Where there is no memory for it, it comes back.
     fn do_one(&mut self, right: &V::Right, deed: Deed) -> Result<(), Deed>
         ensures done { OnOk result
-            (IsDone V.told G.passes V.alone P.puts P.starts deed self.old.host self.new.host) }
+            (IsDoneBy V.BusView G.Gate P.Post deed self.old.host self.new.host) }
         ensures err { OnErr result (MayCatchUpBy V.BusView G.Gate P.Post
             self.old.host self.new.host) }
         ensures back { IfErr result (λ later. later ≡ deed) }
@@ -236,7 +236,7 @@ impl<V: BusView, G: Gate, P: Post<V>, S: Socket, Q: Programs + Drop> Starter<V, 
 
     /// Tells the bus how a start ended.
     fn report(&mut self, right: &V::Right, change: &Change) -> Result<(), AllocError>
-        ensures happens { OnOk result (HasEnded V.told G.passes V.alone P.puts P.starts
+        ensures happens { OnOk result (HasEndedBy V.BusView G.Gate P.Post
             (end_of change.now) self.old.host self.new.host) }
         ensures err { OnErr result (MayCatchUpBy V.BusView G.Gate P.Post
             self.old.host self.new.host) }
