@@ -366,6 +366,30 @@ logins() {
 busd: accept: too many connections without a name"
 }
 
+# Who connects and says nothing is let go of after half a minute and before a whole one; who has a name stays. That is
+# waited for beside all else.
+patience() {
+    start address=patient routers=1 --anonymous
+    "$BUSD" "${words[@]}" > patient_said 2>&1 < /dev/null &
+    patient=$!
+    waits test -S patient || wrong "listens nowhere"
+    "$client" unix:path=patient patience - > patience &
+    waiter=$!
+}
+
+patience_ends() {
+    local seconds names
+    wait "$waiter" || wrong "a client that says nothing"
+    read -r seconds names < patience
+    [ "$seconds" -ge 30 ] && [ "$seconds" -le 61 ] && [ "$names" = 'org.freedesktop.DBus :1.1' ] ||
+        wrong "lets go of a client that says nothing after $seconds s, with $names"
+    kill "$patient"
+    wait "$patient" || true
+    [ ! -s patient_said ] || wrong "says of a client that says nothing: $(< patient_said)"
+    rm patient
+    tried=$((tried + 1))
+}
+
 # serves_within N: with N open files at most it serves; else it has told what it could not open
 serves_within() {
     start
@@ -636,6 +660,7 @@ killed_session() {
     rm -rf home/.dbus-keyrings session/*
 }
 
+patience
 command_lines
 files
 service_files
@@ -649,4 +674,5 @@ few_files
 starts routers=3
 traces
 sessions
+patience_ends
 echo "busd serve: $tried runs tried, each answered as it should be"

@@ -174,6 +174,14 @@ def main(address, what, name, count="0"):
         to = connected(address)
         to.sendall(bytes.fromhex(name))
         return to.recv(1)
+    if what == "patience":
+        named, silent = Client(address), connected(address)
+        silent.settimeout(90)
+        since = time.monotonic()
+        silent.recv(1)
+        waited = time.monotonic() - since
+        print(round(waited), named.answer(named.call(BUS, "ListNames")))
+        return
     if what == "crowd":
         crowd = []
         for _ in range(int(name)):
