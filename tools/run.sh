@@ -13,7 +13,7 @@ if [ -x "$program" ] && [ -z "$(find crates crates.txt \( -name '*.rt' -o -name 
     -not -path '*/out/*' -not -path 'crates/test_*' -not -path 'crates/bench_*' -newer "$program" -print -quit)" ]; then
     "$program" run < "$stream" > "$replies"
 else
-    echo "busd is not proved here yet, so it runs without proof; \`make prove\` proves and builds it"
+    echo "the sources are not proved as they stand, so busd runs without proof; \`make prove\` proves and builds it"
     (cd crates/busd && rt try -- run < "$stream" > "$replies" 2> "$log") || { cat "$log"; exit 1; }
 fi
 od -A d -t x1z -v "$replies"
