@@ -611,7 +611,6 @@ nobody_runs() {
     ! grep -qsaF "$1" /proc/[0-9]*/cmdline
 }
 
-# Sessions that begin and end beside others are as they are alone.
 # While a session lasts its key is renewed, which changes nothing but its time.
 renewed_key() {
     local key=home/.dbus-keyrings/org_freedesktop_general
@@ -625,6 +624,7 @@ renewed_key() {
         wrong "in a session whose key is renewed"
 }
 
+# Sessions that begin and end beside others are as they are alone.
 sessions_at_once() {
     local number ends=()
     for number in 1 2 3 4; do
