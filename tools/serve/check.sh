@@ -443,6 +443,16 @@ few_files() {
     finish
 }
 
+# Whichever routers change the owner of a name, a client is told of it in the order of the changes.
+owners() {
+    local routers
+    for routers in 2 4; do
+        begin routers="$routers" --anonymous
+        told_to "in order" owners com.example.Taken 1
+        finish
+    done
+}
+
 # program NAME LINE..: a service com.example.NAME whose program is a shell script of these lines
 program() {
     local name=$1
@@ -669,6 +679,7 @@ full_device
 help
 daemons
 logins
+owners
 no_random_bytes
 few_files
 starts routers=3

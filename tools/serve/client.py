@@ -11,6 +11,9 @@ client.py ADDRESS starts NAME N   calls StartServiceByName N times and reads not
 client.py ADDRESS own NAME        owns a name, and answers every call until the bus is gone
 client.py ADDRESS bytes HEX       sends bytes in place of a conversation, and waits for the end
 client.py ADDRESS crowd N         connects N times for a second and says nothing, and asks for the names after that
+client.py ADDRESS owners NAME S   has three clients take a name from one another for S seconds, and tells whether a
+                                  fourth was told of each change behind the one before
+client.py ADDRESS patience -      connects and says nothing, and prints how many seconds it was let, and the names then
 
 It says that it is nobody, or where COOKIE is USER:COOKIE, who it is. An answer is printed as the text, the texts or the
 number that it has, an error as its name.
@@ -21,11 +24,13 @@ import os
 import socket
 import struct
 import sys
+import threading
 import time
 
 BUS = "org.freedesktop.DBus"
 CALL, RETURN, ERROR, SIGNAL = 1, 2, 3, 4
 NO_AUTO_START = 2
+ALLOW_REPLACEMENT, REPLACE_EXISTING, DO_NOT_QUEUE = 1, 2, 4
 PATH, INTERFACE, MEMBER, ERROR_NAME, REPLY_SERIAL, DESTINATION, SENDER, SIGNATURE = range(1, 9)
 
 
@@ -169,11 +174,43 @@ def start(client, name):
     return client.call(BUS, "StartServiceByName", "su", padded(text(name), 4) + bytes(4))
 
 
+def takes(client, name, until):
+    while time.monotonic() < until:
+        body = padded(text(name), 4) + struct.pack("<I", ALLOW_REPLACEMENT | REPLACE_EXISTING | DO_NOT_QUEUE)
+        for call in [client.call(BUS, "RequestName", "su", body) for _ in range(8)]:
+            client.answer(call)
+
+
+def follows(listener, name):
+    """Whether each change of a name's owner is of the owner that the one before it gave, up to a quiet second."""
+    owner, followed, wrong = "", 0, 0
+    listener.socket.settimeout(1)
+    try:
+        while (came := listener.next()) is not None:
+            kind, _, fields, body = came
+            if kind == SIGNAL and fields[MEMBER] == "NameOwnerChanged":
+                changed, old, new = texts_of(bytes(4) + body)
+                if changed == name:
+                    wrong += old != owner
+                    owner, followed = new, followed + 1
+    except TimeoutError:
+        pass
+    return "in order" if followed and not wrong else f"{wrong} of {followed} out of order"
+
+
 def main(address, what, name, count="0"):
     if what == "bytes":
         to = connected(address)
         to.sendall(bytes.fromhex(name))
         return to.recv(1)
+    if what == "owners":
+        listener, takers = Client(address), [Client(address) for _ in range(3)]
+        listener.answer(listener.call(BUS, "AddMatch", "s", text("member='NameOwnerChanged'")))
+        until = time.monotonic() + float(count)
+        for taker in takers:
+            threading.Thread(target=takes, args=(taker, name, until)).start()
+        print(follows(listener, name))
+        return
     if what == "patience":
         named, silent = Client(address), connected(address)
         silent.settimeout(90)

@@ -4,6 +4,7 @@ ghost use Rattle.std.specs.Prelude.{◌≡◌, IfOk, length};
 ghost use Rattle.routers.specs.Posts.{places_of};
 
 use crate::fault::Fault;
+use crate::telling::Telling;
 use seq_bus_core::limits::MAX_CONNECTIONS;
 use std::alloc::{AllocError, Global};
 use std::marker::Model;
@@ -111,6 +112,8 @@ fn lower(flag: &AtomicBool) -> bool {
 #[derive(Drop)]
 pub struct Coordinator<W: Wake + Drop> {
     states: Vec<RouterState<W>>,
+    /// By routers, and behind them of the main thread: what they have told of their changes.
+    tellings: Vec<Telling>,
     /// By slots: there is mail from another router.
     mail: Vec<AtomicBool>,
     /// By slots: the connection did not take its mail, though its router had a turn.
@@ -133,6 +136,15 @@ fn states_of<W: Wake + Drop>(
         states.push(RouterState::new(waker))?;
     }
     Ok(states)
+}
+
+/// What each of so many threads has told.
+fn tellings_of(alloc: Global, threads: usize) -> Result<Vec<Telling>, AllocError> {
+    let mut tellings = Vec::with_capacity(alloc, threads)?;
+    for _thread in 0..threads {
+        tellings.push(Telling::new())?;
+    }
+    Ok(tellings)
 }
 
 /// A flag for each place.
@@ -159,10 +171,12 @@ impl<W: Wake + Drop> Coordinator<W> {
         ensures routers { IfOk result (λ c. c ≡ length wakers.items) }
     {
         let states = states_of(alloc, wakers)?;
+        let tellings = tellings_of(alloc, states.len().saturating_add(1))?;
         let mail = flags(alloc)?;
         let stuck = flags(alloc)?;
         Ok(Coordinator {
             states,
+            tellings,
             mail,
             stuck,
             main,
@@ -257,6 +271,43 @@ impl<W: Wake + Drop> Coordinator<W> {
     pub(crate) fn end(&self, router: usize) {
         if let Some(state) = self.states.get(router) {
             state.serves.store(false, Ordering::SeqCst);
+        }
+    }
+
+    /// What a router has told, or the main thread, which any greater number is.
+    fn telling(&self, thread: usize) -> Option<&Telling> {
+        self.tellings.get(thread.min(self.states.len()))
+    }
+
+    /// A turn of a router begins, or of the main thread: it may make changes.
+    pub fn begin_telling(&self, thread: usize) {
+        if let Some(telling) = self.telling(thread) {
+            telling.begin();
+        }
+    }
+
+    /// A turn of a router is over, or of the main thread: what comes of its changes is put.
+    pub fn end_telling(&self, thread: usize) {
+        if let Some(telling) = self.telling(thread) {
+            telling.end();
+        }
+    }
+
+    /// In its turn a thread has put what comes of its changes up to a position.
+    pub(crate) fn tell_up_to(&self, thread: usize, position: u64) {
+        if let Some(telling) = self.telling(thread) {
+            telling.advance(position);
+        }
+    }
+
+    /// Waits until all other threads have put what comes of their changes up to a position, but not
+    /// for ever.
+    pub(crate) fn await_others<R: Wait>(&self, rt: &R, me: usize, position: u64) {
+        let me = me.min(self.states.len());
+        for (thread, telling) in self.tellings.iter().enumerate() {
+            if thread != me {
+                telling.await_told(rt, position);
+            }
         }
     }
 

@@ -35,6 +35,7 @@ mod place;
 mod post;
 mod router_loop;
 mod source;
+mod telling;
 mod threads;
 mod trace_sink;
 

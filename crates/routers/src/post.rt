@@ -6,6 +6,7 @@ ghost use Rattle.routers.specs.Posts.{AsksFor, IsFullFor, IsOwn, Sends, Waited, 
 use crate::coordinator::{Coordinator, Wake};
 use crate::place::{NoRoom, Place};
 use outbox::{EnvelopeOf, Lane, Tap};
+use outbox_core::{BusMessage, Content};
 use registry_snapshots::{Desk, Naming, Note};
 use router::Traced;
 use router_host::{Full, Post, StartRequest, TooManyStarts};
@@ -27,6 +28,10 @@ pub struct LanePost<'a, J: Naming, W: Wake + Drop> {
     coordinator: &'a Coordinator<W>,
     /// The slot of its first place.
     first: usize,
+    /// Which router's it is, or a greater number.
+    me: usize,
+    /// The others have put what comes of their changes up to this position.
+    cleared: u64,
     /// How many envelopes were put for other routers since it was looked how many wait.
     unseen: u8,
     /// What another router is behind with.
@@ -105,6 +110,8 @@ impl<'a, J: Naming, W: Wake + Drop> LanePost<'a, J, W> {
             starts,
             coordinator,
             first: me.saturating_mul(coordinator.places()),
+            me,
+            cleared: 0,
             unseen: 0,
             backlog: None,
         })
@@ -134,6 +141,28 @@ impl<'a, J: Naming, W: Wake + Drop> LanePost<'a, J, W> {
         } else {
             0
         }
+    }
+
+    /// What comes of a change is put before what comes later: waits until the others have put what
+    /// comes of their changes, as far as the sender of an envelope knew of them.
+    fn await_earlier<R: Wait>(&mut self, right: &R, envelope: &EnvelopeOf<J>)
+        ensures same { self.new ≡ self.old }
+    {
+        let Some(note) = &envelope.note else {
+            return;
+        };
+        let position = note.prefix().len();
+        if position <= self.cleared {
+            return;
+        }
+        self.cleared = position;
+        // A signal is of a change of its own, which is the last that it knows of.
+        let before = match &envelope.content {
+            Content::Own(BusMessage::Signal(_)) => position.saturating_sub(1),
+            _ => position,
+        };
+        self.coordinator.tell_up_to(self.me, before);
+        self.coordinator.await_others(right, self.me, before);
     }
 
     /// Puts an envelope for a place of its own, which this slot is, behind those that others have
@@ -260,6 +289,7 @@ impl<'a, 'b, J: Naming, W: Wake + Drop, R: Wait> Post<Traced<Desk<'b, J, R>>>
         ensures full { OnErr result (IsFullFor self.old to.slot) }
         ensures back { IfErr result (λ full. full.0 ≡ envelope) }
     {
+        self.await_earlier(right, &envelope);
         let slot = usize::from(to.slot);
         match self.own_place(slot) {
             Some(place) => self.put_own(right, slot, place, envelope),
@@ -291,6 +321,7 @@ impl<'a, 'b, J: Naming, W: Wake + Drop, R: Wait> Post<Traced<Desk<'b, J, R>>>
     }
 
     fn turn_ends(&mut self, _right: &R) {
+        self.coordinator.tell_up_to(self.me, self.cleared);
         self.coordinator.wake_owed();
     }
 

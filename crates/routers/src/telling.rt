@@ -1,0 +1,105 @@
+//! Which of their changes the threads of a bus have told.
+
+use std::hint::spin_loop;
+use std::sync::Wait;
+use std::sync::atomic::{AtomicBool, AtomicU64, Ordering};
+use std::time::Duration;
+
+/// How often it is looked whether a thread has told enough before this thread sleeps.
+const LOOKS: u32 = 200;
+
+/// How often it is slept at most. A thread that takes longer for a turn is not waited for.
+const SLEEPS: u32 = 50;
+
+/// How long it is slept at a time, in milliseconds.
+const SLEEP: u64 = 2;
+
+/// What one thread has told of the changes that it made: what comes of a change is put for whoever
+/// gets it once the change is made. Until then nobody is to put what comes later.
+///
+/// A position is a number of changes of the bus.
+#[derive(Drop)]
+pub(crate) struct Telling {
+    /// All that the thread made up to this position is told. In no turn it makes none.
+    told: AtomicU64,
+    /// The same, as far as its thread knows.
+    known: AtomicU64,
+    /// Another thread waits for more.
+    is_awaited: AtomicBool,
+}
+
+impl Telling {
+    pub(crate) fn new() -> Telling {
+        Telling {
+            told: AtomicU64::new(u64::MAX),
+            known: AtomicU64::new(0),
+            is_awaited: AtomicBool::new(false),
+        }
+    }
+
+    fn tell(&self, position: u64) {
+        self.told.store(position, Ordering::SeqCst);
+        if self.is_awaited.load(Ordering::SeqCst) && self.is_awaited.swap(false, Ordering::SeqCst) {
+            self.told.wake_all();
+        }
+    }
+
+    /// A turn begins: from now on the thread may make changes.
+    pub(crate) fn begin(&self) {
+        self.tell(self.known.load(Ordering::SeqCst));
+    }
+
+    /// A turn ends: all that the thread made is told.
+    pub(crate) fn end(&self) {
+        self.tell(u64::MAX);
+    }
+
+    /// In a turn all is told up to a position.
+    pub(crate) fn advance(&self, position: u64) {
+        if self.has_told(u64::MAX) || position <= self.known.load(Ordering::SeqCst) {
+            return;
+        }
+        self.known.store(position, Ordering::SeqCst);
+        self.tell(position);
+    }
+
+    /// Whether all is told up to a position.
+    fn has_told(&self, position: u64) -> bool {
+        self.told.load(Ordering::SeqCst) >= position
+    }
+
+    /// Looks for a while whether all is told up to a position.
+    fn tells_soon(&self, position: u64) -> bool {
+        for _ in 0..LOOKS {
+            if self.has_told(position) {
+                return true;
+            }
+            spin_loop();
+        }
+        false
+    }
+
+    /// Sleeps until more is told than this, but not for long.
+    fn sleep<R: Wait>(&self, rt: &R, told: u64) {
+        self.is_awaited.store(true, Ordering::SeqCst);
+        self.told.park_timeout(
+            rt,
+            (told & 0xffff_ffff) as u32,
+            Duration::from_millis(SLEEP),
+        );
+    }
+
+    /// Waits until all is told up to a position, but not for ever.
+    pub(crate) fn await_told<R: Wait>(&self, rt: &R, position: u64) {
+        if self.tells_soon(position) {
+            return;
+        }
+        for _ in 0..SLEEPS {
+            let told = self.told.load(Ordering::SeqCst);
+            if told >= position {
+                return;
+            }
+            self.sleep(rt, told);
+        }
+    }
+}
