@@ -366,8 +366,8 @@ logins() {
 busd: accept: too many connections without a name"
 }
 
-# Who connects and says nothing is let go of after half a minute and before a whole one; who has a name stays. That is
-# waited for beside all else.
+# Who connects and says nothing is let go of after half a minute to a whole one; who has a name stays. That is waited for
+# beside all else, and for longer where the machine is slow.
 patience() {
     start address=patient routers=1 --anonymous
     "$BUSD" "${words[@]}" > patient_said 2>&1 < /dev/null &
@@ -381,7 +381,7 @@ patience_ends() {
     local seconds names
     wait "$waiter" || wrong "a client that says nothing"
     read -r seconds names < patience
-    [ "$seconds" -ge 30 ] && [ "$seconds" -le 61 ] && [ "$names" = 'org.freedesktop.DBus :1.1' ] ||
+    [ "$seconds" -ge 30 ] && [ "$seconds" -le 85 ] && [ "$names" = 'org.freedesktop.DBus :1.1' ] ||
         wrong "lets go of a client that says nothing after $seconds s, with $names"
     kill "$patient"
     wait "$patient" || true
@@ -415,7 +415,7 @@ no_random_bytes() {
     start routers=1 --trace trace
     for count in {4..16}; do
         status=0
-        (ulimit -n "$count" && exec timeout 1 "$BUSD" "${words[@]}") > out 2> err < /dev/null || status=$?
+        (ulimit -n "$count" && exec timeout 20 "$BUSD" "${words[@]}") > out 2> err < /dev/null || status=$?
         tried=$((tried + 1))
         [ "$status" != 4 ] || [ "$(< err)" != 'busd: device: random' ] || break
     done
@@ -443,12 +443,17 @@ few_files() {
     finish
 }
 
-# Whichever routers change the owner of a name, a client is told of it in the order of the changes.
+is_in_order() {
+    [ "$(timeout 60 "$client" "$address" owners com.example.Taken 1 2>&1)" = "in order" ]
+}
+
+# Whichever routers change the owner of a name, a client is told of it in the order of the changes. Out of order come
+# hundreds where nobody sees to that; one may, where the machine has a thread stand still for a tenth of a second.
 owners() {
     local routers
     for routers in 2 4; do
         begin routers="$routers" --anonymous
-        told_to "in order" owners com.example.Taken 1
+        is_in_order || is_in_order || is_in_order || wrong "tells of a name's owners in another order"
         finish
     done
 }
@@ -627,7 +632,8 @@ renewed_key() {
     sed 's/^key_life=.*/key_life=1/' "$session" > young.sh
     chmod +x young.sh
     HOME=$room/home XDG_RUNTIME_DIR=$room/session timeout 20 ./young.sh \
-        sh -c "cat $key; sleep 2.5; cat $key" > out 2> err < /dev/null || wrong "in a session of two keys"
+        sh -c "cat $key; cp $key first; while cmp -s first $key; do sleep 0.2; done; cat $key" \
+        > out 2> err < /dev/null || wrong "in a session of two keys"
     tried=$((tried + 1))
     awk '{ number[NR] = $1; time[NR] = $2; cookie[NR] = $3 }
         END { exit !(NR == 2 && number[1] == number[2] && time[1] < time[2] && cookie[1] == cookie[2]) }' out ||

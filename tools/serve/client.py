@@ -184,7 +184,6 @@ def takes(client, name, until):
 def follows(listener, name):
     """Whether each change of a name's owner is of the owner that the one before it gave, up to a quiet second."""
     owner, followed, wrong = "", 0, 0
-    listener.socket.settimeout(1)
     try:
         while (came := listener.next()) is not None:
             kind, _, fields, body = came
@@ -193,9 +192,10 @@ def follows(listener, name):
                 if changed == name:
                     wrong += old != owner
                     owner, followed = new, followed + 1
+                    listener.socket.settimeout(1)
     except TimeoutError:
-        pass
-    return "in order" if followed and not wrong else f"{wrong} of {followed} out of order"
+        return f"{wrong} of {followed} out of order" if wrong or not followed else "in order"
+    return "gone"
 
 
 def main(address, what, name, count="0"):
