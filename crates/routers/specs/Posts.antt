@@ -1,5 +1,5 @@
 -- How routers reach one another, and whoever runs the programs of services.
-use Rattle.std.specs.Prelude.{◌≡◌, ◌+◌, ◌-◌, ◌^◌, ◌≤◌, ◌/◌, ◌⊎◌, max, min, ℕ, Bool, true, false, nat_le, List, [], ◌∷◌, ◌++◌, length, map, Some, slice_get, slice_set}
+use Rattle.std.specs.Prelude.{◌≡◌, ◌+◌, ◌-◌, ◌^◌, ◌<◌, ◌≤◌, ◌/◌, ◌⊎◌, max, min, ℕ, Bool, true, false, nat_le, List, [], ◌∷◌, ◌++◌, length, map, Some, slice_get, slice_set}
 use Rattle.seq_bus_core.specs.BusState.{max_connections}
 use Rattle.outbox.specs.declared.hand.Hand.{Hand}
 use Rattle.outbox.specs.Lanes.{End, HadItems, Took, WasEmpty, WasFull, sent, with}
@@ -75,6 +75,9 @@ module _ {E : Type 0} where
   abbrev pub HasNone : Place E → Type 0
   HasNone p = (p.own ≡ []) × WasEmpty p.tap
 
+  abbrev pub HasRoom : Place E → Type 0
+  HasRoom p = length p.own < max_own
+
   abbrev pub IsFull : Place E → Type 0
   IsFull p = max_own ≤ length p.own
 
@@ -98,11 +101,12 @@ module _ {E S : Type 0} where
   abbrev pub Waited : Ways E S → ℕ → ℕ → Type 0
   Waited ways slot count = (e : End E) → slice_get ways.lane slot ≡ Some e → HadItems count e
 
-  -- An envelope is put for a slot: where it is one of its own, it waits there behind what others
-  -- put, else it goes into the outbox of the slot.
+  -- An envelope is put for a slot: where it is one of its own, which has room, it waits there
+  -- behind what others put, else it goes into the outbox of the slot.
   abbrev pub Sends : Ways E S → ℕ → E → Ways E S → Type 0
   Sends before slot envelope after =
-      ((place waiting : ℕ) × (p : Place E) × IsAt before slot place p × Waited before slot waiting
+      ((place waiting : ℕ) × (p : Place E) × IsAt before slot place p × HasRoom p
+      × Waited before slot waiting
       × (after ≡ record before { places = slice_set before.places place (kept p envelope waiting) }))
       ⊎ ((IsOwn before slot → ⊥) × (lane : List (End E)) × Puts before.lane slot envelope lane
       × (after ≡ record before { lane = lane }))

@@ -1,8 +1,8 @@
 //! The places of a router.
 
-ghost use Rattle.std.specs.Prelude.{◌≡◌, ◌≤◌, ◌∷◌, ◌++◌, [], false, length, true, IfOk, MatchOption, MatchResult};
+ghost use Rattle.std.specs.Prelude.{◌≡◌, ◌<◌, ◌≤◌, ◌∷◌, ◌++◌, [], false, length, true, IfOk, MatchOption, MatchResult};
 ghost use Rattle.outbox.specs.Lanes.{WasEmpty};
-ghost use Rattle.routers.specs.Posts.{HasNone, IsFirst, IsFull, Takes, TakesOfOthers, is_due, kept, kept_behind, max_own, new_place};
+ghost use Rattle.routers.specs.Posts.{HasNone, HasRoom, IsFirst, IsFull, Takes, TakesOfOthers, is_due, kept, kept_behind, max_own, new_place};
 
 use outbox::Tap;
 use std::alloc::{AllocError, Global};
@@ -57,7 +57,7 @@ impl<E: Drop> OwnQueue<E> {
     /// Puts an item behind so many that others put.
     fn put(&mut self, item: E, others: u64) -> Result<(), NoRoom<E>>
         ensures { MatchResult result
-            (λ _. self.new ≡ kept_behind self.old item others)
+            (λ _. (length self.old < max_own) × (self.new ≡ kept_behind self.old item others))
             (λ back. (back.0 ≡ item) × (self.new ≡ self.old) × (max_own ≤ length self.old)) }
     {
         if self.kept.len() >= ROOM {
@@ -116,7 +116,7 @@ impl<E: Drop> OwnQueue<E> {
 /// A place of a router for a connection: the end that takes what others put into its outbox, and
 /// what its own router put for it. They are taken in the order in which they were put.
 ///
-/// Contracts see both.
+/// Contracts see both, and how many were taken that others put.
 #[derive(Drop)]
 pub(crate) struct Place<E: Drop> {
     tap: Tap<E>,
@@ -144,7 +144,7 @@ impl<E: Drop> Place<E> {
     /// Puts an item of its own router, where so many wait that others put.
     pub(crate) fn put(&mut self, item: E, waiting: usize) -> Result<(), NoRoom<E>>
         ensures { MatchResult result
-            (λ _. self.new ≡ kept self.old item waiting)
+            (λ _. HasRoom self.old × (self.new ≡ kept self.old item waiting))
             (λ back. (back.0 ≡ item) × (self.new ≡ self.old) × IsFull self.old) }
     {
         self.own

@@ -6,7 +6,7 @@ ghost use Rattle.routers.specs.Posts.{AsksFor, IsFullFor, IsOwn, Sends, Waited, 
 use crate::coordinator::{Coordinator, Wake};
 use crate::place::{NoRoom, Place};
 use outbox::{EnvelopeOf, Lane, Tap};
-use outbox_core::{BusMessage, Content};
+use outbox_core::Content;
 use registry_snapshots::{Desk, Naming, Note};
 use router::Traced;
 use router_host::{Full, Post, StartRequest, TooManyStarts};
@@ -156,10 +156,10 @@ impl<'a, J: Naming, W: Wake + Drop> LanePost<'a, J, W> {
             return;
         }
         self.cleared = position;
-        // A signal is of a change of its own, which is the last that it knows of.
+        // What the bus itself says may be of a change of its own, the last that it knows of.
         let before = match &envelope.content {
-            Content::Own(BusMessage::Signal(_)) => position.saturating_sub(1),
-            _ => position,
+            Content::Own(_) => position.saturating_sub(1),
+            Content::Relayed(_) => position,
         };
         self.coordinator.tell_up_to(self.me, before);
         self.coordinator.await_others(right, self.me, before);

@@ -15,7 +15,7 @@ returns-clause-put g c =
       | in-Ok w ↦
           subst (λ r. OnOk r (Sends c.args.self.now c.args.slot c.args.envelope (record ways { places = slice_set ways.places c.args.place c.put.new.self }))) (sym w.result-is)
           (subst (λ (before : Ways _ _). Sends before c.args.slot c.args.envelope (record ways { places = slice_set ways.places c.args.place c.put.new.self })) same
-          (is_kept ways c.args.slot c.args.place c.index_mut.result.now at within c.index_mut.ensures.value c.put.new.self c.waiting-waiting.result c.args.envelope waited w.in-Ok.ensures))
+          (is_kept ways c.args.slot c.args.place c.index_mut.result.now at within c.index_mut.ensures.value c.put.new.self c.waiting-waiting.result c.args.envelope w.in-Ok.ensures.0 waited w.in-Ok.ensures.1))
       | in-Err w ↦
           subst (λ r. OnOk r (Sends c.args.self.now c.args.slot c.args.envelope (record ways { places = slice_set ways.places c.args.place c.put.new.self }))) (sym w.result-is) tt
     ]
