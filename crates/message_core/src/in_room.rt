@@ -69,7 +69,7 @@ pub fn put_body(output: &mut Vec<u8>, end: usize, body: &[u8])
 
 /// Puts what comes before the value of a header field of a basic type, from a place of the message
 /// on: the padding, its code, the letter of its type.
-pub fn put_start(output: &mut Vec<u8>, at: usize, field: HeaderField, letter: u8)
+fn put_start(output: &mut Vec<u8>, at: usize, field: HeaderField, letter: u8)
     requires { length output.old.items + (pad_len 8 at + 4) ≤ vec_capacity output.old }
     ensures items { output.new.items
         ≡ output.old.items ++ (pads 8 at ++ (code_of field ∷ 1 ∷ letter ∷ 0 ∷ [])) }

@@ -253,8 +253,8 @@ impl<V: BusView, G: Gate, P: Post<V>, S: Socket> Host<V, G, P, S> {
         self.serve_one(right, key)
     }
 
-    /// Serves a connection, and takes the mail that it brought: else some could put more into an
-    /// outbox in one turn than it has room for.
+    /// Serves a connection, and takes the mail that it brought: else some could put more for one
+    /// connection in one turn than there is room for.
     fn serve_one(&mut self, right: &V::Right, key: usize) -> Result<(), AllocError>
         requires none { self.old.kept ≡ None }
         ensures does { DoesBy V.BusView G.Gate P.Post self.old self.new }
