@@ -5,7 +5,7 @@ ghost use Rattle.marshal_core.specs.Values.{val_of, values_of};
 ghost use Rattle.message_core.specs.Said.{said};
 ghost use Rattle.driver.specs.Arguments.{elements_and_number, elements_of, number_of, only_text, text_and_number, text_of};
 
-use marshal_check::{Argument, CheckedArguments, Types};
+use marshal_check::{BodyArgument, CheckedArguments, Types};
 use marshal_core::{BasicType, BasicValue, DataType, Value};
 use message_core::Message;
 
@@ -46,12 +46,12 @@ pub fn only_text(message: &Message) -> Option<&str>
     };
     let mut arguments = CheckedArguments::new(message.order(), 0, types, message.body());
     match arguments.next() {
-        Some(Argument::String(text)) => match arguments.next() {
+        Some(BodyArgument::String(text)) => match arguments.next() {
             None => Some(text),
             Some(_) => None,
         },
-        Some(Argument::ObjectPath(_)) => None,
-        Some(Argument::Other) => None,
+        Some(BodyArgument::ObjectPath(_)) => None,
+        Some(BodyArgument::Other) => None,
         None => None,
     }
 }

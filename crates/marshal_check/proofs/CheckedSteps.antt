@@ -23,7 +23,7 @@ use Rattle.marshal_core.proofs.Results.{bind_ok, guard_ok, guard_else, ok_is, le
 use Rattle.marshal.proofs.BasicTaken.{padding_takes}
 use Rattle.marshal.proofs.BasicAgain.{length-pads}
 use Rattle.marshal.proofs.Decoded.{is_read}
-use Rattle.marshal_check.specs.Arguments.{Argument, string_argument, path_argument, other_argument, argument_of, arguments_at, then_others, are_there}
+use Rattle.marshal_check.specs.Arguments.{BodyArgument, string_argument, path_argument, other_argument, argument_of, arguments_at, then_others, are_there}
 use Rattle.marshal_check.specs.SignatureTexts.{is_signature_text, types_in}
 use Rattle.marshal_check.proofs.Checked.{is_its_text}
 use Rattle.marshal_check.proofs.Skipping.{is_basic}
@@ -150,7 +150,7 @@ first_there order t us at bytes e =
     (v.0, v.1, ap is_ok ws.1)
 
 -- the first value is this one, and the others follow it
-abbrev pub Steps : Order → List ℕ → ℕ → List ℕ → Argument → List ℕ → ℕ → List ℕ → Type 0
+abbrev pub Steps : Order → List ℕ → ℕ → List ℕ → BodyArgument → List ℕ → ℕ → List ℕ → Type 0
 Steps order text at bytes x others p rest = (arguments_at order (types_in text) at bytes ≡ x ∷ arguments_at order (types_in others) p rest) × (are_there order (types_in others) p rest ≡ true)
 
 step : (order : Order) (t : Ty) (text others : List ℕ) (at p : ℕ) (bytes rest : List ℕ) (v : Val) → types_in text ≡ more_types t (types_in others) → are_there order (types_in text) at bytes ≡ true → value_at 64 order Truncated t at bytes ≡ Ok (v, p, rest)
@@ -195,7 +195,7 @@ path_steps order text others at p bytes rest lent e there r =
 pub other_steps : (order : Order) (t : Ty) (text others : List ℕ) (at p : ℕ) (bytes rest : List ℕ) → types_in text ≡ more_types t (types_in others) → are_there order (types_in text) at bytes ≡ true
     → ((v : Val) × (value_at 64 order Truncated t at bytes ≡ Ok (v, p, rest)) × (other_argument ≡ argument_of v)) → Steps order text at bytes other_argument others p rest
 other_steps order t text others at p bytes rest e there (v, r, o) =
-    subst (λ (x : Argument). Steps order text at bytes x others p rest) (sym o) (step order t text others at p bytes rest v e there r)
+    subst (λ (x : BodyArgument). Steps order text at bytes x others p rest) (sym o) (step order t text others at p bytes rest v e there r)
 
 none_refused : (x : MarshalFault) (v : Val × ℕ × List ℕ) (r : Field Val) → r ≡ Err x → r ≡ Ok v → ⊥
 none_refused x v r e f = cc

@@ -14,7 +14,7 @@ use Rattle.marshal_core.specs.Reading.{Field, Reader, as_a, byte_at, boolean_at,
 use Rattle.marshal_core.proofs.Results.{bind_ok, ok_is}
 use Rattle.marshal.proofs.Layers.{value_basic, value_variant, value_array, value_entry, value_struct}
 use Rattle.marshal.proofs.Decoded.{is_read}
-use Rattle.marshal_check.specs.Arguments.{Argument, string_argument, path_argument, other_argument, argument_of, basic_argument, arguments, arguments_at, then_others}
+use Rattle.marshal_check.specs.Arguments.{BodyArgument, string_argument, path_argument, other_argument, argument_of, basic_argument, arguments, arguments_at, then_others}
 use Rattle.marshal_check.specs.SignatureTexts.{is_signature_text, types_in, BeginsWith}
 use Rattle.marshal_check.proofs.Checked.{is_its_text}
 use Rattle.marshal_check.proofs.Skipping.{is_basic}
@@ -138,7 +138,7 @@ all_arguments (more_types t ts) order at bytes vs p left e =
     let ws = bind_ok (fields_at (value_at 64 order) Truncated ts v.0.1 v.0.2) (λ ws. Ok (more_values v.0.0 ws.0, ws.1, ws.2)) (vs, p, left) v.2 in
     let here = ok_is (more_values v.0.0 ws.0.0, ws.0.1, ws.0.2) (vs, p, left) ws.2 in
     ap (then_others (arguments_at order ts)) v.1
-    ∙ ap (λ (others : List Argument). argument_of v.0.0 ∷ others) (all_arguments ts order v.0.1 v.0.2 ws.0.0 ws.0.1 ws.0.2 ws.1)
+    ∙ ap (λ (others : List BodyArgument). argument_of v.0.0 ∷ others) (all_arguments ts order v.0.1 v.0.2 ws.0.0 ws.0.1 ws.0.2 ws.1)
     ∙ ap (λ (x : Vals × ℕ × List ℕ). arguments x.0) here
 
 pub spelled_arguments : (order : Order) (offset : ℕ) (ts : Tys) (bytes front rest : List ℕ) (vs : Vals) → bytes ≡ front ++ rest → Spells order offset ts vs front → arguments_at order ts (offset % 8) bytes ≡ arguments vs
@@ -151,11 +151,11 @@ spelled_arguments order offset ts bytes front rest vs e h =
 one_text : (text : List ℕ) (t : Ty) → is_signature_text text ≡ true → types_in text ≡ one_type t → text ≡ code t ++ []
 one_text text t valid e = (is_its_text text valid).1 ∙ ap codes e
 
-pub steps_on : (order : Order) (ts first others : Tys) (at p : ℕ) (text bytes rest : List ℕ) (x : Argument) → BeginsWith ts first others → first ≡ types_in text → is_signature_text text ≡ true
+pub steps_on : (order : Order) (ts first others : Tys) (at p : ℕ) (text bytes rest : List ℕ) (x : BodyArgument) → BeginsWith ts first others → first ≡ types_in text → is_signature_text text ≡ true
     → ((t : Ty) (tail : List ℕ) → text ≡ code t ++ tail → (v : Val) × (value_at 64 order Truncated t at bytes ≡ Ok (v, p, rest)) × (x ≡ argument_of v)) → arguments_at order ts at bytes ≡ x ∷ arguments_at order others p rest
 steps_on order ts first others at p text bytes rest x (t, f, e) same valid reads =
     let v = reads t [] (one_text text t valid (sym same ∙ f)) in
-    ap (λ (us : Tys). arguments_at order us at bytes) e ∙ ap (then_others (arguments_at order others)) v.1 ∙ ap (λ (y : Argument). y ∷ arguments_at order others p rest) (sym v.2)
+    ap (λ (us : Tys). arguments_at order us at bytes) e ∙ ap (then_others (arguments_at order others)) v.1 ∙ ap (λ (y : BodyArgument). y ∷ arguments_at order others p rest) (sym v.2)
 
 pub stops : (order : Order) (ts first others : Tys) (at : ℕ) (text bytes : List ℕ) (fault : MarshalFault) → BeginsWith ts first others → first ≡ types_in text → is_signature_text text ≡ true
     → ((t : Ty) (tail : List ℕ) → text ≡ code t ++ tail → value_at 64 order Truncated t at bytes ≡ Err fault) → arguments_at order ts at bytes ≡ []

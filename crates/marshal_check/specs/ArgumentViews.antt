@@ -3,14 +3,14 @@ use Rattle.std.specs.Prelude.{◌≡◌, ℕ, List, Result, Ok, Err}
 use Rattle.marshal_core.specs.declared.fault.MarshalFault.{MarshalFault}
 use Rattle.marshal_core.specs.Values.{Val}
 use Rattle.marshal_core.specs.Reading.{Field}
-use Rattle.marshal_check.specs.declared.body_arguments.Argument.{Argument}
-use Rattle.marshal_check.specs.declared.body_arguments.Argument.TheVariants.{String, ObjectPath, Other}
+use Rattle.marshal_check.specs.declared.body_arguments.BodyArgument.{BodyArgument}
+use Rattle.marshal_check.specs.declared.body_arguments.BodyArgument.TheVariants.{String, ObjectPath, Other}
 use Rattle.marshal_check.specs.declared.body_arguments.Arguments.{Arguments}
 use Rattle.marshal_check.specs.declared.checked_arguments.CheckedArguments.{CheckedArguments}
-use Rattle.marshal_check.specs.Arguments.{Argument as Seen, string_argument, path_argument, other_argument, argument_of, arguments_at}
+use Rattle.marshal_check.specs.Arguments.{BodyArgument as Seen, string_argument, path_argument, other_argument, argument_of, arguments_at}
 use Rattle.marshal_check.specs.SignatureTexts.{types_in}
 
-abbrev pub seen : Argument → Seen
+abbrev pub seen : BodyArgument → Seen
 seen (String text) = string_argument text.now
 seen (ObjectPath text) = path_argument text.now
 seen Other = other_argument

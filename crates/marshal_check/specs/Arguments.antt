@@ -8,12 +8,12 @@ use Rattle.marshal_core.specs.Values.{BasicVal, a_byte, a_boolean, an_int16, a_u
 use Rattle.marshal_core.specs.Spelling.{max_container_depth}
 use Rattle.marshal_core.specs.Reading.{Field, fields_at, value_at}
 
-pub data Argument : Type 0 where
-  string_argument : Text → Argument
-  path_argument : Text → Argument
-  other_argument : Argument
+pub data BodyArgument : Type 0 where
+  string_argument : Text → BodyArgument
+  path_argument : Text → BodyArgument
+  other_argument : BodyArgument
 
-abbrev pub basic_argument : BasicVal → Argument
+abbrev pub basic_argument : BasicVal → BodyArgument
 basic_argument (a_byte n) = other_argument
 basic_argument (a_boolean b) = other_argument
 basic_argument (an_int16 z) = other_argument
@@ -27,23 +27,23 @@ basic_argument (a_string text) = string_argument text
 basic_argument (an_object_path text) = path_argument text
 basic_argument (a_signature ts) = other_argument
 
-abbrev pub argument_of : Val → Argument
+abbrev pub argument_of : Val → BodyArgument
 argument_of (a_basic v) = basic_argument v
 argument_of (a_variant v) = other_argument
 argument_of (an_array t vs) = other_argument
 argument_of (an_entry k v) = other_argument
 argument_of (a_struct vs) = other_argument
 
-abbrev pub arguments : Vals → List Argument
+abbrev pub arguments : Vals → List BodyArgument
 arguments no_values = []
 arguments (more_values v vs) = argument_of v ∷ arguments vs
 
-abbrev pub then_others : (ℕ → List ℕ → List Argument) → Field Val → List Argument
+abbrev pub then_others : (ℕ → List ℕ → List BodyArgument) → Field Val → List BodyArgument
 then_others others (Ok v) = argument_of v.0 ∷ others v.1 v.2
 then_others others (Err e) = []
 
 -- the arguments of these types, up to the first that bytes do not spell
-abbrev pub arguments_at : Order → Tys → ℕ → List ℕ → List Argument
+abbrev pub arguments_at : Order → Tys → ℕ → List ℕ → List BodyArgument
 arguments_at order no_types at bytes = []
 arguments_at order (more_types t ts) at bytes = then_others (arguments_at order ts) (value_at max_container_depth order Truncated t at bytes)
 

@@ -8,7 +8,7 @@ use marshal_core::Order;
 
 /// An argument of a message, as far as match rules look at it.
 #[derive(Clone, Copy, Debug, PartialEq, Eq)]
-pub enum Argument<'a> {
+pub enum BodyArgument<'a> {
     String(&'a str),
     ObjectPath(&'a str),
     /// An argument of another type.
@@ -57,13 +57,13 @@ impl<'a> Iterator for Arguments<'a> {
     ghost use Rattle.std.specs.Iterator.{YieldsFirstBy, item_count};
     ghost use Rattle.marshal_check.specs.ArgumentViews.{arguments_left, seen};
 
-    type Item = Argument<'a>;
+    type Item = BodyArgument<'a>;
 
     ghost next_gives = { YieldsFirstBy seen arguments_left };
 
     ghost remaining = { item_count arguments_left };
 
-    fn next(&mut self) -> Option<Argument<'a>> {
+    fn next(&mut self) -> Option<BodyArgument<'a>> {
         let (one, types) = self.types.split_first()?;
         let Ok((argument, at, bytes)) = one_argument(self.order, one.text, self.at, self.bytes)
         else {

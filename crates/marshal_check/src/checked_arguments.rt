@@ -4,7 +4,7 @@ ghost use Rattle.std.specs.Prelude.{◌≡◌, ◌+◌, ◌<◌, ◌^◌, length
 ghost use Rattle.marshal_check.specs.Arguments.{are_there};
 ghost use Rattle.marshal_check.specs.SignatureTexts.{types_in};
 
-use crate::body_arguments::Argument;
+use crate::body_arguments::BodyArgument;
 use crate::checked_text::checked_text;
 use crate::checking::any_value;
 use crate::letters::skip_type;
@@ -52,7 +52,7 @@ impl<'a> CheckedArguments<'a> {
     }
 
     /// The first argument and the others; `None` where there is none.
-    fn split_first(self) -> Option<(Argument<'a>, CheckedArguments<'a>)>
+    fn split_first(self) -> Option<(BodyArgument<'a>, CheckedArguments<'a>)>
         ensures { MatchOption result (checked_left self.entry ≡ [])
             (λ x. checked_left self.entry ≡ seen x.0 ∷ checked_left x.1) }
     {
@@ -61,7 +61,7 @@ impl<'a> CheckedArguments<'a> {
             let (text, at, bytes) = checked_text(self.order, self.at, self.bytes);
             let types = Types { text: others };
             return Some((
-                Argument::String(text),
+                BodyArgument::String(text),
                 CheckedArguments {
                     order: self.order,
                     types,
@@ -74,7 +74,7 @@ impl<'a> CheckedArguments<'a> {
             let (text, at, bytes) = checked_text(self.order, self.at, self.bytes);
             let types = Types { text: others };
             return Some((
-                Argument::ObjectPath(text),
+                BodyArgument::ObjectPath(text),
                 CheckedArguments {
                     order: self.order,
                     types,
@@ -90,7 +90,7 @@ impl<'a> CheckedArguments<'a> {
             text: skip_type(self.types.text),
         };
         Some((
-            Argument::Other,
+            BodyArgument::Other,
             CheckedArguments {
                 order: self.order,
                 types,
@@ -105,13 +105,13 @@ impl<'a> Iterator for CheckedArguments<'a> {
     ghost use Rattle.std.specs.Iterator.{YieldsFirstBy, item_count};
     ghost use Rattle.marshal_check.specs.ArgumentViews.{checked_left, seen};
 
-    type Item = Argument<'a>;
+    type Item = BodyArgument<'a>;
 
     ghost next_gives = { YieldsFirstBy seen checked_left };
 
     ghost remaining = { item_count checked_left };
 
-    fn next(&mut self) -> Option<Argument<'a>> {
+    fn next(&mut self) -> Option<BodyArgument<'a>> {
         let (first, others) = self.split_first()?;
         *self = others;
         Some(first)

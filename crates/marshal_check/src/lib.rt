@@ -4,7 +4,7 @@
 //! no values. The types are given as `Types`, a signature that borrows its text.
 //!
 //! ```
-//! use marshal_check::{Argument, Arguments, Types, check};
+//! use marshal_check::{BodyArgument, Arguments, Types, check};
 //! use marshal_core::{MarshalFault, Order};
 //!
 //! /// The text of a body that is to be a string and a number, lent out of it.
@@ -13,7 +13,7 @@
 //!     check(Order::Little, 0, types, body)?;
 //!     let mut arguments = Arguments::new(Order::Little, 0, types, body);
 //!     Ok(match arguments.next() {
-//!         Some(Argument::String(text)) => Some(text),
+//!         Some(BodyArgument::String(text)) => Some(text),
 //!         _ => None,
 //!     })
 //! }
@@ -32,7 +32,7 @@ mod ownership;
 mod recognizing;
 mod signature_text;
 
-pub use body_arguments::{Argument, Arguments};
+pub use body_arguments::{Arguments, BodyArgument};
 pub use checked_arguments::CheckedArguments;
 pub use checking::check;
 pub use complete_types::CompleteTypes;

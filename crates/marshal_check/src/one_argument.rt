@@ -8,7 +8,7 @@ ghost use Rattle.marshal_core.specs.Spelling.{max_container_depth};
 ghost use Rattle.marshal_core.specs.Reading.{value_at};
 ghost use Rattle.marshal_check.specs.ArgumentViews.{Shows, seen};
 
-use crate::body_arguments::Argument;
+use crate::body_arguments::BodyArgument;
 use crate::checking::value;
 use byteorder::{BigEndian, LittleEndian};
 use marshal::parts::{self, Endian};
@@ -19,7 +19,7 @@ fn argument<'a, O: Endian>(
     of: &[u8],
     at: usize,
     bytes: &'a [u8],
-) -> Result<(Argument<'a>, usize, &'a [u8]), MarshalFault>
+) -> Result<(BodyArgument<'a>, usize, &'a [u8]), MarshalFault>
     requires room { at + length bytes.now < 2 ^ 64 }
     ensures reads { (t : Ty) (tail : List ℕ) → of.now ≡ code t ++ tail
         → Shows (λ x. (seen x.0, x.1, x.2.now)) result
@@ -31,14 +31,14 @@ fn argument<'a, O: Endian>(
     };
     if *first == b's' {
         let (text, at, rest) = parts::string::<O>(MarshalFault::Truncated, at, bytes)?;
-        return Ok((Argument::String(text), at, rest));
+        return Ok((BodyArgument::String(text), at, rest));
     }
     if *first == b'o' {
         let (text, at, rest) = parts::path::<O>(MarshalFault::Truncated, at, bytes)?;
-        return Ok((Argument::ObjectPath(text), at, rest));
+        return Ok((BodyArgument::ObjectPath(text), at, rest));
     }
     let (at, rest) = value::<O>(MAX_CONTAINER_DEPTH, MarshalFault::Truncated, of, at, bytes)?;
-    Ok((Argument::Other, at, rest))
+    Ok((BodyArgument::Other, at, rest))
 }
 
 /// The argument of the type that a text begins with, the place after it, and the bytes there.
@@ -47,7 +47,7 @@ pub fn one_argument<'a>(
     of: &[u8],
     at: usize,
     bytes: &'a [u8],
-) -> Result<(Argument<'a>, usize, &'a [u8]), MarshalFault>
+) -> Result<(BodyArgument<'a>, usize, &'a [u8]), MarshalFault>
     requires room { at + length bytes.now < 2 ^ 64 }
     ensures reads { (t : Ty) (tail : List ℕ) → of.now ≡ code t ++ tail
         → Shows (λ x. (seen x.0, x.1, x.2.now)) result

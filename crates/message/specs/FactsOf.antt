@@ -3,7 +3,7 @@ use Rattle.std.specs.Prelude.{ℕ, List, map, take, bit_and, ◌==◌}
 use Rattle.match_rules.specs.Facts.{Argument, StringArgument, PathArgument, OtherArgument, Facts, bus_number}
 use Rattle.match_rules.specs.Keys.{max_arguments}
 use Rattle.match_rules.specs.Kinds.{kind_of}
-use Rattle.marshal_check.specs.Arguments.{Argument as Read, string_argument, path_argument, other_argument, arguments}
+use Rattle.marshal_check.specs.Arguments.{BodyArgument, string_argument, path_argument, other_argument, arguments}
 use Rattle.message_core.specs.declared.header_field.HeaderField.TheVariants as field
 use Rattle.message_core.specs.HeaderFields.{text_field}
 use Rattle.message_core.specs.Messages.{Message}
@@ -12,7 +12,7 @@ use Rattle.message_core.specs.Messages.{Message}
 abbrev pub no_auto_start : ℕ
 no_auto_start = 2
 
-abbrev pub as_argument : Read → Argument
+abbrev pub as_argument : BodyArgument → Argument
 as_argument (string_argument text) = StringArgument text
 as_argument (path_argument text) = PathArgument text
 as_argument other_argument = OtherArgument

@@ -8,18 +8,18 @@ ghost use Rattle.message.specs.FactsOf.{all_arguments, as_argument, facts_of, fi
 
 use crate::parts::parts_of;
 use arrayvec::ArrayVec;
-use marshal_check::{Argument as Read, CheckedArguments, Types};
+use marshal_check::{BodyArgument, CheckedArguments, Types};
 use match_rules::{Argument, Facts};
 use message_core::{Message, NO_AUTO_START};
 
 /// An argument as rules look at it.
-fn as_fact(argument: Read<'_>) -> Argument<'_>
+fn as_fact(argument: BodyArgument<'_>) -> Argument<'_>
     ensures { argument_of result ≡ as_argument (seen argument.entry) }
 {
     match argument {
-        Read::String(text) => Argument::String(text),
-        Read::ObjectPath(text) => Argument::ObjectPath(text),
-        Read::Other => Argument::Other,
+        BodyArgument::String(text) => Argument::String(text),
+        BodyArgument::ObjectPath(text) => Argument::ObjectPath(text),
+        BodyArgument::Other => Argument::Other,
     }
 }
 

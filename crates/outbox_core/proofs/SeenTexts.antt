@@ -9,7 +9,7 @@ use Rattle.marshal_core.specs.Spelling.{Spells}
 use Rattle.marshal_core.specs.Types.{Tys, basic, one_type}
 use Rattle.marshal_core.specs.Values.{Vals, values}
 use Rattle.marshal_core.proofs.TypesAgain.{signature_again}
-use Rattle.marshal_check.specs.Arguments.{Argument as Read, argument_of, arguments}
+use Rattle.marshal_check.specs.Arguments.{BodyArgument, argument_of, arguments}
 use Rattle.message.specs.FactsOf.{as_argument}
 use Rattle.marshal_check.specs.SignatureTexts.{types_in, types_or_none, is_signature_text}
 use Rattle.seq_bus_core.specs.Answers.{Answer, OneName, HasOwner, NameList}
@@ -27,7 +27,7 @@ pub is_text : is_signature_text (115 ∷ []) ≡ true
 is_text = ap (λ (r : Result Tys MarshalFault). is_ok r) same_text
 
 -- what is left of the arguments of a body with this answer
-pub left_of : (told : Answer) (bytes : List ℕ) (left : List Read) → kind_of told ≡ of_kind.String → IsBody told bytes →
+pub left_of : (told : Answer) (bytes : List ℕ) (left : List BodyArgument) → kind_of told ≡ of_kind.String → IsBody told bytes →
     ((vs : Vals) (front rest : List ℕ) → bytes ≡ front ++ rest → Spells Little 0 (types_in (115 ∷ [])) vs front → left ≡ arguments vs) →
     left ≡ argument_of (answer_value told) ∷ []
 left_of (OneName name) bytes left kind body all =
@@ -39,5 +39,5 @@ left_of (HasOwner owned) bytes left kind body all = cc
 left_of (NameList names) bytes left kind body all = cc
 
 -- the first of one
-pub first_left : (left rest : List Read) (one other : Read) → left ≡ one ∷ [] → left ≡ other ∷ rest → as_argument other ≡ as_argument one
+pub first_left : (left rest : List BodyArgument) (one other : BodyArgument) → left ≡ one ∷ [] → left ≡ other ∷ rest → as_argument other ≡ as_argument one
 first_left left rest one other is was = let same : other ≡ one = cc in ap as_argument same

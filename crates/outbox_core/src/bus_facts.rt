@@ -18,7 +18,7 @@ use crate::bus_message::BusMessage;
 use arrayvec::ArrayVec;
 use audience::SignalNames;
 use driver::{BodyKind, ReplyBody, error_text};
-use marshal_check::{Argument as Read, Arguments, Types};
+use marshal_check::{Arguments, BodyArgument, Types};
 use marshal_core::Order;
 use match_rules::{Argument, Facts, MessageKind};
 use names::ConnectionName;
@@ -113,9 +113,9 @@ fn text_in(answer: &AnswerBody) -> Argument<'_>
     let types = Types { text: b"s" };
     let mut arguments = Arguments::new(Order::Little, 0, types, answer.bytes());
     match arguments.next() {
-        Some(Read::String(text)) => Argument::String(text),
-        Some(Read::ObjectPath(text)) => Argument::ObjectPath(text),
-        Some(Read::Other) => Argument::Other,
+        Some(BodyArgument::String(text)) => Argument::String(text),
+        Some(BodyArgument::ObjectPath(text)) => Argument::ObjectPath(text),
+        Some(BodyArgument::Other) => Argument::Other,
         None => Argument::Other,
     }
 }

@@ -4,7 +4,7 @@ use Rattle.marshal_core.specs.declared.fault.MarshalFault.{MarshalFault}
 use Rattle.marshal_core.specs.Types.{Tys}
 use Rattle.marshal_core.specs.Signatures.{signature_of}
 use Rattle.marshal_core.proofs.TypesAgain.{signature_again}
-use Rattle.marshal_check.specs.Arguments.{Argument as Read, arguments}
+use Rattle.marshal_check.specs.Arguments.{BodyArgument, arguments}
 use Rattle.marshal_check.specs.ArgumentViews.{checked_left}
 use Rattle.match_rules.specs.FactsView.{argument_of}
 use Rattle.message_core.specs.Said.{said}
@@ -28,7 +28,7 @@ returns-then-is_full g c =
     let m = said c.args.message.now in
     let p = c.parts_of-parts in
     let values = c.new-argument-items.ensures m.body (spelled_there m.order p.result.order c.signature.result.now p.result.body.now m.types m.body p.ensures.order c.signature.ensures p.ensures.lies.spelled) in
-    let all = ap (λ i. map as_argument (checked_left i)) c.into_iter-argument-iterator.ensures.into_iter_gives ∙ ap (λ (xs : List Read). map as_argument xs) values in
+    let all = ap (λ i. map as_argument (checked_left i)) c.into_iter-argument-iterator.ensures.into_iter_gives ∙ ap (λ (xs : List BodyArgument). map as_argument xs) values in
     first_full g.row.N c.loop-argument.first.items (map as_argument (checked_left c.loop-argument.argument-iterator)) (map as_argument (arguments m.body)) (c.loop-argument.invariant.all ∙ all) (sym c.is_full.ensures.value ∙ c.if-is_full.true)
 
 pub returns : goal.returns
@@ -37,6 +37,6 @@ returns g c =
     let p = c.parts_of-parts in
     let lent = c.loop-argument.first.items in
     let values = c.new-argument-items.ensures m.body (spelled_there m.order p.result.order c.signature.result.now p.result.body.now m.types m.body p.ensures.order c.signature.ensures p.ensures.lies.spelled) in
-    let all = ap (λ i. map as_argument (checked_left i)) c.into_iter-argument-iterator.ensures.into_iter_gives ∙ ap (λ (xs : List Read). map as_argument xs) values in
-    let none = ap (λ (xs : List Read). map argument_of lent ++ map as_argument xs) (sym c.in-None.ensures.steps.0) in
+    let all = ap (λ i. map as_argument (checked_left i)) c.into_iter-argument-iterator.ensures.into_iter_gives ∙ ap (λ (xs : List BodyArgument). map as_argument xs) values in
+    let none = ap (λ (xs : List BodyArgument). map argument_of lent ++ map as_argument xs) (sym c.in-None.ensures.steps.0) in
     first_all g.row.N lent (map as_argument (arguments m.body)) (none ∙ c.loop-argument.invariant.all ∙ all) c.loop-argument.invariant.room
