@@ -42,7 +42,7 @@ impl Socket for Client {
     }
 }
 
-impl outgoing::Socket for Client {
+impl outgoing::Sink for Client {
     fn write_parts(&mut self, parts: &[IoSlice<'_>]) -> io::Result<usize> {
         let Some(part) = parts.first() else {
             return Ok(0);

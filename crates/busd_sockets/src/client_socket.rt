@@ -13,7 +13,7 @@ pub struct ClientSocket {
     pub(crate) stream: UnixStream,
 }
 
-impl outgoing::Socket for ClientSocket {
+impl outgoing::Sink for ClientSocket {
     fn write_parts(&mut self, parts: &[IoSlice<'_>]) -> io::Result<usize> {
         self.stream.write_vectored(parts)
     }

@@ -8,7 +8,7 @@ ghost use Rattle.outgoing.specs.Flushing.{Flushes, flushed_of};
 use crate::chunk::Chunk;
 use crate::flushed::Flushed;
 use crate::parts::{Part, end_last, part_at};
-use crate::socket::Socket;
+use crate::sink::Sink;
 use std::alloc::{AllocError, AllocFailed, Global};
 use std::collections::VecDeque;
 use std::io;
@@ -117,20 +117,20 @@ impl<C: Chunk + Drop> Outgoing<C> {
         self.last.extend_from_slice(bytes)
     }
 
-    /// Gives the socket as much of what waits as it takes.
+    /// Gives the sink as much of what waits as it takes.
     ///
-    /// An error is the socket's own, of a kind other than `WouldBlock`, or of the kind `WriteZero`
-    /// where the socket takes nothing and gives no reason. What the socket took before is gone, and
+    /// An error is the sink's own, of a kind other than `WouldBlock`, or of the kind `WriteZero`
+    /// where the sink takes nothing and gives no reason. What the sink took before is gone, and
     /// the rest waits.
-    pub fn flush<S: Socket>(&mut self, socket: &mut S) -> io::Result<Flushed>
-        ensures flushes { Flushes self.old self.new (S.taken socket.old) (S.taken socket.new) }
+    pub fn flush<S: Sink>(&mut self, sink: &mut S) -> io::Result<Flushed>
+        ensures flushes { Flushes self.old self.new (S.taken sink.old) (S.taken sink.new) }
         ensures flushed { IfOk result (λ flushed. flushed ≡ flushed_of self.new) }
     {
         for _ in 0..u64::MAX {
             if self.is_empty() {
                 return Ok(Flushed::All);
             }
-            match self.write_some(socket) {
+            match self.write_some(sink) {
                 Ok(0) => return Err(io::Error::from(ErrorKind::WriteZero)),
                 Ok(count) => self.forget(count),
                 Err(error) => match error.kind() {
@@ -143,10 +143,10 @@ impl<C: Chunk + Drop> Outgoing<C> {
         Err(io::Error::from(ErrorKind::TimedOut))
     }
 
-    // Lends the socket the first parts, once.
-    fn write_some<S: Socket>(&self, socket: &mut S) -> io::Result<usize>
+    // Lends the sink the first parts, once.
+    fn write_some<S: Sink>(&self, sink: &mut S) -> io::Result<usize>
         ensures bound { WritesAtMost result self.now }
-        ensures bytes { WriteAppends (S.taken socket.old) (S.taken socket.new) result self.now }
+        ensures bytes { WriteAppends (S.taken sink.old) (S.taken sink.new) result self.now }
     {
         let last = self.last.as_slice();
         let first = &part_at(&self.parts, last, 0)[self.written..];
@@ -159,7 +159,7 @@ impl<C: Chunk + Drop> Outgoing<C> {
             IoSlice::new(third),
             IoSlice::new(fourth),
         ];
-        socket.write_parts(&slices)
+        sink.write_parts(&slices)
     }
 
     // Lets go of the first bytes, which were written.

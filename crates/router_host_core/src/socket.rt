@@ -5,7 +5,7 @@ ghost use Rattle.std.specs.Prelude.{◌≡◌, ◌≤◌, length, IfOk};
 use std::io;
 
 /// The socket of a connection, which does not block.
-pub trait Socket: outgoing::Socket + Drop {
+pub trait Socket: outgoing::Sink + Drop {
     /// Reads what is there into the room, and tells how many bytes that was; none at the end of the
     /// input.
     ///

@@ -85,7 +85,7 @@ impl Write for Script {
     }
 }
 
-impl outgoing::Socket for Script {
+impl outgoing::Sink for Script {
     fn write_parts(&mut self, parts: &[IoSlice<'_>]) -> io::Result<usize> {
         self.write_vectored(parts)
     }

@@ -172,7 +172,7 @@ impl<'a, R: Wait> Write for ClientSocket<'a, R> {
     }
 }
 
-impl<'a, R: Wait> outgoing::Socket for ClientSocket<'a, R> {
+impl<'a, R: Wait> outgoing::Sink for ClientSocket<'a, R> {
     fn write_parts(&mut self, parts: &[IoSlice<'_>]) -> io::Result<usize> {
         self.write_vectored(parts)
     }

@@ -32,7 +32,7 @@ pub struct Wire {
     fate: Rc<RefCell<Fate>>,
 }
 
-impl outgoing::Socket for Wire {
+impl outgoing::Sink for Wire {
     fn write_parts(&mut self, parts: &[IoSlice<'_>]) -> io::Result<usize> {
         let Some(part) = parts.first() else {
             return Ok(0);

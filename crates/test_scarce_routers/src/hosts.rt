@@ -40,7 +40,7 @@ impl Script {
     }
 }
 
-impl outgoing::Socket for Script {
+impl outgoing::Sink for Script {
     fn write_parts(&mut self, parts: &[IoSlice<'_>]) -> io::Result<usize> {
         let Some(part) = parts.first() else {
             return Ok(0);

@@ -1,6 +1,6 @@
 //! A socket that does what a test says.
 
-use outgoing::Socket;
+use outgoing::Sink;
 use std::io;
 use std::io::{ErrorKind, IoSlice, Write};
 
@@ -31,7 +31,7 @@ impl Write for Script {
     }
 }
 
-impl Socket for Script {
+impl Sink for Script {
     fn write_parts(&mut self, parts: &[IoSlice<'_>]) -> io::Result<usize> {
         let lent = parts
             .iter()

@@ -8,7 +8,7 @@ use std::io;
 use std::io::IoSlice;
 
 /// What takes some front of the bytes that it is lent: a socket that does not block.
-pub trait Socket {
+pub trait Sink {
     ghost use Rattle.std.specs.Prelude.{List, ℕ, Option, None};
 
     /// The bytes that it took, where they are known. Those of a socket of the system are not.
