@@ -6,20 +6,20 @@ use Rattle.std.proofs.lemmas.Bool.{true≢false}
 use Rattle.names.specs.Texts.{Text, text_eq}
 use Rattle.service_files.specs.declared.fault.FileFault.{FileFault}
 use Rattle.service_files.specs.declared.fault.FileFault.TheVariants.{Twice, Name, Line}
-use Rattle.service_files.specs.declared.place.Place.{Place}
-use Rattle.service_files.specs.declared.place.Place.TheVariants.{BeforeGroups, Service, Elsewhere}
+use Rattle.service_files.specs.declared.group_kind.GroupKind.{GroupKind}
+use Rattle.service_files.specs.declared.group_kind.GroupKind.TheVariants.{BeforeGroups, Service, Elsewhere}
 use Rattle.service_files.specs.ServiceFiles.{Above, Said, Silence, Header, Entry, Described, said_by, line_feed, name_key, exec_key, is_service_name, words_of, described_as, service_from, service_in, nothing_above, fault_at, below, unless_fault, max_file_length}
 use Rattle.service_files.specs.WholeFiles.{Say, are_placed, service_groups, values_of, IsServiceFile}
 
-abbrev above : Place → Bool → Option Text → Option Text → Above
-above place has name exec = record { place = place; has_service = has; name = name; exec = exec }
+abbrev above : GroupKind → Bool → Option Text → Option Text → Above
+above group has name exec = record { group = group; has_service = has; name = name; exec = exec }
 
-abbrev is_inside : Place → Bool
+abbrev is_inside : GroupKind → Bool
 is_inside BeforeGroups = false
 is_inside Service = true
 is_inside Elsewhere = false
 
-abbrev has_begun : Place → Bool
+abbrev has_begun : GroupKind → Bool
 has_begun BeforeGroups = false
 has_begun Service = true
 has_begun Elsewhere = true
@@ -36,20 +36,20 @@ Named None = Unit {0}
 Named (Some name) = is_service_name name ≡ true
 
 -- lines that describe the service together with what stands above them
-record Complete (place : Place) (has : Bool) (name exec : Option Text) (said : List Said) (service : Described) : Type 0 where
-  placed : are_placed (has_begun place) said ≡ true
+record Complete (group : GroupKind) (has : Bool) (name exec : Option Text) (said : List Said) (service : Described) : Type 0 where
+  placed : are_placed (has_begun group) said ≡ true
   one_group : groups has + service_groups said ≡ 1
-  one_name : listed name (values_of name_key (is_inside place) said) ≡ service.name ∷ []
+  one_name : listed name (values_of name_key (is_inside group) said) ≡ service.name ∷ []
   named_well : is_service_name service.name ≡ true
   command : Text
-  one_exec : listed exec (values_of exec_key (is_inside place) said) ≡ command ∷ []
+  one_exec : listed exec (values_of exec_key (is_inside group) said) ≡ command ∷ []
   words : words_of command ≡ service.words
   program : 0 < length service.words
 
-record Found (place : Place) (has : Bool) (name exec : Option Text) (lines : List Text) (service : Described) : Type 0 where
+record Found (group : GroupKind) (has : Bool) (name exec : Option Text) (lines : List Text) (service : Described) : Type 0 where
   said : List Said
   say : Say lines said
-  complete : Complete place has name exec said service
+  complete : Complete group has name exec said service
 
 -- the two keys differ
 keys_differ : (key : Text) → text_eq key name_key ≡ true → text_eq key exec_key ≡ false
@@ -62,13 +62,13 @@ keys_differ (c ∷ key) h = go (nat_eq c 78) refl h
 
 -- ## What is read is what the file describes
 
-at_end : (place : Place) (has : Bool) (name exec : Option Text) (service : Described) → Named name → service_from (above place has name exec) 1 [] ≡ Ok service → Found place has name exec [] service
-at_end place false name exec service good h = absurd (cc)
-at_end place true None exec service good h = absurd (cc)
-at_end place true (Some name) None service good h = absurd (cc)
-at_end place true (Some name) (Some command) service good h = at_words (words_of command) refl h
+at_end : (group : GroupKind) (has : Bool) (name exec : Option Text) (service : Described) → Named name → service_from (above group has name exec) 1 [] ≡ Ok service → Found group has name exec [] service
+at_end group false name exec service good h = absurd (cc)
+at_end group true None exec service good h = absurd (cc)
+at_end group true (Some name) None service good h = absurd (cc)
+at_end group true (Some name) (Some command) service good h = at_words (words_of command) refl h
   where
-    at_words : (words : List Text) → words_of command ≡ words → described_as name words ≡ Ok service → Found place true (Some name) (Some command) [] service
+    at_words : (words : List Text) → words_of command ≡ words → described_as name words ≡ Ok service → Found group true (Some name) (Some command) [] service
     at_words [] e k = absurd (cc)
     at_words (program ∷ arguments) e k =
         let same : record { name = name; words = program ∷ arguments } ≡ service = cc in
@@ -88,7 +88,7 @@ at_end place true (Some name) (Some command) service good h = at_words (words_of
         }
 
 abbrev Reads : ℕ → List Text → Described → Type 0
-Reads n lines service = (place : Place) (has : Bool) (name exec : Option Text) → Named name → service_from (above place has name exec) n lines ≡ Ok service → Found place has name exec lines service
+Reads n lines service = (group : GroupKind) (has : Bool) (name exec : Option Text) → Named name → service_from (above group has name exec) n lines ≡ Ok service → Found group has name exec lines service
 
 -- a value in the service's group, by whether its key is Name, or Exec, and whether it is the name of a service
 abbrev entered : Bool → Bool → Bool → Bool → Option Text → Option Text → ℕ → Text → List Text → Result Described FileFault
@@ -155,18 +155,18 @@ module _ (n : ℕ) (line : Text) (lines : List Text) (service : Described) (read
           };
         }
 
-  at_line : (place : Place) (has : Bool) (name exec : Option Text) → Named name → (said : Option Said) → said_by line ≡ said → unless_fault (fault_at n (above place has name exec) said) (service_from (below (above place has name exec) said) (n + 1) lines) ≡ Ok service → Found place has name exec (line ∷ lines) service
-  at_line place has name exec good None says h = absurd (cc)
-  at_line place has name exec good (Some Silence) says h =
-      let f = reads place has name exec good h in
+  at_line : (group : GroupKind) (has : Bool) (name exec : Option Text) → Named name → (said : Option Said) → said_by line ≡ said → unless_fault (fault_at n (above group has name exec) said) (service_from (below (above group has name exec) said) (n + 1) lines) ≡ Ok service → Found group has name exec (line ∷ lines) service
+  at_line group has name exec good None says h = absurd (cc)
+  at_line group has name exec good (Some Silence) says h =
+      let f = reads group has name exec good h in
       let g = f.complete in
       record { said = Silence ∷ f.said; say = (says, f.say); complete = record { placed = g.placed; one_group = g.one_group; one_name = g.one_name; named_well = g.named_well; command = g.command; one_exec = g.one_exec; words = g.words; program = g.program } }
-  at_line place true name exec good (Some (Header true)) says h = absurd (cc)
-  at_line place false name exec good (Some (Header true)) says h =
+  at_line group true name exec good (Some (Header true)) says h = absurd (cc)
+  at_line group false name exec good (Some (Header true)) says h =
       let f = reads Service true name exec good h in
       let g = f.complete in
       record { said = Header true ∷ f.said; say = (says, f.say); complete = record { placed = refl; one_group = omega (arith, g.one_group); one_name = g.one_name; named_well = g.named_well; command = g.command; one_exec = g.one_exec; words = g.words; program = g.program } }
-  at_line place has name exec good (Some (Header false)) says h =
+  at_line group has name exec good (Some (Header false)) says h =
       let f = reads Elsewhere has name exec good h in
       let g = f.complete in
       record { said = Header false ∷ f.said; say = (says, f.say); complete = record { placed = refl; one_group = omega (arith, g.one_group); one_name = g.one_name; named_well = g.named_well; command = g.command; one_exec = g.one_exec; words = g.words; program = g.program } }
@@ -179,8 +179,8 @@ module _ (n : ℕ) (line : Text) (lines : List Text) (service : Described) (read
       enters has key value says (text_eq key name_key) (text_eq key exec_key) (is_service_name value) name exec refl refl refl good h
 
 reads_all : (lines : List Text) (n : ℕ) (service : Described) → Reads n lines service
-reads_all [] n service place has name exec good h = at_end place has name exec service good h
-reads_all (line ∷ lines) n service place has name exec good h = at_line n line lines service (reads_all lines (n + 1) service) place has name exec good (said_by line) refl h
+reads_all [] n service group has name exec good h = at_end group has name exec service good h
+reads_all (line ∷ lines) n service group has name exec good h = at_line n line lines service (reads_all lines (n + 1) service) group has name exec good (said_by line) refl h
 
 -- ## What the file describes is what is read
 
@@ -197,11 +197,11 @@ with_words : (service : Described) (words : List Text) → service.words ≡ wor
 with_words service [] e h = absurd (omega (arith, h))
 with_words service (program ∷ arguments) e h = ap (well service.name) (sym e)
 
-from_end : (place : Place) (has : Bool) (name exec : Option Text) (service : Described) → Complete place has name exec [] service → service_from (above place has name exec) 1 [] ≡ Ok service
-from_end place false name exec service g = absurd (omega (arith, g.one_group))
-from_end place true None exec service g = let none = g.one_name in absurd (cc)
-from_end place true (Some name) None service g = let none = g.one_exec in absurd (cc)
-from_end place true (Some name) (Some command) service g =
+from_end : (group : GroupKind) (has : Bool) (name exec : Option Text) (service : Described) → Complete group has name exec [] service → service_from (above group has name exec) 1 [] ≡ Ok service
+from_end group false name exec service g = absurd (omega (arith, g.one_group))
+from_end group true None exec service g = let none = g.one_name in absurd (cc)
+from_end group true (Some name) None service g = let none = g.one_exec in absurd (cc)
+from_end group true (Some name) (Some command) service g =
     let same_name : name ≡ service.name = let e = g.one_name in cc in
     let same_command : command ≡ g.command = let e = g.one_exec in cc in
     ap (λ (m : Text). described_as m (words_of command)) same_name
@@ -209,7 +209,7 @@ from_end place true (Some name) (Some command) service g =
     ∙ with_words service service.words refl g.program
 
 abbrev IsRead : ℕ → List Text → List Said → Described → Type 0
-IsRead n lines said service = (place : Place) (has : Bool) (name exec : Option Text) → Complete place has name exec said service → service_from (above place has name exec) n lines ≡ Ok service
+IsRead n lines said service = (group : GroupKind) (has : Bool) (name exec : Option Text) → Complete group has name exec said service → service_from (above group has name exec) n lines ≡ Ok service
 
 module _ (n : ℕ) (lines : List Text) (said : List Said) (service : Described) (is_read : IsRead (n + 1) lines said service) where
   module _ (has : Bool) (key value : Text) where
@@ -264,13 +264,13 @@ module _ (n : ℕ) (lines : List Text) (said : List Said) (service : Described) 
           program = g.program;
         })
 
-  from_line : (place : Place) (has : Bool) (name exec : Option Text) (first : Said) → Complete place has name exec (first ∷ said) service → unless_fault (fault_at n (above place has name exec) (Some first)) (service_from (below (above place has name exec) (Some first)) (n + 1) lines) ≡ Ok service
-  from_line place has name exec Silence g =
-      is_read place has name exec (record { placed = g.placed; one_group = g.one_group; one_name = g.one_name; named_well = g.named_well; command = g.command; one_exec = g.one_exec; words = g.words; program = g.program })
-  from_line place true name exec (Header true) g = absurd (omega (arith, g.one_group))
-  from_line place false name exec (Header true) g =
+  from_line : (group : GroupKind) (has : Bool) (name exec : Option Text) (first : Said) → Complete group has name exec (first ∷ said) service → unless_fault (fault_at n (above group has name exec) (Some first)) (service_from (below (above group has name exec) (Some first)) (n + 1) lines) ≡ Ok service
+  from_line group has name exec Silence g =
+      is_read group has name exec (record { placed = g.placed; one_group = g.one_group; one_name = g.one_name; named_well = g.named_well; command = g.command; one_exec = g.one_exec; words = g.words; program = g.program })
+  from_line group true name exec (Header true) g = absurd (omega (arith, g.one_group))
+  from_line group false name exec (Header true) g =
       is_read Service true name exec (record { placed = grouped said; one_group = omega (arith, g.one_group); one_name = g.one_name; named_well = g.named_well; command = g.command; one_exec = g.one_exec; words = g.words; program = g.program })
-  from_line place has name exec (Header false) g =
+  from_line group has name exec (Header false) g =
       is_read Elsewhere has name exec (record { placed = grouped said; one_group = omega (arith, g.one_group); one_name = g.one_name; named_well = g.named_well; command = g.command; one_exec = g.one_exec; words = g.words; program = g.program })
   from_line BeforeGroups has name exec (Entry key value) g = absurd (true≢false (sym g.placed))
   from_line Elsewhere has name exec (Entry key value) g =
@@ -279,12 +279,12 @@ module _ (n : ℕ) (lines : List Text) (said : List Said) (service : Described) 
       left has key value (text_eq key name_key) (text_eq key exec_key) (is_service_name value) name exec refl refl refl g
 
 is_read_all : (lines : List Text) (said : List Said) (n : ℕ) (service : Described) → Say lines said → IsRead n lines said service
-is_read_all [] [] n service say place has name exec g = from_end place has name exec service g
-is_read_all [] (first ∷ said) n service say place has name exec g = absurd say
-is_read_all (line ∷ lines) [] n service say place has name exec g = absurd say
-is_read_all (line ∷ lines) (first ∷ said) n service say place has name exec g =
-    ap (λ (o : Option Said). unless_fault (fault_at n (above place has name exec) o) (service_from (below (above place has name exec) o) (n + 1) lines)) say.0
-    ∙ from_line n lines said service (is_read_all lines said (n + 1) service say.1) place has name exec first g
+is_read_all [] [] n service say group has name exec g = from_end group has name exec service g
+is_read_all [] (first ∷ said) n service say group has name exec g = absurd say
+is_read_all (line ∷ lines) [] n service say group has name exec g = absurd say
+is_read_all (line ∷ lines) (first ∷ said) n service say group has name exec g =
+    ap (λ (o : Option Said). unless_fault (fault_at n (above group has name exec) o) (service_from (below (above group has name exec) o) (n + 1) lines)) say.0
+    ∙ from_line n lines said service (is_read_all lines said (n + 1) service say.1) group has name exec first g
 
 -- ## A file as a whole
 

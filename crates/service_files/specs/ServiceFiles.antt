@@ -7,8 +7,8 @@ use Rattle.names.specs.WellKnown.{well_known_fault}
 use Rattle.names.specs.BusName.{is_bus}
 use Rattle.service_files.specs.declared.fault.FileFault.{FileFault}
 use Rattle.service_files.specs.declared.fault.FileFault.TheVariants.{Group, NameMissing, ExecMissing, Twice, Name, Line}
-use Rattle.service_files.specs.declared.place.Place.{Place}
-use Rattle.service_files.specs.declared.place.Place.TheVariants.{BeforeGroups, Service, Elsewhere}
+use Rattle.service_files.specs.declared.group_kind.GroupKind.{GroupKind}
+use Rattle.service_files.specs.declared.group_kind.GroupKind.TheVariants.{BeforeGroups, Service, Elsewhere}
 
 -- the most bytes of a file
 abbrev pub max_file_length : ℕ
@@ -87,13 +87,13 @@ said_by line = if is_utf8 line then said_of line else None
 
 -- in which group the next line stands, whether the service's group has begun, and the Name and Exec in it
 pub record Above : Type 0 where
-  pub place : Place
+  pub group : GroupKind
   pub has_service : Bool
   pub name : Option Text
   pub exec : Option Text
 
 abbrev pub nothing_above : Above
-nothing_above = record { place = BeforeGroups; has_service = false; name = None; exec = None }
+nothing_above = record { group = BeforeGroups; has_service = false; name = None; exec = None }
 
 -- A well-known name, and not the bus's own.
 abbrev pub is_service_name : Text → Bool
@@ -109,7 +109,7 @@ entry_fault above key value =
     else (if text_eq key exec_key && is_some above.exec then Some Twice else None)
 
 -- a key that stands in this group; there is none before the first group
-abbrev pub placed_fault : ℕ → Above → Place → Text → Text → Option FileFault
+abbrev pub placed_fault : ℕ → Above → GroupKind → Text → Text → Option FileFault
 placed_fault n above BeforeGroups key value = Some (Line n)
 placed_fault n above Service key value = entry_fault above key value
 placed_fault n above Elsewhere key value = None
@@ -119,18 +119,18 @@ abbrev pub fault_at : ℕ → Above → Option Said → Option FileFault
 fault_at n above None = Some (Line n)
 fault_at n above (Some Silence) = None
 fault_at n above (Some (Header is_service)) = header_fault above is_service
-fault_at n above (Some (Entry key value)) = placed_fault n above above.place key value
+fault_at n above (Some (Entry key value)) = placed_fault n above above.group key value
 
 abbrev pub with_header : Above → Bool → Above
 with_header above is_service =
-    if is_service then record above { place = Service; has_service = true } else record above { place = Elsewhere }
+    if is_service then record above { group = Service; has_service = true } else record above { group = Elsewhere }
 
 abbrev pub with_entry : Above → Text → Text → Above
 with_entry above key value =
     if text_eq key name_key then record above { name = Some value }
     else (if text_eq key exec_key then record above { exec = Some value } else above)
 
-abbrev pub with_placed : Above → Place → Text → Text → Above
+abbrev pub with_placed : Above → GroupKind → Text → Text → Above
 with_placed above BeforeGroups key value = above
 with_placed above Service key value = with_entry above key value
 with_placed above Elsewhere key value = above
@@ -140,7 +140,7 @@ abbrev pub below : Above → Option Said → Above
 below above None = above
 below above (Some Silence) = above
 below above (Some (Header is_service)) = with_header above is_service
-below above (Some (Entry key value)) = with_placed above above.place key value
+below above (Some (Entry key value)) = with_placed above above.group key value
 
 -- ## The file
 

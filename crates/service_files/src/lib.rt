@@ -25,9 +25,9 @@
 
 mod fault;
 mod file;
+mod group_kind;
 pub mod laws;
 mod line;
-mod place;
 mod reading;
 mod service;
 mod words;

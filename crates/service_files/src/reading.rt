@@ -5,8 +5,8 @@ ghost use Rattle.service_files.specs.declared.fault.FileFault.TheVariants.{NoMem
 ghost use Rattle.service_files.specs.ServiceFiles.{below, entry_fault, fault_at, header_fault, is_service_name, nothing_above, service_of, with_entry, with_header};
 ghost use Rattle.service_files.specs.Lines.{line_said};
 
+use crate::group_kind::GroupKind;
 use crate::line::Line;
-use crate::place::Place;
 use crate::service::Service;
 use crate::{FileFault, Words};
 use names::{BusName, WellKnown};
@@ -19,7 +19,7 @@ const EXEC: &str = "Exec";
 /// What the lines above say of the service.
 #[derive(Clone, Copy)]
 pub(crate) struct Reading<'a> {
-    place: Place,
+    group: GroupKind,
     has_service: bool,
     name: Option<WellKnown>,
     exec: Option<&'a str>,
@@ -46,7 +46,7 @@ impl<'a> Reading<'a> {
         ensures { above_of result ≡ nothing_above }
     {
         Reading {
-            place: Place::BeforeGroups,
+            group: GroupKind::BeforeGroups,
             has_service: false,
             name: None,
             exec: None,
@@ -63,10 +63,10 @@ impl<'a> Reading<'a> {
             return Err(FileFault::Twice);
         }
         if is_service {
-            self.place = Place::Service;
+            self.group = GroupKind::Service;
             self.has_service = true;
         } else {
-            self.place = Place::Elsewhere;
+            self.group = GroupKind::Elsewhere;
         }
         Ok(())
     }
@@ -103,13 +103,13 @@ impl<'a> Reading<'a> {
             (λ fault.
             fault_at number (above_of self.old) (option_map line_said line.entry) ≡ Some fault) }
     {
-        match (line, self.place) {
+        match (line, self.group) {
             (None, _) => Err(FileFault::Line(number)),
             (Some(Line::Silent), _) => Ok(()),
             (Some(Line::Header { is_service }), _) => self.open(is_service),
-            (Some(Line::Entry { .. }), Place::BeforeGroups) => Err(FileFault::Line(number)),
-            (Some(Line::Entry { key, value }), Place::Service) => self.enter(key, value),
-            (Some(Line::Entry { .. }), Place::Elsewhere) => Ok(()),
+            (Some(Line::Entry { .. }), GroupKind::BeforeGroups) => Err(FileFault::Line(number)),
+            (Some(Line::Entry { key, value }), GroupKind::Service) => self.enter(key, value),
+            (Some(Line::Entry { .. }), GroupKind::Elsewhere) => Ok(()),
         }
     }
 

@@ -1,8 +1,8 @@
-//! Where a line stands.
+//! Groups of a service file.
 
-/// The group that a line stands in.
+/// What group a line stands in.
 #[derive(Clone, Copy, Debug, PartialEq, Eq)]
-pub(crate) enum Place {
+pub(crate) enum GroupKind {
     /// None has begun.
     BeforeGroups,
     /// The group that describes the service.
