@@ -6,7 +6,6 @@ use Rattle.std.proofs.lemmas.Bool.{cond_both, true≢false, not-false, not_from_
 use Rattle.names.specs.Texts.{Text, text_eq}
 use Rattle.names.specs.BusName.{is_bus}
 use Rattle.activation.specs.Holding.{given_as, waiting_for, waiting_for_others}
-use Rattle.activation.specs.declared.given.Fate.TheVariants.{Released, Failed as NotReleased}
 use Rattle.owner_queues.specs.Queues.{requested}
 use Rattle.owner_queues.specs.declared.request.RequestFlags.{RequestFlags}
 use Rattle.seq_bus_core.specs.BusState.{BusState, Connection, RunningStart, conn_of, connection_of, client_of, head_of, is_service, start_of, queue_of}
@@ -18,7 +17,7 @@ use Rattle.seq_bus_core.specs.declared.connection.Conn.{Conn}
 use Rattle.seq_bus_core.specs.declared.outcome.NumberedOutcome.{NumberedOutcome}
 use Rattle.seq_bus_core.specs.declared.outcome.Reply.{Reply}
 use Rattle.seq_bus_core.specs.declared.outcome.Reply.TheVariants.{Gone, LimitsExceeded, InvalidName, AlreadyRunning, Held, ServiceUnknown, Pass, Ignored}
-use Rattle.seq_bus_core.specs.declared.ticket.Fate.TheVariants.{Served}
+use Rattle.seq_bus_core.specs.declared.ticket.Fate.TheVariants.{Served, Failed}
 use Rattle.seq_bus_core.specs.declared.ticket.Ticket.{Ticket}
 use Rattle.seq_bus_core.proofs.ClientLemmas.{client_found}
 use Rattle.seq_bus_core.proofs.ConsistencyLaws.{steps_keep_consistency}
@@ -60,14 +59,14 @@ request_follows b number name flags caller calls h r None found told starts next
     (each_weaker (λ (q : RunningStart). text_eq q.name name ≡ false) (λ q. not (text_eq q.name name) ≡ true) (λ q apart. not_from_false (text_eq q.name name) apart) b.state.starts (find_none (λ q. text_eq q.name name) b.state.starts found)) in
     at_rest b (Request number name flags) caller calls h r (told, starts ∙ all, next) (λ _. refl) (λ _. refl) refl
 request_follows b number name flags caller calls h r (Some started) found told starts next =
-    settles b (Request number name flags) caller calls h Released name refl (λ q. text_eq q.name name) (λ q same. same) started found r told starts next refl refl refl
+    settles b (Request number name flags) caller calls h Served name refl (λ q. text_eq q.name name) (λ q same. same) started found r told starts next refl refl refl
 
 ends_follow : (b : WholeBus) (change : Change) (caller : Option Conn) (calls : Calls) → IsHolding b calls → (name : Text) (number : ℕ) →
-    let_go change calls ≡ record { held = waiting_for_others name calls; given = given_as NotReleased (waiting_for name calls) } → ((reply : Reply) → new_ticket b.state change reply ≡ []) → ((reply : Reply) → new_call change reply caller ≡ []) → is_some (caller_of change) ≡ false →
+    let_go change calls ≡ record { held = waiting_for_others name calls; given = given_as Failed (waiting_for name calls) } → ((reply : Reply) → new_ticket b.state change reply ≡ []) → ((reply : Reply) → new_call change reply caller ≡ []) → is_some (caller_of change) ≡ false →
     (started : Option RunningStart) → find (is_run name number) b.state.starts ≡ started → Follows b change caller calls (fail_with_start b.state name number started)
 ends_follow b change caller calls h name number goes no_ticket no_call uncalled None found = at_rest b change caller calls h (fail_with_start b.state name number None) (refl, refl, refl) no_ticket no_call uncalled
 ends_follow b change caller calls h name number goes no_ticket no_call uncalled (Some started) found =
-    settles b change caller calls h NotReleased name goes (is_run name number) (λ q same. (and_parts (text_eq q.name name) _ same).0) started found (fail_with_start b.state name number (Some started)) refl refl refl
+    settles b change caller calls h Failed name goes (is_run name number) (λ q same. (and_parts (text_eq q.name name) _ same).0) started found (fail_with_start b.state name number (Some started)) refl refl refl
     (no_ticket _) (no_call _) uncalled
 
 -- ## Changes by which a call may come to wait

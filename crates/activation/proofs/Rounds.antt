@@ -7,7 +7,7 @@ use Rattle.std.proofs.lemmas.List.Elements.{filter-append}
 use mathlib.Core.List.{append-nil}
 use Rattle.names.specs.Texts.{Text}
 use Rattle.activation.specs.Holding.{Waiting, waits_for, waiting_for, waiting_for_others, given_as}
-use Rattle.activation.specs.declared.given.Fate.{Fate}
+use Rattle.seq_bus_core.specs.declared.ticket.Fate.{Fate}
 use Rattle.activation.specs.declared.given.Given.{Given}
 
 -- after so many turns of a round over what waited at first

@@ -7,7 +7,6 @@ use Rattle.std.proofs.lemmas.List.{map-append}
 use mathlib.Core.List.{append-nil}
 use Rattle.names.specs.Texts.{Text, text_eq}
 use Rattle.activation.specs.Holding.{Waiting, waits_for, waiting_for, waiting_for_others, given_as}
-use Rattle.activation.specs.declared.given.Fate.{Fate as Release}
 use Rattle.activation.specs.declared.given.Given.{Given}
 use Rattle.seq_bus_core.specs.BusState.{BusState, RunningStart, start_of, tickets_in, max_number, max_tickets}
 use Rattle.seq_bus_core.specs.Consistency.{Pairwise, IsConsistent, IsRunning}
@@ -22,7 +21,7 @@ use Rattle.seq_bus_core.specs.declared.ticket.Ticket.{Ticket}
 use Rattle.seq_bus_core.proofs.Lists.{each_weaker, each_both, each_push, each_filter, each_passing, each_map, each_always, any_passing, any_append, any_append_right, any_map, none_any, found_having, find_any, find_none, find_passes, pairs_filter, pairs_push}
 use Rattle.seq_bus_core.proofs.TextLemmas.{text_eq-true, text_eq-swapped}
 use Rattle.activation.specs.Holdings.{Calls, IsHolding, numbers_for, has_start}
-use Rattle.activation.specs.Settling.{calls_after, let_go, new_call, once_told, settled_as, fate_of, told_whole, caller_of}
+use Rattle.activation.specs.Settling.{calls_after, let_go, new_call, once_told, settled_as, told_whole, caller_of}
 use Rattle.activation.proofs.CallLists.{length_map, text_eq-itself, filter_alike, filter_map_before, filter_every, apart_from_found, numbers_apart, numbers_more, unstarted_numbers, IsNumbered, finds_itself, among_its_own, few_calls}
 
 -- the calls are those of a state, and carry what these tickets do
@@ -92,9 +91,9 @@ others_wait fate name calls h =
     (each_weaker (λ w. list_any (λ t. nat_eq t.number w.what.number) (waiting_for name calls) ≡ waits_for name w) (λ w. not (list_any (λ (n : SettledNumber). nat_eq n.number w.what.number) numbers) ≡ not (waits_for name w))
     (λ w own. ap not (among_numbers fate (waiting_for name calls) w.what.number ∙ own)) calls (among_its_own name calls h))))
 
-given_whole : (became : Release) (ts : List Ticket) → map settled_as (given_as became ts) ≡ map (λ t. record { fate = fate_of became; ticket = t }) ts
+given_whole : (became : Fate) (ts : List Ticket) → map settled_as (given_as became ts) ≡ map (λ t. record { fate = became; ticket = t }) ts
 given_whole became [] = refl
-given_whole became (t ∷ ts) = ap (λ rest. record { fate = fate_of became; ticket = t } ∷ rest) (given_whole became ts)
+given_whole became (t ∷ ts) = ap (λ rest. record { fate = became; ticket = t } ∷ rest) (given_whole became ts)
 
 some_of : {X : Type 0} (xs : List X) → xs ≢ [] → nat_eq (length xs) 0 ≡ false
 some_of [] h = absurd (h refl)
@@ -103,24 +102,23 @@ some_of (x ∷ xs) h = ne_eqb (length (x ∷ xs)) 0 (λ e. omega (arith, e))
 running : (s : BusState) → IsConsistent s → (test : RunningStart → Bool) (r : RunningStart) → find test s.starts ≡ Some r → IsRunning s.names s.next_start s.next_ticket r
 running s h test r e = found_having (IsRunning s.names s.next_start s.next_ticket) test s.starts r e h.starts_running
 
-pub settles : (b : WholeBus) (change : Change) (caller : Option Conn) (calls : Calls) → IsHolding b calls → (release : Release) (name : Text) → let_go change calls ≡ record { held = waiting_for_others name calls; given = given_as release (waiting_for name calls) } →
+pub settles : (b : WholeBus) (change : Change) (caller : Option Conn) (calls : Calls) → IsHolding b calls → (fate : Fate) (name : Text) → let_go change calls ≡ record { held = waiting_for_others name calls; given = given_as fate (waiting_for name calls) } →
     (test : RunningStart → Bool) → ((q : RunningStart) → test q ≡ true → text_eq q.name name ≡ true) → (started : RunningStart) → find test b.state.starts ≡ Some started →
-    (r : Stepped) → r.1.tickets ≡ settled (fate_of release) (Some started) → r.0.starts ≡ filter (λ q. not (test q)) b.state.starts → r.0.next_ticket ≡ b.state.next_ticket →
+    (r : Stepped) → r.1.tickets ≡ settled fate (Some started) → r.0.starts ≡ filter (λ q. not (test q)) b.state.starts → r.0.next_ticket ≡ b.state.next_ticket →
     new_ticket b.state change r.1.reply ≡ [] → new_call change r.1.reply caller ≡ [] → is_some (caller_of change) ≡ false → Follows b change caller calls r
-settles b change caller calls h release name goes test named started found r told starts next no_ticket no_call uncalled =
+settles b change caller calls h fate name goes test named started found r told starts next no_ticket no_call uncalled =
     let s : BusState = b.state in
-    let fate : Fate = fate_of release in
     let its_name : started.name ≡ name = text_eq-true started.name name (named started (find_passes test s.starts started found)) in
     let its_tickets : numbers_for name calls ≡ started.tickets = ap (λ n. numbers_for n calls) (sym its_name) ∙ found_having (λ q. numbers_for q.name calls ≡ q.tickets) test s.starts started found h.tickets in
     let numbers : r.1.tickets ≡ map (λ k. record { fate = fate; number = k }) (numbers_for name calls) = told ∙ ap (map (λ k. record { fate = fate; number = k })) (sym its_tickets) in
     let count : length r.1.tickets ≡ length started.tickets = ap (λ (ns : List SettledNumber). length ns) told ∙ length_map (λ (k : ℕ). record { fate = fate; number = k }) started.tickets in
     let some : nat_eq (length r.1.tickets) 0 ≡ false = ap (λ n. nat_eq n 0) count ∙ some_of started.tickets (running s h.consistent test started found).waited in
     let others : Calls = waiting_for_others name calls in
-    let gone : once_told change r.1.tickets calls ≡ record { held = others; given = given_as release (waiting_for name calls) } = rw some goes in
+    let gone : once_told change r.1.tickets calls ≡ record { held = others; given = given_as fate (waiting_for name calls) } = rw some goes in
     let after : calls_after change caller r.1 calls ≡ others = rw (gone, no_call) (append-nil others) in
     let waiting : (bus_stepped b change r).0.waiting ≡ still_waiting r.1.tickets b.waiting = rw no_ticket (append-nil (still_waiting r.1.tickets b.waiting)) in
     let told_all : map settled_as (once_told change r.1.tickets calls).given ≡ settled_tickets b.waiting r.1.tickets =
-    rw gone (given_whole release (waiting_for name calls) ∙ sym (told_again fate b.waiting (waiting_for name calls) (found_again name)) ∙ ap (settled_tickets b.waiting) (sym numbers)) in
+    rw gone (given_whole fate (waiting_for name calls) ∙ sym (told_again fate b.waiting (waiting_for name calls) (found_again name)) ∙ ap (settled_tickets b.waiting) (sym numbers)) in
     let apart = apart_from_found test s.starts started h.consistent.start_names_differ found in
     record {
       keeps = rw after (record {
@@ -137,7 +135,7 @@ settles b change caller calls h release name goes test named started found r tol
         given = rw next (each_filter (λ w. w.what.number < s.next_ticket) (λ w. not (waits_for name w)) calls h.given);
       });
       told = (λ i. record { reply = r.1.reply; signals = r.1.signals; tickets = told_all i; start = r.1.start });
-      few = rw (gone, count) (omega (arith, length_map {Y = Given Ticket} (λ (what : Ticket). record { fate = release; what = what }) (waiting_for name calls), length_map (λ (t : Ticket). t.number) (waiting_for name calls), ap length its_tickets));
+      few = rw (gone, count) (omega (arith, length_map {Y = Given Ticket} (λ (what : Ticket). record { fate = fate; what = what }) (waiting_for name calls), length_map (λ (t : Ticket). t.number) (waiting_for name calls), ap length its_tickets));
       fits = λ is n held. absurd (true≢false (sym is ∙ uncalled));
     }
   where

@@ -1,7 +1,7 @@
 -- What waits for names, and what was let go.
 use Rattle.std.specs.Prelude.{Bool, not, List, filter, map}
 use Rattle.names.specs.Texts.{Text, text_eq}
-use Rattle.activation.specs.declared.given.Fate.{Fate}
+use Rattle.seq_bus_core.specs.declared.ticket.Fate.{Fate}
 use Rattle.activation.specs.declared.given.Given.{Given}
 
 -- what waits, and the name that it waits for

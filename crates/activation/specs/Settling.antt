@@ -1,8 +1,6 @@
 -- What a change does to the calls that a bus holds.
 use Rattle.std.specs.Prelude.{◌≡◌, ℕ, ◌==◌, Option, Some, None, option_map, option_and_then, List, [], ◌∷◌, ◌++◌, length, map, if◌then◌else◌}
 use Rattle.activation.specs.Holding.{Holding, given_as, waiting_for, waiting_for_others}
-use Rattle.activation.specs.declared.given.Fate.{Fate as Release}
-use Rattle.activation.specs.declared.given.Fate.TheVariants.{Released, Failed as NotReleased}
 use Rattle.activation.specs.declared.given.Given.{Given}
 use Rattle.seq_bus_core.specs.BusState.{conn_of, connection_of}
 use Rattle.seq_bus_core.specs.Steps.{step}
@@ -14,7 +12,6 @@ use Rattle.seq_bus_core.specs.declared.outcome.NumberedOutcome.{NumberedOutcome}
 use Rattle.seq_bus_core.specs.declared.outcome.Outcome.{Outcome}
 use Rattle.seq_bus_core.specs.declared.outcome.Reply.{Reply}
 use Rattle.seq_bus_core.specs.declared.outcome.Reply.TheVariants.{Held}
-use Rattle.seq_bus_core.specs.declared.ticket.Fate.{Fate}
 use Rattle.seq_bus_core.specs.declared.ticket.Fate.TheVariants.{Served, Failed}
 use Rattle.seq_bus_core.specs.declared.ticket.SettledNumber.{SettledNumber}
 use Rattle.seq_bus_core.specs.declared.ticket.SettledTicket.{SettledTicket}
@@ -50,9 +47,9 @@ IsSettled change caller told before after outcome = (b : WholeBus) (seat : ℕ) 
 
 -- what the change lets go where it settles tickets: those that wait for the name that it is about
 abbrev pub let_go : Change → Calls → Holding Ticket
-let_go (Request c name flags) calls = record { held = waiting_for_others name calls; given = given_as Released (waiting_for name calls) }
-let_go (ChildEnded name number how) calls = record { held = waiting_for_others name calls; given = given_as NotReleased (waiting_for name calls) }
-let_go (StartTimedOut name number) calls = record { held = waiting_for_others name calls; given = given_as NotReleased (waiting_for name calls) }
+let_go (Request c name flags) calls = record { held = waiting_for_others name calls; given = given_as Served (waiting_for name calls) }
+let_go (ChildEnded name number how) calls = record { held = waiting_for_others name calls; given = given_as Failed (waiting_for name calls) }
+let_go (StartTimedOut name number) calls = record { held = waiting_for_others name calls; given = given_as Failed (waiting_for name calls) }
 let_go change calls = record { held = calls; given = [] }
 
 -- the calls that are left, and those that are let go, where the change is told these tickets
@@ -68,13 +65,9 @@ new_call change reply caller = []
 abbrev pub calls_after : Change → Option Conn → NumberedOutcome → Calls → Calls
 calls_after change caller told calls = (once_told change told.tickets calls).held ++ new_call change told.reply caller
 
--- what becomes of a ticket whose call is let go
-abbrev pub fate_of : Release → Fate
-fate_of Released = Served
-fate_of NotReleased = Failed
-
+-- a call that is let go, as a settled ticket
 abbrev pub settled_as : Given Ticket → SettledTicket
-settled_as g = record { fate = fate_of g.fate; ticket = g.what }
+settled_as g = record { fate = g.fate; ticket = g.what }
 
 abbrev pub told_whole : Change → NumberedOutcome → Calls → Outcome
 told_whole change told calls = record { reply = told.reply; signals = told.signals; tickets = map settled_as (once_told change told.tickets calls).given; start = told.start }

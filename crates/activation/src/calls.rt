@@ -5,13 +5,13 @@ ghost use Rattle.activation.specs.Holding.{Holding};
 ghost use Rattle.seq_bus_core.specs.declared.limits.TheConstants.{MAX_TICKETS};
 ghost use Rattle.seq_bus_core.specs.declared.ticket.Ticket.{Ticket};
 ghost use Rattle.activation.specs.Rooms.{IsRoomFor, message_of};
-ghost use Rattle.activation.specs.Settling.{IsSettled, IsSomeStep, caller_of, fate_of, let_go, new_call, once_told, settled_as};
+ghost use Rattle.activation.specs.Settling.{IsSettled, IsSomeStep, caller_of, let_go, new_call, once_told, settled_as};
 ghost use Rattle.seq_bus_core.specs.declared.outcome.Reply.TheVariants.{Held};
 
+use crate::Holder;
 use crate::room::CallRoom;
-use crate::{Fate as Release, Holder};
 use seq_bus_core::{
-    Change, Conn, Fate, NumberedOutcome, Outcome, Reply, SettledTicket, SharedBytes, Ticket,
+    Change, Conn, NumberedOutcome, Outcome, Reply, SettledTicket, SharedBytes, Ticket,
     TicketNumbers, TicketRoom,
 };
 use std::alloc::{AllocError, Global};
@@ -145,18 +145,9 @@ fn hand_out(holder: &mut Holder<Ticket>, settled: &mut TicketRoom)
 {
     while let Some(given) = holder.next_given() {
         settled.push(SettledTicket {
-            fate: fate_of(given.fate),
+            fate: given.fate,
             ticket: given.what,
         });
-    }
-}
-
-fn fate_of(release: Release) -> Fate
-    ensures { result ≡ fate_of release }
-{
-    match release {
-        Release::Released => Fate::Served,
-        Release::Failed => Fate::Failed,
     }
 }
 

@@ -1,13 +1,6 @@
 //! What was let go.
 
-/// What became of something that waited for a name.
-#[derive(Clone, Copy, Debug, PartialEq, Eq)]
-pub enum Fate {
-    /// The name got an owner.
-    Released,
-    /// The name will not get one.
-    Failed,
-}
+use seq_bus_core::Fate;
 
 /// Something that waits no longer.
 #[derive(Clone, Copy, Debug, PartialEq, Eq, Drop)]

@@ -2,10 +2,11 @@
 
 ghost use Rattle.std.specs.Prelude.{◌≡◌, ◌<◌, ◌+◌, ◌↔◌, [], ◌∷◌, ◌++◌, length, drop, slice_get, IfOk, IsTrue};
 ghost use Rattle.activation.specs.Holding.{given_as, waiting_for, waiting_for_others};
-ghost use Rattle.activation.specs.declared.given.Fate.TheVariants.{Failed, Released};
+ghost use Rattle.seq_bus_core.specs.declared.ticket.Fate.TheVariants.{Failed, Served};
 
-use crate::given::{Fate, Given};
+use crate::given::Given;
 use names::BusName;
+use seq_bus_core::Fate;
 use seq_bus_core::limits::MAX_TICKETS;
 use std::alloc::{AllocError, Global};
 use std::collections::VecDeque;
@@ -78,10 +79,10 @@ impl<T: Drop> Holder<T> {
     pub fn release_all(&mut self, name: &BusName)
         ensures { self.new ≡ record {
           held = waiting_for_others name.now self.old.held;
-          given = self.old.given ++ given_as Released (waiting_for name.now self.old.held);
+          given = self.old.given ++ given_as Served (waiting_for name.now self.old.held);
         } }
     {
-        self.let_go(name, Fate::Released);
+        self.let_go(name, Fate::Served);
     }
 
     /// The name will not get an owner: lets go all that waits for it, in order of arrival.

@@ -5,8 +5,9 @@
 //! where it will not get one; then [`Holder::next_given`] hands it out, one by one.
 //!
 //! ```
-//! use activation::{Fate, Given, Holder};
+//! use activation::{Given, Holder};
 //! use names::BusName;
+//! use seq_bus_core::Fate;
 //! use std::alloc::{AllocError, Global};
 //!
 //! /// Two numbers wait for a name: whether they come out in order once it has an owner.
@@ -15,7 +16,7 @@
 //!     holder.hold(name, 7);
 //!     holder.hold(name, 8);
 //!     holder.release_all(&name);
-//!     let fate = Fate::Released;
+//!     let fate = Fate::Served;
 //!     Ok(
 //!         holder.next_given() == Some(Given { fate, what: 7 })
 //!             && holder.next_given() == Some(Given { fate, what: 8 })
@@ -62,6 +63,6 @@ mod holder;
 mod room;
 
 pub use calls::HeldCalls;
-pub use given::{Fate, Given};
+pub use given::Given;
 pub use holder::Holder;
 pub use room::CallRoom;

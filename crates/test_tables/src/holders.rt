@@ -1,7 +1,8 @@
 //! What waits for names: it is held in order of arrival, and comes out once.
 
-use activation::{Fate, Given, Holder};
+use activation::{Given, Holder};
 use names::BusName;
+use seq_bus_core::Fate;
 use seq_bus_core::limits::MAX_TICKETS;
 use std::alloc::Global;
 use std::process::Abort;
@@ -36,11 +37,7 @@ const RUNS: [Run; 6] = [
             Deed::Hold(S, 3),
             Deed::Release(S),
         ],
-        given: &[
-            (Fate::Released, 1),
-            (Fate::Released, 2),
-            (Fate::Released, 3),
-        ],
+        given: &[(Fate::Served, 1), (Fate::Served, 2), (Fate::Served, 3)],
     },
     Run {
         name: "three calls to a service that ends",
@@ -65,8 +62,8 @@ const RUNS: [Run; 6] = [
         given: &[
             (Fate::Failed, 2),
             (Fate::Failed, 4),
-            (Fate::Released, 1),
-            (Fate::Released, 3),
+            (Fate::Served, 1),
+            (Fate::Served, 3),
         ],
     },
     Run {
@@ -77,7 +74,7 @@ const RUNS: [Run; 6] = [
             Deed::Fail(S),
             Deed::Release(S),
         ],
-        given: &[(Fate::Released, 1)],
+        given: &[(Fate::Served, 1)],
     },
     Run {
         name: "a name waits again",
@@ -87,7 +84,7 @@ const RUNS: [Run; 6] = [
             Deed::Hold(S, 2),
             Deed::Release(S),
         ],
-        given: &[(Fate::Failed, 1), (Fate::Released, 2)],
+        given: &[(Fate::Failed, 1), (Fate::Served, 2)],
     },
     Run {
         name: "nothing waits for the name",
@@ -158,7 +155,7 @@ fn as_many_as_there_is_room_for(rt: HostRuntime) {
     for what in 0..MAX_TICKETS as u64 / 2 {
         let given = holder.next_given();
         let expected = Given {
-            fate: Fate::Released,
+            fate: Fate::Served,
             what: 2 * what + 1,
         };
         assert!(rt; given == Some(expected), "{what}");
