@@ -6,8 +6,8 @@ ghost use Rattle.match_rules.specs.Kinds.{kind_number};
 ghost use Rattle.trace_lines.specs.Texts.{arguments_text, bit_text, change_text, ending_text, facts_text, flag_bits, listed, named_text, query_text, rule_word, ruled_text, text_or_dash};
 
 use crate::draft::Draft;
+use crate::list_item::{ListItem, write_list, write_separated};
 use crate::told::write_bit;
-use crate::written::{Written, write_list, write_separated};
 use match_rules::{Argument, Facts, Rule};
 use names::BusName;
 use owner_queues::{ALLOW_REPLACEMENT, DO_NOT_QUEUE, REPLACE_EXISTING, RequestFlags};

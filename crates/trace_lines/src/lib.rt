@@ -26,10 +26,10 @@ mod draft;
 mod heads;
 mod line;
 mod lines;
+mod list_item;
 mod records;
 mod told;
 mod writing;
-mod written;
 
 pub use answer::Answer;
 pub use draft::Draft;

@@ -6,7 +6,7 @@ ghost use Rattle.trace_lines.specs.TextViews.{given_answer, numbered};
 
 use crate::answer::Answer;
 use crate::draft::Draft;
-use crate::written::{Written, write_list, write_number, write_separated};
+use crate::list_item::{ListItem, write_list, write_number, write_separated};
 use seq_bus_core::{NumberedOutcome, Outcome, Reply, Signals, Verdict, VerdictKind};
 use std::alloc::AllocError;
 
@@ -48,7 +48,7 @@ fn write_reply(draft: &mut Draft, reply: Reply) -> Result<(), AllocError>
 }
 
 /// Writes what a change is told, with its tickets as they are.
-fn write_told<T: Written>(
+fn write_told<T: ListItem>(
     draft: &mut Draft,
     reply: Reply,
     signals: &Signals,

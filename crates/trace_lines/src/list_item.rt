@@ -9,7 +9,7 @@ use seq_bus_core::{AddressedSignal, BusSignal, Conn, Fate, SettledNumber, Settle
 use std::alloc::AllocError;
 
 /// What may stand in a list of a line.
-pub(crate) trait Written {
+pub(crate) trait ListItem {
     ghost use Rattle.names.specs.Texts.{Text as Words};
 
     /// What is written for it.
@@ -20,7 +20,7 @@ pub(crate) trait Written {
 }
 
 /// Writes items with a separator between each two.
-pub(crate) fn write_separated<T: Written>(
+pub(crate) fn write_separated<T: ListItem>(
     draft: &mut Draft,
     separator: &str,
     items: &[T],
@@ -39,7 +39,7 @@ pub(crate) fn write_separated<T: Written>(
 }
 
 /// Writes a list, or a dash where it is empty.
-pub(crate) fn write_list<T: Written>(
+pub(crate) fn write_list<T: ListItem>(
     draft: &mut Draft,
     separator: &str,
     items: &[T],
@@ -52,7 +52,7 @@ pub(crate) fn write_list<T: Written>(
     write_separated(draft, separator, items)
 }
 
-impl Written for Conn {
+impl ListItem for Conn {
     ghost use Rattle.trace_lines.specs.Texts.{conn_text};
 
     ghost text = { conn_text };
@@ -62,7 +62,7 @@ impl Written for Conn {
     }
 }
 
-impl Written for SettledNumber {
+impl ListItem for SettledNumber {
     ghost use Rattle.trace_lines.specs.Texts.{ticket_text};
 
     ghost text = { ticket_text };
@@ -76,7 +76,7 @@ impl Written for SettledNumber {
     }
 }
 
-impl Written for SettledTicket {
+impl ListItem for SettledTicket {
     ghost use Rattle.trace_lines.specs.TextViews.{settled_ticket_text};
 
     ghost text = { settled_ticket_text };
@@ -90,7 +90,7 @@ impl Written for SettledTicket {
     }
 }
 
-impl Written for AddressedSignal {
+impl ListItem for AddressedSignal {
     ghost use Rattle.trace_lines.specs.Texts.{signal_text};
 
     ghost text = { signal_text };
@@ -104,7 +104,7 @@ impl Written for AddressedSignal {
     }
 }
 
-impl Written for Rule {
+impl ListItem for Rule {
     ghost use Rattle.trace_lines.specs.Texts.{rule_word};
 
     ghost text = { rule_word };
@@ -115,7 +115,7 @@ impl Written for Rule {
     }
 }
 
-impl Written for Argument<'_> {
+impl ListItem for Argument<'_> {
     ghost use Rattle.trace_lines.specs.TextViews.{lent_argument_text};
 
     ghost text = { lent_argument_text };
@@ -135,7 +135,7 @@ impl Written for Argument<'_> {
     }
 }
 
-impl Written for &str {
+impl ListItem for &str {
     ghost use Rattle.trace_lines.specs.TextViews.{lent_text};
 
     ghost text = { lent_text };
