@@ -14,7 +14,7 @@ use bus_view::Asked;
 use match_rules::Facts;
 use seq_bus_core::{Outcome, Query, Verdict};
 use std::alloc::{AllocError, Global};
-use trace_lines::{Answer, ChangeWords, Draft, write_query_line, write_route_line};
+use trace_lines::{AnswerWords, ChangeWords, Draft, write_query_line, write_route_line};
 
 /// Writes the line of a change.
 fn write_change(
@@ -67,7 +67,7 @@ fn write_name(
         ++ query_line_text place seat query.now (Some (OneName name))) }
 {
     let name = read_name(body)?;
-    write_query_line(draft, place, seat, query, Some(Answer::OneName(name)))
+    write_query_line(draft, place, seat, query, Some(AnswerWords::OneName(name)))
 }
 
 /// Writes the line of a query that was told whether a name has an owner.
@@ -83,7 +83,13 @@ fn write_whether(
         ++ query_line_text place seat query.now (Some (HasOwner owned))) }
 {
     let owned = read_whether(body);
-    write_query_line(draft, place, seat, query, Some(Answer::HasOwner(owned)))
+    write_query_line(
+        draft,
+        place,
+        seat,
+        query,
+        Some(AnswerWords::HasOwner(owned)),
+    )
 }
 
 /// Writes the line of a query that names were told.
@@ -100,7 +106,13 @@ fn write_names(
         ++ query_line_text place seat query.now (Some (NameList names))) }
 {
     let names = read_names(alloc, body)?;
-    write_query_line(draft, place, seat, query, Some(Answer::NameList(&names)))
+    write_query_line(
+        draft,
+        place,
+        seat,
+        query,
+        Some(AnswerWords::NameList(&names)),
+    )
 }
 
 /// Writes the line of a query, where the body of the reply is this.

@@ -4,7 +4,7 @@ use names::{BusName, UniqueName};
 use registry::Registry;
 use seq_bus_core::Query;
 use std::alloc::{AllocError, Global};
-use trace_lines::{Answer, Draft, write_query_line};
+use trace_lines::{AnswerWords, Draft, write_query_line};
 
 const BUS: &str = "org.freedesktop.DBus";
 
@@ -14,7 +14,7 @@ fn query_line(
     place: u64,
     seat: u64,
     query: &Query,
-    answer: Option<Answer<'_>>,
+    answer: Option<AnswerWords<'_>>,
 ) -> Result<String, AllocError> {
     let mut line = Draft::new(alloc);
     write_query_line(&mut line, place, seat, query, answer)?;
@@ -33,7 +33,13 @@ fn listed(
     for name in names {
         texts.push(name.as_str())?;
     }
-    query_line(alloc, place, seat, query, Some(Answer::NameList(&texts)))
+    query_line(
+        alloc,
+        place,
+        seat,
+        query,
+        Some(AnswerWords::NameList(&texts)),
+    )
 }
 
 /// The owner of a name, by its name.
@@ -89,13 +95,13 @@ pub fn answered(
     match query {
         Query::GetNameOwner(name) => match owner(registry, name) {
             Some(owner) => {
-                let answer = Answer::OneName(owner.as_str());
+                let answer = AnswerWords::OneName(owner.as_str());
                 query_line(alloc, place, seat, query, Some(answer))
             }
             None => query_line(alloc, place, seat, query, None),
         },
         Query::NameHasOwner(name) => {
-            let answer = Answer::HasOwner(owner(registry, name).is_some());
+            let answer = AnswerWords::HasOwner(owner(registry, name).is_some());
             query_line(alloc, place, seat, query, Some(answer))
         }
         Query::ListNames => {

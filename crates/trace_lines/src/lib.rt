@@ -20,7 +20,7 @@
 //! ```
 #![tactic(auto)]
 
-mod answer;
+mod answer_words;
 mod deeds;
 mod draft;
 mod heads;
@@ -31,7 +31,7 @@ mod records;
 mod told;
 mod writing;
 
-pub use answer::Answer;
+pub use answer_words::AnswerWords;
 pub use draft::Draft;
 pub use heads::{read_profile, read_routers, read_service};
 pub use line::{Deed, Line};

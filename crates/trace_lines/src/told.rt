@@ -4,7 +4,7 @@ ghost use Rattle.std.specs.Prelude.{◌≡◌, ◌++◌, codes, OnOk};
 ghost use Rattle.trace_lines.specs.Texts.{answer_text, bit_text, kind_text, listed, number_or_dash, outcome_text, reply_text, signal_text, verdict_text};
 ghost use Rattle.trace_lines.specs.TextViews.{given_answer, numbered};
 
-use crate::answer::Answer;
+use crate::answer_words::AnswerWords;
 use crate::draft::Draft;
 use crate::list_item::{ListItem, write_list, write_number, write_separated};
 use seq_bus_core::{NumberedOutcome, Outcome, Reply, Signals, Verdict, VerdictKind};
@@ -100,14 +100,17 @@ pub(crate) fn write_whole_outcome(draft: &mut Draft, outcome: &Outcome) -> Resul
 
 /// Writes what a query is answered.
 #[tactic(auto, using(crate::proofs::WrittenLists::lent_names))]
-pub(crate) fn write_answer(draft: &mut Draft, answer: Option<Answer<'_>>) -> Result<(), AllocError>
+pub(crate) fn write_answer(
+    draft: &mut Draft,
+    answer: Option<AnswerWords<'_>>,
+) -> Result<(), AllocError>
     ensures { OnOk result (draft.new ≡ draft.old ++ answer_text (given_answer answer.entry)) }
 {
     match answer {
         None => draft.push("none"),
-        Some(Answer::OneName(name)) => draft.push(name),
-        Some(Answer::HasOwner(has)) => write_bit(draft, has),
-        Some(Answer::NameList(names)) => write_separated(draft, ",", names),
+        Some(AnswerWords::OneName(name)) => draft.push(name),
+        Some(AnswerWords::HasOwner(has)) => write_bit(draft, has),
+        Some(AnswerWords::NameList(names)) => write_separated(draft, ",", names),
     }
 }
 

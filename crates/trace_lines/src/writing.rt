@@ -4,7 +4,7 @@ ghost use Rattle.std.specs.Prelude.{◌≡◌, ◌++◌, codes, decimal, string_
 ghost use Rattle.trace_lines.specs.Texts.{change_line_text, change_text, outcome_text, profile_line_text, query_line_text, route_line_text, routers_line_text, service_line_text, verdict_text};
 ghost use Rattle.trace_lines.specs.TextViews.{given_answer, numbered};
 
-use crate::answer::Answer;
+use crate::answer_words::AnswerWords;
 use crate::deeds::{write_change, write_facts, write_query};
 use crate::draft::Draft;
 use crate::told::{write_answer, write_outcome, write_verdict, write_whole_outcome};
@@ -162,7 +162,7 @@ pub fn write_query_line(
     place: u64,
     seat: u64,
     query: &Query,
-    answer: Option<Answer<'_>>,
+    answer: Option<AnswerWords<'_>>,
 ) -> Result<(), AllocError>
     ensures { OnOk result (line.new ≡ line.old
         ++ query_line_text place seat query.now (given_answer answer.entry)) }
