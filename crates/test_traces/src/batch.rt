@@ -2,7 +2,7 @@
 
 use seq_bus_core::Change;
 use std::alloc::{AllocError, Global};
-use trace_lines::{Deed, Line, read_line};
+use trace_lines::{Line, Subject, read_line};
 
 /// Changes of one seat that are made at once.
 #[derive(Drop)]
@@ -30,7 +30,7 @@ impl Batch {
                 Line {
                     place,
                     seat,
-                    deed: Deed::Change { number, change },
+                    subject: Subject::Change { number, change },
                     ..
                 },
             ) = read_line(alloc, routers, text)?

@@ -11,7 +11,7 @@ use registry::Registry;
 use seq_bus::{SEAT, SeqBus};
 use seq_bus_core::{Change, Query, Reply};
 use std::alloc::{AllocError, Global};
-use trace_lines::{ChangeWords, Deed, Draft, Line, Route, write_route_line};
+use trace_lines::{ChangeWords, Draft, Line, Route, Subject, write_route_line};
 
 /// A registry, whose changes are made by one call, and a plain bus, which prepares each and then
 /// absorbs it, seen through a view that records.
@@ -49,15 +49,15 @@ impl Buses {
         let Line {
             place,
             seat,
-            deed,
+            subject,
             ..
         } = line;
-        let written = match deed {
-            Deed::Change { number, change } => {
+        let written = match subject {
+            Subject::Change { number, change } => {
                 self.change_line(alloc, place, seat, number, change)?
             }
-            Deed::Query(query) => self.query_line(alloc, place, seat, &query)?,
-            Deed::Route(route) => self.route_line(alloc, place, seat, &route)?,
+            Subject::Query(query) => self.query_line(alloc, place, seat, &query)?,
+            Subject::Route(route) => self.route_line(alloc, place, seat, &route)?,
         };
         let recorded = recorded(alloc, &mut self.plain)?;
         if self.are_alike && !tell_the_same(recorded.as_str(), written.as_str()) {

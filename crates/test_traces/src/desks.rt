@@ -9,7 +9,7 @@ use names::WellKnown;
 use registry_snapshots::{Desk, Naming, Note, Seat, Serve, Shared, StartFault, start};
 use std::alloc::{AllocError, Global};
 use std::sync::Wait;
-use trace_lines::{Deed, Line, read_line};
+use trace_lines::{Line, Subject, read_line};
 
 /// What is told of each row at the desks of a registry with these services and so many routers.
 /// Nothing is told where no registry is opened with them.
@@ -126,13 +126,13 @@ impl<'a, J: Naming, R: Wait> Desks<'a, J, R> {
 impl<'a, J: Naming, R: Wait> Player for Desks<'a, J, R> {
     /// The line that the desk of its seat has recorded. All are told of a change.
     fn line(&mut self, alloc: Global, text: &str) -> Result<Option<String>, AllocError> {
-        let Some(Line { seat, deed, .. }) = read_line(alloc, self.routers, text)? else {
+        let Some(Line { seat, subject, .. }) = read_line(alloc, self.routers, text)? else {
             return Ok(None);
         };
         let Some(desk) = self.desks.get_mut(place_of(seat)) else {
             return Ok(None);
         };
-        let note = done(desk, self.right, alloc, deed)?;
+        let note = done(desk, self.right, alloc, subject)?;
         let told = recorded(alloc, desk)?;
         if let Some(note) = note {
             self.tell_all(&note);
@@ -165,21 +165,21 @@ pub fn done<V: BusView>(
     view: &mut V,
     right: &V::Right,
     alloc: Global,
-    deed: Deed<'_>,
+    subject: Subject<'_>,
 ) -> Result<Option<V::Note>, AllocError> {
-    match deed {
-        Deed::Change { change, .. } => match view.change(right, change) {
+    match subject {
+        Subject::Change { change, .. } => match view.change(right, change) {
             Ok((_, note)) => Ok(Some(note)),
             Err(_) => Err(AllocError),
         },
-        Deed::Query(query) => {
+        Subject::Query(query) => {
             let mut body = Vec::new(alloc);
             match view.ask(&query, &mut body) {
                 Ok(_) => Ok(None),
                 Err(_) => Err(AllocError),
             }
         }
-        Deed::Route(route) => {
+        Subject::Route(route) => {
             let arguments = route.arguments();
             match view.route(route.sender, &route.facts(arguments.as_slice())) {
                 Ok(_) => Ok(None),

@@ -36,10 +36,10 @@ fn row_of(
     lines: &str,
 ) -> Result<Option<String>, AllocError> {
     for text in lines.split(" ; ") {
-        let Some(Line { deed, .. }) = read_line(alloc, routers, text)? else {
+        let Some(Line { subject, .. }) = read_line(alloc, routers, text)? else {
             return Ok(None);
         };
-        done(view, &(), alloc, deed)?;
+        done(view, &(), alloc, subject)?;
     }
     let kept = recorded(alloc, view)?;
     let kept = if kept.is_empty() {

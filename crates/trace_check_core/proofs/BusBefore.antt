@@ -52,12 +52,12 @@ before_place : (t : Trace) (place : ℕ) → 0 < place → state_before t place 
 before_place t zero some = absurd (omega (arith, some))
 before_place t (suc place) some = let same : place ≡ suc place - 1 = omega arith in ap (state_at t) same
 
-pub change_told_of : (t : Trace) (line : Line) (at : ℕ) (bus : BusState) → at ≡ line.place → 0 < at → is_some (number_made line.deed) ≡ true → bus ≡ state_before t at → bus ≡ bus_told_of t line
+pub change_told_of : (t : Trace) (line : Line) (at : ℕ) (bus : BusState) → at ≡ line.place → 0 < at → is_some (number_made line.subject) ≡ true → bus ≡ state_before t at → bus ≡ bus_told_of t line
 change_told_of t line at bus there some change before =
-    before ∙ before_place t at some ∙ ap (λ (n : ℕ). state_at t (n - 1)) there ∙ ap (state_at t) (sym (of_change line.place (number_made line.deed) change))
+    before ∙ before_place t at some ∙ ap (λ (n : ℕ). state_at t (n - 1)) there ∙ ap (state_at t) (sym (of_change line.place (number_made line.subject) change))
 
-pub read_told_of : (t : Trace) (line : Line) (at : ℕ) (bus : BusState) → at ≡ line.place → is_some (number_made line.deed) ≡ false → bus ≡ state_at t at → bus ≡ bus_told_of t line
-read_told_of t line at bus there read before = before ∙ ap (state_at t) (there ∙ sym (of_read line.place (number_made line.deed) read))
+pub read_told_of : (t : Trace) (line : Line) (at : ℕ) (bus : BusState) → at ≡ line.place → is_some (number_made line.subject) ≡ false → bus ≡ state_at t at → bus ≡ bus_told_of t line
+read_told_of t line at bus there read before = before ∙ ap (state_at t) (there ∙ sym (of_read line.place (number_made line.subject) read))
 
 -- a line with a number stands among the changes
 pub line_within : (t : Trace) (number : ℕ) (line : Line) → misplaced t ≡ None → line_at t number ≡ Some line → line.place ≤ changes_in t.lines

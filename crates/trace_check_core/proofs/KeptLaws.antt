@@ -7,7 +7,7 @@ use Rattle.trace_check_core.specs.Legality.{number_made}
 use Rattle.trace_check_core.specs.declared.kept_line.KeptLine.TheInside.{Inside}
 use Rattle.trace_check_core.proofs.LineLaws.{line_seated}
 
-pub kept_as : (k : Inside) (l : Line) → k.routers ≤ max_routers → line_of k.routers k.text.now ≡ Some l → k.place ≡ l.place → k.seat ≡ l.seat → k.number ≡ number_made l.deed → IsKept k
+pub kept_as : (k : Inside) (l : Line) → k.routers ≤ max_routers → line_of k.routers k.text.now ≡ Some l → k.place ≡ l.place → k.seat ≡ l.seat → k.number ≡ number_made l.subject → IsKept k
 kept_as k l few read place seat number =
     let is : line_in k ≡ l = ap (λ (o : Option Line). unwrap_or o no_line) read in
     record {
@@ -15,6 +15,6 @@ kept_as k l few read place seat number =
       read = read ∙ ap Some (sym is);
       place = place ∙ ap (λ (m : Line). m.place) (sym is);
       seat = seat ∙ ap (λ (m : Line). m.seat) (sym is);
-      number = number ∙ ap (λ (m : Line). number_made m.deed) (sym is);
+      number = number ∙ ap (λ (m : Line). number_made m.subject) (sym is);
       seated = subst (IsSeated k.routers) (sym is) (line_seated k.routers k.text.now l read);
     }

@@ -97,13 +97,13 @@ behind_each place made (other ∷ earlier) h =
 
 pub in_order : (earlier : List Line) (line : Line) → follows earlier line ≡ true → IsInOrder earlier line
 in_order earlier line e =
-    let both = and_parts (list_all (λ o. is_behind o.place line.place (number_made line.deed)) earlier) (is_next (changes_in earlier) (number_made line.deed)) e in
-    record { behind = each_behind line.place (number_made line.deed) earlier both.0; numbered = next_is (changes_in earlier) (number_made line.deed) both.1 }
+    let both = and_parts (list_all (λ o. is_behind o.place line.place (number_made line.subject)) earlier) (is_next (changes_in earlier) (number_made line.subject)) e in
+    record { behind = each_behind line.place (number_made line.subject) earlier both.0; numbered = next_is (changes_in earlier) (number_made line.subject) both.1 }
 
 pub follows_in_order : (earlier : List Line) (line : Line) → IsInOrder earlier line → follows earlier line ≡ true
 follows_in_order earlier line h =
-    and_from (list_all (λ o. is_behind o.place line.place (number_made line.deed)) earlier) (is_next (changes_in earlier) (number_made line.deed))
-    (behind_each line.place (number_made line.deed) earlier h.behind) (next_passes (changes_in earlier) (number_made line.deed) h.numbered)
+    and_from (list_all (λ o. is_behind o.place line.place (number_made line.subject)) earlier) (is_next (changes_in earlier) (number_made line.subject))
+    (behind_each line.place (number_made line.subject) earlier h.behind) (next_passes (changes_in earlier) (number_made line.subject) h.numbered)
 
 -- ## Places
 

@@ -72,25 +72,25 @@ count_more lines line = let more = sum_by-append (λ (l : Line). cond (is_change
 
 -- ## What may follow
 
-pub follows_change : (earlier : List Line) (line : Line) (number : ℕ) → number_made line.deed ≡ Some number → 0 < line.place →
+pub follows_change : (earlier : List Line) (line : Line) (number : ℕ) → number_made line.subject ≡ Some number → 0 < line.place →
     follows earlier line ≡ (nat_lt (highest_place earlier) line.place && (number == changes_in earlier + 1))
 follows_change earlier line number e some =
     ap (λ (made : Option ℕ). list_all (λ other. is_behind other.place line.place made) earlier && is_next (changes_in earlier) made) e
     ∙ ap (λ (b : Bool). b && (number == changes_in earlier + 1)) (all_below line.place earlier some)
 
-pub follows_read : (earlier : List Line) (line : Line) → number_made line.deed ≡ None → follows earlier line ≡ nat_le (highest_place earlier) line.place
+pub follows_read : (earlier : List Line) (line : Line) → number_made line.subject ≡ None → follows earlier line ≡ nat_le (highest_place earlier) line.place
 follows_read earlier line e =
     ap (λ (made : Option ℕ). list_all (λ other. is_behind other.place line.place made) earlier && is_next (changes_in earlier) made) e
     ∙ ap (λ (b : Bool). b && true) (all_up_to line.place earlier) ∙ and-true (nat_le (highest_place earlier) line.place)
 
-made_change : (line : Line) (number : ℕ) → number_made line.deed ≡ Some number → is_change line ≡ true
+made_change : (line : Line) (number : ℕ) → number_made line.subject ≡ Some number → is_change line ≡ true
 made_change line number e = ap is_some e
 
-made_read : (line : Line) → number_made line.deed ≡ None → is_change line ≡ false
+made_read : (line : Line) → number_made line.subject ≡ None → is_change line ≡ false
 made_read line e = ap is_some e
 
 -- after a change that follows
-pub so_far_change : (earlier : List Line) (line : Line) (number : ℕ) → number_made line.deed ≡ Some number → 0 < line.place → follows earlier line ≡ true →
+pub so_far_change : (earlier : List Line) (line : Line) (number : ℕ) → number_made line.subject ≡ Some number → 0 < line.place → follows earlier line ≡ true →
     record { highest = line.place; changes = number } ≡ seat_so_far (earlier ++ line ∷ [])
 so_far_change earlier line number e some follows =
     let both = and_parts (nat_lt (highest_place earlier) line.place) (number == changes_in earlier + 1) (sym (follows_change earlier line number e some) ∙ follows) in
@@ -103,7 +103,7 @@ so_far_change earlier line number e some follows =
     λ i. record { highest = top i; changes = made i }
 
 -- after another line that follows
-pub so_far_read : (earlier : List Line) (line : Line) → number_made line.deed ≡ None → follows earlier line ≡ true →
+pub so_far_read : (earlier : List Line) (line : Line) → number_made line.subject ≡ None → follows earlier line ≡ true →
     record { highest = line.place; changes = changes_in earlier } ≡ seat_so_far (earlier ++ line ∷ [])
 so_far_read earlier line e follows =
     let up : highest_place earlier ≤ line.place = let test = sym (follows_read earlier line e) ∙ follows in grind (arith, nat_tests, test) in

@@ -11,7 +11,7 @@ use Rattle.seq_bus_core.specs.BusState.{BusState}
 use Rattle.seq_bus_core.specs.Histories.{History, after, opening}
 use Rattle.seq_bus_core.specs.Steps.{step}
 use Rattle.seq_bus_core.proofs.Extending.{range_more}
-use Rattle.trace_lines.specs.Lines.{Line, Deed, Made, Asked, Routed}
+use Rattle.trace_lines.specs.Lines.{Line, Subject, Made, Asked, Routed}
 use Rattle.trace_check_core.specs.KeptLines.{IsSeated}
 use Rattle.trace_check_core.specs.Legality.{changes_in, entries_at, entries_if_at, entries_of, history_to, is_change, number_made, places_before, state_at}
 use Rattle.trace_check_core.specs.Placing.{LinesThere, NumberedLine, is_read_at, lines_by_place, lines_there, numbered}
@@ -103,7 +103,7 @@ nothing_either : (b : Bool) → ◌≡◌ {A = History} (if b then [] else []) [
 nothing_either true = refl
 nothing_either false = refl
 
-no_entry : (seat place at : ℕ) (deed : Deed) → (is_some (number_made deed) && (at == place)) ≡ false → ◌≡◌ {A = History} (if at == place then entries_of seat deed else []) []
+no_entry : (seat place at : ℕ) (subject : Subject) → (is_some (number_made subject) && (at == place)) ≡ false → ◌≡◌ {A = History} (if at == place then entries_of seat subject else []) []
 no_entry seat place at (Made number change) e = let apart : (at == place) ≡ false = e in rw apart refl
 no_entry seat place at (Asked query) e = nothing_either (at == place)
 no_entry seat place at (Routed facts) e = nothing_either (at == place)
@@ -111,7 +111,7 @@ no_entry seat place at (Routed facts) e = nothing_either (at == place)
 no_entries : (place : ℕ) (lines : List Line) → list_any (is_change_at place) lines ≡ false → entries_at lines place ≡ []
 no_entries place [] e = refl
 no_entries place (line ∷ lines) e =
-    ap (λ (h : History). h ++ entries_at lines place) (no_entry line.seat place line.place line.deed (none_first (is_change_at place line) (list_any (is_change_at place) lines) e))
+    ap (λ (h : History). h ++ entries_at lines place) (no_entry line.seat place line.place line.subject (none_first (is_change_at place line) (list_any (is_change_at place) lines) e))
     ∙ no_entries place lines (none_second (is_change_at place line) (list_any (is_change_at place) lines) e)
 
 pub found_entries : (place number : ℕ) (lines : List Line) → Once place lines → entries_at lines place ≡ change_entries (find (λ n. is_change_at place n.line) (numbered number lines))
@@ -123,10 +123,10 @@ found_entries place number (line ∷ lines) one = by_test (is_change_at place li
         entries_if_at place line ++ entries_at lines place ≡ change_entries (cond b (Some (record { number = number; line = line })) (find (λ n. is_change_at place n.line) (numbered (number + 1) lines)))
     by_test true is others =
         let both = and_parts (is_change line) (line.place == place) is in
-        ap (λ (b : Bool). (if b then entries_of line.seat line.deed else []) ++ entries_at lines place) both.1
-        ∙ ap (λ (h : History). entries_of line.seat line.deed ++ h) (no_entries place lines (one.0 is)) ∙ append-nil (entries_of line.seat line.deed)
+        ap (λ (b : Bool). (if b then entries_of line.seat line.subject else []) ++ entries_at lines place) both.1
+        ∙ ap (λ (h : History). entries_of line.seat line.subject ++ h) (no_entries place lines (one.0 is)) ∙ append-nil (entries_of line.seat line.subject)
     by_test false is others =
-        ap (λ (h : History). h ++ entries_at lines place) (no_entry line.seat place line.place line.deed is) ∙ others
+        ap (λ (h : History). h ++ entries_at lines place) (no_entry line.seat place line.place line.subject is) ∙ others
 
 -- ## The bus at each place
 
@@ -180,12 +180,12 @@ before_change : (place : ℕ) (o : Option ℕ) → is_some o ≡ true → places
 before_change place None e = absurd (true≢false (sym e))
 before_change place (Some number) e = refl
 
-read_still : (s : BusState) (seat : ℕ) (deed : Deed) → is_some (number_made deed) ≡ false → after s (entries_of seat deed) ≡ s
+read_still : (s : BusState) (seat : ℕ) (subject : Subject) → is_some (number_made subject) ≡ false → after s (entries_of seat subject) ≡ s
 read_still s seat (Made number change) e = absurd (true≢false e)
 read_still s seat (Asked query) e = refl
 read_still s seat (Routed facts) e = refl
 
-right_there : (t : Trace) (line : Line) (place : ℕ) → places_before line.place (number_made line.deed) ≡ place → is_right t line ≡ records_told (state_at t place) line
+right_there : (t : Trace) (line : Line) (place : ℕ) → places_before line.place (number_made line.subject) ≡ place → is_right t line ≡ records_told (state_at t place) line
 right_there t line place e = ap (λ (p : ℕ). records_told (state_at t p) line) e
 
 walk_both : (b c : BusState) (l m : Option ℕ) → b ≡ c → l ≡ m → ◌≡◌ {A = Walk} (record { bus = b; least = l }) (record { bus = c; least = m })
@@ -196,9 +196,9 @@ walked_read t place least n is =
     let both = and_parts (not (is_change n.line)) (n.line.place == place) is in
     let read : is_change n.line ≡ false = not_both true (is_change n.line) refl both.0 in
     let there : n.line.place ≡ place = eqb-true n.line.place place both.1 in
-    let before : places_before n.line.place (number_made n.line.deed) ≡ place = ap (places_before n.line.place) (none_made (number_made n.line.deed) read) ∙ there in
-    walk_both (after (state_at t place) (entries_of n.line.seat n.line.deed)) (state_at t place) (least_with least (state_at t place) n) (least_on t least n)
-    (read_still (state_at t place) n.line.seat n.line.deed read)
+    let before : places_before n.line.place (number_made n.line.subject) ≡ place = ap (places_before n.line.place) (none_made (number_made n.line.subject) read) ∙ there in
+    walk_both (after (state_at t place) (entries_of n.line.seat n.line.subject)) (state_at t place) (least_with least (state_at t place) n) (least_on t least n)
+    (read_still (state_at t place) n.line.seat n.line.subject read)
     (ap (λ (b : Bool). if b then least else Some (lesser least n.number)) (sym (right_there t n.line place before)))
 
 walk_reads : (t : Trace) (place : ℕ) (least : Option ℕ) (ns : List NumberedLine) →
@@ -225,7 +225,7 @@ walk_turn t place s least None ns next right =
     ap (λ (b : BusState). walked_along (record { bus = b; least = least }) (filter (λ n. is_read_at place n.line) ns)) (sym next) ∙ walk_reads t place least ns
 walk_turn t place s least (Some n) ns next right =
     ap (λ (w : Walk). walked_along w (filter (λ n. is_read_at place n.line) ns))
-    (walk_both (after s (entries_of n.line.seat n.line.deed)) (state_at t place) (least_with least s n) (least_on t least n) (sym next) (ap (λ (b : Bool). if b then least else Some (lesser least n.number)) (sym (right n refl))))
+    (walk_both (after s (entries_of n.line.seat n.line.subject)) (state_at t place) (least_with least s n) (least_on t least n) (sym next) (ap (λ (b : Bool). if b then least else Some (lesser least n.number)) (sym (right n refl))))
     ∙ walk_reads t place (least_on t least n) ns
 
 -- ## Along all places
@@ -253,7 +253,7 @@ change_at : (t : Trace) (place : ℕ) (n : NumberedLine) → find (λ m. is_chan
 change_at t place n e =
     let both = and_parts (is_change n.line) (n.line.place == place) (find_passes (λ (m : NumberedLine). is_change_at place m.line) (ns_of t) n e) in
     let there : n.line.place ≡ place = eqb-true n.line.place place both.1 in
-    ap (λ (p : ℕ). records_told (state_at t p) n.line) (before_change n.line.place (number_made n.line.deed) both.0 ∙ ap (λ (p : ℕ). p - 1) there)
+    ap (λ (p : ℕ). records_told (state_at t p) n.line) (before_change n.line.place (number_made n.line.subject) both.0 ∙ ap (λ (p : ℕ). p - 1) there)
     ∙ ap (λ (s : BusState). records_told s n.line) (one_before place)
   where
     one_before : (p : ℕ) → state_at t (p - 1) ≡ state_before t p

@@ -24,5 +24,5 @@ pub record IsKept (k : Inside) : Type 0 where
   pub read : line_of k.routers k.text.now ≡ Some (line_in k)
   pub place : k.place ≡ (line_in k).place
   pub seat : k.seat ≡ (line_in k).seat
-  pub number : k.number ≡ number_made (line_in k).deed
+  pub number : k.number ≡ number_made (line_in k).subject
   pub seated : IsSeated k.routers (line_in k)

@@ -10,19 +10,19 @@ use Rattle.seq_bus_core.specs.Recipients.{recipients}
 use Rattle.seq_bus_core.specs.Histories.{History, opening, after, entry_alone}
 use Rattle.trace_words.specs.Words.{space, parts}
 use Rattle.trace_lines.specs.Texts.{outcome_text, answer_text, verdict_text}
-use Rattle.trace_lines.specs.Lines.{Line, Deed, Made, Asked, Routed}
+use Rattle.trace_lines.specs.Lines.{Line, Subject, Made, Asked, Routed}
 use Rattle.trace_check_core.specs.Traces.{Trace, trace_of}
 
 -- ## Changes
 
 -- the number of a change among those of its seat
-abbrev pub number_made : Deed → Option ℕ
+abbrev pub number_made : Subject → Option ℕ
 number_made (Made number change) = Some number
 number_made (Asked query) = None
 number_made (Routed facts) = None
 
 abbrev pub is_change : Line → Bool
-is_change line = is_some (number_made line.deed)
+is_change line = is_some (number_made line.subject)
 
 -- how many changes there are
 abbrev pub changes_in : List Line → ℕ
@@ -45,18 +45,18 @@ of_seat seat lines = filter (λ line. line.seat == seat) lines
 
 -- a line, behind these lines of its seat
 pub record IsInOrder (earlier : List Line) (line : Line) : Type 0 where
-  pub behind : Each (λ other. IsBehind other.place line.place (number_made line.deed)) earlier
-  pub numbered : IsNext (changes_in earlier) (number_made line.deed)
+  pub behind : Each (λ other. IsBehind other.place line.place (number_made line.subject)) earlier
+  pub numbered : IsNext (changes_in earlier) (number_made line.subject)
 
 -- ## The history
 
-abbrev pub entries_of : ℕ → Deed → History
+abbrev pub entries_of : ℕ → Subject → History
 entries_of seat (Made number change) = entry_alone seat number change ∷ []
 entries_of seat (Asked query) = []
 entries_of seat (Routed facts) = []
 
 abbrev pub entries_if_at : ℕ → Line → History
-entries_if_at place line = if line.place == place then entries_of line.seat line.deed else []
+entries_if_at place line = if line.place == place then entries_of line.seat line.subject else []
 
 -- the change of a place
 abbrev pub entries_at : List Line → ℕ → History
@@ -72,20 +72,20 @@ state_at t place = after (opening t.profile t.routers t.services) (history_to t.
 
 -- ## Content
 
--- what the bus tells of a deed in a state
-abbrev pub told : BusState → ℕ → Deed → Text
+-- what the bus tells of a subject in a state
+abbrev pub told : BusState → ℕ → Subject → Text
 told s seat (Made number change) = outcome_text (step s seat change).1
 told s seat (Asked query) = answer_text (answer s query)
 told s seat (Routed facts) = verdict_text (recipients s facts.sender facts)
 
--- how many places come before a deed: its own with them, unless it is the change that stands there
+-- how many places come before a subject: its own with them, unless it is the change that stands there
 abbrev pub places_before : ℕ → Option ℕ → ℕ
 places_before place (Some number) = place - 1
 places_before place None = place
 
 -- what the bus tells where a line stands
 abbrev pub due : Trace → Line → Text
-due t line = told (state_at t (places_before line.place (number_made line.deed))) line.seat line.deed
+due t line = told (state_at t (places_before line.place (number_made line.subject))) line.seat line.subject
 
 abbrev pub IsRight : Trace → Line → Type 0
 IsRight t line = line.recorded ≡ parts space (due t line)

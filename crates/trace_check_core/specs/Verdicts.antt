@@ -30,8 +30,8 @@ is_next changes None = true
 -- a line, behind these lines of its seat
 abbrev pub follows : List Line → Line → Bool
 follows earlier line =
-    list_all (λ other. is_behind other.place line.place (number_made line.deed)) earlier
-    && is_next (changes_in earlier) (number_made line.deed)
+    list_all (λ other. is_behind other.place line.place (number_made line.subject)) earlier
+    && is_next (changes_in earlier) (number_made line.subject)
 
 abbrev pub is_in_order : List Line → Line → Bool
 is_in_order before line = follows (of_seat line.seat before) line

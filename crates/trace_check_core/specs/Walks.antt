@@ -25,13 +25,13 @@ lesser (Some least) number = if nat_le least number then least else number
 
 -- a line records what the bus tells in this state
 abbrev pub records_told : BusState → Line → Bool
-records_told s line = same_words line.recorded (parts space (told s line.seat line.deed))
+records_told s line = same_words line.recorded (parts space (told s line.seat line.subject))
 
 abbrev pub least_with : Option ℕ → BusState → NumberedLine → Option ℕ
 least_with least s n = if records_told s n.line then least else Some (lesser least n.number)
 
 abbrev pub walked : Walk → NumberedLine → Walk
-walked w n = record { bus = after w.bus (entries_of n.line.seat n.line.deed); least = least_with w.least w.bus n }
+walked w n = record { bus = after w.bus (entries_of n.line.seat n.line.subject); least = least_with w.least w.bus n }
 
 abbrev pub walked_along : Walk → List NumberedLine → Walk
 walked_along w [] = w
@@ -47,7 +47,7 @@ first_step t = record { bus = opening t.profile t.routers t.services; least = No
 -- the change of a place, if there is one
 abbrev pub change_entries : Option NumberedLine → History
 change_entries None = []
-change_entries (Some n) = entries_of n.line.seat n.line.deed
+change_entries (Some n) = entries_of n.line.seat n.line.subject
 
 -- the bus after the changes of so many places, from 0 on
 abbrev pub state_before : Trace → ℕ → BusState
@@ -56,7 +56,7 @@ state_before t (suc place) = state_at t place
 
 -- the bus that a line tells of
 abbrev pub bus_told_of : Trace → Line → BusState
-bus_told_of t line = state_at t (places_before line.place (number_made line.deed))
+bus_told_of t line = state_at t (places_before line.place (number_made line.subject))
 
 -- ## What the bus tells of a line by its number
 

@@ -2,13 +2,13 @@
 
 ghost use Rattle.std.specs.Prelude.{◌≡◌, ◌<◌, ◌≤◌, true, IfOk, option_map};
 ghost use Rattle.seq_bus_core.specs.Histories.{max_routers};
-ghost use Rattle.trace_lines.specs.LineViews.{deed_told, line_told};
+ghost use Rattle.trace_lines.specs.LineViews.{subject_told, line_told};
 ghost use Rattle.trace_lines.specs.Lines.{line_of};
 ghost use Rattle.trace_check_core.specs.Legality.{is_change, number_made};
 
 use std::alloc::{AllocError, Global};
 use std::marker::Model;
-use trace_lines::{Deed, Line, read_line};
+use trace_lines::{Line, Subject, read_line};
 
 /// A line of a trace, kept as its text and by what tells where it stands. What else it tells is
 /// read anew.
@@ -53,7 +53,7 @@ impl<'a> KeptLine<'a> {
             text,
             place: line.place,
             seat: line.seat as u8,
-            number: number_made(&line.deed),
+            number: number_made(&line.subject),
         }))
     }
 
@@ -85,18 +85,18 @@ impl<'a> KeptLine<'a> {
 
     /// The number of a change among those of its seat; none where the line is no change.
     pub fn number(&self) -> Option<u64>
-        ensures { result ≡ number_made self.now.deed }
+        ensures { result ≡ number_made self.now.subject }
     {
         self.number
     }
 }
 
-fn number_made(deed: &Deed<'_>) -> Option<u64>
-    ensures { result ≡ number_made (deed_told deed.now) }
+fn number_made(subject: &Subject<'_>) -> Option<u64>
+    ensures { result ≡ number_made (subject_told subject.now) }
 {
-    match deed {
-        Deed::Change { number, .. } => Some(*number),
-        Deed::Query(_) => None,
-        Deed::Route(_) => None,
+    match subject {
+        Subject::Change { number, .. } => Some(*number),
+        Subject::Query(_) => None,
+        Subject::Route(_) => None,
     }
 }

@@ -7,7 +7,7 @@ ghost use Rattle.seq_bus_core.specs.Steps.{step};
 ghost use Rattle.trace_check_core.specs.Walks.{records_told};
 ghost use Rattle.trace_words.specs.RouteViews.{route_facts};
 ghost use Rattle.trace_lines.specs.Texts.{outcome_text, verdict_text};
-ghost use Rattle.trace_lines.specs.LineViews.{deed_told};
+ghost use Rattle.trace_lines.specs.LineViews.{subject_told};
 ghost use Rattle.trace_check_core.specs.Legality.{entries_of, told};
 
 use crate::KeptLine;
@@ -15,7 +15,7 @@ use crate::answers::answer_text;
 use registry::Registry;
 use seq_bus_core::Change;
 use std::alloc::{AllocError, Global};
-use trace_lines::{Deed, Route, outcome_text, verdict_text};
+use trace_lines::{Route, Subject, outcome_text, verdict_text};
 
 /// Whether a line records what the bus tells. Where it is a change, the bus makes it.
 pub(crate) fn step_along(
@@ -25,29 +25,29 @@ pub(crate) fn step_along(
 ) -> Result<bool, AllocError>
     ensures right { IfOk result (λ is_right. is_right ≡ records_told registry.old kept.now) }
     ensures made { OnOk result (registry.new
-        ≡ after registry.old (entries_of kept.now.seat kept.now.deed)) }
+        ≡ after registry.old (entries_of kept.now.seat kept.now.subject)) }
 {
     let line = kept.told(alloc)?;
-    let text = tell(alloc, registry, kept.seat(), &line.deed)?;
+    let text = tell(alloc, registry, kept.seat(), &line.subject)?;
     Ok(line.records(text.as_str()))
 }
 
-/// What the bus tells of a deed of this seat. Where it is a change, the bus makes it.
+/// What the bus tells of a subject of this seat. Where it is a change, the bus makes it.
 pub(crate) fn tell(
     alloc: Global,
     registry: &mut Registry,
     seat: u8,
-    deed: &Deed<'_>,
+    subject: &Subject<'_>,
 ) -> Result<String, AllocError>
     ensures told { IfOk result (λ text. string_bytes text
-        ≡ told registry.old seat (deed_told deed.now)) }
+        ≡ told registry.old seat (subject_told subject.now)) }
     ensures made { OnOk result (registry.new
-        ≡ after registry.old (entries_of seat (deed_told deed.now))) }
+        ≡ after registry.old (entries_of seat (subject_told subject.now))) }
 {
-    match deed {
-        Deed::Change { change, .. } => make(alloc, registry, seat, change),
-        Deed::Query(query) => answer_text(alloc, registry, query),
-        Deed::Route(route) => route_text(alloc, registry, route),
+    match subject {
+        Subject::Change { change, .. } => make(alloc, registry, seat, change),
+        Subject::Query(query) => answer_text(alloc, registry, query),
+        Subject::Route(route) => route_text(alloc, registry, route),
     }
 }
 

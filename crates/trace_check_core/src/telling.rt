@@ -60,7 +60,7 @@ fn told_there(
 {
     let mut registry = bus_before(alloc, trace, places, line)?;
     let told = line.told(alloc)?;
-    tell(alloc, &mut registry, line.seat(), &told.deed)
+    tell(alloc, &mut registry, line.seat(), &told.subject)
 }
 
 /// The bus that a line tells of.
@@ -94,7 +94,7 @@ fn make_change(alloc: Global, registry: &mut Registry, place: &Place<'_>) -> Res
 {
     if let Some(change) = &place.change {
         let line = change.line.told(alloc)?;
-        tell(alloc, registry, change.line.seat(), &line.deed)?;
+        tell(alloc, registry, change.line.seat(), &line.subject)?;
     }
     Ok(())
 }

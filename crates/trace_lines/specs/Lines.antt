@@ -11,20 +11,20 @@ use Rattle.trace_words.specs.Routes.{route_from}
 use Rattle.trace_words.specs.Recorded.{is_outcome, is_answer, is_verdict}
 
 -- a change with its number among those of its seat, a query, or a message that is routed
-pub data Deed : Type 0 where
-  Made : ℕ → Change → Deed
-  Asked : Query → Deed
-  Routed : Facts → Deed
+pub data Subject : Type 0 where
+  Made : ℕ → Change → Subject
+  Asked : Query → Subject
+  Routed : Facts → Subject
 
 -- Where in the history a line stands, whose it is, what it tells of, and the words behind its arrow.
 pub record Line : Type 0 where
   pub place : ℕ
   pub seat : ℕ
-  pub deed : Deed
+  pub subject : Subject
   pub recorded : List Text
 
-abbrev pub line : ℕ → ℕ → Deed → List Text → Line
-line place seat deed recorded = record { place = place; seat = seat; deed = deed; recorded = recorded }
+abbrev pub line : ℕ → ℕ → Subject → List Text → Line
+line place seat subject recorded = record { place = place; seat = seat; subject = subject; recorded = recorded }
 
 -- the words behind an arrow
 abbrev pub recorded_from : List Text → Option (List Text)

@@ -8,12 +8,12 @@
 //!
 //! ```
 //! use std::alloc::{AllocError, Global};
-//! use trace_lines::{Deed, read_line};
+//! use trace_lines::{Subject, read_line};
 //!
 //! fn asks_at_place_1(alloc: Global) -> Result<bool, AllocError> {
 //!     let line = read_line(alloc, 1, "q 1 1 owner :1.1 => :1.1")?;
 //!     Ok(match line {
-//!         Some(line) => line.place == 1 && matches!(line.deed, Deed::Query(_)),
+//!         Some(line) => line.place == 1 && matches!(line.subject, Subject::Query(_)),
 //!         None => false,
 //!     })
 //! }
@@ -21,20 +21,20 @@
 #![tactic(auto)]
 
 mod answer_words;
-mod deeds;
 mod draft;
 mod heads;
 mod line;
 mod lines;
 mod list_item;
 mod records;
+mod subjects;
 mod told;
 mod writing;
 
 pub use answer_words::AnswerWords;
 pub use draft::Draft;
 pub use heads::{read_profile, read_routers, read_service};
-pub use line::{Deed, Line};
+pub use line::{Line, Subject};
 pub use lines::read_line;
 pub use trace_words::{KeptArgument, Route};
 pub use writing::{

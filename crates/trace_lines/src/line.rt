@@ -4,7 +4,7 @@ use trace_words::{Parts, Route};
 
 /// What a line tells of.
 #[derive(Drop)]
-pub enum Deed<'a> {
+pub enum Subject<'a> {
     /// A change.
     Change {
         /// Its number among the changes of its seat, from 1.
@@ -24,7 +24,7 @@ pub struct Line<'a> {
     pub place: u64,
     /// 0 for the main thread, else a router's number.
     pub seat: u64,
-    pub deed: Deed<'a>,
+    pub subject: Subject<'a>,
     /// The words behind the arrow.
     pub(crate) recorded: Parts<'a>,
 }

@@ -5,7 +5,7 @@ ghost use Rattle.trace_words.specs.Cutting.{parts_left};
 ghost use Rattle.trace_lines.specs.Lines.{change_line_from, is_answer_alone, line_of, query_line_from, recorded_from, route_line_from, seat_of};
 ghost use Rattle.trace_lines.specs.LineViews.{line_told};
 
-use crate::line::{Deed, Line};
+use crate::line::{Line, Subject};
 use seq_bus_core::Query;
 use std::alloc::{AllocError, Global};
 use trace_words::{
@@ -52,7 +52,7 @@ fn change_line<'a>(
     Ok(Some(Line {
         place,
         seat,
-        deed: Deed::Change { number, change },
+        subject: Subject::Change { number, change },
         recorded,
     }))
 }
@@ -78,7 +78,7 @@ fn query_line(place: u64, seat: u64, mut words: Parts<'_>) -> Option<Line<'_>>
     Some(Line {
         place,
         seat,
-        deed: Deed::Query(query),
+        subject: Subject::Query(query),
         recorded,
     })
 }
@@ -104,7 +104,7 @@ fn route_line<'a>(
     Ok(Some(Line {
         place,
         seat,
-        deed: Deed::Route(route),
+        subject: Subject::Route(route),
         recorded,
     }))
 }

@@ -5,8 +5,8 @@ ghost use Rattle.trace_lines.specs.Texts.{change_line_text, change_text, outcome
 ghost use Rattle.trace_lines.specs.TextViews.{given_answer, numbered};
 
 use crate::answer_words::AnswerWords;
-use crate::deeds::{write_change, write_facts, write_query};
 use crate::draft::Draft;
+use crate::subjects::{write_change, write_facts, write_query};
 use crate::told::{write_answer, write_outcome, write_verdict, write_whole_outcome};
 use match_rules::Facts;
 use names::WellKnown;

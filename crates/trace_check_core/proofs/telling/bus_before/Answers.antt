@@ -31,7 +31,7 @@ returns-then-is_some c =
     let t : Trace = c.args.trace.now in
     let count = length-take c.place-at.result c.args.places.now in
     let there : c.place-at.result ≡ c.args.line.now.place = c.place-at.ensures.value in
-    let change : is_some (number_made c.args.line.now.deed) ≡ true = ap is_some (sym c.number.ensures) ∙ sym c.is_some.ensures ∙ c.if-is_some.true in
+    let change : is_some (number_made c.args.line.now.subject) ≡ true = ap is_some (sym c.number.ensures) ∙ sym c.is_some.ensures ∙ c.if-is_some.true in
     let all : c.loop-place.place-index ≡ c.place-at.result = omega (arith, count, there, c.requires.within) in
     change_told_of t c.args.line.now c.place-at.result c.loop-place.registry there (c.place-at.ensures.placed change) change (c.loop-place.invariant ∙ ap (state_before t) all)
 
@@ -41,7 +41,7 @@ returns c =
     let places : List Place = c.args.places.now in
     let count = length-take c.place-at.result places in
     let there : c.place-at.result ≡ c.args.line.now.place = c.place-at.ensures.value in
-    let read : is_some (number_made c.args.line.now.deed) ≡ false = ap is_some (sym c.number.ensures) ∙ sym c.is_some.ensures ∙ c.if-is_some.false in
+    let read : is_some (number_made c.args.line.now.subject) ≡ false = ap is_some (sym c.number.ensures) ∙ sym c.is_some.ensures ∙ c.if-is_some.false in
     let all : c.loop-place.place-index ≡ c.place-at.result = omega (arith, count, there, c.requires.within) in
     let seated : Each (IsSeated t.routers) t.lines = subst (λ (r : ℕ). Each (IsSeated r) t.lines) c.routers.ensures.value c.routers.ensures.lines_seated in
     read_told_of t c.args.line.now c.place-at.result _ there read

@@ -1,4 +1,4 @@
-use Rattle.trace_lines.proofs.deeds.write_change.Goals as goal
+use Rattle.trace_lines.proofs.subjects.write_change.Goals as goal
 
 pub returns-in-RemoveMatch : goal.returns-in-RemoveMatch
 returns-in-RemoveMatch c = rw c.in-RemoveMatch.is c.write_ruled-in-RemoveMatch.ensures
