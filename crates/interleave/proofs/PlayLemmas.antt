@@ -198,7 +198,7 @@ within_published m place beginnings is =
 pub one_read : (m : Moment) (log : List Logged) (play new : Play) (seat place : ℕ) (question : Question) (s now : Seat) (line : LogLine) → AreBeginnings m → IsPlayed m log play → slice_get play.seats.items seat ≡ Some s →
     (s.seen ≤ place → place ≤ length play.published.items → now ≡ record { seen = place; bus = bus_along s.bus (map making (drop s.seen (take place play.published.items))) }) →
     new.published.items ≡ play.published.items → new.ends.items ≡ play.ends.items → new.seats.items ≡ slice_set play.seats.items seat now → new.log.items ≡ play.log.items ++ line ∷ [] →
-    line.seat ≡ seat → line.place ≡ place → Says line.answer (said_of now.bus question) → (o : Option History) → slice_get m.seen seat ≡ o → may_read m place o ≡ true → Comes (after_read m seat place question o) log new
+    line.seat ≡ seat → line.place ≡ place → Says line.exchange (said_of now.bus question) → (o : Option History) → slice_get m.seen seat ≡ o → may_read m place o ≡ true → Comes (after_read m seat place question o) log new
 one_read m log play new seat place question s now line beginnings played there caught published ends seats lines line_seat line_place said None known is = absurd (cc is)
 one_read m log play new seat place question s now line beginnings played there caught published ends seats lines line_seat line_place said (Some seen) known is =
     subst (λ b. Comes (result b) log new) (sym is) (record {
@@ -206,7 +206,7 @@ one_read m log play new seat place question s now line beginnings played there c
       ends = ends ∙ played.ends;
       seats = ap (map sight) seats ∙ seats_with m log play seat now (take place m.published) played now_is;
       lines = subst (λ xs. AreLines xs (log ++ logged_read m seat place question ∷ [])) (sym lines)
-          (lines_more play.log.items (line ∷ []) log (logged_read m seat place question ∷ []) played.lines (record { seat = line_seat; place = line_place; said = subst (λ b. Says line.answer (said_of b question)) bus_is said }, tt));
+          (lines_more play.log.items (line ∷ []) log (logged_read m seat place question ∷ []) played.lines (record { seat = line_seat; place = line_place; said = subst (λ b. Says line.exchange (said_of b question)) bus_is said }, tt));
     })
   where
     result : Bool → Happened

@@ -71,7 +71,7 @@ none_published b seat before logged = record { bus = refl; made = sym (append-ni
 -- one more change is made
 pub one_published : (b : WholeBus) (seat : ℕ) (before : List Made) (logged : List LogLine) (changes : List Change) (change : Change) (now later : WholeBus) (published : List Made) (log : List LogLine) (made : Made) (line : LogLine) →
     IsPublishing b seat before logged changes now published log → later ≡ (bus_step now seat change).0 → making made ≡ record { seat = seat; change = change } →
-    line.seat ≡ seat → line.place ≡ length published + 1 → Says line.answer (Told change (bus_step now seat change).1) →
+    line.seat ≡ seat → line.place ≡ length published + 1 → Says line.exchange (Told change (bus_step now seat change).1) →
     IsPublishing b seat before logged (changes ++ change ∷ []) later (published ++ made ∷ []) (log ++ line ∷ [])
 one_published b seat before logged changes change now later published log made line so_far later_is made_is seat_is place_is said = record {
   bus = later_is ∙ ap (λ (w : WholeBus). (bus_step w seat change).0) so_far.bus ∙ sym (makings_push b seat changes change);
@@ -91,7 +91,7 @@ one_published b seat before logged changes change now later published log made l
     next_line = record {
       seat = seat_is;
       place = place_is ∙ ap (λ n. n + 1) count;
-      said = subst (λ (w : WholeBus). Says line.answer (Told change (bus_step w seat change).1)) so_far.bus said;
+      said = subst (λ (w : WholeBus). Says line.exchange (Told change (bus_step w seat change).1)) so_far.bus said;
     }
 
     told_is : (lines : List Logged) → (lines ++ told_from b seat (length before) changes) ++ next ∷ [] ≡ lines ++ told_from b seat (length before) (changes ++ change ∷ [])

@@ -7,7 +7,7 @@ ghost use Rattle.seq_bus_core.specs.Tickets.{opening_bus, bus_step};
 ghost use Rattle.interleave_core.specs.Worlds.{said_of};
 ghost use Rattle.interleave.specs.Logs.{Says};
 
-use crate::log::Answer;
+use crate::log::Exchange;
 use activation::HeldCalls;
 use interleave_core::Question;
 use names::WellKnown;
@@ -75,8 +75,8 @@ impl SteppedBus {
         &self,
         alloc: Global,
         question: &'a Question<'a>,
-    ) -> Result<Answer<'a>, AllocError>
-        ensures { IfOk result (λ answer. Says answer (said_of self.now question.now)) }
+    ) -> Result<Exchange<'a>, AllocError>
+        ensures { IfOk result (λ exchange. Says exchange (said_of self.now question.now)) }
     {
         match question {
             Question::Ask(query) => {
@@ -84,20 +84,20 @@ impl SteppedBus {
                 let Ok(asked) = self.registry.answer(query, &mut body) else {
                     return Err(AllocError);
                 };
-                Ok(Answer::Body { query, asked, body })
+                Ok(Exchange::Body { query, asked, body })
             }
             Question::Route { from, facts } => {
                 let verdict = self.registry.route(*from, facts);
                 let Ok(verdict) = Box::new(alloc, verdict) else {
                     return Err(AllocError);
                 };
-                Ok(Answer::Verdict {
+                Ok(Exchange::Verdict {
                     from: *from,
                     facts,
                     verdict,
                 })
             }
-            Question::Present(number) => Ok(Answer::Presence {
+            Question::Present(number) => Ok(Exchange::Presence {
                 number: *number,
                 present: self.registry.present(*number),
             }),

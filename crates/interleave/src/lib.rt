@@ -5,7 +5,7 @@
 //!
 //! ```
 //! use bus_view::can_open;
-//! use interleave::{Answer, Question, Step, World, run};
+//! use interleave::{Exchange, Question, Step, World, run};
 //! use seq_bus_core::Change;
 //! use std::alloc::{AllocError, Global};
 //!
@@ -31,7 +31,7 @@
 //!     let Some(line) = log.lines.get(1) else {
 //!         return Ok(false);
 //!     };
-//!     Ok(matches!(&line.answer, Answer::Presence { present: true, .. }))
+//!     Ok(matches!(&line.exchange, Exchange::Presence { present: true, .. }))
 //! }
 //! ```
 #![tactic(auto)]
@@ -44,6 +44,6 @@ mod seat;
 mod world;
 
 pub use interleave_core::{Question, Step, laws};
-pub use log::{Answer, Log, LogLine};
+pub use log::{Exchange, Log, LogLine};
 pub use runs::run;
 pub use world::World;

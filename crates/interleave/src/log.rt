@@ -4,9 +4,9 @@ use bus_view::Asked;
 use match_rules::Facts;
 use seq_bus_core::{Change, Outcome, Query, Verdict};
 
-/// A question with its answer.
+/// A question, and what it is answered.
 #[derive(Drop)]
-pub enum Answer<'a> {
+pub enum Exchange<'a> {
     /// What a change was told.
     Outcome {
         change: &'a Change,
@@ -38,7 +38,7 @@ pub struct LogLine<'a> {
     pub seat: u8,
     /// The length of the history that was read; of a change its place in the history, from 1.
     pub place: usize,
-    pub answer: Answer<'a>,
+    pub exchange: Exchange<'a>,
 }
 
 /// All that the seats were answered, in order.

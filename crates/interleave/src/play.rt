@@ -72,11 +72,11 @@ impl<'a> Play<'a> {
         }
         let at = seat as usize;
         self.seats[at].catch_up(alloc, self.published.as_slice(), place)?;
-        let answer = self.seats[at].bus.answer(alloc, question)?;
+        let exchange = self.seats[at].bus.answer(alloc, question)?;
         self.log.push(LogLine {
             seat,
             place,
-            answer,
+            exchange,
         })?;
         Ok(())
     }

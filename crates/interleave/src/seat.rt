@@ -6,7 +6,7 @@ ghost use Rattle.interleave.specs.Playing.{bus_along, making, makings};
 ghost use Rattle.interleave_core.specs.Worlds.{Logged, told_from};
 
 use crate::bus::SteppedBus;
-use crate::log::{Answer, LogLine};
+use crate::log::{Exchange, LogLine};
 use seq_bus_core::Change;
 use std::alloc::{AllocError, Global};
 
@@ -70,7 +70,7 @@ impl Seat {
             log.push(LogLine {
                 seat,
                 place: published.len(),
-                answer: Answer::Outcome { change, outcome },
+                exchange: Exchange::Outcome { change, outcome },
             })?;
         }
         self.seen = published.len();

@@ -2,7 +2,7 @@
 
 use crate::samples::services;
 use bus_view::can_open;
-use interleave::{Answer, LogLine, Question, Step};
+use interleave::{Exchange, LogLine, Question, Step};
 use owner_queues::Profile;
 use registry::Registry;
 use seq_bus_core::{AddressedSignal, Change, NumberedOutcome, Outcome};
@@ -178,7 +178,7 @@ fn are_right(
     place: usize,
 ) -> Result<bool, AllocError> {
     for (line, due) in lines.iter().zip(due) {
-        if line.place == place && !says(alloc, bus, told, &line.answer, due.question)? {
+        if line.place == place && !says(alloc, bus, told, &line.exchange, due.question)? {
             return Ok(false);
         }
     }
@@ -189,27 +189,27 @@ fn says(
     alloc: Global,
     bus: &Registry,
     told: Option<&NumberedOutcome>,
-    answer: &Answer<'_>,
+    exchange: &Exchange<'_>,
     question: Option<&Question<'_>>,
 ) -> Result<bool, AllocError> {
-    Ok(match (answer, question) {
-        (Answer::Outcome { outcome, .. }, None) => {
+    Ok(match (exchange, question) {
+        (Exchange::Outcome { outcome, .. }, None) => {
             told.is_some_and(|told| is_told(outcome, told))
         }
-        (Answer::Body { asked, body, .. }, Some(Question::Ask(query))) => {
+        (Exchange::Body { asked, body, .. }, Some(Question::Ask(query))) => {
             let mut due = Vec::new(alloc);
             let Ok(due_asked) = bus.answer(query, &mut due) else {
                 return Err(AllocError);
             };
             *asked == due_asked && body.as_slice() == due.as_slice()
         }
-        (Answer::Verdict { verdict, .. }, Some(Question::Route { from, facts })) => {
+        (Exchange::Verdict { verdict, .. }, Some(Question::Route { from, facts })) => {
             let due = bus.route(*from, facts);
             verdict.kind == due.kind
                 && verdict.to.as_slice() == due.to.as_slice()
                 && verdict.monitors.as_slice() == due.monitors.as_slice()
         }
-        (Answer::Presence { present, .. }, Some(Question::Present(number))) => {
+        (Exchange::Presence { present, .. }, Some(Question::Present(number))) => {
             *present == bus.present(*number)
         }
         _ => false,

@@ -1,7 +1,7 @@
 //! Steps, and what is found in their log.
 
 use bus_view::can_open;
-use interleave::{Answer, LogLine, Question, Step, World};
+use interleave::{Exchange, LogLine, Question, Step, World};
 use match_rules::{Facts, MessageKind, Rule};
 use names::{BusName, WellKnown};
 use owner_queues::RequestFlags;
@@ -185,8 +185,8 @@ pub(crate) fn goes_to(line: Option<&LogLine<'_>>, numbers: &[u64]) -> bool {
     let Some(line) = line else {
         return false;
     };
-    match &line.answer {
-        Answer::Verdict { verdict, .. } => has_numbers(verdict.to.as_slice(), numbers),
+    match &line.exchange {
+        Exchange::Verdict { verdict, .. } => has_numbers(verdict.to.as_slice(), numbers),
         _ => false,
     }
 }
@@ -196,8 +196,8 @@ pub(crate) fn is_shown_to(line: Option<&LogLine<'_>>, numbers: &[u64]) -> bool {
     let Some(line) = line else {
         return false;
     };
-    match &line.answer {
-        Answer::Verdict { verdict, .. } => has_numbers(verdict.monitors.as_slice(), numbers),
+    match &line.exchange {
+        Exchange::Verdict { verdict, .. } => has_numbers(verdict.monitors.as_slice(), numbers),
         _ => false,
     }
 }
@@ -215,7 +215,7 @@ pub(crate) fn settles(line: Option<&LogLine<'_>>, fate: Fate, numbers: &[u64]) -
     let Some(line) = line else {
         return false;
     };
-    let Answer::Outcome { outcome, .. } = &line.answer else {
+    let Exchange::Outcome { outcome, .. } = &line.exchange else {
         return false;
     };
     let tickets = outcome.tickets.as_slice();

@@ -28,6 +28,6 @@ returns c m log beginnings played =
     let caught : s.seen ≤ place → place ≤ length play.published.items → now ≡ record { seen = place; bus = bus_along s.bus (map making (drop s.seen (take place play.published.items))) } =
     subst (λ (all : List Made). s.seen ≤ place → place ≤ length all → now ≡ record { seen = place; bus = bus_along s.bus (map making (drop s.seen (take place all))) }) c.as_slice.ensures.value c.in_ok-catch_up.ensures in
     let lent : c.index.result.now ≡ now = c.index.ensures ∙ get_or-set_same seats seat now c.index.result.now lt in
-    let said : Says c.in_ok-answer.answer (said_of now.bus c.args.question.now) = subst (λ (x : Seat). Says c.in_ok-answer.answer (said_of x.bus c.args.question.now)) lent c.in_ok-answer.ensures in
+    let said : Says c.in_ok-exchange.exchange (said_of now.bus c.args.question.now) = subst (λ (x : Seat). Says c.in_ok-exchange.exchange (said_of x.bus c.args.question.now)) lent c.in_ok-exchange.ensures in
     let is : may_read m place (slice_get m.seen seat) ≡ true = sym (c.if-not-may_read.ensures.right m log played) in
     one_read m log play _ seat place c.args.question.now s now _ beginnings played there caught refl refl refl c.in_ok-push.ensures.items refl refl said (slice_get m.seen seat) refl is
