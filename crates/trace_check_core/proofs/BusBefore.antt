@@ -13,17 +13,17 @@ use Rattle.trace_check_core.specs.Placing.{LinesThere, lines_by_place, numbered,
 use Rattle.trace_check_core.specs.Traces.{Trace}
 use Rattle.trace_check_core.specs.Verdicts.{first_line, is_placed, misplaced}
 use Rattle.trace_check_core.specs.Walks.{bus_told_of, change_entries, line_at, state_before}
-use Rattle.trace_check_core.specs.declared.places.Place.{Place}
+use Rattle.trace_check_core.specs.declared.places.PlaceLines.{PlaceLines}
 use Rattle.trace_check_core.proofs.LegalityLaws.{all_within}
 use Rattle.trace_check_core.proofs.PlaceLemmas.{count_places, seen_at}
 use Rattle.trace_check_core.proofs.WalkLaws.{all_pass, found_entries, once, state_next}
 
-pub few_places : (t : Trace) (places : List Place) (place : ℕ) → map place_seen places ≡ lines_by_place t → place ≤ changes_in t.lines → place < length places
+pub few_places : (t : Trace) (places : List PlaceLines) (place : ℕ) → map place_seen places ≡ lines_by_place t → place ≤ changes_in t.lines → place < length places
 few_places t places place seen within =
     let count = count_places (changes_in t.lines) (numbered (first_line t) t.lines) places seen in omega (arith, count, within)
 
 -- after the change of a place
-pub change_made : (t : Trace) (places : List Place) (i : ℕ) (place : Place) (bus : BusState) → misplaced t ≡ None → Each (IsSeated t.routers) t.lines → map place_seen places ≡ lines_by_place t → i < length places →
+pub change_made : (t : Trace) (places : List PlaceLines) (i : ℕ) (place : PlaceLines) (bus : BusState) → misplaced t ≡ None → Each (IsSeated t.routers) t.lines → map place_seen places ≡ lines_by_place t → i < length places →
     place ≡ get_or places i place → bus ≡ state_before t i → after bus (change_entries (place_seen place).change) ≡ state_at t i
 change_made t places i place bus placed seated seen within is before =
     let count = count_places (changes_in t.lines) (numbered (first_line t) t.lines) places seen in
@@ -34,7 +34,7 @@ change_made t places i place bus placed seated seen within is before =
     ∙ sym (state_next t i seated)
 
 -- one more of the first places
-pub one_made : (t : Trace) (places : List Place) (at i : ℕ) (place : Place) (bus next : BusState) → misplaced t ≡ None → Each (IsSeated t.routers) t.lines → map place_seen places ≡ lines_by_place t → at ≤ length places → i < at →
+pub one_made : (t : Trace) (places : List PlaceLines) (at i : ℕ) (place : PlaceLines) (bus next : BusState) → misplaced t ≡ None → Each (IsSeated t.routers) t.lines → map place_seen places ≡ lines_by_place t → at ≤ length places → i < at →
     place ≡ get_or (take at places) i place → bus ≡ state_before t i → next ≡ after bus (change_entries (place_seen place).change) → next ≡ state_before t (i + 1)
 one_made t places at i place bus next placed seated seen high low is before made =
     let one_more : suc i ≡ i + 1 = omega arith in

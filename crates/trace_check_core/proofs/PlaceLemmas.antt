@@ -14,7 +14,7 @@ use Rattle.trace_check_core.specs.Legality.{is_change}
 use Rattle.trace_check_core.specs.Placing.{LinesThere, NumberedLine, is_read_at, line_seen, lines_there, no_line_there, numbered, place_seen, placed_lines, with_line_there}
 use Rattle.trace_check_core.specs.Verdicts.{is_change_at, is_placed}
 use Rattle.trace_check_core.specs.declared.places.NumberedLine.{NumberedLine as KeptWithNumber}
-use Rattle.trace_check_core.specs.declared.places.Place.{Place}
+use Rattle.trace_check_core.specs.declared.places.PlaceLines.{PlaceLines}
 
 -- ## Numbers of lines
 
@@ -120,17 +120,17 @@ placed_more changes ns n within free =
 
 -- ## In the code
 
-pub seen_at : (changes : ℕ) (ns : List NumberedLine) (places : List Place) (place : ℕ) (p : Place) → map place_seen places ≡ placed_lines changes ns → place ≤ changes → place < length places → p ≡ get_or places place p → place_seen p ≡ lines_there ns place
+pub seen_at : (changes : ℕ) (ns : List NumberedLine) (places : List PlaceLines) (place : ℕ) (p : PlaceLines) → map place_seen places ≡ placed_lines changes ns → place ≤ changes → place < length places → p ≡ get_or places place p → place_seen p ≡ lines_there ns place
 seen_at changes ns places place p seen within inside is =
     ap place_seen is ∙ sym (get_map places place p) ∙ ap (λ (ls : List LinesThere). get_or ls place (place_seen p)) seen
     ∙ get_or-map-range_with_len (lines_there ns) 0 (changes + 1) place place (place_seen p) (omega (arith, within)) (omega arith)
   where
-    get_map : (ps : List Place) (k : ℕ) (d : Place) → get_or (map place_seen ps) k (place_seen d) ≡ place_seen (get_or ps k d)
+    get_map : (ps : List PlaceLines) (k : ℕ) (d : PlaceLines) → get_or (map place_seen ps) k (place_seen d) ≡ place_seen (get_or ps k d)
     get_map [] k d = refl
     get_map (q ∷ ps) zero d = refl
     get_map (q ∷ ps) (suc k) d = get_map ps k d
 
-pub placed_step : (changes : ℕ) (ns : List NumberedLine) (n : NumberedLine) (places : List Place) (p : Place) → map place_seen places ≡ placed_lines changes ns → n.line.place ≤ changes → IsFree ns n →
+pub placed_step : (changes : ℕ) (ns : List NumberedLine) (n : NumberedLine) (places : List PlaceLines) (p : PlaceLines) → map place_seen places ≡ placed_lines changes ns → n.line.place ≤ changes → IsFree ns n →
     place_seen p ≡ with_line_there (lines_there ns n.line.place) n → map place_seen (set places n.line.place p) ≡ placed_lines changes (ns ++ n ∷ [])
 placed_step changes ns n places p seen within free is =
     map-set place_seen places n.line.place p ∙ ap (λ (ls : List LinesThere). set ls n.line.place (place_seen p)) seen
@@ -160,12 +160,12 @@ found_any place number (line ∷ lines) = by_test (is_change_at place line) (fou
 
 -- ## A line more in the code
 
-pub count_places : (changes : ℕ) (ns : List NumberedLine) (places : List Place) → map place_seen places ≡ placed_lines changes ns → length places ≡ changes + 1
+pub count_places : (changes : ℕ) (ns : List NumberedLine) (places : List PlaceLines) → map place_seen places ≡ placed_lines changes ns → length places ≡ changes + 1
 count_places changes ns places seen =
     sym (length-map places place_seen) ∙ ap length seen ∙ length-map (range_with_len 0 (changes + 1)) (lines_there ns) ∙ length-range_with_len 0 (changes + 1)
 
 -- a line above all changes
-pub above_all : (changes first : ℕ) (before : List Line) (line : Line) (places : List Place) (place : ℕ) → map place_seen places ≡ placed_lines changes (numbered first before) →
+pub above_all : (changes first : ℕ) (before : List Line) (line : Line) (places : List PlaceLines) (place : ℕ) → map place_seen places ≡ placed_lines changes (numbered first before) →
     place ≡ line.place → length places ≤ place → is_placed changes before line ≡ false
 above_all changes first before line places place seen stands above =
     let count = count_places changes (numbered first before) places seen in
@@ -174,18 +174,18 @@ above_all changes first before line places place seen stands above =
     ap (λ (b : Bool). b && not (is_change line && list_any (is_change_at line.place) before)) no
 
 -- a place of the code, as it is seen
-pub record IsAt (changes first : ℕ) (before : List Line) (places : List Place) (place : ℕ) (p : Place) : Type 0 where
+pub record IsAt (changes first : ℕ) (before : List Line) (places : List PlaceLines) (place : ℕ) (p : PlaceLines) : Type 0 where
   pub seen : map place_seen places ≡ placed_lines changes (numbered first before)
   pub inside : place < length places
   pub is : p ≡ get_or places place p
 
-at_most : (changes first : ℕ) (before : List Line) (places : List Place) (place : ℕ) (p : Place) → IsAt changes first before places place p → place ≤ changes
+at_most : (changes first : ℕ) (before : List Line) (places : List PlaceLines) (place : ℕ) (p : PlaceLines) → IsAt changes first before places place p → place ≤ changes
 at_most changes first before places place p h = let count = count_places changes (numbered first before) places h.seen in omega (arith, count, h.inside)
 
-there_seen : (changes first : ℕ) (before : List Line) (places : List Place) (place : ℕ) (p : Place) → IsAt changes first before places place p → place_seen p ≡ lines_there (numbered first before) place
+there_seen : (changes first : ℕ) (before : List Line) (places : List PlaceLines) (place : ℕ) (p : PlaceLines) → IsAt changes first before places place p → place_seen p ≡ lines_there (numbered first before) place
 there_seen changes first before places place p h = seen_at changes (numbered first before) places place p h.seen (at_most changes first before places place p h) h.inside h.is
 
-taken_there : (changes first : ℕ) (before : List Line) (line : Line) (places : List Place) (place : ℕ) (p : Place) → IsAt changes first before places place p → place ≡ line.place →
+taken_there : (changes first : ℕ) (before : List Line) (line : Line) (places : List PlaceLines) (place : ℕ) (p : PlaceLines) → IsAt changes first before places place p → place ≡ line.place →
     is_placed changes before line ≡ not (is_change line && is_some p.change)
 taken_there changes first before line places place p h stands =
     let low = at_most changes first before places place p h in
@@ -197,11 +197,11 @@ taken_there changes first before line places place p h stands =
     ∙ ap (λ (b : Bool). not (is_change line && b)) any
 
 -- a change where another one stands
-pub taken_refused : (changes first : ℕ) (before : List Line) (line : Line) (places : List Place) (place : ℕ) (p : Place) → IsAt changes first before places place p → place ≡ line.place →
+pub taken_refused : (changes first : ℕ) (before : List Line) (line : Line) (places : List PlaceLines) (place : ℕ) (p : PlaceLines) → IsAt changes first before places place p → place ≡ line.place →
     (is_change line && is_some p.change) ≡ true → is_placed changes before line ≡ false
 taken_refused changes first before line places place p h stands taken = taken_there changes first before line places place p h stands ∙ ap not taken
 
-pub free_passes : (changes first : ℕ) (before : List Line) (line : Line) (places : List Place) (place : ℕ) (p : Place) → IsAt changes first before places place p → place ≡ line.place →
+pub free_passes : (changes first : ℕ) (before : List Line) (line : Line) (places : List PlaceLines) (place : ℕ) (p : PlaceLines) → IsAt changes first before places place p → place ≡ line.place →
     (is_change line && is_some p.change) ≡ false → is_placed changes before line ≡ true
 free_passes changes first before line places place p h stands free = taken_there changes first before line places place p h stands ∙ ap not free
 
@@ -213,7 +213,7 @@ not_both : (a b : Bool) → (a && b) ≡ false → a ≡ true → b ≡ false
 not_both true b e is = e
 not_both false b e is = absurd (true≢false (sym is))
 
-pub placed_with : (changes first : ℕ) (before : List Line) (line : Line) (number : ℕ) (places : List Place) (place : ℕ) (p q : Place) → IsAt changes first before places place p →
+pub placed_with : (changes first : ℕ) (before : List Line) (line : Line) (number : ℕ) (places : List PlaceLines) (place : ℕ) (p q : PlaceLines) → IsAt changes first before places place p →
     place ≡ line.place → (is_change line && is_some p.change) ≡ false → number ≡ first + length before →
     place_seen q ≡ with_line_there (place_seen p) (record { number = number; line = line }) → map place_seen (set places place q) ≡ placed_lines changes (numbered first (before ++ line ∷ []))
 placed_with changes first before line number places place p q h stands free counted is =
@@ -229,7 +229,7 @@ placed_with changes first before line number places place p q h stands free coun
     ∙ ap (placed_lines changes) (sym (numbered_more first before line))
 
 -- what stands at an index is one thing
-pub same_there : (places : List Place) (i : ℕ) (p q : Place) → i < length places → p ≡ get_or places i p → q ≡ get_or places i q → p ≡ q
+pub same_there : (places : List PlaceLines) (i : ℕ) (p q : PlaceLines) → i < length places → p ≡ get_or places i p → q ≡ get_or places i q → p ≡ q
 same_there [] i p q within e f = absurd (omega (arith, within))
 same_there (x ∷ places) zero p q within e f = e ∙ sym f
 same_there (x ∷ places) (suc i) p q within e f = same_there places i p q (omega (arith, within)) e f

@@ -6,7 +6,7 @@ use Rattle.trace_check_core.specs.Legality.{changes_in, is_change}
 use Rattle.trace_check_core.specs.Traces.{Trace}
 use Rattle.trace_check_core.specs.Verdicts.{first_line, is_change_at}
 use Rattle.trace_check_core.specs.declared.places.NumberedLine.{NumberedLine as KeptWithNumber}
-use Rattle.trace_check_core.specs.declared.places.Place.{Place}
+use Rattle.trace_check_core.specs.declared.places.PlaceLines.{PlaceLines}
 
 -- a line with its number among all lines of its trace
 pub record NumberedLine : Type 0 where
@@ -35,7 +35,7 @@ lines_there lines place = record {
 abbrev pub line_seen : KeptWithNumber → NumberedLine
 line_seen n = record { number = n.number; line = n.line.now }
 
-abbrev pub place_seen : Place → LinesThere
+abbrev pub place_seen : PlaceLines → LinesThere
 place_seen place = record { change = option_map line_seen place.change; reads = map line_seen place.reads.items }
 
 -- lines by the places from 0 to the count of changes

@@ -18,7 +18,7 @@
 //! ```
 //!
 //! [`Trace::read`] reads a file. [`Trace::out_of_order`] and [`Trace::places`] look for lines that
-//! stand wrong, which needs no bus. What the lines record is compared at the [`Place`]s.
+//! stand wrong, which needs no bus. What the lines record is compared place by place ([`PlaceLines`]).
 //!
 //! ```
 //! use std::alloc::{AllocError, Global};
@@ -57,7 +57,7 @@ mod walk;
 
 pub use checking::check;
 pub use kept_line::KeptLine;
-pub use places::{NumberedLine, Place};
+pub use places::{NumberedLine, PlaceLines};
 pub use telling::told_at;
 pub use trace::Trace;
 pub use verdict::{Cause, Verdict};

@@ -18,17 +18,17 @@ pub struct NumberedLine<'t> {
 
 /// The lines of a place: the change that stands there, and what was read once it was made.
 #[derive(Drop)]
-pub struct Place<'t> {
+pub struct PlaceLines<'t> {
     pub change: Option<NumberedLine<'t>>,
     pub reads: Vec<NumberedLine<'t>>,
 }
 
-impl<'t> Place<'t> {
+impl<'t> PlaceLines<'t> {
     /// A place where no line stands.
-    fn new(alloc: Global) -> Place<'t>
+    fn new(alloc: Global) -> PlaceLines<'t>
         ensures { place_seen result ≡ no_line_there }
     {
-        Place {
+        PlaceLines {
             change: None,
             reads: Vec::new(alloc),
         }
@@ -52,7 +52,7 @@ impl<'t> Place<'t> {
 impl Trace<'_> {
     /// The lines by their places, from 0 to the last change's; or the number of the first line that
     /// stands above all changes, or is a change where another one stands.
-    pub fn places(&self, alloc: Global) -> Result<Result<Vec<Place<'_>>, u64>, AllocError>
+    pub fn places(&self, alloc: Global) -> Result<Result<Vec<PlaceLines<'_>>, u64>, AllocError>
         ensures misplaced { IfOk result (λ found.
             IfErr found (λ number. misplaced self.now ≡ Some number)) }
         ensures placed { IfOk result (λ found. IfOk found (λ places. misplaced self.now ≡ None)) }
@@ -75,20 +75,20 @@ impl Trace<'_> {
 }
 
 /// Whether a line is a change, and there is one already.
-fn is_taken(place: &Place<'_>, line: &KeptLine<'_>) -> bool
+fn is_taken(place: &PlaceLines<'_>, line: &KeptLine<'_>) -> bool
     ensures { result ≡ (is_change line.now && is_some place.now.change) }
 {
     line.number().is_some() && place.change.is_some()
 }
 
 /// So many places where no line stands.
-fn no_lines<'a>(alloc: Global, count: usize) -> Result<Vec<Place<'a>>, AllocError>
+fn no_lines<'a>(alloc: Global, count: usize) -> Result<Vec<PlaceLines<'a>>, AllocError>
     ensures { IfOk result (λ places. map place_seen places.items
         ≡ replicate count (no_line_there)) }
 {
     let mut places = Vec::with_capacity(alloc, count)?;
     for _ in 0..count {
-        places.push(Place::new(alloc))?;
+        places.push(PlaceLines::new(alloc))?;
     }
     Ok(places)
 }

@@ -8,7 +8,7 @@ ghost use Rattle.trace_check_core.specs.Verdicts.{misplaced};
 ghost use Rattle.trace_check_core.specs.Walks.{bus_told_of, change_entries, due_at, due_in, line_at};
 
 use crate::stepping::tell;
-use crate::{KeptLine, Place, Trace};
+use crate::{KeptLine, PlaceLines, Trace};
 use registry::Registry;
 use std::alloc::{AllocError, Global};
 
@@ -50,7 +50,7 @@ fn line_at<'t>(trace: &'t Trace<'t>, number: u64) -> Option<&'t KeptLine<'t>>
 fn told_there(
     alloc: Global,
     trace: &Trace<'_>,
-    places: &[Place<'_>],
+    places: &[PlaceLines<'_>],
     line: &KeptLine<'_>,
 ) -> Result<String, AllocError>
     requires placed { misplaced trace.now ≡ None }
@@ -67,7 +67,7 @@ fn told_there(
 fn bus_before(
     alloc: Global,
     trace: &Trace<'_>,
-    places: &[Place<'_>],
+    places: &[PlaceLines<'_>],
     line: &KeptLine<'_>,
 ) -> Result<Registry, AllocError>
     requires placed { misplaced trace.now ≡ None }
@@ -88,7 +88,11 @@ fn bus_before(
 }
 
 /// The bus makes the change of a place, if there is one.
-fn make_change(alloc: Global, registry: &mut Registry, place: &Place<'_>) -> Result<(), AllocError>
+fn make_change(
+    alloc: Global,
+    registry: &mut Registry,
+    place: &PlaceLines<'_>,
+) -> Result<(), AllocError>
     ensures { OnOk result (registry.new
         ≡ after registry.old (change_entries (place_seen place.now).change)) }
 {

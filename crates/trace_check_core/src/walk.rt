@@ -6,7 +6,7 @@ ghost use Rattle.trace_check_core.specs.Placing.{line_seen, lines_by_place, plac
 ghost use Rattle.trace_check_core.specs.Verdicts.{misplaced, wrong};
 
 use crate::stepping::step_along;
-use crate::{NumberedLine, Place, Trace};
+use crate::{NumberedLine, PlaceLines, Trace};
 use registry::Registry;
 use std::alloc::{AllocError, Global};
 
@@ -14,7 +14,7 @@ use std::alloc::{AllocError, Global};
 pub(crate) fn wrong(
     alloc: Global,
     trace: &Trace<'_>,
-    places: &[Place<'_>],
+    places: &[PlaceLines<'_>],
 ) -> Result<Option<u64>, AllocError>
     requires placed { misplaced trace.now ≡ None }
     requires places { map place_seen places.now ≡ lines_by_place trace.now }
@@ -33,7 +33,7 @@ pub(crate) fn wrong(
 fn walk_place(
     alloc: Global,
     registry: &mut Registry,
-    place: &Place<'_>,
+    place: &PlaceLines<'_>,
     least: Option<u64>,
 ) -> Result<Option<u64>, AllocError>
     ensures { IfOk result (λ found. record { bus = registry.new; least = found }

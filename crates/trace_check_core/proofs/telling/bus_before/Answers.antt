@@ -5,7 +5,7 @@ use Rattle.trace_check_core.specs.KeptLines.{IsSeated}
 use Rattle.trace_check_core.specs.Legality.{number_made}
 use Rattle.trace_check_core.specs.Traces.{Trace}
 use Rattle.trace_check_core.specs.Walks.{state_before}
-use Rattle.trace_check_core.specs.declared.places.Place.{Place}
+use Rattle.trace_check_core.specs.declared.places.PlaceLines.{PlaceLines}
 use Rattle.trace_check_core.proofs.BusBefore.{change_made, change_told_of, one_made, read_told_of}
 use Rattle.trace_check_core.proofs.telling.bus_before.Goals as goal
 
@@ -18,7 +18,7 @@ slice_bounds-place-items-end c =
 pub loop-place-preserved : goal.loop-place-preserved
 loop-place-preserved c =
     let t : Trace = c.args.trace.now in
-    let places : List Place = c.args.places.now in
+    let places : List PlaceLines = c.args.places.now in
     let count = length-take c.place-at.result places in
     let there : c.place-at.result ≡ c.args.line.now.place = c.place-at.ensures.value in
     let inside : c.loop-place.place-index < length (take c.place-at.result places) = omega arith in
@@ -38,7 +38,7 @@ returns-then-is_some c =
 pub returns : goal.returns
 returns c =
     let t : Trace = c.args.trace.now in
-    let places : List Place = c.args.places.now in
+    let places : List PlaceLines = c.args.places.now in
     let count = length-take c.place-at.result places in
     let there : c.place-at.result ≡ c.args.line.now.place = c.place-at.ensures.value in
     let read : is_some (number_made c.args.line.now.subject) ≡ false = ap is_some (sym c.number.ensures) ∙ sym c.is_some.ensures ∙ c.if-is_some.false in

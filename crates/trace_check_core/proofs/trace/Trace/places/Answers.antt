@@ -3,7 +3,7 @@ use Rattle.trace_lines.specs.Lines.{Line}
 use Rattle.trace_check_core.specs.Legality.{changes_in}
 use Rattle.trace_check_core.specs.Placing.{numbered, place_seen, placed_lines, with_line_there}
 use Rattle.trace_check_core.specs.Verdicts.{first_line, first_refused, is_placed}
-use Rattle.trace_check_core.specs.declared.places.Place.{Place}
+use Rattle.trace_check_core.specs.declared.places.PlaceLines.{PlaceLines}
 use Rattle.trace_check_core.proofs.PlaceLemmas.{IsAt, above_all, free_passes, placed_none, placed_with, same_there, taken_refused}
 use Rattle.trace_check_core.proofs.Refusals.{one_more, passed_at, refused_at}
 use Rattle.trace_check_core.proofs.trace.Trace.places.Goals as goal
@@ -53,7 +53,7 @@ loop-line-preserved c =
       places =
           placed_with (changes_in lines) first (take i lines) line (c.loop-line.number + 1) c.loop-line.places.items c.place-place.result c.index.result.now c.take.new.self at
           c.place-place.ensures.value free counted (c.in_ok-take.ensures
-          ∙ ap (λ (p : Place). with_line_there (place_seen p) (record { number = c.loop-line.number + 1; line = line }))
+          ∙ ap (λ (p : PlaceLines). with_line_there (place_seen p) (record { number = c.loop-line.number + 1; line = line }))
           (same_there c.loop-line.places.items c.place-place.result c.index_mut.result.now c.index.result.now at.inside c.index_mut.ensures.value c.index.ensures))
           ∙ ap (λ (before : List Line). placed_lines (changes_in lines) (numbered first before)) (sym (one_more lines i line within c.line-item.is));
       found = passed_at (is_placed (changes_in lines)) lines (c.loop-line.number + 1) i line _ within c.line-item.is passes c.loop-line.invariant.found;
