@@ -57,8 +57,8 @@ impl<'a> KeptLine<'a> {
         }))
     }
 
-    /// All that the line tells.
-    pub fn told(&self, alloc: Global) -> Result<Line<'a>, AllocError>
+    /// The whole line, read again from its text.
+    pub fn read_again(&self, alloc: Global) -> Result<Line<'a>, AllocError>
         ensures { IfOk result (λ line. line_told line ≡ self.now) }
     {
         match read_line(alloc, self.routers, self.text)? {

@@ -27,7 +27,7 @@ pub(crate) fn step_along(
     ensures made { OnOk result (registry.new
         ≡ after registry.old (entries_of kept.now.seat kept.now.subject)) }
 {
-    let line = kept.told(alloc)?;
+    let line = kept.read_again(alloc)?;
     let text = tell(alloc, registry, kept.seat(), &line.subject)?;
     Ok(line.records(text.as_str()))
 }

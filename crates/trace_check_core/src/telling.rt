@@ -59,8 +59,8 @@ fn told_there(
     ensures { IfOk result (λ text. string_bytes text ≡ due trace.now line.now) }
 {
     let mut registry = bus_before(alloc, trace, places, line)?;
-    let told = line.told(alloc)?;
-    tell(alloc, &mut registry, line.seat(), &told.subject)
+    let whole = line.read_again(alloc)?;
+    tell(alloc, &mut registry, line.seat(), &whole.subject)
 }
 
 /// The bus that a line tells of.
@@ -97,7 +97,7 @@ fn make_change(
         ≡ after registry.old (change_entries (place_seen place.now).change)) }
 {
     if let Some(change) = &place.change {
-        let line = change.line.told(alloc)?;
+        let line = change.line.read_again(alloc)?;
         tell(alloc, registry, change.line.seat(), &line.subject)?;
     }
     Ok(())
