@@ -9,40 +9,45 @@ use match_rules::{Facts, MessageKind, Owners};
 use names::BUS_NAME;
 use seq_bus_core::{Recipients, Verdict, VerdictKind};
 
-/// Where a message goes, and which monitors are shown it, told where nothing was told yet. Rules
+/// Where a message goes, and which monitors are shown it, put where nothing was found yet. Rules
 /// are looked at only where it goes to all that want it.
-pub fn judge<A: Audience>(audience: &A, facts: &Facts<'_>, told: &mut Verdict, count: &mut A::Count)
-    requires { told.old ≡ verdict Absent [] [] }
-    ensures verdict { told.new ≡ verdict_of (A.state audience.now) facts.now }
+pub fn judge<A: Audience>(
+    audience: &A,
+    facts: &Facts<'_>,
+    found: &mut Verdict,
+    count: &mut A::Count,
+)
+    requires { found.old ≡ verdict Absent [] [] }
+    ensures verdict { found.new ≡ verdict_of (A.state audience.now) facts.now }
     ensures spent { (count.new ≡ count.old) ⊎ A.spends audience.now facts.now count.old count.new }
 {
     if !may_send(audience, facts.sender) {
         return;
     }
-    audience.add_shown(facts, &mut told.monitors);
+    audience.add_shown(facts, &mut found.monitors);
     if is_for_bus(facts) {
-        told.kind = VerdictKind::Bus;
+        found.kind = VerdictKind::Bus;
         return;
     }
     if let Some(head) = destination_head(audience, facts) {
-        told.kind = VerdictKind::Plain;
-        add_conn(audience, head, &mut told.to);
+        found.kind = VerdictKind::Plain;
+        add_conn(audience, head, &mut found.to);
         return;
     }
     if may_start(audience, facts) {
-        told.kind = VerdictKind::Start;
+        found.kind = VerdictKind::Start;
         return;
     }
     if has_destination(facts) {
-        told.kind = VerdictKind::Nobody;
+        found.kind = VerdictKind::Nobody;
         return;
     }
     if !is_signal(facts.kind) {
-        told.kind = VerdictKind::Nobody;
+        found.kind = VerdictKind::Nobody;
         return;
     }
-    told.kind = VerdictKind::Plain;
-    audience.add_wanting(facts, &mut told.to, count);
+    found.kind = VerdictKind::Plain;
+    audience.add_wanting(facts, &mut found.to, count);
 }
 
 /// Adds the connection of a number, if it is there.

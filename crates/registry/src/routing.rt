@@ -27,11 +27,11 @@ impl Registry {
         verdict
     }
 
-    /// The same as `route`, told where there is room for it: a verdict is large, and is not moved.
-    pub fn tell_route(&self, from: u64, facts: &Facts<'_>, told: &mut Verdict)
-        ensures { told.new ≡ recipients self.now from facts.now }
+    /// The same as `route`, put where there is room for it: a verdict is large, and is not moved.
+    pub fn tell_route(&self, from: u64, facts: &Facts<'_>, found: &mut Verdict)
+        ensures { found.new ≡ recipients self.now from facts.now }
     {
-        route_with::<Brand>(self, from, facts, told, Blank::new(1));
+        route_with::<Brand>(self, from, facts, found, Blank::new(1));
     }
 
     /// The same as `tell_route`, where each rule that is tested is a step. Only rules are tested
@@ -41,22 +41,22 @@ impl Registry {
         &self,
         from: u64,
         facts: &Facts<'_>,
-        told: &mut Verdict,
+        found: &mut Verdict,
         steps: &mut Steps<L>,
     )
-        ensures verdict { told.new ≡ recipients self.now from facts.now }
+        ensures verdict { found.new ≡ recipients self.now from facts.now }
         ensures cost { steps.new
             ≤ steps.old + near_rules (record facts.now { sender = from }) self.now.rules }
     {
-        told.clear();
+        found.clear();
         if facts.sender == from {
-            self.judge(facts, told, steps);
+            self.judge(facts, found, steps);
         } else {
-            self.judge_as(from, facts, told, steps);
+            self.judge_as(from, facts, found, steps);
         }
     }
 
-    /// Where a message goes as from this sender, told where nothing was told yet. The facts are
+    /// Where a message goes as from this sender, put where nothing was found yet. The facts are
     /// copied, with room for all their arguments: that is kept out of the way of those that name
     /// their sender.
     #[inline(never)]
@@ -64,24 +64,24 @@ impl Registry {
         &self,
         sender: u64,
         facts: &Facts<'_>,
-        told: &mut Verdict,
+        found: &mut Verdict,
         steps: &mut Steps<L>,
     )
-        requires { told.old ≡ verdict Absent [] [] }
-        ensures verdict { told.new ≡ verdict_of self.now (record facts.now { sender = sender }) }
+        requires { found.old ≡ verdict Absent [] [] }
+        ensures verdict { found.new ≡ verdict_of self.now (record facts.now { sender = sender }) }
         ensures cost { steps.new
             ≤ steps.old + near_rules (record facts.now { sender = sender }) self.now.rules }
     {
-        self.judge(&with_sender(facts, sender), told, steps);
+        self.judge(&with_sender(facts, sender), found, steps);
     }
 
-    /// Where a message goes, told where nothing was told yet.
-    fn judge<L: Ledger>(&self, facts: &Facts<'_>, told: &mut Verdict, steps: &mut Steps<L>)
-        requires { told.old ≡ verdict Absent [] [] }
-        ensures verdict { told.new ≡ verdict_of self.now facts.now }
+    /// Where a message goes, put where nothing was found yet.
+    fn judge<L: Ledger>(&self, facts: &Facts<'_>, found: &mut Verdict, steps: &mut Steps<L>)
+        requires { found.old ≡ verdict Absent [] [] }
+        ensures verdict { found.new ≡ verdict_of self.now facts.now }
         ensures cost { steps.new ≤ steps.old + near_rules facts.now self.now.rules }
     {
-        judge(&Current::new(self), facts, told, steps);
+        judge(&Current::new(self), facts, found, steps);
     }
 
     /// The connection of a number, of which there is one at most.
@@ -106,15 +106,15 @@ fn route_with<L: Ledger>(
     registry: &Registry,
     from: u64,
     facts: &Facts<'_>,
-    told: &mut Verdict,
+    found: &mut Verdict,
     blank: Blank,
 )
     requires name { blank.name ≡ L.name }
     requires parts { (blank.parts ≡ L.parts) × (0 < L.parts) }
-    ensures { told.new ≡ recipients registry.now from facts.now }
+    ensures { found.new ≡ recipients registry.now from facts.now }
 {
     let mut steps = Steps::<L>::new(blank);
-    registry.route_into(from, facts, told, &mut steps);
+    registry.route_into(from, facts, found, &mut steps);
 }
 
 /// The facts of a message as from this sender.

@@ -95,15 +95,15 @@ fn route_with<L: Ledger>(
     snap: &Snap,
     from: u64,
     facts: &Facts<'_>,
-    told: &mut Verdict,
+    found: &mut Verdict,
     blank: Blank,
 )
     requires name { blank.name ≡ L.name }
     requires parts { (blank.parts ≡ L.parts) × (0 < L.parts) }
-    ensures verdict { told.new ≡ recipients snap.now.bus from facts.now }
+    ensures verdict { found.new ≡ recipients snap.now.bus from facts.now }
 {
     let mut steps = Steps::<L>::new(blank);
-    snap.route_into(from, facts, told, &mut steps);
+    snap.route_into(from, facts, found, &mut steps);
 }
 
 impl<J: Naming> Seat<J> {
@@ -224,25 +224,25 @@ impl<J: Naming> Seat<J> {
         Ok(verdict)
     }
 
-    /// The same as `route`, told where there is room for it: a verdict is large, and is not moved.
-    /// Nothing is told where the registry has ended.
+    /// The same as `route`, put where there is room for it: a verdict is large, and is not moved.
+    /// Nothing is put there where the registry has ended.
     pub fn route_into(
         &mut self,
         from: u64,
         facts: &Facts<'_>,
-        told: &mut Verdict,
+        found: &mut Verdict,
     ) -> Result<(), Gone>
         ensures verdict { OnOk result
-            (told.new ≡ recipients (bus_after J.opening self.new.seen).state from facts.now) }
+            (found.new ≡ recipients (bus_after J.opening self.new.seen).state from facts.now) }
         ensures read { OnOk result
             (IsRead self.old.seen self.old.number self.old.made self.new.seen) }
         ensures kept { (self.new.number ≡ self.old.number) × (self.new.made ≡ self.old.made)
             × (self.new.last ≡ self.old.last) × (self.new.held ≡ self.old.held) }
         ensures gone { OnErr result (self.new.seen ≡ self.old.seen) }
-        ensures untold { OnErr result (told.new ≡ told.old) }
+        ensures untold { OnErr result (found.new ≡ found.old) }
     {
         let (reading, prefix) = self.begin_reading()?;
-        route_with::<Brand>(reading.get(), from, facts, told, Blank::new(1));
+        route_with::<Brand>(reading.get(), from, facts, found, Blank::new(1));
         self.end_reading(reading, prefix);
         Ok(())
     }

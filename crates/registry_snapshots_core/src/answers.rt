@@ -44,7 +44,7 @@ impl Snap {
         self.registry().route(from, facts)
     }
 
-    /// The same as `route`, told where there is room for it: a verdict is large, and is not moved.
+    /// The same as `route`, put where there is room for it: a verdict is large, and is not moved.
     ///
     /// Each rule that is tested is a step. Only rules are tested whose type, interface, member and
     /// first argument are the message's, and whose sender may be its own.
@@ -52,14 +52,14 @@ impl Snap {
         &self,
         from: u64,
         facts: &Facts<'_>,
-        told: &mut Verdict,
+        found: &mut Verdict,
         steps: &mut Steps<L>,
     )
-        ensures verdict { told.new ≡ recipients self.now.bus from facts.now }
+        ensures verdict { found.new ≡ recipients self.now.bus from facts.now }
         ensures cost { steps.new
             ≤ steps.old + near_rules (record facts.now { sender = from }) self.now.bus.rules }
     {
-        self.registry().route_into(from, facts, told, steps);
+        self.registry().route_into(from, facts, found, steps);
     }
 
     /// The head of a name: the connection that messages to it are delivered to. The bus itself is

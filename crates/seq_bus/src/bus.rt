@@ -175,11 +175,11 @@ impl SeqBus {
         self.registry.route(from, facts)
     }
 
-    /// The same as `route`, told where there is room for it: a verdict is large, and is not moved.
-    pub fn route_into(&self, from: u64, facts: &Facts<'_>, told: &mut Verdict)
-        ensures { told.new ≡ recipients (bus_now self.now).state from facts.now }
+    /// The same as `route`, put where there is room for it: a verdict is large, and is not moved.
+    pub fn route_into(&self, from: u64, facts: &Facts<'_>, found: &mut Verdict)
+        ensures { found.new ≡ recipients (bus_now self.now).state from facts.now }
     {
-        self.registry.tell_route(from, facts, told);
+        self.registry.tell_route(from, facts, found);
     }
 
     /// The changes that were made, in order. They are a legal history, and all of its one seat.
