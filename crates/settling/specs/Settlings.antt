@@ -13,15 +13,15 @@ use Rattle.seq_bus_core.specs.declared.outcome.Outcome.{Outcome}
 
 -- what a change is told, the connection whose call it is, and the memory that settling it takes
 pub record Settling : Type 0 where
-  pub told : NumberedOutcome
+  pub outcome : NumberedOutcome
   pub caller : Option Conn
   pub room : CallRoom
 
 -- it settles the change of a seat that is made in this state
 pub record SettlesAt (s : BusState) (seat : ℕ) (change : Change) (settling : Settling) : Type 0 where
-  pub told : settling.told ≡ (step s seat change).1
+  pub outcome : settling.outcome ≡ (step s seat change).1
   pub called : settling.caller ≡ caller_in s change
-  pub room : IsRoomFor change settling.told settling.room
+  pub room : IsRoomFor change settling.outcome settling.room
 
 -- it settles the change wherever this was prepared for it
 abbrev pub Settles : PreparedChange → Change → Settling → Type 0

@@ -16,7 +16,7 @@ use std::marker::Model;
 /// memory that it takes.
 #[derive(Drop)]
 pub struct Settling {
-    told: NumberedOutcome,
+    outcome: NumberedOutcome,
     caller: Option<Conn>,
     room: CallRoom,
 }
@@ -26,7 +26,7 @@ impl Model for Settling {
 
     ghost Value = { Made };
 
-    ghost view = { λ s. record { told = s.told; caller = s.caller; room = s.room } };
+    ghost view = { λ s. record { outcome = s.outcome; caller = s.caller; room = s.room } };
 }
 
 /// Makes all that the change of a seat needs of memory: what the copies absorb, and what settles it
@@ -66,8 +66,12 @@ impl Settling {
     {
         let room = HeldCalls::room_for(alloc, change, prepared.outcome())?;
         let caller = prepared.caller();
-        let told = prepared.take_outcome(alloc);
-        Ok(Settling { told, caller, room })
+        let outcome = prepared.take_outcome(alloc);
+        Ok(Settling {
+            outcome,
+            caller,
+            room,
+        })
     }
 
     /// Settles the change: the calls that it lets go wait no longer, one that it makes wait does,
@@ -76,7 +80,11 @@ impl Settling {
         requires { IsSomeBus change.now self calls.old }
         ensures { IsSettled change.now self calls.old calls.new result }
     {
-        let Settling { told, caller, room } = self;
-        calls.settle(change, caller, told, room)
+        let Settling {
+            outcome,
+            caller,
+            room,
+        } = self;
+        calls.settle(change, caller, outcome, room)
     }
 }
