@@ -97,7 +97,7 @@ impl<'a, L: EndLog + Drop, R: Clock> Sockets<'a, L, R> {
     }
 
     /// What the last change tells first. The change goes once it has told all.
-    fn next_told(&mut self) -> Option<SourceEvent<ClientSocket>> {
+    fn next_event(&mut self) -> Option<SourceEvent<ClientSocket>> {
         let Change {
             key,
             readable,
@@ -151,7 +151,7 @@ impl<'a, L: EndLog + Drop, R: Clock> Source<ClientSocket> for Sockets<'a, L, R> 
     }
 
     fn next<W: Wait>(&mut self, rt: &W) -> Option<SourceEvent<ClientSocket>> {
-        if let Some(event) = self.next_told() {
+        if let Some(event) = self.next_event() {
             return Some(event);
         }
         self.left = self.left.checked_sub(1)?;

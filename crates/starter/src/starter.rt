@@ -106,10 +106,10 @@ impl<V: BusView, G: Gate, P: Post<V>, S: Socket, Q: Programs + Drop> Starter<V, 
     pub fn turn<R: Wait>(&mut self, rt: &R, right: &V::Right, now: u64) -> Result<bool, AllocError>
         ensures steps { MakesStepsBy V.BusView G.Gate P.Post self.old.host self.new.host }
     {
-        let told = self.tell_all(rt, right, now);
+        let reported = self.tell_all(rt, right, now);
         let ticked = self.tick(right);
         let turned = self.host.turn(right);
-        self.outcome(told, ticked, turned)
+        self.outcome(reported, ticked, turned)
     }
 
     /// Time has passed, where a tick is wanted.
@@ -125,7 +125,7 @@ impl<V: BusView, G: Gate, P: Post<V>, S: Socket, Q: Programs + Drop> Starter<V, 
     /// What a turn came to.
     fn outcome(
         &self,
-        told: Result<bool, AllocError>,
+        reported: Result<bool, AllocError>,
         ticked: Result<(), AllocError>,
         turned: Result<(), AllocError>,
     ) -> Result<bool, AllocError> {
@@ -133,7 +133,7 @@ impl<V: BusView, G: Gate, P: Post<V>, S: Socket, Q: Programs + Drop> Starter<V, 
         ticked?;
         match self.host.wants_tick() {
             true => Err(AllocError),
-            false => told,
+            false => reported,
         }
     }
 
