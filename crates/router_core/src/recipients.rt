@@ -16,7 +16,7 @@ pub struct Addressees {
 enum Held {
     One(Conn),
     Shown(Box<Verdict>),
-    Told { to: Listeners, monitors: Listeners },
+    OfSignal { to: Listeners, monitors: Listeners },
 }
 
 impl Model for Addressees {
@@ -48,11 +48,11 @@ impl Addressees {
     }
 
     /// Those that a signal goes to, and the monitors that are shown it.
-    pub fn told(to: Listeners, monitors: Listeners) -> Self
+    pub fn of_signal(to: Listeners, monitors: Listeners) -> Self
         ensures { result ≡ record { to = to; monitors = monitors } }
     {
         Addressees {
-            held: Held::Told { to, monitors },
+            held: Held::OfSignal { to, monitors },
         }
     }
 
@@ -62,7 +62,7 @@ impl Addressees {
         ensures monitors { IfSome result (λ verdict. verdict.value.monitors ≡ self.monitors) }
     {
         match self.held {
-            Held::One(_) | Held::Told { to: _, monitors: _ } => None,
+            Held::One(_) | Held::OfSignal { to: _, monitors: _ } => None,
             Held::Shown(verdict) => Some(verdict),
         }
     }
@@ -74,7 +74,7 @@ impl Addressees {
         match &self.held {
             Held::One(conn) => std::slice::from_ref(conn),
             Held::Shown(verdict) => verdict.to.as_slice(),
-            Held::Told { to, monitors: _ } => to.as_slice(),
+            Held::OfSignal { to, monitors: _ } => to.as_slice(),
         }
     }
 
@@ -85,7 +85,7 @@ impl Addressees {
         match &self.held {
             Held::One(_) => &[],
             Held::Shown(verdict) => verdict.monitors.as_slice(),
-            Held::Told { to: _, monitors } => monitors.as_slice(),
+            Held::OfSignal { to: _, monitors } => monitors.as_slice(),
         }
     }
 }

@@ -262,7 +262,7 @@ impl<V: BusView, G: Gate> Context<V, G> {
             monitors,
         } = addressed;
         self.act(Action::Put {
-            to: Addressees::told(to, monitors),
+            to: Addressees::of_signal(to, monitors),
             note,
             content: Content::Own(BusMessage::Signal(signal)),
         });

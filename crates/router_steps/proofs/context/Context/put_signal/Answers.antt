@@ -18,5 +18,5 @@ returns-clause-world g c =
     let s = c.args.addressed in
     let never = λ (none : (s.to ≡ []) × (s.monitors ≡ [])). let bad : ⊥ = let e : false ≡ true = c.if-is_told_nobody.ensures.1 none in cc in bad in
     c.act.ensures.world
-    ∙ ap (λ (to : Addressed). having_done w (Put to c.args.note (Own (Signal s.signal)) ∷ [])) c.told.ensures
+    ∙ ap (λ (to : Addressed). having_done w (Put to c.args.note (Own (Signal s.signal)) ∷ [])) c.of_signal.ensures
     ∙ sym (ap (having_done w) (put_to_some c.args.note s s.to s.monitors never))
