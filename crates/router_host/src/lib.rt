@@ -34,5 +34,5 @@ mod turn;
 pub use host::Host;
 pub use opening::OpenFault;
 pub use router_host_core::{
-    EndCause, Ended, Full, Post, Socket, StartRequest, TooManyStarts, Written,
+    EndCause, Ended, Post, Socket, StartRequest, TooManyStarts, Unsent, Written,
 };

@@ -48,7 +48,7 @@ pub use ending::{EndCause, Ended};
 pub use hints::Todo;
 pub use line::Pulled;
 pub use lines::Lines;
-pub use post::{Full, Post, StartRequest, TooManyStarts};
+pub use post::{Post, StartRequest, TooManyStarts, Unsent};
 pub use put_out::{PutOut, SLOTS};
 pub use slots::Slots;
 pub use socket::Socket;

@@ -10,7 +10,7 @@ use seq_bus_core::Conn;
 
 /// An envelope that there was no room for.
 #[derive(Drop)]
-pub struct Full<N: Drop>(pub Envelope<N>);
+pub struct Unsent<N: Drop>(pub Envelope<N>);
 
 /// That the program of a service is to be run.
 #[derive(Clone, Copy, Debug, PartialEq, Eq)]
@@ -58,13 +58,13 @@ pub trait Post<V: BusView>: Drop {
         right: &V::Right,
         to: Conn,
         envelope: Envelope<V::Note>,
-    ) -> Result<(), Full<V::Note>>
+    ) -> Result<(), Unsent<V::Note>>
         requires { IsOwnNote V.registry_of (registry self.old) envelope.note }
         ensures registry { registry self.new ≡ registry self.old }
         ensures put { OnOk result (puts self.old to envelope self.new) }
         ensures refused { OnErr result (self.new ≡ self.old) }
         ensures full { OnErr result (refuses self.old to) }
-        ensures back { IfErr result (λ full. full.0 ≡ envelope) };
+        ensures back { IfErr result (λ unsent. unsent.0 ≡ envelope) };
 
     /// The program of a service is to be run. Where there is no room to tell of it, nothing
     /// happens: it is to be asked for again.

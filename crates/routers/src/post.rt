@@ -9,7 +9,7 @@ use outbox::{EnvelopeOf, Lane, Tap};
 use outbox_core::Content;
 use registry_snapshots::{Desk, Naming, Note};
 use router::Traced;
-use router_host::{Full, Post, StartRequest, TooManyStarts};
+use router_host::{Post, StartRequest, TooManyStarts, Unsent};
 use seq_bus_core::Conn;
 use std::alloc::{AllocError, Global};
 use std::marker::Model;
@@ -173,17 +173,17 @@ impl<'a, J: Naming, W: Wake + Drop> LanePost<'a, J, W> {
         slot: usize,
         place: usize,
         envelope: EnvelopeOf<J>,
-    ) -> Result<(), Full<Note<J>>>
+    ) -> Result<(), Unsent<Note<J>>>
         requires { (slot ≡ self.old.first + place) × (place < length self.old.places) }
         ensures put { OnOk result (Sends self.old slot envelope self.new) }
         ensures refused { OnErr result (self.new ≡ self.old) }
         ensures full { OnErr result (IsFullFor self.old slot) }
-        ensures back { IfErr result (λ full. full.0 ≡ envelope) }
+        ensures back { IfErr result (λ unsent. unsent.0 ≡ envelope) }
     {
         let waiting = self.waiting(right, slot);
         match self.places[place].put(envelope, waiting) {
             Ok(()) => Ok(()),
-            Err(NoRoom(back)) => Err(Full(back)),
+            Err(NoRoom(back)) => Err(Unsent(back)),
         }
     }
 
@@ -194,18 +194,18 @@ impl<'a, J: Naming, W: Wake + Drop> LanePost<'a, J, W> {
         right: &R,
         slot: usize,
         envelope: EnvelopeOf<J>,
-    ) -> Result<(), Full<Note<J>>>
+    ) -> Result<(), Unsent<Note<J>>>
         requires { IsOwn self.old slot → ⊥ }
         ensures put { OnOk result (Sends self.old slot envelope self.new) }
         ensures refused { OnErr result (self.new ≡ self.old) }
         ensures full { OnErr result (IsFullFor self.old slot) }
-        ensures back { IfErr result (λ full. full.0 ≡ envelope) }
+        ensures back { IfErr result (λ unsent. unsent.0 ≡ envelope) }
     {
         if slot >= self.lane.slots() {
-            return Err(Full(envelope));
+            return Err(Unsent(envelope));
         }
         if let Err(outbox::Full(back)) = self.lane.put(right, slot, envelope) {
-            return Err(Full(back));
+            return Err(Unsent(back));
         }
         self.coordinator.tell_of_mail(slot);
         Ok(())
@@ -283,11 +283,11 @@ impl<'a, 'b, J: Naming, W: Wake + Drop, R: Wait> Post<Traced<Desk<'b, J, R>>>
 
     ghost lacks = { λ before slot. HasNoneFor before slot };
 
-    fn put(&mut self, right: &R, to: Conn, envelope: EnvelopeOf<J>) -> Result<(), Full<Note<J>>>
+    fn put(&mut self, right: &R, to: Conn, envelope: EnvelopeOf<J>) -> Result<(), Unsent<Note<J>>>
         ensures put { OnOk result (Sends self.old to.slot envelope self.new) }
         ensures refused { OnErr result (self.new ≡ self.old) }
         ensures full { OnErr result (IsFullFor self.old to.slot) }
-        ensures back { IfErr result (λ full. full.0 ≡ envelope) }
+        ensures back { IfErr result (λ unsent. unsent.0 ≡ envelope) }
     {
         self.await_earlier(right, &envelope);
         let slot = usize::from(to.slot);

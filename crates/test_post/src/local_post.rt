@@ -4,7 +4,7 @@ ghost use Rattle.std.specs.Prelude.{◌≡◌, ◌∷◌, ◌++◌, [], IfErr, I
 ghost use Rattle.test_post.specs.LocalMail.{IsEmptyAt, Puts, Takes};
 
 use outbox_core::Envelope;
-use router_host_core::{Full, Post, SLOTS, StartRequest, TooManyStarts};
+use router_host_core::{Post, SLOTS, StartRequest, TooManyStarts, Unsent};
 use seq_bus::SeqBus;
 use seq_bus_core::Conn;
 use std::alloc::{AllocError, Global};
@@ -30,17 +30,17 @@ impl Model for Mail {
 }
 
 impl Mail {
-    fn put(&mut self, envelope: Envelope<()>) -> Result<(), Full<()>>
+    fn put(&mut self, envelope: Envelope<()>) -> Result<(), Unsent<()>>
         ensures put { OnOk result (self.new ≡ self.old ++ envelope ∷ []) }
         ensures refused { OnErr result (self.new ≡ self.old) }
-        ensures back { IfErr result (λ full. full.0 ≡ envelope) }
+        ensures back { IfErr result (λ unsent. unsent.0 ≡ envelope) }
     {
         if self.envelopes.len() >= MOST {
-            return Err(Full(envelope));
+            return Err(Unsent(envelope));
         }
         match self.envelopes.push_back(envelope) {
             Ok(()) => Ok(()),
-            Err(failed) => Err(Full(failed.value)),
+            Err(failed) => Err(Unsent(failed.value)),
         }
     }
 
@@ -115,14 +115,14 @@ impl Post<SeqBus> for LocalPost {
 
     ghost lacks = { λ before slot. IsEmptyAt before slot };
 
-    fn put(&mut self, _right: &(), to: Conn, envelope: Envelope<()>) -> Result<(), Full<()>>
+    fn put(&mut self, _right: &(), to: Conn, envelope: Envelope<()>) -> Result<(), Unsent<()>>
         ensures put { OnOk result (Puts self.old to.slot envelope self.new) }
         ensures refused { OnErr result (self.new ≡ self.old) }
-        ensures back { IfErr result (λ full. full.0 ≡ envelope) }
+        ensures back { IfErr result (λ unsent. unsent.0 ≡ envelope) }
     {
         let slot = usize::from(to.slot);
         if slot >= self.mails.len() {
-            return Err(Full(envelope));
+            return Err(Unsent(envelope));
         }
         self.mails[slot].put(envelope)
     }
