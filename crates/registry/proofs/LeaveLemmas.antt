@@ -16,8 +16,8 @@ use Rattle.seq_bus_core.specs.declared.outcome.Reply.TheVariants.{Done, Gone}
 use Rattle.seq_bus_core.specs.declared.signal.BusSignal.{BusSignal}
 use Rattle.registry_core.specs.Listening.{stays, conns_that, has_fitting, wants_by, watches_by}
 use Rattle.registry_core.proofs.ConnectionEntries.{filter_alike}
-use Rattle.registry.specs.Partings.{signals_of_name, told_of_name}
-use Rattle.registry.specs.declared.leave.Parting.{Parting}
+use Rattle.registry.specs.Departures.{signals_of_name, told_of_name}
+use Rattle.registry.specs.declared.leave.Departure.{Departure}
 use Rattle.registry.proofs.ListeningLemmas.{shown_same}
 
 -- ## The connection that leaves
@@ -201,36 +201,36 @@ leave_of_monitor s seat n h other present = by_found (connection_of s n) refl pr
 -- ## The names of the connection
 
 -- no signal tells of a name that the connection does not own
-not_owned : (s : BusState) (parting : Parting) (c : ℕ) (n : OwnedName) → is_in c n.queue ≡ false → told_of_name s parting c n ≡ []
-not_owned s parting c n absent = by_queue n.queue absent
+not_owned : (s : BusState) (departure : Departure) (c : ℕ) (n : OwnedName) → is_in c n.queue ≡ false → told_of_name s departure c n ≡ []
+not_owned s departure c n absent = by_queue n.queue absent
   where
-    by_queue : (q : Queue) → is_in c q ≡ false → (if is_owner (queue_head q) (Some c) then map (addressed s) (signals_of_name parting c n) else []) ≡ []
+    by_queue : (q : Queue) → is_in c q ≡ false → (if is_owner (queue_head q) (Some c) then map (addressed s) (signals_of_name departure c n) else []) ≡ []
     by_queue [] e = refl
     by_queue (o ∷ os) e = let other : (o.connection == c) ≡ false = (or_parts (o.connection == c) (is_in c os) e).0 in rw other refl
 
-told_all : (s : BusState) (parting : Parting) (c : ℕ) (names : List OwnedName) → flat_map (told_of_name s parting c) (filter (λ m. is_in c m.queue) names) ≡ flat_map (told_of_name s parting c) names
-told_all s parting c [] = refl
-told_all s parting c (n ∷ names) = by_test (is_in c n.queue) refl (told_all s parting c names)
+told_all : (s : BusState) (departure : Departure) (c : ℕ) (names : List OwnedName) → flat_map (told_of_name s departure c) (filter (λ m. is_in c m.queue) names) ≡ flat_map (told_of_name s departure c) names
+told_all s departure c [] = refl
+told_all s departure c (n ∷ names) = by_test (is_in c n.queue) refl (told_all s departure c names)
   where
-    by_test : (b : Bool) → is_in c n.queue ≡ b → flat_map (told_of_name s parting c) (filter (λ m. is_in c m.queue) names) ≡ flat_map (told_of_name s parting c) names →
-        flat_map (told_of_name s parting c) (cond b (n ∷ filter (λ m. is_in c m.queue) names) (filter (λ m. is_in c m.queue) names)) ≡ flat_map (told_of_name s parting c) (n ∷ names)
-    by_test true is others = ap (λ signals. told_of_name s parting c n ++ signals) others
-    by_test false is others = others ∙ sym (ap (λ signals. signals ++ flat_map (told_of_name s parting c) names) (not_owned s parting c n is))
+    by_test : (b : Bool) → is_in c n.queue ≡ b → flat_map (told_of_name s departure c) (filter (λ m. is_in c m.queue) names) ≡ flat_map (told_of_name s departure c) names →
+        flat_map (told_of_name s departure c) (cond b (n ∷ filter (λ m. is_in c m.queue) names) (filter (λ m. is_in c m.queue) names)) ≡ flat_map (told_of_name s departure c) (n ∷ names)
+    by_test true is others = ap (λ signals. told_of_name s departure c n ++ signals) others
+    by_test false is others = others ∙ sym (ap (λ signals. signals ++ flat_map (told_of_name s departure c) names) (not_owned s departure c n is))
 
-told_owned : (s : BusState) (parting : Parting) (c : ℕ) (names : List OwnedName) →
-    flat_map (told_of_name s parting c) names ≡ map (addressed s) (flat_map (signals_of_name parting c) (names_owned c names))
-told_owned s parting c [] = refl
-told_owned s parting c (n ∷ names) = by_owner (is_owner (queue_head n.queue) (Some c)) (told_owned s parting c names)
+told_owned : (s : BusState) (departure : Departure) (c : ℕ) (names : List OwnedName) →
+    flat_map (told_of_name s departure c) names ≡ map (addressed s) (flat_map (signals_of_name departure c) (names_owned c names))
+told_owned s departure c [] = refl
+told_owned s departure c (n ∷ names) = by_owner (is_owner (queue_head n.queue) (Some c)) (told_owned s departure c names)
   where
-    by_owner : (b : Bool) → flat_map (told_of_name s parting c) names ≡ map (addressed s) (flat_map (signals_of_name parting c) (names_owned c names)) →
-        (if b then map (addressed s) (signals_of_name parting c n) else []) ++ flat_map (told_of_name s parting c) names
-        ≡ map (addressed s) (flat_map (signals_of_name parting c) (cond b (n ∷ names_owned c names) (names_owned c names)))
+    by_owner : (b : Bool) → flat_map (told_of_name s departure c) names ≡ map (addressed s) (flat_map (signals_of_name departure c) (names_owned c names)) →
+        (if b then map (addressed s) (signals_of_name departure c n) else []) ++ flat_map (told_of_name s departure c) names
+        ≡ map (addressed s) (flat_map (signals_of_name departure c) (cond b (n ∷ names_owned c names) (names_owned c names)))
     by_owner true others =
-        ap (λ rest. map (addressed s) (signals_of_name parting c n) ++ rest) others
-        ∙ sym (map-append (addressed s) (signals_of_name parting c n) (flat_map (signals_of_name parting c) (names_owned c names)))
+        ap (λ rest. map (addressed s) (signals_of_name departure c n) ++ rest) others
+        ∙ sym (map-append (addressed s) (signals_of_name departure c n) (flat_map (signals_of_name departure c) (names_owned c names)))
     by_owner false others = others
 
 -- the names that the connection stands in, each asked whether it is its owner, give the signals of those that it owns
-pub told_of_names : (s : BusState) (parting : Parting) (c : ℕ) (names : List OwnedName) →
-    flat_map (told_of_name s parting c) (filter (λ m. is_in c m.queue) names) ≡ map (addressed s) (flat_map (signals_of_name parting c) (names_owned c names))
-told_of_names s parting c names = told_all s parting c names ∙ told_owned s parting c names
+pub told_of_names : (s : BusState) (departure : Departure) (c : ℕ) (names : List OwnedName) →
+    flat_map (told_of_name s departure c) (filter (λ m. is_in c m.queue) names) ≡ map (addressed s) (flat_map (signals_of_name departure c) (names_owned c names))
+told_of_names s departure c names = told_all s departure c names ∙ told_owned s departure c names

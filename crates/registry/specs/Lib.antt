@@ -1,10 +1,10 @@
 pub mod Acts
+pub mod Departures
 pub mod Hellos
 pub mod NamesListed
 pub mod Matches
 pub mod Monitors
 pub mod Openings
-pub mod Partings
 pub mod Pendings
 pub mod PreparedChanges
 pub mod Requests

@@ -8,7 +8,7 @@ ghost use Rattle.registry.specs.Monitors.{reply_to_monitor};
 ghost use Rattle.registry.specs.PreparedChanges.{prepared_on};
 
 use crate::after::{After, Pending};
-use crate::leave::Parting;
+use crate::leave::Departure;
 use crate::prepared::{Act, Prepared, replied};
 use crate::registry::Registry;
 use audience::push_owner_signals;
@@ -81,7 +81,13 @@ impl Registry {
                 rules: rules.as_slice(),
             },
         };
-        self.tell_of_names(alloc, &after, Parting::BecomesMonitor, connection, signals)?;
+        self.tell_of_names(
+            alloc,
+            &after,
+            Departure::BecomesMonitor,
+            connection,
+            signals,
+        )?;
         let name = BusName::from(UniqueName::of(connection));
         push_owner_signals(
             &after,

@@ -7,7 +7,7 @@ ghost use Rattle.seq_bus_core.specs.BusState.{head_of, is_client, queue_of};
 ghost use Rattle.seq_bus_core.specs.Steps.{addressed, names_owned, signals_of_leave, step, without_connection};
 ghost use Rattle.seq_bus_core.specs.declared.change.Change.TheVariants.{Leave};
 ghost use Rattle.registry_core.specs.NameTables.{owned_name};
-ghost use Rattle.registry.specs.Partings.{signals_of_name, told_of_name};
+ghost use Rattle.registry.specs.Departures.{signals_of_name, told_of_name};
 ghost use Rattle.registry.specs.PreparedChanges.{prepared_on};
 
 use crate::after::{After, Pending};
@@ -23,7 +23,7 @@ use std::alloc::{AllocError, Global};
 
 /// How a connection gives up its names.
 #[derive(Clone, Copy)]
-pub enum Parting {
+pub enum Departure {
     /// It leaves, and is told nothing.
     Leaves,
     /// It becomes a monitor, and is told what it loses.
@@ -86,7 +86,7 @@ impl Registry {
             registry: self,
             pending: Pending::Left { connection },
         };
-        self.tell_of_names(alloc, &after, Parting::Leaves, connection, signals)?;
+        self.tell_of_names(alloc, &after, Departure::Leaves, connection, signals)?;
         let name = BusName::from(UniqueName::of(connection));
         push_left_name(&after, alloc, signals, &name, connection, None, &mut ())
     }
@@ -97,19 +97,19 @@ impl Registry {
         &self,
         alloc: Global,
         after: &After<'_>,
-        parting: Parting,
+        departure: Departure,
         connection: u64,
         signals: &mut Signals,
     ) -> Result<(), AllocError>
         requires { signals.old ≡ [] }
         ensures { OnOk result (signals.new ≡ map (addressed after.now)
-            (flat_map (signals_of_name parting connection)
+            (flat_map (signals_of_name departure connection)
             (names_owned connection self.now.names))) }
     {
         for n in 0..self.names.count_of(connection) {
             let place = self.names.place_of_nth(connection, n);
             let entry = &self.names.as_slice()[place];
-            tell_of_name(alloc, after, parting, connection, entry, signals)?;
+            tell_of_name(alloc, after, departure, connection, entry, signals)?;
         }
         Ok(())
     }
@@ -171,13 +171,13 @@ impl Registry {
 fn tell_of_name(
     alloc: Global,
     after: &After<'_>,
-    parting: Parting,
+    departure: Departure,
     connection: u64,
     entry: &NameEntry,
     signals: &mut Signals,
 ) -> Result<(), AllocError>
     ensures { OnOk result (signals.new
-        ≡ signals.old ++ told_of_name after.now parting connection (owned_name entry.now)) }
+        ≡ signals.old ++ told_of_name after.now departure connection (owned_name entry.now)) }
 {
     let owner = Some(connection);
     if !is_owner(entry.queue.head(), owner) {
@@ -185,9 +185,9 @@ fn tell_of_name(
     }
     let next = next_owner(&entry.queue, connection);
     let name = &entry.name;
-    match parting {
-        Parting::Leaves => push_left_name(after, alloc, signals, name, connection, next, &mut ()),
-        Parting::BecomesMonitor => {
+    match departure {
+        Departure::Leaves => push_left_name(after, alloc, signals, name, connection, next, &mut ()),
+        Departure::BecomesMonitor => {
             push_owner_signals(after, alloc, signals, name, owner, next, &mut ())
         }
     }

@@ -6,7 +6,7 @@ use Rattle.seq_bus_core.specs.BusState.{BusState, OwnedName, names_of}
 use Rattle.seq_bus_core.specs.declared.signal.AddressedSignal.{AddressedSignal}
 use Rattle.registry_core.specs.NameTables.{owned_name}
 use Rattle.registry_core.specs.declared.name_table.NameEntry.{NameEntry}
-use Rattle.registry.specs.Partings.{told_of_name}
+use Rattle.registry.specs.Departures.{told_of_name}
 use Rattle.registry.proofs.Lists.{flat_push, map_get, take_whole}
 use Rattle.registry.proofs.LeaveLemmas.{told_of_names}
 use Rattle.registry.proofs.registry.Registry.tell_of_names.Goals as goal
@@ -17,7 +17,7 @@ name_in b = owned_name b.value
 pub loop-n-preserved : goal.loop-n-preserved
 loop-n-preserved c =
     let n : ℕ = c.args.connection in
-    let told : OwnedName → List AddressedSignal = told_of_name c.args.after.now c.args.parting n in
+    let told : OwnedName → List AddressedSignal = told_of_name c.args.after.now c.args.departure n in
     let k = c.loop-n.n in
     let place = c.place_of_nth-place.result in
     let names : List OwnedName = c.self.inside.names in
@@ -42,4 +42,4 @@ returns c =
     let k = c.loop-n.n in
     let names_are : c.self.inside.names ≡ s.names = ap (λ (t : BusState). t.names) c.self.view_is in
     let ended : length its ≤ k = omega (arith, length-filter (λ (m : OwnedName). is_in n m.queue) s.names, c.count_of-n-end.ensures, ap (names_of n) names_are, c.loop-n-test.false) in
-    c.loop-n.invariant ∙ ap (flat_map (told_of_name c.args.after.now c.args.parting n)) (take_whole its k ended) ∙ told_of_names c.args.after.now c.args.parting n s.names
+    c.loop-n.invariant ∙ ap (flat_map (told_of_name c.args.after.now c.args.departure n)) (take_whole its k ended) ∙ told_of_names c.args.after.now c.args.departure n s.names
