@@ -10,7 +10,7 @@ use Rattle.router_host_core.specs.Carrying.{Each}
 use Rattle.router_host_core.specs.Sockets.{IsFlushedAt}
 use Rattle.router_host_core.specs.States.{LineState}
 use Rattle.router_host_core.proofs.Steps.{each_then}
-use Rattle.router_host.specs.Doing.{Deed, Does, Flushes, IsDone, with_lines}
+use Rattle.router_host.specs.Doing.{Does, Flushes, IsDone, Task, with_lines}
 use Rattle.router_host.specs.States.{Hosted}
 
 module _ {P N G : Type 0} (told : N → History) (passes : G → GatedCall → G → Type 0)
@@ -26,24 +26,24 @@ module _ {P N G : Type 0} {told : N → History} {passes : G → GatedCall → G
     {alone : Bool} {puts : P → Conn → Envelope N → P → Type 0}
     {starts : P → StartRequest → P → Type 0} {takes : P → ℕ → Envelope N → P → Type 0} where
   pub does_nothing : {a : Hosted P G N} → Does told passes alone puts starts takes a a
-  does_nothing {a = a} = record { deeds = []; done = refl }
+  does_nothing {a = a} = record { tasks = []; done = refl }
 
-  pub does_one : {a b : Hosted P G N} (deed : Deed N) → IsDone told passes alone puts starts takes deed a b → Does told passes alone puts starts takes a b
-  does_one {b = b} deed f = record { deeds = deed ∷ []; done = (b, f, refl) }
+  pub does_one : {a b : Hosted P G N} (task : Task N) → IsDone told passes alone puts starts takes task a b → Does told passes alone puts starts takes a b
+  does_one {b = b} task f = record { tasks = task ∷ []; done = (b, f, refl) }
 
   pub does_then : {a b c : Hosted P G N} → Does told passes alone puts starts takes a b → Does told passes alone puts starts takes b c → Does told passes alone puts starts takes a c
   does_then {a = a} {b = b} {c = c} f g = record {
-    deeds = f.deeds ++ g.deeds;
-    done = each_then (IsDone told passes alone puts starts takes) f.deeds g.deeds a b c f.done g.done;
+    tasks = f.tasks ++ g.tasks;
+    done = each_then (IsDone told passes alone puts starts takes) f.tasks g.tasks a b c f.done g.done;
   }
 
   -- The sockets of these connections are given what waits for them.
   pub does_flush : {a : Hosted P G N} (keys : List ℕ) {lines : List (Option LineState)} → Each IsFlushedAt keys a.carried.lines lines → Does told passes alone puts starts takes a (with_lines a lines)
   does_flush {a = a} keys {lines = lines} f =
-      record { deeds = map Flushes keys; done = flushed told passes alone puts starts takes keys a lines f }
+      record { tasks = map Flushes keys; done = flushed told passes alone puts starts takes keys a lines f }
 
   pub does_same : {a b : Hosted P G N} → b ≡ a → Does told passes alone puts starts takes a b
-  does_same is = record { deeds = []; done = is }
+  does_same is = record { tasks = []; done = is }
 
   -- Where no event is kept, it is the same to keep none.
   pub does_unkept : (a b : Hosted P G N) → a.kept ≡ None → b ≡ record a { kept = None } → Does told passes alone puts starts takes a b

@@ -18,23 +18,23 @@ use Rattle.router_host.specs.Happening.{CatchesUp, Happens, IsSlotBlocked}
 use Rattle.router_host.specs.States.{Hosted}
 
 -- What a host does by itself.
-pub data Deed (N : Type 0) : Type 0 where
+pub data Task (N : Type 0) : Type 0 where
   -- What events before brought goes on.
-  Catches : Deed N
+  Catches : Task N
   -- The event that was kept happens, or is kept still.
-  Resumes : Deed N
+  Resumes : Task N
   -- Bytes of a connection, or whole messages of it, are an event.
-  Hears : Event N → Deed N
+  Hears : Event N → Task N
   -- An envelope of this slot is taken from the post, and is an event.
-  Takes : ℕ → Envelope N → Deed N
+  Takes : ℕ → Envelope N → Task N
   -- The socket of the connection of this key can be read no more.
-  Ends : ℕ → EndCause → Deed N
+  Ends : ℕ → EndCause → Task N
   -- The socket of the connection of this key is given what waits for it.
-  Flushes : ℕ → Deed N
+  Flushes : ℕ → Task N
   -- The connection of this key is over, and let go of, which is an event.
-  LetsGo : ℕ → Deed N
+  LetsGo : ℕ → Task N
   -- This connection took no more mail, which is an event.
-  PutsOut : Conn → Deed N
+  PutsOut : Conn → Task N
 
 -- an event of bytes or messages of connections
 abbrev pub IsHeard : {N : Type 0} → Event N → Type 0
@@ -75,7 +75,7 @@ module _ {P N G : Type 0} (told : N → History) (passes : G → GatedCall → G
     (starts : P → StartRequest → P → Type 0)
     (takes : P → ℕ → Envelope N → P → Type 0) where
   -- Nothing else is done. While an event is kept, none of these but itself is served, and no envelope is taken.
-  abbrev pub IsDone : Deed N → Hosted P G N → Hosted P G N → Type 0
+  abbrev pub IsDone : Task N → Hosted P G N → Hosted P G N → Type 0
   IsDone Catches before after = CatchesUp puts starts before after
   IsDone Resumes before after =
       (e : Event N) × (before.kept ≡ Some e)
@@ -102,10 +102,10 @@ module _ {P N G : Type 0} (told : N → History) (passes : G → GatedCall → G
       (full : List (Option Conn)) × IsTakenOut conn before.carried.full full
       × IsPutOut told passes alone puts starts (with_full before full) conn after
 
-  -- Such deeds are done, one after the other, and nothing else.
+  -- Such tasks are done, one after the other, and nothing else.
   pub record Does (before after : Hosted P G N) : Type 0 where
-    pub deeds : List (Deed N)
-    pub done : Each IsDone deeds before after
+    pub tasks : List (Task N)
+    pub done : Each IsDone tasks before after
 
 -- the same by a view, a gate and a post
 abbrev pub IsBroughtBy : {V N R G P : Type 0} → BusView V N R → Gate G → Post P V N R → Hosted P G N →
