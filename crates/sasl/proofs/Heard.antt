@@ -9,7 +9,7 @@ use Rattle.sasl.specs.declared.phase.Phase.{Phase}
 use Rattle.sasl.specs.declared.phase.Phase.TheVariants.{WaitingForNul, WaitingForAuth, WaitingForData, WaitingForBegin, Done, Closed}
 use Rattle.sasl.specs.Settings.{Setting}
 use Rattle.sasl.specs.Lines.{words, line_end, has_end, max_line, IsFirstLine}
-use Rattle.sasl.specs.Table.{reply_text}
+use Rattle.sasl.specs.Table.{server_line_text}
 use Rattle.sasl.specs.Conversations.{State, at, after, reads_lines, Converses, opened, no_nul, waits, too_long, answered, done, closed}
 use Rattle.sasl.specs.Hearing.{Conversed, answer, silent, heard_line, heard_in_line, heard_at, heard}
 use Rattle.sasl.proofs.Ends.{Completed, completed, front_has_none}
@@ -34,7 +34,7 @@ module _ (s : Setting) (phase : Phase) (n : ℕ) (reads : reads_lines phase ≡ 
   whole_line : (text line : List ℕ) → IsFirstLine text line [] → Leads s (at phase n) text (heard_line s phase n line)
   whole_line text line first =
       let turn = answer s phase (words line) in
-      subst (λ (x : List ℕ). Converses s (at phase n) text x (after turn.0 turn.1 n) []) (append-nil (reply_text s turn.0))
+      subst (λ (x : List ℕ). Converses s (at phase n) text x (after turn.0 turn.1 n) []) (append-nil (server_line_text s turn.0))
       (answered phase n text line [] turn.0 turn.1 [] (after turn.0 turn.1 n) [] reads first (answers s phase (words line)) (nothing_comes s (after turn.0 turn.1 n)))
 
   -- the outcome by both tests

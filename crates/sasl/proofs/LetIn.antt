@@ -10,8 +10,8 @@ use Rattle.sasl.specs.declared.identity.Identity.TheVariants.{User, Anonymous}
 use Rattle.sasl.specs.declared.phase.Awaited.{Awaited}
 use Rattle.sasl.specs.declared.phase.Phase.{Phase}
 use Rattle.sasl.specs.declared.phase.Phase.TheVariants.{WaitingForNul, WaitingForAuth, WaitingForData, WaitingForBegin, Done, Closed}
-use Rattle.sasl.specs.declared.reply.Reply.{Reply}
-use Rattle.sasl.specs.declared.reply.Reply.TheVariants.{Challenge, AskName, Accept, Reject, NotUnderstood, Silence}
+use Rattle.sasl.specs.declared.server_line.ServerLine.{ServerLine}
+use Rattle.sasl.specs.declared.server_line.ServerLine.TheVariants.{Challenge, AskName, Accept, Reject, NotUnderstood, Silence}
 use Rattle.sasl.specs.Settings.{Setting, space}
 use Rattle.sasl.specs.Lines.{Word, words, line_end, is_printable, IsHexOf, begin, auth, anonymous, response}
 use Rattle.sasl.specs.Table.{ShowsCookie, Attempt, as_user, as_somebody, as_nobody, with_trace, Response, names_user, shows_cookie, Row, attempt, other_attempt, error_of_client, begin_early, data_right, other_data, data_cancelled, data_error, begin_before_data, begin_at_last, begin_cancelled, begin_error, Answers, by_row, anything_else}
@@ -55,7 +55,7 @@ is_in_as identity = Done identity
 same_in : (i j : Identity) → is_in_as i ≡ is_in_as j → i ≡ j
 same_in i j e = cc
 
-after_phase : (reply : Reply) (next : Phase) (n : ℕ) → ((after reply next n).phase ≡ next) ⊎ ((after reply next n).phase ≡ Closed Rejections)
+after_phase : (reply : ServerLine) (next : Phase) (n : ℕ) → ((after reply next n).phase ≡ next) ⊎ ((after reply next n).phase ≡ Closed Rejections)
 after_phase Challenge next n = inl refl
 after_phase AskName next n = inl refl
 after_phase Accept next n = inl refl
@@ -68,21 +68,21 @@ after_phase Reject next n = go (nat_lt (n + 1) max_rejections)
     go false = inr refl
 
 module _ (s : Setting) (identity : Identity) where
-  by_attempt : (words : List Word) (reply : Reply) (next : Phase) → Attempt s words reply next → next ≡ WaitingForBegin identity → Shows s (auth ∷ words) identity
+  by_attempt : (words : List Word) (reply : ServerLine) (next : Phase) → Attempt s words reply next → next ≡ WaitingForBegin identity → Shows s (auth ∷ words) identity
   by_attempt words reply next (as_user name h) e = absurd (false≢true (ap awaits_begin e))
   by_attempt words reply next as_somebody e = absurd (false≢true (ap awaits_begin e))
   by_attempt words reply next (as_nobody allowed) e = subst (λ (i : Identity). Shows s (auth ∷ anonymous ∷ []) i) (same Anonymous identity e) (allowed, [], refl)
   by_attempt words reply next (with_trace trace bytes allowed h) e = subst (λ (i : Identity). Shows s (auth ∷ anonymous ∷ trace ∷ []) i) (same Anonymous identity e) (allowed, trace ∷ [], refl)
 
-  by_response : (due : Awaited) (words : List Word) (reply : Reply) (next : Phase) → Response s due words reply next → next ≡ WaitingForBegin identity → Shows s (response ∷ words) identity
+  by_response : (due : Awaited) (words : List Word) (reply : ServerLine) (next : Phase) → Response s due words reply next → next ≡ WaitingForBegin identity → Shows s (response ∷ words) identity
   by_response due words reply next (names_user name h) e = absurd (false≢true (ap awaits_begin e))
   by_response due words reply next (shows_cookie word said h k) e = subst (λ (i : Identity). Shows s (response ∷ word ∷ []) i) (same User identity e) (word, said, refl, h, k)
 
-  by_answer : (phase : Phase) (words : List Word) (reply : Reply) (next : Phase) → Answers s phase words reply next → next ≡ WaitingForBegin identity → (phase ≡ WaitingForBegin identity) ⊎ Shows s words identity
+  by_answer : (phase : Phase) (words : List Word) (reply : ServerLine) (next : Phase) → Answers s phase words reply next → next ≡ WaitingForBegin identity → (phase ≡ WaitingForBegin identity) ⊎ Shows s words identity
   by_answer phase words reply next (anything_else none) e = inl e
   by_answer phase words reply next (by_row r n row) e = of_row phase words r n row e
     where
-      of_row : (phase : Phase) (words : List Word) (reply : Reply) (next : Phase) → Row s phase words reply next → next ≡ WaitingForBegin identity → (phase ≡ WaitingForBegin identity) ⊎ Shows s words identity
+      of_row : (phase : Phase) (words : List Word) (reply : ServerLine) (next : Phase) → Row s phase words reply next → next ≡ WaitingForBegin identity → (phase ≡ WaitingForBegin identity) ⊎ Shows s words identity
       of_row phase words reply next (attempt others r n a) e = inr (by_attempt others r n a e)
       of_row phase words reply next (other_attempt others none) e = absurd (false≢true (ap awaits_begin e))
       of_row phase words reply next (error_of_client others) e = absurd (false≢true (ap awaits_begin e))
@@ -96,20 +96,20 @@ module _ (s : Setting) (identity : Identity) where
       of_row phase words reply next (begin_cancelled i) e = absurd (false≢true (ap awaits_begin e))
       of_row phase words reply next (begin_error i others) e = absurd (false≢true (ap awaits_begin e))
 
-  no_attempt : (words : List Word) (reply : Reply) (next : Phase) → Attempt s words reply next → next ≡ Done identity → ⊥
+  no_attempt : (words : List Word) (reply : ServerLine) (next : Phase) → Attempt s words reply next → next ≡ Done identity → ⊥
   no_attempt words reply next (as_user name h) e = false≢true (ap is_done e)
   no_attempt words reply next as_somebody e = false≢true (ap is_done e)
   no_attempt words reply next (as_nobody allowed) e = false≢true (ap is_done e)
   no_attempt words reply next (with_trace trace bytes allowed h) e = false≢true (ap is_done e)
 
-  no_response : (due : Awaited) (words : List Word) (reply : Reply) (next : Phase) → Response s due words reply next → next ≡ Done identity → ⊥
+  no_response : (due : Awaited) (words : List Word) (reply : ServerLine) (next : Phase) → Response s due words reply next → next ≡ Done identity → ⊥
   no_response due words reply next (names_user name h) e = false≢true (ap is_done e)
   no_response due words reply next (shows_cookie word said h k) e = false≢true (ap is_done e)
 
   abbrev IsBegin : Phase → List Word → Type 0
   IsBegin phase words = (phase ≡ WaitingForBegin identity) × (words ≡ begin ∷ [])
 
-  row_begins : (phase : Phase) (words : List Word) (reply : Reply) (next : Phase) → Row s phase words reply next → next ≡ Done identity → IsBegin phase words
+  row_begins : (phase : Phase) (words : List Word) (reply : ServerLine) (next : Phase) → Row s phase words reply next → next ≡ Done identity → IsBegin phase words
   row_begins phase words reply next (attempt others r n a) e = absurd (no_attempt others r n a e)
   row_begins phase words reply next (other_attempt others none) e = absurd (false≢true (ap is_done e))
   row_begins phase words reply next (error_of_client others) e = absurd (false≢true (ap is_done e))
@@ -123,7 +123,7 @@ module _ (s : Setting) (identity : Identity) where
   row_begins phase words reply next (begin_cancelled i) e = absurd (false≢true (ap is_done e))
   row_begins phase words reply next (begin_error i others) e = absurd (false≢true (ap is_done e))
 
-  begins : (phase : Phase) (words : List Word) (reply : Reply) (next : Phase) → reads_lines phase ≡ true → Answers s phase words reply next → next ≡ Done identity → IsBegin phase words
+  begins : (phase : Phase) (words : List Word) (reply : ServerLine) (next : Phase) → reads_lines phase ≡ true → Answers s phase words reply next → next ≡ Done identity → IsBegin phase words
   begins phase words reply next reads (by_row r n row) e = row_begins phase words r n row e
   begins phase words reply next reads (anything_else none) e = absurd (true≢false (sym reads ∙ ap reads_lines e))
 
@@ -168,7 +168,7 @@ abbrev LetsIn : Setting → Identity → Phase → List ℕ → List ℕ → Typ
 LetsIn s identity phase text left =
     ((phase ≡ Done identity) × (text ≡ left)) ⊎ (((phase ≡ WaitingForBegin identity) ⊎ HasShown s text identity) × Begun text left)
 
-module _ (s : Setting) (identity : Identity) (phase : Phase) (n : ℕ) (text line rest : List ℕ) (reply : Reply) (next : Phase) (left : List ℕ)
+module _ (s : Setting) (identity : Identity) (phase : Phase) (n : ℕ) (text line rest : List ℕ) (reply : ServerLine) (next : Phase) (left : List ℕ)
     (reads : reads_lines phase ≡ true) (text_is : text ≡ line ++ line_end ++ rest) (answers : Answers s phase (words line) reply next) where
   led : (to : Phase) → is_done to ≡ true ⊎ (awaits_begin to ≡ true) → (after reply next n).phase ≡ to → next ≡ to
   led to which e = elim (after_phase reply next n) [

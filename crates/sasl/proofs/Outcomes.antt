@@ -10,7 +10,7 @@ use Rattle.sasl.specs.declared.phase.Phase.{Phase}
 use Rattle.sasl.specs.declared.phase.Phase.TheVariants.{WaitingForNul, WaitingForAuth, WaitingForData, WaitingForBegin, Done, Closed}
 use Rattle.sasl.specs.Settings.{Setting}
 use Rattle.sasl.specs.Lines.{words, line_end, has_end, max_line}
-use Rattle.sasl.specs.Table.{reply_text}
+use Rattle.sasl.specs.Table.{server_line_text}
 use Rattle.sasl.specs.Conversations.{State, at, after, reads_lines, Converses, unopened, opened, no_nul, waits, too_long, answered, done, closed}
 use Rattle.sasl.specs.Hearing.{Answer, Conversed, answer, silent, heard_line, heard_in_line, heard_at, heard, conversed}
 use Rattle.sasl.specs.Words.{ends_with_return}
@@ -123,8 +123,8 @@ outcome_is s from text sent to left (too_long phase n t reads long) =
     ap (conversed s (at phase n) []) long.text_is ∙ long_heard s phase n reads long.front long.rest long.endless long.long
 outcome_is s from text sent to left (answered phase n t line rest reply next se st le reads first answers d) =
     ap (conversed s (at phase n) []) first.text_is ∙ line_heard s phase n reads line rest first.first first.fits
-    ∙ ap (λ (turn : Answer). then_heard s (record { sent = reply_text s turn.0; state = after turn.0 turn.1 n; left = [] }) rest) (answer_is s phase (words line) reply next answers)
-    ∙ ap (λ (others : Conversed). let all : Conversed = record { sent = reply_text s reply ++ others.sent; state = others.state; left = others.left } in all) (outcome_is s (after reply next n) rest se st le d)
+    ∙ ap (λ (turn : Answer). then_heard s (record { sent = server_line_text s turn.0; state = after turn.0 turn.1 n; left = [] }) rest) (answer_is s phase (words line) reply next answers)
+    ∙ ap (λ (others : Conversed). let all : Conversed = record { sent = server_line_text s reply ++ others.sent; state = others.state; left = others.left } in all) (outcome_is s (after reply next n) rest se st le d)
 outcome_is s from text sent to left (done identity n t) = done_hears s identity n [] t
 outcome_is s from text sent to left (closed fault n t) = closed_hears s fault n t
 

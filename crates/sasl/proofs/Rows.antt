@@ -14,8 +14,8 @@ use Rattle.sasl.specs.declared.phase.Awaited.{Awaited}
 use Rattle.sasl.specs.declared.phase.Awaited.TheVariants.{Name, Digest}
 use Rattle.sasl.specs.declared.phase.Phase.{Phase}
 use Rattle.sasl.specs.declared.phase.Phase.TheVariants.{WaitingForNul, WaitingForAuth, WaitingForData, WaitingForBegin, Done, Closed}
-use Rattle.sasl.specs.declared.reply.Reply.{Reply}
-use Rattle.sasl.specs.declared.reply.Reply.TheVariants.{Challenge, AskName, Accept, Reject, NotUnderstood}
+use Rattle.sasl.specs.declared.server_line.ServerLine.{ServerLine}
+use Rattle.sasl.specs.declared.server_line.ServerLine.TheVariants.{Challenge, AskName, Accept, Reject, NotUnderstood}
 use Rattle.sasl.specs.Settings.{Setting, space, challenge_text, cookie_digest}
 use Rattle.sasl.specs.Lines.{Word, hex_value, IsHexOf, auth, cancel, begin, response, error, cookie_sha1, anonymous}
 use Rattle.sasl.specs.Table.{ShowsCookie, Attempt, as_user, as_somebody, as_nobody, with_trace, Response, names_user, shows_cookie, Row, attempt, other_attempt, error_of_client, begin_early, data_right, other_data, data_cancelled, data_error, begin_before_data, begin_at_last, begin_cancelled, begin_error, Answers, by_row, anything_else}
@@ -98,7 +98,7 @@ module _ (s : Setting) where
   abbrev anonymously : Answer
   anonymously = accepted Anonymous
 
-  attempt_is : (words : List Word) (reply : Reply) (next : Phase) → Attempt s words reply next → attempted s words ≡ (reply, next)
+  attempt_is : (words : List Word) (reply : ServerLine) (next : Phase) → Attempt s words reply next → attempted s words ≡ (reply, next)
   attempt_is words reply next (as_user name h) = ap (λ (t : Bool). cond t challenged rejected) (user_named name h)
   attempt_is words reply next as_somebody = refl
   attempt_is words reply next (as_nobody allowed) = ap (λ (t : Bool). cond t anonymously rejected) allowed
@@ -143,7 +143,7 @@ module _ (s : Setting) where
 
   -- ## DATA
 
-  response_is : (due : Awaited) (words : List Word) (reply : Reply) (next : Phase) → Response s due words reply next → responded s due words ≡ (reply, next)
+  response_is : (due : Awaited) (words : List Word) (reply : ServerLine) (next : Phase) → Response s due words reply next → responded s due words ≡ (reply, next)
   response_is due words reply next (names_user name h) = ap (λ (t : Bool). cond t challenged rejected) (user_named name h)
   response_is due words reply next (shows_cookie word said h k) =
       ap (λ (o : Option (List ℕ)). cond (shows s o) (accepted User) rejected) h ∙ ap (λ (t : Bool). cond t (accepted User) rejected) (shown said k)
@@ -168,7 +168,7 @@ module _ (s : Setting) where
 
   -- ## The table
 
-  pub row_is : (phase : Phase) (words : List Word) (reply : Reply) (next : Phase) → Row s phase words reply next → answer s phase words ≡ (reply, next)
+  pub row_is : (phase : Phase) (words : List Word) (reply : ServerLine) (next : Phase) → Row s phase words reply next → answer s phase words ≡ (reply, next)
   row_is phase words reply next (attempt others r n a) = attempt_is others r n a
   row_is phase words reply next (other_attempt others none) = elim (attempts others) [ inl a ↦ absurd (none _ _ a) | inr e ↦ e ]
   row_is phase words reply next (error_of_client others) = refl
@@ -226,10 +226,10 @@ module _ (s : Setting) where
   attempt_row others turn e (inr fails) =
       inl (subst (λ (t : Answer). Row s WaitingForAuth (auth ∷ others) t.0 t.1) (sym fails) (other_attempt others (λ r n a. not_rejected others r n a (sym (attempt_is others r n a) ∙ e ∙ fails))))
     where
-      not_rejected : (words : List Word) (r : Reply) (n : Phase) → Attempt s words r n → (r, n) ≡ rejected → ⊥
+      not_rejected : (words : List Word) (r : ServerLine) (n : Phase) → Attempt s words r n → (r, n) ≡ rejected → ⊥
       not_rejected words r n a e = replies words r n a (ap (λ (t : Answer). t.0) e)
         where
-          replies : (words : List Word) (r : Reply) (n : Phase) → Attempt s words r n → r ≡ Reject → ⊥
+          replies : (words : List Word) (r : ServerLine) (n : Phase) → Attempt s words r n → r ≡ Reject → ⊥
           replies words r n (as_user name h) e = cc
           replies words r n as_somebody e = cc
           replies words r n (as_nobody allowed) e = cc
@@ -240,7 +240,7 @@ module _ (s : Setting) where
   response_row due others turn e (inr fails) =
       inl (subst (λ (t : Answer). Row s (WaitingForData due) (response ∷ others) t.0 t.1) (sym fails) (other_data due others (λ r n h. replies due others r n h (ap (λ (t : Answer). t.0) (sym (response_is due others r n h) ∙ e ∙ fails)))))
     where
-      replies : (due : Awaited) (words : List Word) (r : Reply) (n : Phase) → Response s due words r n → r ≡ Reject → ⊥
+      replies : (due : Awaited) (words : List Word) (r : ServerLine) (n : Phase) → Response s due words r n → r ≡ Reject → ⊥
       replies due words r n (names_user name h) e = cc
       replies due words r n (shows_cookie word said h k) e = cc
 
@@ -288,10 +288,10 @@ module _ (s : Setting) where
   rows (Closed fault) words command reads_begin = inr refl
   rows (Closed fault) words command (reads_other ws) = inr refl
 
-  understood : (phase : Phase) (words : List Word) (reply : Reply) (next : Phase) → Row s phase words reply next → reply ≡ NotUnderstood → ⊥
+  understood : (phase : Phase) (words : List Word) (reply : ServerLine) (next : Phase) → Row s phase words reply next → reply ≡ NotUnderstood → ⊥
   understood phase words reply next (attempt others r n a) e = of_attempt others r n a e
     where
-      of_attempt : (words : List Word) (r : Reply) (n : Phase) → Attempt s words r n → r ≡ NotUnderstood → ⊥
+      of_attempt : (words : List Word) (r : ServerLine) (n : Phase) → Attempt s words r n → r ≡ NotUnderstood → ⊥
       of_attempt words r n (as_user name h) e = cc
       of_attempt words r n as_somebody e = cc
       of_attempt words r n (as_nobody allowed) e = cc
@@ -301,7 +301,7 @@ module _ (s : Setting) where
   understood phase words reply next begin_early e = cc
   understood phase words reply next (data_right due others r n h) e = of_response due others r n h e
     where
-      of_response : (due : Awaited) (words : List Word) (r : Reply) (n : Phase) → Response s due words r n → r ≡ NotUnderstood → ⊥
+      of_response : (due : Awaited) (words : List Word) (r : ServerLine) (n : Phase) → Response s due words r n → r ≡ NotUnderstood → ⊥
       of_response due words r n (names_user name h) e = cc
       of_response due words r n (shows_cookie word said h k) e = cc
   understood phase words reply next (other_data due others none) e = cc
@@ -323,7 +323,7 @@ module _ (s : Setting) where
   answers phase words = answers_by phase words (answer s phase words) refl (rows phase words (command_of words) (reads words))
 
   -- and any answer is the one that is computed
-  pub answer_is : (phase : Phase) (words : List Word) (reply : Reply) (next : Phase) → Answers s phase words reply next → answer s phase words ≡ (reply, next)
+  pub answer_is : (phase : Phase) (words : List Word) (reply : ServerLine) (next : Phase) → Answers s phase words reply next → answer s phase words ≡ (reply, next)
   answer_is phase words reply next (by_row r n row) = row_is phase words r n row
   answer_is phase words reply next (anything_else none) =
       elim (rows phase words (command_of words) (reads words)) [ inl row ↦ absurd (none _ _ row) | inr e ↦ e ]

@@ -8,7 +8,7 @@ use Rattle.sasl.specs.declared.phase.Phase.{Phase}
 use Rattle.sasl.specs.declared.phase.Phase.TheVariants.{WaitingForNul, WaitingForAuth, WaitingForData, WaitingForBegin, Done, Closed}
 use Rattle.sasl.specs.Settings.{Setting}
 use Rattle.sasl.specs.Lines.{line_end, IsFirstLine}
-use Rattle.sasl.specs.Table.{reply_text}
+use Rattle.sasl.specs.Table.{server_line_text}
 use Rattle.sasl.specs.Conversations.{State, at, reads_lines, is_open, Converses, unopened, opened, no_nul, waits, too_long, answered, done, closed}
 
 -- ## What is over
@@ -57,7 +57,7 @@ conversation_goes_on s from text sent mid left (answered phase n t line behind r
       first = first.first;
       fits = first.fits;
     } in
-    subst (λ (x : List ℕ). Converses s (at phase n) (t ++ piece) x to rest) (sym (append_assoc (reply_text s reply) se more))
+    subst (λ (x : List ℕ). Converses s (at phase n) (t ++ piece) x to rest) (sym (append_assoc (server_line_text s reply) se more))
     (answered phase n (t ++ piece) line (behind ++ piece) reply next (se ++ more) to rest reads first_still answers (conversation_goes_on s _ behind se st le d piece more to rest k))
 conversation_goes_on s from text sent mid left (done identity n t) piece more to rest k = k
 conversation_goes_on s from text sent mid left (closed cause n t) piece more to rest k =

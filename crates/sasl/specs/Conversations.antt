@@ -7,9 +7,9 @@ use Rattle.sasl.specs.declared.phase.Phase.{Phase}
 use Rattle.sasl.specs.declared.phase.Phase.TheVariants.{WaitingForNul, WaitingForAuth, WaitingForData, WaitingForBegin, Done, Closed}
 use Rattle.sasl.specs.Settings.{Setting}
 use Rattle.sasl.specs.Lines.{words, max_line, has_end, IsFirstLine, IsTooLong}
-use Rattle.sasl.specs.declared.reply.Reply.{Reply}
-use Rattle.sasl.specs.declared.reply.Reply.TheVariants.{Challenge, AskName, Accept, Reject, NotUnderstood, Silence}
-use Rattle.sasl.specs.Table.{reply_text, Answers}
+use Rattle.sasl.specs.declared.server_line.ServerLine.{ServerLine}
+use Rattle.sasl.specs.declared.server_line.ServerLine.TheVariants.{Challenge, AskName, Accept, Reject, NotUnderstood, Silence}
+use Rattle.sasl.specs.Table.{server_line_text, Answers}
 
 -- How far a conversation has come, and how often the client was rejected.
 pub record State : Type 0 where
@@ -46,7 +46,7 @@ abbrev pub max_rejections : ℕ
 max_rejections = 6
 
 -- The state after a reply: rejections are counted, and the sixth closes.
-abbrev pub after : Reply → Phase → ℕ → State
+abbrev pub after : ServerLine → Phase → ℕ → State
 after Reject next n = if nat_lt (n + 1) max_rejections then at next (n + 1) else at (Closed Rejections) (n + 1)
 after Challenge next n = at next n
 after AskName next n = at next n
@@ -62,7 +62,7 @@ pub data Converses (s : Setting) : State → List ℕ → List ℕ → State →
   no_nul : (n b : ℕ) (text : List ℕ) → b ≢ 0 → Converses s (at WaitingForNul n) (b ∷ text) [] (at (Closed FirstByte) n) []
   waits : (phase : Phase) (n : ℕ) (text : List ℕ) → reads_lines phase ≡ true → has_end text ≡ false → length text < max_line → Converses s (at phase n) text [] (at phase n) text
   too_long : (phase : Phase) (n : ℕ) (text : List ℕ) → reads_lines phase ≡ true → IsTooLong text → Converses s (at phase n) text [] (at (Closed LineTooLong) n) []
-  answered : (phase : Phase) (n : ℕ) (text line rest : List ℕ) (reply : Reply) (next : Phase) (sent : List ℕ) (to : State) (left : List ℕ) → reads_lines phase ≡ true → IsFirstLine text line rest →
-      Answers s phase (words line) reply next → Converses s (after reply next n) rest sent to left → Converses s (at phase n) text (reply_text s reply ++ sent) to left
+  answered : (phase : Phase) (n : ℕ) (text line rest : List ℕ) (reply : ServerLine) (next : Phase) (sent : List ℕ) (to : State) (left : List ℕ) → reads_lines phase ≡ true → IsFirstLine text line rest →
+      Answers s phase (words line) reply next → Converses s (after reply next n) rest sent to left → Converses s (at phase n) text (server_line_text s reply ++ sent) to left
   done : (identity : Identity) (n : ℕ) (text : List ℕ) → Converses s (at (Done identity) n) text [] (at (Done identity) n) text
   closed : (cause : AuthenticationFault) (n : ℕ) (text : List ℕ) → Converses s (at (Closed cause) n) text [] (at (Closed cause) n) []

@@ -13,16 +13,16 @@ use Rattle.sasl.specs.declared.phase.Phase.{Phase}
 use Rattle.sasl.specs.declared.phase.Phase.TheVariants.{WaitingForNul, WaitingForAuth, WaitingForData, WaitingForBegin, Done, Closed}
 use Rattle.sasl.specs.Settings.{Setting, space, challenge_text, cookie_digest}
 use Rattle.sasl.specs.Lines.{Word, words, hex_value, max_line, has_end, auth, cancel, begin, response, error, cookie_sha1, anonymous}
-use Rattle.sasl.specs.declared.reply.Reply.{Reply}
-use Rattle.sasl.specs.declared.reply.Reply.TheVariants.{Challenge, AskName, Accept, Reject, NotUnderstood, Silence}
-use Rattle.sasl.specs.Table.{reply_text}
+use Rattle.sasl.specs.declared.server_line.ServerLine.{ServerLine}
+use Rattle.sasl.specs.declared.server_line.ServerLine.TheVariants.{Challenge, AskName, Accept, Reject, NotUnderstood, Silence}
+use Rattle.sasl.specs.Table.{server_line_text}
 use Rattle.sasl.specs.Conversations.{State, at, after}
 
 -- ## A line
 
 -- a reply, and the state after
 abbrev pub Answer : Type 0
-Answer = Reply × Phase
+Answer = ServerLine × Phase
 
 abbrev pub rejected : Answer
 rejected = (Reject, WaitingForAuth)
@@ -140,7 +140,7 @@ silent state left = record { sent = []; state = state; left = left }
 abbrev pub heard_line : Setting → Phase → ℕ → List ℕ → Conversed
 heard_line s phase n line =
     let turn = answer s phase (words line) in
-    record { sent = reply_text s turn.0; state = after turn.0 turn.1 n; left = [] }
+    record { sent = server_line_text s turn.0; state = after turn.0 turn.1 n; left = [] }
 
 -- a byte that comes behind those of a line that has no end yet
 abbrev pub heard_in_line : Setting → Phase → ℕ → List ℕ → Conversed

@@ -6,11 +6,11 @@ use Rattle.sasl.specs.declared.identity.Identity.TheVariants.{User, Anonymous}
 use Rattle.sasl.specs.declared.fault.AuthenticationFault.TheVariants.{Rejections}
 use Rattle.sasl.specs.declared.phase.Phase.{Phase}
 use Rattle.sasl.specs.declared.phase.Phase.TheVariants.{Done, Closed}
-use Rattle.sasl.specs.declared.reply.Reply.{Reply}
-use Rattle.sasl.specs.declared.reply.Reply.TheVariants.{Challenge, AskName, Accept, Reject, NotUnderstood, Silence}
+use Rattle.sasl.specs.declared.server_line.ServerLine.{ServerLine}
+use Rattle.sasl.specs.declared.server_line.ServerLine.TheVariants.{Challenge, AskName, Accept, Reject, NotUnderstood, Silence}
 use Rattle.sasl.specs.Settings.{Setting}
 use Rattle.sasl.specs.Lines.{Word, words, line_end, IsHexOf, begin, auth, anonymous, response}
-use Rattle.sasl.specs.Table.{reply_text, ShowsCookie, Answers}
+use Rattle.sasl.specs.Table.{server_line_text, ShowsCookie, Answers}
 use Rattle.sasl.specs.Hearing.{conversed}
 use Rattle.sasl.specs.Conversations.{State, at, opening, max_rejections, Converses}
 
@@ -18,7 +18,7 @@ use Rattle.sasl.specs.Conversations.{State, at, opening, max_rejections, Convers
 abbrev pub EachLineHasOneAnswer : Type 0
 EachLineHasOneAnswer =
     (s : Setting) (phase : Phase) (words : List Word) →
-    (reply : Reply) × (next : Phase) × Answers s phase words reply next × ((other : Reply) (state : Phase) → Answers s phase words other state → (other ≡ reply) × (state ≡ next))
+    (reply : ServerLine) × (next : Phase) × Answers s phase words reply next × ((other : ServerLine) (state : Phase) → Answers s phase words other state → (other ≡ reply) × (state ≡ next))
 
 -- From each state, each text has an outcome, that which is heard byte by byte, and only that.
 abbrev pub EachTextHasOneOutcome : Type 0
@@ -34,7 +34,7 @@ PiecesAreOneText =
     (s : Setting) (from : State) (text sent : List ℕ) (mid : State) (left piece more : List ℕ) (to : State) (rest : List ℕ) →
     Converses s from text sent mid left → Converses s mid (left ++ piece) more to rest → Converses s from (text ++ piece) (sent ++ more) to rest
 
-abbrev pub is_rejection : Reply → Bool
+abbrev pub is_rejection : ServerLine → Bool
 is_rejection Reject = true
 is_rejection Challenge = false
 is_rejection AskName = false
@@ -46,7 +46,7 @@ is_rejection Silence = false
 abbrev pub RejectionsAreCounted : Type 0
 RejectionsAreCounted =
     (s : Setting) (text sent : List ℕ) (to : State) (left : List ℕ) → Converses s opening text sent to left →
-    (replies : List Reply) × (sent ≡ flat_map (reply_text s) replies) × (to.rejections ≡ count_by is_rejection replies)
+    (replies : List ServerLine) × (sent ≡ flat_map (server_line_text s) replies) × (to.rejections ≡ count_by is_rejection replies)
     × (to.rejections ≤ max_rejections) × ((to.phase ≡ Closed Rejections) ↔ (to.rejections ≡ max_rejections))
 
 -- The text has a line of these words.

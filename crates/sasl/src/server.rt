@@ -5,7 +5,7 @@ ghost use Rattle.std.specs.Arc.{arc_str_bytes};
 ghost use Rattle.sasl.specs.declared.phase.Phase.TheVariants.{Closed as closed};
 ghost use Rattle.sasl.specs.Conversations.{after, at, is_open, reads_lines};
 
-use crate::reply::Reply;
+use crate::server_line::ServerLine;
 use crate::setting::Setting;
 use crate::words::completes_end;
 use crate::{AuthenticationFault, Cookie, Phase, Progress, Step};
@@ -48,14 +48,14 @@ impl Model for Server {
 }
 
 /// The state after a reply: rejections are counted, and the sixth closes.
-fn after(reply: Reply, next: Phase, rejections: u64) -> (Phase, u64)
+fn after(reply: ServerLine, next: Phase, rejections: u64) -> (Phase, u64)
     requires { rejections < MAX_REJECTIONS }
     ensures state { at result.0 result.1 ≡ after reply next rejections }
     ensures few { is_open result.0 ≡ true → result.1 < MAX_REJECTIONS }
 {
     match reply {
-        Reply::Reject if rejections + 1 < MAX_REJECTIONS => (next, rejections + 1),
-        Reply::Reject => (
+        ServerLine::Reject if rejections + 1 < MAX_REJECTIONS => (next, rejections + 1),
+        ServerLine::Reject => (
             Phase::Closed(AuthenticationFault::Rejections),
             rejections + 1,
         ),
@@ -192,7 +192,7 @@ impl Server {
         ensures err { OnErr result (HearsNothing self.old sent.old.items self.new sent.new.items) }
     {
         let (reply, next) = self.setting.answer(self.alloc, self.phase, &self.line)?;
-        let text = self.setting.reply_text(self.alloc, reply)?;
+        let text = self.setting.server_line_text(self.alloc, reply)?;
         sent.extend_from_slice(&text)?;
         let (phase, rejections) = after(reply, next, self.rejections);
         self.phase = phase;

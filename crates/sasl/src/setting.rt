@@ -5,12 +5,12 @@ ghost use Rattle.std.specs.Arc.{arc_str_bytes};
 ghost use Rattle.hex.specs.Hex.{encode_lower};
 ghost use Rattle.sasl.specs.Lines.{hex_value, line_end, words};
 ghost use Rattle.sasl.specs.Settings.{challenge_text, question};
-ghost use Rattle.sasl.specs.Table.{reply_text};
+ghost use Rattle.sasl.specs.Table.{server_line_text};
 ghost use Rattle.sasl.specs.Hearing.{accepted, answer, answer_command, are, attempted, attempted_by, named, responded, responded_with, shows_cookie, shows_parts, traced};
 
 use crate::command::Command;
 use crate::digest::{are_equal, write_hex};
-use crate::reply::Reply;
+use crate::server_line::ServerLine;
 use crate::words::{SPACE, Words, are_printable};
 use crate::{AuthenticationFault, Awaited, Cookie, Identity, Phase, cookie_digest};
 use hex::FromHexError;
@@ -23,14 +23,17 @@ const COOKIE_SHA1: &[u8] = b"DBUS_COOKIE_SHA1";
 const ANONYMOUS: &[u8] = b"ANONYMOUS";
 
 /// What a line is answered, and the state after.
-type Answer = (Reply, Phase);
+type Answer = (ServerLine, Phase);
 
-const REJECTED: Answer = (Reply::Reject, Phase::WaitingForAuth);
+const REJECTED: Answer = (ServerLine::Reject, Phase::WaitingForAuth);
 
-const CHALLENGED: Answer = (Reply::Challenge, Phase::WaitingForData(Awaited::Digest));
+const CHALLENGED: Answer = (
+    ServerLine::Challenge,
+    Phase::WaitingForData(Awaited::Digest),
+);
 
 const BEGUN_EARLY: Answer = (
-    Reply::Silence,
+    ServerLine::Silence,
     Phase::Closed(AuthenticationFault::BeginEarly),
 );
 
@@ -38,7 +41,7 @@ const BEGUN_EARLY: Answer = (
 fn accepted(identity: Identity) -> Answer
     ensures { result ≡ accepted identity }
 {
-    (Reply::Accept, Phase::WaitingForBegin(identity))
+    (ServerLine::Accept, Phase::WaitingForBegin(identity))
 }
 
 /// The bytes of a word in hex; none where it is no hex.
@@ -151,20 +154,20 @@ impl Setting {
     }
 
     /// A reply as it is sent.
-    pub fn reply_text(&self, alloc: Global, reply: Reply) -> Result<Vec<u8>, AllocError>
-        ensures { IfOk result (λ bytes. bytes.items ≡ reply_text self.now reply) }
+    pub fn server_line_text(&self, alloc: Global, reply: ServerLine) -> Result<Vec<u8>, AllocError>
+        ensures { IfOk result (λ bytes. bytes.items ≡ server_line_text self.now reply) }
     {
         match reply {
-            Reply::Challenge => line_of(alloc, b"DATA ", &self.question(alloc)?),
-            Reply::AskName => Vec::from_slice(alloc, b"DATA\r\n"),
-            Reply::Accept => line_of(alloc, b"OK ", &self.guid),
-            Reply::Reject if self.allow_anonymous => Vec::from_slice(
+            ServerLine::Challenge => line_of(alloc, b"DATA ", &self.question(alloc)?),
+            ServerLine::AskName => Vec::from_slice(alloc, b"DATA\r\n"),
+            ServerLine::Accept => line_of(alloc, b"OK ", &self.guid),
+            ServerLine::Reject if self.allow_anonymous => Vec::from_slice(
                 alloc,
                 b"REJECTED DBUS_COOKIE_SHA1 ANONYMOUS\r\n",
             ),
-            Reply::Reject => Vec::from_slice(alloc, b"REJECTED DBUS_COOKIE_SHA1\r\n"),
-            Reply::NotUnderstood => Vec::from_slice(alloc, b"ERROR\r\n"),
-            Reply::Silence => Ok(Vec::new(alloc)),
+            ServerLine::Reject => Vec::from_slice(alloc, b"REJECTED DBUS_COOKIE_SHA1\r\n"),
+            ServerLine::NotUnderstood => Vec::from_slice(alloc, b"ERROR\r\n"),
+            ServerLine::Silence => Ok(Vec::new(alloc)),
         }
     }
 
@@ -207,7 +210,7 @@ impl Setting {
         ensures { IfOk result (λ turn. turn ≡ named self.now (option_map (λ w. w.now) word.entry)) }
     {
         let Some(name) = word else {
-            return Ok((Reply::AskName, Phase::WaitingForData(Awaited::Name)));
+            return Ok((ServerLine::AskName, Phase::WaitingForData(Awaited::Name)));
         };
         if self.names_user(alloc, name)? {
             Ok(CHALLENGED)
@@ -296,12 +299,12 @@ impl Setting {
             (Phase::WaitingForData(_), Command::Begin) => Ok(BEGUN_EARLY),
 
             (Phase::WaitingForBegin(identity), Command::Begin) => Ok((
-                Reply::Silence,
+                ServerLine::Silence,
                 Phase::Done(identity),
             )),
             (Phase::WaitingForBegin(_), Command::Error | Command::Cancel) => Ok(REJECTED),
 
-            _ => Ok((Reply::NotUnderstood, phase)),
+            _ => Ok((ServerLine::NotUnderstood, phase)),
         }
     }
 
@@ -310,11 +313,11 @@ impl Setting {
         ensures { IfOk result (λ turn. turn ≡ answer self.now phase (words line.now)) }
     {
         if !are_printable(line) {
-            return Ok((Reply::NotUnderstood, phase));
+            return Ok((ServerLine::NotUnderstood, phase));
         }
         let mut words = Words::of(line);
         let Some(word) = words.next() else {
-            return Ok((Reply::NotUnderstood, phase));
+            return Ok((ServerLine::NotUnderstood, phase));
         };
         let command = Command::of(word, &words);
         self.answer_command(alloc, phase, command, &mut words)
