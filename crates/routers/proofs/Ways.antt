@@ -3,7 +3,7 @@ use Rattle.std.proofs.Common.{◌≡◌, ◌+◌, ◌<◌, ℕ, List, length, ge
 use Rattle.std.specs.Prelude.{Some, slice_get, slice_set}
 use Rattle.std.proofs.lemmas.Option.{slice_get_cases, slice_get_read}
 use Rattle.outbox.specs.Lanes.{End, sent, with}
-use Rattle.routers.specs.Posts.{Place, Puts, Sends, HasRoom, IsFull, IsFullFor, Waited, Ways, kept}
+use Rattle.routers.specs.Posts.{SlotMail, Puts, Sends, HasRoom, IsFull, IsFullFor, Waited, Ways, kept}
 
 module _ {E : Type 0} where
   pub is_put : (ends : List (End E)) (slot : ℕ) (item : E) (after : List (End E)) → slot < length ends
@@ -14,14 +14,14 @@ module _ {E : Type 0} where
     | inr past ↦ absurd (omega (arith, within, past.0))
   ]
 
-module _ {E S : Type 0} (ways : Ways E S) (slot place : ℕ) (p : Place E) (is : slot ≡ ways.first + place) (within : place < length ways.places) (at : p ≡ get_or ways.places place p) where
+module _ {E S : Type 0} (ways : Ways E S) (slot place : ℕ) (p : SlotMail E) (is : slot ≡ ways.first + place) (within : place < length ways.places) (at : p ≡ get_or ways.places place p) where
   stands : slice_get ways.places place ≡ Some p
   stands = slice_get_read ways.places (length ways.places) place p refl within at
 
-  pub is_kept : (q : Place E) (waiting : ℕ) (item : E) → HasRoom p → Waited ways slot waiting → q ≡ kept p item waiting
+  pub is_kept : (q : SlotMail E) (waiting : ℕ) (item : E) → HasRoom p → Waited ways slot waiting → q ≡ kept p item waiting
       → Sends ways slot item (record ways { places = slice_set ways.places place q })
   is_kept q waiting item room waited keeps =
-      inl (place, waiting, p, (is, stands), room, waited, ap (λ (r : Place E). record ways { places = slice_set ways.places place r }) keeps)
+      inl (place, waiting, p, (is, stands), room, waited, ap (λ (r : SlotMail E). record ways { places = slice_set ways.places place r }) keeps)
 
   pub is_full : IsFull p → IsFullFor ways slot
   is_full full = (

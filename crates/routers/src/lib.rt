@@ -31,9 +31,9 @@
 
 mod coordinator;
 mod fault;
-mod place;
 mod post;
 mod router_loop;
+mod slot_mail;
 mod source;
 mod telling;
 mod threads;

@@ -1,10 +1,10 @@
 //! The ways between the routers of one process.
 
 ghost use Rattle.std.specs.Prelude.{◌≡◌, ◌+◌, ◌-◌, ◌*◌, ◌^◌, ◌<◌, true, length, map, min, IfErr, IfNone, IfOk, IfSome, OnOk, OnErr};
-ghost use Rattle.routers.specs.Posts.{AsksFor, IsFullFor, IsOwn, Sends, Waited, new_place, places_of};
+ghost use Rattle.routers.specs.Posts.{AsksFor, IsFullFor, IsOwn, Sends, Waited, new_slot_mail, places_of};
 
 use crate::coordinator::{Coordinator, Wake};
-use crate::place::{NoRoom, Place};
+use crate::slot_mail::{NoRoom, SlotMail};
 use outbox::{EnvelopeOf, Lane, Tap};
 use outbox_core::Content;
 use registry_snapshots::{Desk, Naming, Note};
@@ -23,7 +23,7 @@ use std::sync::Wait;
 #[derive(Drop)]
 pub struct LanePost<'a, J: Naming, W: Wake + Drop> {
     lane: Lane<EnvelopeOf<J>>,
-    places: Vec<Place<EnvelopeOf<J>>>,
+    places: Vec<SlotMail<EnvelopeOf<J>>>,
     starts: Lane<StartRequest>,
     coordinator: &'a Coordinator<W>,
     /// The slot of its first place.
@@ -72,12 +72,12 @@ impl<'a, J: Naming, W: Wake + Drop> Model for LanePost<'a, J, W> {
 }
 
 /// The places of these taps.
-fn places_over<E: Drop>(alloc: Global, taps: Vec<Tap<E>>) -> Result<Vec<Place<E>>, AllocError>
-    ensures { IfOk result (λ places. places.items ≡ map new_place taps.items) }
+fn places_over<E: Drop>(alloc: Global, taps: Vec<Tap<E>>) -> Result<Vec<SlotMail<E>>, AllocError>
+    ensures { IfOk result (λ places. places.items ≡ map new_slot_mail taps.items) }
 {
     let mut places = Vec::with_capacity(alloc, taps.len())?;
     for tap in taps {
-        places.push(Place::new(alloc, tap)?)?;
+        places.push(SlotMail::new(alloc, tap)?)?;
     }
     Ok(places)
 }
@@ -98,7 +98,7 @@ impl<'a, J: Naming, W: Wake + Drop> LanePost<'a, J, W> {
         coordinator: &'a Coordinator<W>,
     ) -> Result<LanePost<'a, J, W>, AllocError>
         ensures lane { IfOk result (λ post. post.lane ≡ lane) }
-        ensures places { IfOk result (λ post. post.places ≡ map new_place taps.items) }
+        ensures places { IfOk result (λ post. post.places ≡ map new_slot_mail taps.items) }
         ensures first { IfOk result (λ post.
             post.first ≡ min (me * places_of coordinator.now) (2 ^ 64 - 1)) }
         ensures starts { IfOk result (λ post. post.starts ≡ starts) }

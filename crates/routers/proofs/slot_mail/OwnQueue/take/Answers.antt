@@ -1,7 +1,7 @@
 use Rattle.std.proofs.Common.{rules, ◌≡◌, ◌∷◌, ◌∙◌, length, refl, sym, ap}
 use Rattle.std.proofs.lemmas.List.{nil_from_length}
-use Rattle.routers.proofs.place.OwnQueue.take.Goals as goal
-use Rattle.routers.proofs.place.OwnQueue.take.Goals.{then-is_empty, else-is_empty}
+use Rattle.routers.proofs.slot_mail.OwnQueue.take.Goals as goal
+use Rattle.routers.proofs.slot_mail.OwnQueue.take.Goals.{then-is_empty, else-is_empty}
 
 pub returns : goal.returns
 returns g c =

@@ -1,8 +1,8 @@
-//! The places of a router.
+//! The mail for the slots of a router.
 
 ghost use Rattle.std.specs.Prelude.{◌≡◌, ◌<◌, ◌≤◌, ◌∷◌, ◌++◌, [], false, length, true, IfOk, MatchOption, MatchResult};
 ghost use Rattle.outbox.specs.Lanes.{WasEmpty};
-ghost use Rattle.routers.specs.Posts.{HasNone, HasRoom, IsFirst, IsFull, Takes, TakesOfOthers, is_due, kept, kept_behind, max_own, new_place};
+ghost use Rattle.routers.specs.Posts.{HasNone, HasRoom, IsFirst, IsFull, Takes, TakesOfOthers, is_due, kept, kept_behind, max_own, new_slot_mail};
 
 use outbox::Tap;
 use std::alloc::{AllocError, Global};
@@ -37,7 +37,7 @@ impl<E: Drop> Model for OwnQueue<E> {
     ghost use Rattle.std.specs.Prelude.{◌≤◌, List};
     ghost use Rattle.std.specs.VecDeque.{deque_capacity};
     ghost use Rattle.routers.specs.Posts.{max_own};
-    ghost use Rattle.routers.specs.declared.place.Kept.{Kept as Known};
+    ghost use Rattle.routers.specs.declared.slot_mail.Kept.{Kept as Known};
 
     ghost Value = { List (Known E) };
 
@@ -113,32 +113,32 @@ impl<E: Drop> OwnQueue<E> {
     }
 }
 
-/// A place of a router for a connection: the end that takes what others put into its outbox, and
-/// what its own router put for it. They are taken in the order in which they were put.
+/// The mail for a slot of a router: the end that takes what others put into its outbox, and what
+/// its own router put for it. They are taken in the order in which they were put.
 ///
 /// Contracts see both, and how many were taken that others put.
 #[derive(Drop)]
-pub(crate) struct Place<E: Drop> {
+pub(crate) struct SlotMail<E: Drop> {
     tap: Tap<E>,
     own: OwnQueue<E>,
     /// How many were taken that others put.
     taken: u64,
 }
 
-impl<E: Drop> Model for Place<E> {
-    ghost use Rattle.routers.specs.Posts.{Place as Known};
+impl<E: Drop> Model for SlotMail<E> {
+    ghost use Rattle.routers.specs.Posts.{SlotMail as Known};
 
     ghost Value = { Known E };
 
     ghost view = { λ p. record { tap = p.tap; own = p.own; taken = p.taken } };
 }
 
-impl<E: Drop> Place<E> {
-    pub(crate) fn new(alloc: Global, tap: Tap<E>) -> Result<Place<E>, AllocError>
-        ensures { IfOk result (λ p. p ≡ new_place tap) }
+impl<E: Drop> SlotMail<E> {
+    pub(crate) fn new(alloc: Global, tap: Tap<E>) -> Result<SlotMail<E>, AllocError>
+        ensures { IfOk result (λ p. p ≡ new_slot_mail tap) }
     {
         let own = OwnQueue::new(alloc)?;
-        Ok(Place { tap, own, taken: 0 })
+        Ok(SlotMail { tap, own, taken: 0 })
     }
 
     /// Puts an item of its own router, where so many wait that others put.
