@@ -482,7 +482,9 @@ starts() {
     program Owns "echo \"\$* \$DBUS_STARTER_ADDRESS \$DBUS_STARTER_BUS_TYPE\" > $room/seen; cat >> $room/seen" \
         "exec $client \"\$DBUS_STARTER_ADDRESS\" own com.example.Owns"
     program Slow 'sleep 0.3' "exec $client \"\$DBUS_STARTER_ADDRESS\" own com.example.Slow"
+    program Busy 'sleep 0.3' "exec $client \"\$DBUS_STARTER_ADDRESS\" own com.example.Busy"
     program Fails 'exit 1'
+    program Late 'sleep 0.3' 'exit 1'
     program Killed 'kill -9 $$'
     program Idle 'exit 0'
     service programs None "$group" 'Name=com.example.None' "Exec=$room/none-such"
@@ -511,10 +513,31 @@ starts() {
     done
     runs Fails 2
     told_to "200 $error.Spawn.ChildExited" calls com.example.Many 200
+    # More wait than an outbox holds.
+    told_to "400 here" burst com.example.Busy 400
+    told_to "400 $error.Spawn.ChildExited" burst com.example.Late 400
     waits has_no_zombie || wrong "leaves programs that nobody waited for"
     wait "$late" && [ "$(< late)" = "$error.TimedOut" ] || wrong "a program that does not take its name: $(< late)"
     told_to here call com.example.Owns
     finish
+    rm runs.*
+}
+
+is_held_in_order() {
+    [ "$(timeout 60 "$client" "$address" held "com.example.Held$1" 4 2>&1)" = "in order" ]
+}
+
+# Calls that wait for a service come to it before those that its callers send once it is there.
+held_calls() {
+    local routers
+    for i in {0..2}{0..3}; do
+        program "Held$i" "exec $client \"\$DBUS_STARTER_ADDRESS\" own com.example.Held$i"
+    done
+    for routers in 2 4; do
+        begin routers="$routers" services=programs --anonymous
+        is_held_in_order 0 || is_held_in_order 1 || is_held_in_order 2 || wrong "calls come before those that waited"
+        finish
+    done
     rm runs.*
 }
 
@@ -689,6 +712,7 @@ owners
 no_random_bytes
 few_files
 starts routers=3
+held_calls
 traces
 sessions
 patience_ends

@@ -65,6 +65,13 @@ impl<V: BusView + Drop, G: Gate + Drop> Engine<V, G> {
 }
 
 impl<V: BusView, G: Gate> Engine<V, G> {
+    /// The view of the bus, of which a host asks what was seen and made.
+    pub fn view(&self) -> &V
+        ensures { V.knows result.now ≡ self.now.view }
+    {
+        self.peers.view()
+    }
+
     /// The key of the next connection: the least that none has. A connection that is gone has given
     /// its key up, so keys stay below the most connections that were there at once.
     pub fn free_key(&self) -> usize

@@ -110,6 +110,13 @@ impl<V: BusView, G: Gate> Peers<V, G> {
         self.context.give_back(actions);
     }
 
+    /// The view of the bus.
+    pub fn view(&self) -> &V
+        ensures { V.knows result.now ≡ self.now.work.world.view }
+    {
+        self.context.view()
+    }
+
     /// The key of the next connection: the least that none has.
     pub fn free_key(&self) -> usize
         ensures { result ≡ free_key self.now.standing }

@@ -28,8 +28,7 @@ const PART: usize = 32;
 /// How many such parts of a connection are served in a turn.
 const PARTS: u8 = 2;
 
-/// How many envelopes are taken of a slot at once: as many as may wait there, 256 of its own router
-/// and 256 of others.
+/// How many envelopes are taken of a slot at once.
 const HANDFUL: u32 = 512;
 
 /// How many connections are served before the other routers are told of their mail: so many have
@@ -142,7 +141,11 @@ impl<V: BusView, G: Gate, P: Post<V>, S: Socket> Host<V, G, P, S> {
         ensures catches_up { CatchesUp P.puts P.starts self.old self.new }
         ensures ok { OnOk result (self.new.undone ≡ []) }
     {
-        if self.undone.is_empty() || self.carrier.carry_out(right, &mut self.undone) {
+        if self.undone.is_empty() {
+            return Ok(());
+        }
+        if self.carrier.carry_out(right, &mut self.undone) {
+            self.carrier.post.event_carried_out();
             return Ok(());
         }
         Err(AllocError)
@@ -159,13 +162,23 @@ impl<V: BusView, G: Gate, P: Post<V>, S: Socket> Host<V, G, P, S> {
         ensures kept { self.new.kept ≡ self.old.kept }
     {
         self.changes_rules = seem_of_rules(&actions);
+        self.tell_post();
         let mut actions = actions;
         actions.reverse();
         if self.carrier.carry_out(right, &mut actions) {
+            self.carrier.post.event_carried_out();
             self.engine.give_back(actions);
         } else {
             self.undone = actions;
         }
+    }
+
+    /// The post hears of the event that was served.
+    fn tell_post(&mut self)
+        ensures { self.new ≡ self.old }
+    {
+        let view = self.engine.view();
+        self.carrier.post.event_served(view.place(), view.last());
     }
 
     /// Serves an event, and carries out what it brings. Where there is no memory for it, or no room

@@ -82,6 +82,15 @@ pub trait Post<V: BusView>: Drop {
         ensures none { IfNone result (self.new ≡ self.old) }
         ensures empty { IfNone result (lacks self.old slot) };
 
+    /// An event was served: what is put from now on comes of it. Up to then so many changes of the
+    /// bus were seen, and the last that this router made has this place among them, from 1.
+    fn event_served(&mut self, seen: u64, last: u64)
+        ensures { self.new ≡ self.old };
+
+    /// All that comes of the event that was served last is put.
+    fn event_carried_out(&mut self)
+        ensures { self.new ≡ self.old };
+
     /// Asks the router of a connection to check whether it is present: it took no more mail, and
     /// has left the bus.
     fn ask_check(&mut self, right: &V::Right, at: Conn)

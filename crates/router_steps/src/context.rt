@@ -357,6 +357,13 @@ impl<V: BusView, G: Gate> Context<V, G> {
         }
     }
 
+    /// The view of the bus.
+    pub fn view(&self) -> &V
+        ensures { V.knows result.now ≡ self.now.world.view }
+    {
+        &self.view
+    }
+
     /// Whether a monitor may be shown messages, as far as the view has seen.
     pub(crate) fn is_watched(&self) -> bool
         ensures read { result ≡ false → IsRead V.alone self.now.world.view self.now.world.view }

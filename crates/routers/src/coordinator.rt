@@ -114,6 +114,9 @@ pub struct Coordinator<W: Wake + Drop> {
     states: Vec<RouterState<W>>,
     /// By routers, and behind them of the main thread: what they have told of their changes.
     tellings: Vec<Telling>,
+    /// There are so many changes, as far as any of them has told. Whoever has made none since, or
+    /// has put all that comes of those that it made, has told as much.
+    latest: AtomicU64,
     /// By slots: there is mail from another router.
     mail: Vec<AtomicBool>,
     /// By slots: the connection did not take its mail, though its router had a turn.
@@ -177,6 +180,7 @@ impl<W: Wake + Drop> Coordinator<W> {
         Ok(Coordinator {
             states,
             tellings,
+            latest: AtomicU64::new(0),
             mail,
             stuck,
             main,
@@ -282,7 +286,7 @@ impl<W: Wake + Drop> Coordinator<W> {
     /// A turn of a router begins, or of the main thread: it may make changes.
     pub fn begin_telling(&self, thread: usize) {
         if let Some(telling) = self.telling(thread) {
-            telling.begin();
+            telling.begin(self.latest.load(Ordering::SeqCst));
         }
     }
 
@@ -293,10 +297,29 @@ impl<W: Wake + Drop> Coordinator<W> {
         }
     }
 
+    /// There are so many changes.
+    fn note_changes(&self, position: u64) -> u64 {
+        let latest = self.latest.load(Ordering::SeqCst);
+        if position <= latest {
+            return latest;
+        }
+        self.latest.fetch_max(position, Ordering::SeqCst);
+        position
+    }
+
     /// In its turn a thread has put what comes of its changes up to a position.
     pub(crate) fn tell_up_to(&self, thread: usize, position: u64) {
+        self.note_changes(position);
         if let Some(telling) = self.telling(thread) {
             telling.advance(position);
+        }
+    }
+
+    /// In its turn a thread has put what comes of all changes that it made, and has seen so many.
+    pub(crate) fn tell_all(&self, thread: usize, seen: u64) {
+        let latest = self.note_changes(seen);
+        if let Some(telling) = self.telling(thread) {
+            telling.advance(latest);
         }
     }
 

@@ -6,7 +6,6 @@ ghost use Rattle.routers.specs.Posts.{AsksFor, IsFullFor, IsOwn, Sends, Waited, 
 use crate::coordinator::{Coordinator, Wake};
 use crate::slot_mail::{NoRoom, SlotMail};
 use outbox::{EnvelopeOf, Lane, Tap};
-use outbox_core::Content;
 use registry_snapshots::{Desk, Naming, Note};
 use router::Traced;
 use router_host::{Post, StartRequest, TooManyStarts, Unsent};
@@ -30,6 +29,12 @@ pub struct LanePost<'a, J: Naming, W: Wake + Drop> {
     first: usize,
     /// Which router's it is, or a greater number.
     me: usize,
+    /// How many changes of the bus were seen when the last event was served.
+    seen: u64,
+    /// Which of these was the last that this router made, counted from 1.
+    last: u64,
+    /// The last event made a change, and not all is put that comes of it.
+    is_telling: bool,
     /// The others have put what comes of their changes up to this position.
     cleared: u64,
     /// How many envelopes were put for other routers since it was looked how many wait.
@@ -111,6 +116,9 @@ impl<'a, J: Naming, W: Wake + Drop> LanePost<'a, J, W> {
             coordinator,
             first: me.saturating_mul(coordinator.places()),
             me,
+            seen: 0,
+            last: 0,
+            is_telling: false,
             cleared: 0,
             unseen: 0,
             backlog: None,
@@ -143,26 +151,31 @@ impl<'a, J: Naming, W: Wake + Drop> LanePost<'a, J, W> {
         }
     }
 
+    /// Up to which change the others are to have put what comes of theirs, before an envelope is
+    /// put: the last that the event saw, or where it made changes itself, the one before that which
+    /// the envelope tells.
+    fn earlier_than(&self, envelope: &EnvelopeOf<J>) -> u64 {
+        if !self.is_telling {
+            return self.seen;
+        }
+        match &envelope.note {
+            Some(note) => note.prefix().len().saturating_sub(1),
+            None => 0,
+        }
+    }
+
     /// What comes of a change is put before what comes later: waits until the others have put what
-    /// comes of their changes, as far as the sender of an envelope knew of them.
+    /// comes of their changes.
     fn await_earlier<R: Wait>(&mut self, right: &R, envelope: &EnvelopeOf<J>)
         ensures same { self.new ≡ self.old }
     {
-        let Some(note) = &envelope.note else {
-            return;
-        };
-        let position = note.prefix().len();
+        let position = self.earlier_than(envelope);
         if position <= self.cleared {
             return;
         }
         self.cleared = position;
-        // What the bus itself says may be of a change of its own, the last that it knows of.
-        let before = match &envelope.content {
-            Content::Own(_) => position.saturating_sub(1),
-            Content::Relayed(_) => position,
-        };
-        self.coordinator.tell_up_to(self.me, before);
-        self.coordinator.await_others(right, self.me, before);
+        self.coordinator.tell_up_to(self.me, position);
+        self.coordinator.await_others(right, self.me, position);
     }
 
     /// Puts an envelope for a place of its own, which this slot is, behind those that others have
@@ -320,8 +333,18 @@ impl<'a, 'b, J: Naming, W: Wake + Drop, R: Wait> Post<Traced<Desk<'b, J, R>>>
         self.places[place].take(right)
     }
 
+    fn event_served(&mut self, seen: u64, last: u64) {
+        self.is_telling = last > self.last;
+        self.seen = seen;
+        self.last = last;
+    }
+
+    fn event_carried_out(&mut self) {
+        self.is_telling = false;
+        self.coordinator.tell_all(self.me, self.seen);
+    }
+
     fn turn_ends(&mut self, _right: &R) {
-        self.coordinator.tell_up_to(self.me, self.cleared);
         self.coordinator.wake_owed();
     }
 

@@ -44,9 +44,10 @@ impl Telling {
         }
     }
 
-    /// A turn begins: from now on the thread may make changes.
-    pub(crate) fn begin(&self) {
-        self.tell(self.known.load(Ordering::SeqCst));
+    /// A turn begins: from now on the thread may make changes, which come behind this position.
+    pub(crate) fn begin(&self, position: u64) {
+        self.known.store(position, Ordering::SeqCst);
+        self.tell(position);
     }
 
     /// A turn ends: all that the thread made is told.

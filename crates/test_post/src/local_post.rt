@@ -149,6 +149,10 @@ impl Post<SeqBus> for LocalPost {
         self.mails[slot].take()
     }
 
+    fn event_served(&mut self, _seen: u64, _last: u64) {}
+
+    fn event_carried_out(&mut self) {}
+
     fn ask_check(&mut self, _right: &(), _at: Conn) {}
 
     fn ask_checks(&mut self, _right: &()) {
