@@ -523,24 +523,6 @@ starts() {
     rm runs.*
 }
 
-is_held_in_order() {
-    [ "$(timeout 60 "$client" "$address" held "com.example.Held$1" 4 2>&1)" = "in order" ]
-}
-
-# Calls that wait for a service come to it before those that its callers send once it is there.
-held_calls() {
-    local routers
-    for i in {0..2}{0..3}; do
-        program "Held$i" "exec $client \"\$DBUS_STARTER_ADDRESS\" own com.example.Held$i"
-    done
-    for routers in 2 4; do
-        begin routers="$routers" services=programs --anonymous
-        is_held_in_order 0 || is_held_in_order 1 || is_held_in_order 2 || wrong "calls come before those that waited"
-        finish
-    done
-    rm runs.*
-}
-
 # The trace that a daemon has written so far.
 joined() {
     cat trace/head.trace trace/main.trace trace/router-*.trace
@@ -712,7 +694,6 @@ owners
 no_random_bytes
 few_files
 starts routers=3
-held_calls
 traces
 sessions
 patience_ends

@@ -7,8 +7,6 @@ client.py ADDRESS start NAME      calls StartServiceByName
 client.py ADDRESS ask MEMBER      calls a method of the bus that takes nothing
 client.py ADDRESS burst NAME N    calls the owner of a name N times at once, and prints how often each answer came
 client.py ADDRESS calls PREFIX N  calls the owners of N names at once, and prints how often each answer came
-client.py ADDRESS held PREFIX N   has three clients call the owners of N names, one after the other, before and after they
-                                  start, and tells whether each client was answered in order
 client.py ADDRESS flood N         sends N signals to a listener that does not read, and asks for the names then
 client.py ADDRESS starts NAME N   calls StartServiceByName N times and reads nothing, and asks for the names once it is out
 client.py ADDRESS own NAME        owns a name, and answers every call until the bus is gone
@@ -201,31 +199,6 @@ def follows(listener, name):
     return "gone"
 
 
-def asks(client, name, ends, calls):
-    while not ends.is_set():
-        calls += [client.call(name, "Ask") for _ in range(2)]
-        time.sleep(0.001)
-
-
-def asks_in_order(client, name, wrong):
-    """Asks the owner of a name without a pause, until it has answered for a while, and notes answers out of order."""
-    ends, calls, answered, latest, until = threading.Event(), [], 0, 0, None
-    asker = threading.Thread(target=asks, args=(client, name, ends, calls))
-    asker.start()
-    for to, answer in client.answers():
-        answered += 1
-        if answer == "here":
-            wrong += [to] * (to < latest)
-            latest = to
-            until = until or time.monotonic() + 0.2
-        if until and time.monotonic() > until:
-            ends.set()
-            asker.join()
-            if answered >= len(calls):
-                return
-    wrong.append("gone")
-
-
 def main(address, what, name, count="0"):
     if what == "bytes":
         to = connected(address)
@@ -238,16 +211,6 @@ def main(address, what, name, count="0"):
         for taker in takers:
             threading.Thread(target=takes, args=(taker, name, until)).start()
         print(follows(listener, name))
-        return
-    if what == "held":
-        clients, wrong = [Client(address) for _ in range(3)], []
-        for i in range(int(count)):
-            askers = [threading.Thread(target=asks_in_order, args=(each, f"{name}{i}", wrong)) for each in clients]
-            for asker in askers:
-                asker.start()
-            for asker in askers:
-                asker.join()
-        print(f"{len(wrong)} out of order" if wrong else "in order")
         return
     if what == "patience":
         named, silent = Client(address), connected(address)

@@ -3,15 +3,20 @@ use Rattle.std.specs.Prelude.{◌≡◌, ◌+◌, ◌-◌, ◌^◌, ◌<◌, ◌
 use Rattle.seq_bus_core.specs.BusState.{max_connections}
 use Rattle.outbox.specs.declared.hand.Hand.{Hand}
 use Rattle.outbox.specs.Lanes.{End, HadItems, Took, WasEmpty, WasFull, sent, with}
+use Rattle.router_core.specs.declared.limits.TheConstants.{MAX_EFFECTS}
 use Rattle.routers.specs.declared.slot_mail.Kept.{Kept}
 
 -- how many places for connections each of so many routers has
 abbrev pub places_of : ℕ → ℕ
 places_of routers = max_connections / max routers 1
 
--- how many envelopes that a router puts for a place of its own wait there at most
+-- Where fewer envelopes wait that a router put for a place of its own, it has room for one more.
 abbrev pub max_own : ℕ
 max_own = 256
+
+-- how many wait there at most, where an event brings many at once
+abbrev pub most_own : ℕ
+most_own = max_own + MAX_EFFECTS
 
 -- A count of what was taken stops here.
 abbrev pub counted : ℕ → ℕ
@@ -76,7 +81,7 @@ module _ {E : Type 0} where
   HasNone p = (p.own ≡ []) × WasEmpty p.tap
 
   abbrev pub HasRoom : SlotMail E → Type 0
-  HasRoom p = length p.own < max_own
+  HasRoom p = length p.own < most_own
 
   abbrev pub IsFull : SlotMail E → Type 0
   IsFull p = max_own ≤ length p.own

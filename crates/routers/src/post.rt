@@ -29,7 +29,9 @@ pub struct LanePost<'a, J: Naming, W: Wake + Drop> {
     first: usize,
     /// Which router's it is, or a greater number.
     me: usize,
-    /// How many changes of the bus were seen when the last event was served.
+    /// How many events were served.
+    events: u64,
+    /// How many changes of the bus were seen when the last of them was served.
     seen: u64,
     /// Which of these was the last that this router made, counted from 1.
     last: u64,
@@ -59,6 +61,9 @@ const LOOK: u8 = 7;
 /// over a hundred for a monitor, where a connection with 64 names leaves; and for what other
 /// routers put until they look.
 const MUCH: usize = 80;
+
+/// So many turns of 2 ms each are waited for at most.
+const WAITS: u32 = 100;
 
 impl<'a, J: Naming, W: Wake + Drop> Model for LanePost<'a, J, W> {
     ghost use Rattle.outbox_core.specs.declared.envelope.Envelope.{Envelope};
@@ -116,6 +121,7 @@ impl<'a, J: Naming, W: Wake + Drop> LanePost<'a, J, W> {
             coordinator,
             first: me.saturating_mul(coordinator.places()),
             me,
+            events: 0,
             seen: 0,
             last: 0,
             is_telling: false,
@@ -194,7 +200,7 @@ impl<'a, J: Naming, W: Wake + Drop> LanePost<'a, J, W> {
         ensures back { IfErr result (λ unsent. unsent.0 ≡ envelope) }
     {
         let waiting = self.waiting(right, slot);
-        match self.places[place].put(envelope, waiting) {
+        match self.places[place].put(envelope, waiting, self.events) {
             Ok(()) => Ok(()),
             Err(NoRoom(back)) => Err(Unsent(back)),
         }
@@ -236,12 +242,36 @@ impl<'a, J: Naming, W: Wake + Drop> LanePost<'a, J, W> {
         true
     }
 
-    /// Looks now and then whether much mail waits for a slot of another router.
+    /// Looks now and then whether much mail waits for a slot of another router. A router with places
+    /// lets that one go first once what it serves is served; one without is waited for by nobody,
+    /// and lets it go first at once.
     fn look<R: Wait>(&mut self, right: &R, slot: usize)
         ensures same { self.new ≡ self.old }
     {
-        if self.is_to_look() && self.has_much(right, slot) {
+        if self.places.is_empty() {
+            self.await_room(right, slot);
+        } else if self.is_to_look() && self.has_much(right, slot) {
             self.note_backlog(slot);
+        }
+    }
+
+    /// Waits while much mail waits for a slot of another router, but not for ever.
+    fn await_room<R: Wait>(&mut self, right: &R, slot: usize)
+        ensures same { self.new ≡ self.old }
+    {
+        if !self.has_much(right, slot) {
+            return;
+        }
+        let Some(turns) = self.coordinator.turns_of(slot) else {
+            return;
+        };
+        // That one may wait for this thread.
+        self.coordinator.tell_all(self.me, self.seen);
+        for _ in 0..WAITS {
+            if self.is_over(right, Backlog { slot, turns }) {
+                return;
+            }
+            self.coordinator.await_turn(right, slot);
         }
     }
 
@@ -334,6 +364,7 @@ impl<'a, 'b, J: Naming, W: Wake + Drop, R: Wait> Post<Traced<Desk<'b, J, R>>>
     }
 
     fn event_served(&mut self, seen: u64, last: u64) {
+        self.events = self.events.wrapping_add(1);
         self.is_telling = last > self.last;
         self.seen = seen;
         self.last = last;

@@ -2,18 +2,22 @@
 
 ghost use Rattle.std.specs.Prelude.{◌≡◌, ◌<◌, ◌≤◌, ◌∷◌, ◌++◌, [], false, length, true, IfOk, MatchOption, MatchResult};
 ghost use Rattle.outbox.specs.Lanes.{WasEmpty};
-ghost use Rattle.routers.specs.Posts.{HasNone, HasRoom, IsFirst, IsFull, Takes, TakesOfOthers, is_due, kept, kept_behind, max_own, new_slot_mail};
+ghost use Rattle.routers.specs.Posts.{HasNone, HasRoom, IsFirst, IsFull, Takes, TakesOfOthers, is_due, kept, kept_behind, max_own, most_own, new_slot_mail};
 
 use outbox::Tap;
-use std::alloc::{AllocError, Global};
+use router_core::limits::MAX_EFFECTS;
+use std::alloc::{AllocError, AllocFailed, Global};
 use std::collections::VecDeque;
 use std::marker::Model;
 use std::mem;
 use std::sync::Wait;
 
-/// How many envelopes that a router puts for a place of its own wait there at most: as many as an
-/// outbox holds.
+/// Where so many envelopes wait that a router put for a place of its own, no later event puts one
+/// more there: as many as an outbox holds.
 const ROOM: usize = 256;
+
+/// So many may wait where an event brings many at once, which it may while there is memory.
+const MOST: usize = ROOM + MAX_EFFECTS;
 
 /// There was no room for this item.
 #[derive(Drop)]
@@ -31,6 +35,10 @@ struct Kept<E: Drop> {
 #[derive(Drop)]
 struct OwnQueue<E: Drop> {
     kept: VecDeque<Kept<E>>,
+    /// The event of which something was put last.
+    event: u64,
+    /// How many waited when that event began.
+    waited: usize,
 }
 
 impl<E: Drop> Model for OwnQueue<E> {
@@ -51,20 +59,39 @@ impl<E: Drop> OwnQueue<E> {
         ensures { IfOk result (λ q. q ≡ []) }
     {
         let kept = VecDeque::with_capacity(alloc, ROOM)?;
-        Ok(OwnQueue { kept })
+        Ok(OwnQueue {
+            kept,
+            event: 0,
+            waited: 0,
+        })
     }
 
-    /// Puts an item behind so many that others put.
-    fn put(&mut self, item: E, others: u64) -> Result<(), NoRoom<E>>
+    /// How many may wait while this event puts.
+    fn limit(&mut self, event: u64) -> usize
+        ensures same { self.new ≡ self.old }
+        ensures least { max_own ≤ result }
+        ensures most { result ≤ most_own }
+    {
+        if event != self.event {
+            self.event = event;
+            self.waited = self.kept.len();
+        }
+        if self.waited < ROOM { MOST } else { ROOM }
+    }
+
+    /// Puts an item of this event behind so many that others put.
+    fn put(&mut self, item: E, others: u64, event: u64) -> Result<(), NoRoom<E>>
         ensures { MatchResult result
-            (λ _. (length self.old < max_own) × (self.new ≡ kept_behind self.old item others))
+            (λ _. (length self.old < most_own) × (self.new ≡ kept_behind self.old item others))
             (λ back. (back.0 ≡ item) × (self.new ≡ self.old) × (max_own ≤ length self.old)) }
     {
-        if self.kept.len() >= ROOM {
+        if self.kept.len() >= self.limit(event) {
             return Err(NoRoom(item));
         }
-        self.kept.push_back_reserved(Kept { item, others });
-        Ok(())
+        match self.kept.push_back(Kept { item, others }) {
+            Ok(()) => Ok(()),
+            Err(AllocFailed { value }) => Err(NoRoom(value.item)),
+        }
     }
 
     /// Whether the oldest item comes next, where so many that others put were taken.
@@ -141,14 +168,14 @@ impl<E: Drop> SlotMail<E> {
         Ok(SlotMail { tap, own, taken: 0 })
     }
 
-    /// Puts an item of its own router, where so many wait that others put.
-    pub(crate) fn put(&mut self, item: E, waiting: usize) -> Result<(), NoRoom<E>>
+    /// Puts an item of its own router, which this event brought, where so many wait that others put.
+    pub(crate) fn put(&mut self, item: E, waiting: usize, event: u64) -> Result<(), NoRoom<E>>
         ensures { MatchResult result
             (λ _. HasRoom self.old × (self.new ≡ kept self.old item waiting))
             (λ back. (back.0 ≡ item) × (self.new ≡ self.old) × IsFull self.old) }
     {
         self.own
-            .put(item, self.taken.saturating_add(waiting as u64))
+            .put(item, self.taken.saturating_add(waiting as u64), event)
     }
 
     /// Takes of what others put.
