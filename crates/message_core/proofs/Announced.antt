@@ -1,15 +1,25 @@
 -- What a message announces that is long enough.
-use Rattle.std.proofs.Common.{◌≡◌, ℕ, zero, suc, ◌≤◌, ◌<◌, Bool, true, false, cond, List, get_or, Result, Ok, Err, refl, sym, ap, subst, ◌∙◌, arith, inl, inr}
+use Rattle.std.proofs.Common.{◌≡◌, ℕ, zero, suc, ◌+◌, ◌-◌, ◌≤◌, ◌<◌, Bool, true, false, cond, List, take, drop, get_or, Result, Ok, Err, refl, sym, ap, subst, ◌∙◌, arith, inl, inr}
 use Rattle.std.specs.Prelude.{◌⊎◌, ◌==◌, nat_lt, if◌then◌else◌}
+use Rattle.std.specs.Int.{w32}
 use Rattle.std.proofs.lemmas.Bool.{ltb-false, le-ltb}
 use Rattle.std.proofs.lemmas.Bool.Decides.{nat_tests}
 use Rattle.marshal_core.specs.declared.order.Order.{Order}
 use Rattle.marshal_core.specs.declared.order.Order.TheVariants.{Little, Big}
+use Rattle.marshal_core.specs.Reading.{number as number_of}
 use Rattle.marshal_core.proofs.Results.{chosen, eqb-yes}
 use Rattle.message_core.specs.declared.fault.FrameFault.{FrameFault}
 use Rattle.message_core.specs.declared.fault.FrameFault.TheVariants as fault
 use Rattle.message_core.specs.Announcements.{announced, announced_in, order_byte, protocol_version, serial_place, fields_place, max_fields_length, number, whole_length}
 use Rattle.message_core.specs.Said.{order_of}
+
+four_bytes : (place : ℕ) → place + 4 - place ≡ 4
+four_bytes place = omega arith
+
+-- the number in the four bytes at a place, in the words of the wire format
+pub number_is : (order : Order) (place : ℕ) (bytes : List ℕ) → number_of order w32 (take (place + 4 - place) (drop place bytes)) ≡ number order place bytes
+number_is Little place bytes = ap (λ (n : ℕ). number_of Little w32 (take n (drop place bytes))) (four_bytes place)
+number_is Big place bytes = ap (λ (n : ℕ). number_of Big w32 (take n (drop place bytes))) (four_bytes place)
 
 pub record IsAnnounced (limit : ℕ) (order : Order) (bytes : List ℕ) (n : ℕ) : Type 0 where
   pub first : get_or bytes 0 0 ≡ order_byte order
