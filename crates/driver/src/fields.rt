@@ -9,7 +9,7 @@ ghost use Rattle.marshal_core.specs.Spelling.{has_zero, pads};
 ghost use Rattle.marshal_core.specs.declared.order.Order.TheVariants.{Little};
 ghost use Rattle.message_core.specs.declared.header_field.HeaderField.TheVariants as field_of;
 ghost use Rattle.message_core.specs.HeaderFields.{Field};
-ghost use Rattle.message_core.specs.Headers.{AreWritten, known_field, optional_field, text_field};
+ghost use Rattle.message_core.specs.Headers.{AreWritten, known_field, optional_field, text_field_bytes};
 ghost use Rattle.driver.specs.OwnMessages.{bus_path};
 ghost use Rattle.driver.specs.Layout.{end_fields, IsNamed};
 
@@ -25,7 +25,7 @@ fn put_text(fields: &mut Vec<u8>, field: HeaderField, letter: u8, text: &str)
     requires room { length fields.old.items + length text.now + 16 ≤ ROOM }
     requires capacity { ROOM ≤ vec_capacity fields.old }
     ensures put { fields.new.items ≡ fields.old.items
-        ++ (pads 8 (length fields.old.items) ++ text_field Little field letter text.now) }
+        ++ (pads 8 (length fields.old.items) ++ text_field_bytes Little field letter text.now) }
     ensures utf8 { IsUtf8 text.now }
     ensures capacity { vec_capacity fields.old ≤ vec_capacity fields.new }
     ensures room { length fields.new.items ≤ length fields.old.items + length text.now + 16 }

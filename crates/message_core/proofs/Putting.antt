@@ -14,7 +14,7 @@ use Rattle.message_core.specs.declared.header_field.HeaderField.TheVariants as f
 use Rattle.message_core.specs.Kinds.{code_of}
 use Rattle.message_core.specs.HeaderFields.{Field}
 use Rattle.message_core.specs.BasicFields.{basic_field}
-use Rattle.message_core.specs.Headers.{AreWritten, known_field, signature_field, text_field}
+use Rattle.message_core.specs.Headers.{AreWritten, known_field, signature_field, text_field_bytes}
 use Rattle.message_core.specs.Places.{SpellField}
 use Rattle.message_core.proofs.Strings.{has_zero_any}
 use Rattle.message_core.proofs.Shape.{basic_spelled, padded_spelled}
@@ -80,7 +80,7 @@ both_ok (Ok x) f p q = f p q
 both_ok (Err e) f p q = tt
 
 abbrev Put : HeaderField → ℕ → Order → List ℕ → List ℕ → List ℕ → Type 0
-Put k letter order t old new = new ≡ old ++ (pads 8 (length old) ++ text_field order k letter t)
+Put k letter order t old new = new ≡ old ++ (pads 8 (length old) ++ text_field_bytes order k letter t)
 
 pub path_put : (order : Order) (sent : List Field) (t path old new : List ℕ) → t ≡ path → IsObjectPath path → AreWritten order sent old → Put field.Path 111 order t old new → IsString t
     → AreWritten order (sent ++ known_field field.Path (an_object_path path) ∷ []) new

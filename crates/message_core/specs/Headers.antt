@@ -72,8 +72,8 @@ abbrev pub AreWritten : Order → List Field → List ℕ → Type 0
 AreWritten order sent bytes = SpellElements (values (map field_value sent)) field_depth order fixed_length field_type bytes
 
 -- a field of a text, at a multiple of eight
-abbrev pub text_field : Order → HeaderField → (letter : ℕ) (text : List ℕ) → List ℕ
-text_field order k letter text = (code_of k ∷ 1 ∷ letter ∷ 0 ∷ []) ++ (number_bytes order w32 (length text) ++ ended text)
+abbrev pub text_field_bytes : Order → HeaderField → (letter : ℕ) (text : List ℕ) → List ℕ
+text_field_bytes order k letter text = (code_of k ∷ 1 ∷ letter ∷ 0 ∷ []) ++ (number_bytes order w32 (length text) ++ ended text)
 
 -- ---- putting a message together
 

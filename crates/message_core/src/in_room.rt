@@ -9,7 +9,7 @@ ghost use Rattle.marshal_core.specs.Signatures.{codes, IsSignature};
 ghost use Rattle.marshal_core.specs.Spelling.{pad_len, pads, number_bytes};
 ghost use Rattle.message_core.specs.declared.header_field.HeaderField.TheVariants as field_of;
 ghost use Rattle.message_core.specs.HeaderFields.{Field};
-ghost use Rattle.message_core.specs.Headers.{AreWritten, known_field, signature_field, text_field};
+ghost use Rattle.message_core.specs.Headers.{AreWritten, known_field, signature_field, text_field_bytes};
 ghost use Rattle.message_core.specs.Kinds.{code_of};
 
 use crate::header_field::HeaderField;
@@ -92,7 +92,7 @@ pub fn put_text(
     requires room { length output.old.items + (pad_len 8 at + (9 + length text.now))
         ≤ vec_capacity output.old }
     ensures items { output.new.items
-        ≡ output.old.items ++ (pads 8 at ++ text_field order field letter text.now) }
+        ≡ output.old.items ++ (pads 8 at ++ text_field_bytes order field letter text.now) }
     ensures capacity { vec_capacity output.old ≤ vec_capacity output.new }
 {
     put_start(output, at, field, letter);

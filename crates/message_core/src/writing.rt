@@ -8,7 +8,7 @@ ghost use Rattle.marshal_core.specs.Spelling.{IsString, has_zero, pads};
 ghost use Rattle.message_core.specs.declared.fault.FrameFault.TheVariants.{NoMemory, TooLong};
 ghost use Rattle.message_core.specs.declared.header_field.HeaderField.TheVariants as field_of;
 ghost use Rattle.message_core.specs.HeaderFields.{Field};
-ghost use Rattle.message_core.specs.Headers.{AreWritten, AreKnownValues, IsLaidOut, optional_field, signature_field, fields_of, message_of, text_field, whole_bytes};
+ghost use Rattle.message_core.specs.Headers.{AreWritten, AreKnownValues, IsLaidOut, optional_field, signature_field, fields_of, message_of, text_field_bytes, whole_bytes};
 ghost use Rattle.message_core.specs.Announcements.{order_byte as order_byte_of};
 ghost use Rattle.marshal_core.specs.declared.order.Order.{Order};
 ghost use Rattle.match_rules.specs.Kinds.{kind_number};
@@ -75,7 +75,7 @@ fn put_text(
 ) -> Result<(), FrameFault>
     requires clean { has_zero text.now ≡ false }
     ensures put { OnOk result (output.new.items ≡ output.old.items
-        ++ (pads 8 (length output.old.items) ++ text_field order field letter text.now)) }
+        ++ (pads 8 (length output.old.items) ++ text_field_bytes order field letter text.now)) }
     ensures string { OnOk result (IsString text.now) }
     ensures refused { IfErr result (λ f. f ≢ NoMemory
         → (f ≡ TooLong) × (2 ^ 32 ≤ length text.now)) }
