@@ -13,7 +13,7 @@ ghost use Rattle.message_core.specs.Headers.{AreWritten, known_field, optional_f
 ghost use Rattle.driver.specs.OwnMessages.{bus_path};
 ghost use Rattle.driver.specs.Layout.{end_fields, IsNamed};
 
-use marshal_core::Order;
+use byteorder::LittleEndian;
 use message_core::{HeaderField, in_room};
 use names::{BUS_NAME, BUS_PATH, ConnectionName};
 
@@ -31,7 +31,7 @@ fn put_text(fields: &mut Vec<u8>, field: HeaderField, letter: u8, text: &str)
     ensures room { length fields.new.items ≤ length fields.old.items + length text.now + 16 }
 {
     let at = fields.len();
-    in_room::put_text(fields, Order::Little, at, field, letter, text);
+    in_room::put_text::<LittleEndian>(fields, at, field, letter, text);
 }
 
 /// Puts a field of a string.

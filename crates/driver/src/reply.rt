@@ -16,7 +16,6 @@ use crate::layout::append_message;
 use crate::strings;
 use arrayvec::ArrayVec;
 use byteorder::{ByteOrder, LittleEndian};
-use marshal_core::Order;
 use match_rules::MessageKind;
 use message_core::HeaderField;
 use message_core::in_room::put_reply_serial;
@@ -129,7 +128,7 @@ fn put_reply(
     ensures err { OnErr result (out.new.items ≡ out.old.items) }
 {
     let mut fields = Vec::with_capacity(*out.allocator(), ROOM)?;
-    put_reply_serial(&mut fields, Order::Little, to.call());
+    put_reply_serial::<LittleEndian>(&mut fields, to.call());
     put_end(&mut fields, to.caller(), signature);
     append_message(MessageKind::MethodReturn, serial, &fields, body, out)
 }
@@ -209,7 +208,7 @@ pub fn write_error(
 {
     let mut fields = Vec::with_capacity(*out.allocator(), ROOM)?;
     put_string(&mut fields, HeaderField::ErrorName, error_name(error));
-    put_reply_serial(&mut fields, Order::Little, to.call());
+    put_reply_serial::<LittleEndian>(&mut fields, to.call());
     put_end(&mut fields, to.caller(), "s");
     let mut text = ArrayVec::<u8, { strings::ROOM }>::new();
     strings::put_string(&mut text, error_text(error));

@@ -5,6 +5,7 @@ ghost use Rattle.marshal_core.specs.Spelling.{pad_len, pads};
 ghost use Rattle.message.specs.Layout.{AreWithin, fields_end, copied, sender_bytes};
 
 use crate::layout::behind;
+use byteorder::{BigEndian, LittleEndian};
 use marshal_core::Order;
 use message_core::in_room::{put, put_padding, put_text};
 use message_core::{FieldPlace, HeaderField};
@@ -35,5 +36,8 @@ pub fn put_sender(output: &mut Vec<u8>, order: Order, name: &str, at: usize)
         ≡ output.old.items ++ (pads 8 at ++ sender_bytes order name.now) }
     ensures capacity { vec_capacity output.old ≤ vec_capacity output.new }
 {
-    put_text(output, order, at, HeaderField::Sender, b's', name);
+    match order {
+        Order::Little => put_text::<LittleEndian>(output, at, HeaderField::Sender, b's', name),
+        Order::Big => put_text::<BigEndian>(output, at, HeaderField::Sender, b's', name),
+    }
 }

@@ -16,6 +16,7 @@ use crate::fault::RelayFault;
 use crate::layout::{Layout, behind, fields_end, layout_of};
 use crate::parts::parts_of;
 use crate::putting::{put_fields, put_sender};
+use byteorder::{BigEndian, LittleEndian};
 use marshal_core::Order;
 use message_core::in_room::{put, put_body, put_number};
 use message_core::{FIXED_LENGTH, MAXIMUM_LENGTH, Message};
@@ -63,7 +64,11 @@ fn put_fixed_part(output: &mut Vec<u8>, order: Order, bytes: &[u8], end: usize)
     ensures capacity { vec_capacity output.old ≤ vec_capacity output.new }
 {
     put(output, &bytes[..12]);
-    put_number(output, order, (end - FIXED_LENGTH) as u32);
+    let length = (end - FIXED_LENGTH) as u32;
+    match order {
+        Order::Little => put_number::<LittleEndian>(output, length),
+        Order::Big => put_number::<BigEndian>(output, length),
+    }
 }
 
 /// Puts the fields with SENDER among them.

@@ -13,8 +13,7 @@ ghost use Rattle.message_core.specs.Headers.{AreWritten, known_field, signature_
 ghost use Rattle.message_core.specs.Kinds.{code_of};
 
 use crate::header_field::HeaderField;
-use byteorder::{BigEndian, ByteOrder, LittleEndian};
-use marshal_core::Order;
+use marshal::parts::Endian;
 
 /// How many bytes there are from a place to the next multiple of eight.
 pub fn gap(at: usize) -> usize
@@ -33,16 +32,13 @@ pub fn put(output: &mut Vec<u8>, bytes: &[u8])
 }
 
 /// Puts a number.
-pub fn put_number(output: &mut Vec<u8>, order: Order, number: u32)
+pub fn put_number<E: Endian>(output: &mut Vec<u8>, number: u32)
     requires { length output.old.items + 4 ≤ vec_capacity output.old }
-    ensures items { output.new.items ≡ output.old.items ++ number_bytes order w32 number }
+    ensures items { output.new.items ≡ output.old.items ++ number_bytes E.order w32 number }
     ensures capacity { vec_capacity output.old ≤ vec_capacity output.new }
 {
     let mut four = [0; 4];
-    match order {
-        Order::Little => LittleEndian::write_u32(&mut four, number),
-        Order::Big => BigEndian::write_u32(&mut four, number),
-    }
+    E::write_u32(&mut four, number);
     put(output, &four);
 }
 
@@ -80,9 +76,8 @@ fn put_start(output: &mut Vec<u8>, at: usize, field: HeaderField, letter: u8)
 }
 
 /// Puts a header field of a text, from a place of the message on.
-pub fn put_text(
+pub fn put_text<E: Endian>(
     output: &mut Vec<u8>,
-    order: Order,
     at: usize,
     field: HeaderField,
     letter: u8,
@@ -92,27 +87,27 @@ pub fn put_text(
     requires room { length output.old.items + (pad_len 8 at + (9 + length text.now))
         ≤ vec_capacity output.old }
     ensures items { output.new.items
-        ≡ output.old.items ++ (pads 8 at ++ text_field_bytes order field letter text.now) }
+        ≡ output.old.items ++ (pads 8 at ++ text_field_bytes E.order field letter text.now) }
     ensures capacity { vec_capacity output.old ≤ vec_capacity output.new }
 {
     put_start(output, at, field, letter);
-    put_number(output, order, text.len() as u32);
+    put_number::<E>(output, text.len() as u32);
     put(output, text.as_bytes());
     put(output, &[0]);
 }
 
 /// Puts REPLY_SERIAL behind the fields that stand there.
-pub fn put_reply_serial(fields: &mut Vec<u8>, order: Order, serial: u32)
+pub fn put_reply_serial<E: Endian>(fields: &mut Vec<u8>, serial: u32)
     requires room { length fields.old.items + 15 ≤ vec_capacity fields.old }
-    ensures put { (sent : List Field) → AreWritten order sent fields.old.items
-        → AreWritten order (sent ++ known_field field_of.ReplySerial (a_uint32 serial) ∷ [])
+    ensures put { (sent : List Field) → AreWritten E.order sent fields.old.items
+        → AreWritten E.order (sent ++ known_field field_of.ReplySerial (a_uint32 serial) ∷ [])
         fields.new.items }
     ensures capacity { vec_capacity fields.old ≤ vec_capacity fields.new }
     ensures room { length fields.new.items ≤ length fields.old.items + 15 }
 {
     let at = fields.len();
     put_start(fields, at, HeaderField::ReplySerial, b'u');
-    put_number(fields, order, serial);
+    put_number::<E>(fields, serial);
 }
 
 /// Puts SIGNATURE behind the fields that stand there, where the body has values.
