@@ -150,6 +150,9 @@ fn put_signature(output: &mut Vec<u8>, signature: &[u8]) -> Result<(), FrameFaul
     ensures refused { IfErr result (λ f. f ≢ NoMemory → (types : Tys) → signature.now ≡ codes types
         → IsSignature types → ⊥) }
 {
+    if signature.is_empty() {
+        return Ok(());
+    }
     if signature.len() > 255 {
         return Err(FrameFault::Field(8));
     }
