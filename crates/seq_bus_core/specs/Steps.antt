@@ -4,7 +4,7 @@ use Rattle.std.specs.Prelude.{ℕ, ◌+◌, ◌-◌, ◌*◌, ◌/◌, nat_le, n
 use Rattle.std.specs.List.{list_any, range_with_len}
 use Rattle.std.specs.Option.{option_map_or}
 use Rattle.names.specs.Texts.{Text, text_eq}
-use Rattle.names.specs.BusName.{is_bus, is_unique}
+use Rattle.names.specs.BusName.{bus_text, is_bus, is_unique}
 use Rattle.names.specs.UniqueName.{unique_text}
 use Rattle.match_rules.specs.declared.kind.MessageKind.TheVariants.{Signal}
 use Rattle.match_rules.specs.Facts.{Facts, bus_number, StringArgument}
@@ -49,7 +49,7 @@ signal_facts member to arguments = record {
   auto_start = true;
   sender = bus_number;
   path = Some bus_path;
-  interface = Some (codes "org.freedesktop.DBus");
+  interface = Some bus_text;
   member = Some member;
   destination = option_map unique_text to;
   arguments = map StringArgument arguments;
