@@ -4,6 +4,7 @@ ghost use Rattle.std.specs.Prelude.{◌≡◌};
 ghost use Rattle.bus_view.specs.Refusals.{batch_cause_code, cause_code};
 
 use seq_bus_core::Change;
+use seq_bus_core::limits::MAX_BATCH;
 use thiserror::Error;
 
 /// Why a change is not made.
@@ -50,7 +51,7 @@ pub enum BatchCause {
     #[error("{0}")]
     Refused(Cause),
     /// There is no change, or there are more than 64.
-    #[error("a batch has 1 to 64 changes")]
+    #[error("a batch has 1 to {max} changes", max = MAX_BATCH)]
     Batch,
 }
 
