@@ -5,6 +5,7 @@ use Rattle.seq_bus_core.specs.Batches.{IsBatch, entries_of, outcomes_of}
 use Rattle.seq_bus_core.specs.Tickets.{WholeBus, bus_step, bus_after}
 use Rattle.seq_bus_core.specs.declared.change.Change.{Change}
 use Rattle.seq_bus_core.specs.declared.outcome.Outcome.{Outcome}
+use Rattle.seq_bus_core.proofs.Extending.{entries_length}
 use Rattle.bus_view.specs.Views.{AreChanged, Knowledge}
 use Rattle.bus_trace.specs.Recordings.{changes_ended}
 
@@ -31,10 +32,6 @@ length_outcomes : (b : WholeBus) (seat : ℕ) (changes : List Change) → length
 length_outcomes b seat [] = refl
 length_outcomes b seat (change ∷ changes) = ap (λ (n : ℕ). suc n) (length_outcomes (bus_step b seat change).0 seat changes)
 
-length_entries : (seat number : ℕ) (changes : List Change) → length (entries_of seat number changes) ≡ length changes
-length_entries seat number [] = refl
-length_entries seat number (change ∷ changes) = ap (λ (n : ℕ). suc n) (length_entries seat (number + 1) changes)
-
 -- a batch is answered change by change, and its changes are the last of the history and of those that the view made
 pub batch_places : (alone : Bool) (old new : Knowledge) (changes : List Change) (outcomes : List Outcome) → IsBatch changes → AreChanged alone old changes outcomes new →
     (1 ≤ length outcomes) × (length outcomes ≡ length changes) × (length changes ≤ new.last) × (length changes ≤ new.made)
@@ -44,5 +41,5 @@ batch_places alone old new changes outcomes batch are =
     let last : new.last ≡ length (are.point ++ entries) = ap (λ (k : Knowledge). k.last) are.added in
     let made : new.made ≡ old.made + length changes = ap (λ (k : Knowledge). k.made) are.added in
     let parts = length-append are.point entries in
-    let added = length_entries old.seat (old.made + 1) changes in
+    let added = entries_length old.seat (old.made + 1) changes in
     (omega (arith, batch.0, told), told, omega (arith, last, parts, added), omega (arith, made))

@@ -3,7 +3,6 @@ use Rattle.std.proofs.Common.{◌≡◌, ◌+◌, ◌≤◌, ◌==◌, true, [],
 use Rattle.std.proofs.lemmas.Bool.{and_parts}
 use Rattle.std.proofs.lemmas.List.{append-nil}
 use Rattle.std.proofs.Math.Seq.{take-append_seam}
-use mathlib.Core.List.{append_assoc}
 use Rattle.seq_bus_core.specs.Histories.{History, Begins, goes_on, has_whole_publications, ends_publication}
 
 pub begins_same : (h : History) → Begins h h
@@ -11,9 +10,6 @@ begins_same h = ([], append-nil h)
 
 pub begins_more : (h more : History) → Begins h (h ++ more)
 begins_more h more = (more, refl)
-
-pub begins_trans : (a b c : History) → Begins a b → Begins b c → Begins a c
-begins_trans a b c p q = (p.0 ++ q.0, sym (append_assoc a p.0 q.0) ∙ ap (λ h. h ++ q.0) p.1 ∙ q.1)
 
 pub begins_length : (a b : History) → Begins a b → length a ≤ length b
 begins_length a b p = let e : length a + length p.0 ≡ length b = sym (length-append a p.0) ∙ ap length p.1 in omega (arith, e)

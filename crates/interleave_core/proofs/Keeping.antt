@@ -1,5 +1,5 @@
 -- What holds at each moment: each step keeps it.
-use Rattle.std.proofs.Common.{◌≡◌, ◌≢◌, inl, inr, ℕ, suc, ◌+◌, ◌<◌, ◌≤◌, ◌==◌, ltb, Bool, true, false, cond, ◌&&◌, ◌||◌, nat_le, is_some, Option, Some, None, List, [], ◌∷◌, ◌++◌, length, take, slice_get, slice_set, refl, ap, sym, ◌∙◌, subst, arith, length-append}
+use Rattle.std.proofs.Common.{◌≡◌, ◌≢◌, inl, inr, ℕ, ◌+◌, ◌<◌, ◌≤◌, ◌==◌, ltb, Bool, true, false, cond, ◌&&◌, ◌||◌, nat_le, is_some, Option, Some, None, List, [], ◌∷◌, ◌++◌, length, take, slice_get, slice_set, refl, ap, sym, ◌∙◌, subst, arith, length-append}
 use Rattle.std.specs.List.{list_any, AllByRecursion as Each}
 use Rattle.std.proofs.lemmas.Bool.{and_parts}
 use Rattle.std.proofs.lemmas.Bool.Decides.{nat_tests}
@@ -14,7 +14,7 @@ use Rattle.seq_bus_core.specs.Histories.{History, IsLegal, Begins, ends_publicat
 use Rattle.seq_bus_core.specs.Tickets.{WholeBus, bus_after}
 use Rattle.seq_bus_core.specs.declared.change.Change.{Change}
 use Rattle.seq_bus_core.specs.declared.entry.Entry.{Entry}
-use Rattle.seq_bus_core.proofs.Extending.{batches_are_legal, ends_more}
+use Rattle.seq_bus_core.proofs.Extending.{batches_are_legal, begins_trans, ends_more, entries_length}
 use Rattle.seq_bus_core.proofs.HistoryLaws.{beginnings_are_legal}
 use Rattle.seq_bus_core.proofs.Lists.{each_weaker, each_append, pairs_append, any_having}
 use Rattle.interleave_core.specs.declared.step.Question.{Question}
@@ -23,7 +23,7 @@ use Rattle.interleave_core.specs.declared.step.Step.{Step}
 use Rattle.interleave_core.specs.declared.step.Step.TheVariants.{Read, Publish, TakeNote, Refused}
 use Rattle.interleave_core.specs.Worlds.{Moment, Happened, Logged, first_moment, nothing_happened, is_end, having_seen, said_of, logged_read, after_read, is_batch, told_from, next_entries, having_published, after_publication, after_note, happens}
 use Rattle.interleave_core.specs.Promises.{IsRight, is_change, Follows, GoesOn, changes_told, changes_from, entries_by, IsSound}
-use Rattle.interleave_core.proofs.Beginnings.{begins_same, begins_more, begins_trans, begins_length, begins_shorter, take_begun, whole_ends}
+use Rattle.interleave_core.proofs.Beginnings.{begins_same, begins_more, begins_length, begins_shorter, take_begun, whole_ends}
 use Rattle.interleave_core.proofs.SeenLists.{some_same, set_found, found_set, set_there, unseen}
 use Rattle.interleave_core.proofs.ToldLemmas.{IsToldIn, right_more, told_in, follows_told, told_rise, told_right, told_more, changes_more, told_changes}
 
@@ -315,12 +315,8 @@ kept_published m log seat changes seen kept there = record {
     in_told : Each (IsToldIn seat (length m.published) (length changes)) told
     in_told = told_in (bus_after m.opening m.published) seat (length m.published) changes
 
-    entries_count : (n : ℕ) (cs : List Change) → length (entries_of seat n cs) ≡ length cs
-    entries_count n [] = refl
-    entries_count n (c ∷ cs) = ap suc (entries_count (n + 1) cs)
-
     count : length now ≡ length m.published + length changes
-    count = length-append m.published more ∙ ap (λ n. length m.published + n) (entries_count number changes)
+    count = length-append m.published more ∙ ap (λ n. length m.published + n) (entries_length seat number changes)
 
     within : (l : Logged) → IsToldIn seat (length m.published) (length changes) l → IsReached (slice_set m.seen seat now) l
     within l t = (now, ap (slice_get (slice_set m.seen seat now)) t.seat_is ∙ set_there m.seen seat now seen there, subst (λ n. l.place ≤ n) (sym count) t.within)

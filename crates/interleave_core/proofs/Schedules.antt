@@ -7,12 +7,13 @@ use mathlib.Core.List.{append_assoc}
 use Rattle.seq_bus_core.specs.Histories.{History, Begins, longer}
 use Rattle.seq_bus_core.specs.Tickets.{WholeBus, bus_after}
 use Rattle.seq_bus_core.specs.declared.change.Change.{Change}
+use Rattle.seq_bus_core.proofs.Extending.{begins_trans}
 use Rattle.interleave_core.specs.declared.step.Question.{Question}
 use Rattle.interleave_core.specs.declared.step.Step.{Step}
 use Rattle.interleave_core.specs.declared.step.Step.TheVariants.{Read, Publish, TakeNote, Refused}
 use Rattle.interleave_core.specs.Worlds.{Moment, Happened, Logged, first_moment, nothing_happened, is_end, having_seen, logged_read, after_read, is_batch, told_from, next_entries, having_published, after_publication, after_note, happens, moment_after, log_of}
 use Rattle.interleave_core.specs.Promises.{HasSeen, Grows, Learns, EverySchedule, RefusalsCountForNothing}
-use Rattle.interleave_core.proofs.Beginnings.{begins_same, begins_more, begins_trans, begins_shorter, take_begun}
+use Rattle.interleave_core.proofs.Beginnings.{begins_same, begins_more, begins_shorter, take_begun}
 use Rattle.interleave_core.proofs.SeenLists.{found_set, set_there, some_same}
 use Rattle.interleave_core.proofs.Keeping.{IsKept, kept_at_first, step_keeps, kept_sound}
 

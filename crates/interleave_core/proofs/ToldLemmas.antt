@@ -8,11 +8,10 @@ use Rattle.seq_bus_core.specs.Histories.{History, Begins}
 use Rattle.seq_bus_core.specs.Tickets.{WholeBus, bus_step, bus_after}
 use Rattle.seq_bus_core.specs.declared.change.Change.{Change}
 use Rattle.seq_bus_core.specs.declared.entry.Entry.{Entry}
-use Rattle.seq_bus_core.proofs.Extending.{after_more}
+use Rattle.seq_bus_core.proofs.Extending.{after_more, begins_trans}
 use Rattle.seq_bus_core.proofs.Lists.{each_weaker}
 use Rattle.interleave_core.specs.Worlds.{Said, Told, Answered, Routed, Found, Logged, told_from}
 use Rattle.interleave_core.specs.Promises.{IsRightAt, IsRight, is_change, Follows, GoesOn, made_by, changes_told, changes_from}
-use Rattle.interleave_core.proofs.Beginnings.{begins_trans}
 
 -- ## What was right stays so
 

@@ -1,13 +1,11 @@
 -- The exchange that adds a publication keeps the rule of the book.
-use Rattle.std.proofs.Common.{◌≡◌, ℕ, suc, ◌+◌, ◌<◌, ◌==◌, Bool, true, false, List, [], ◌∷◌, ◌++◌, length, refl, ap, sym, ◌∙◌, subst, arith, inl, length-append, None}
+use Rattle.std.proofs.Common.{◌≡◌, ℕ, ◌+◌, ◌<◌, ◌==◌, Bool, true, false, List, [], ◌∷◌, ◌++◌, length, refl, ap, sym, ◌∙◌, subst, arith, inl, length-append, None}
 use Rattle.std.proofs.lemmas.List.{append-nil}
 use Rattle.std.proofs.lemmas.Bool.Decides.{nat_tests}
 use mathlib.Core.List.{IsPrefix}
 use prog.Atomic.{either}
 use Rattle.logbook.specs.Pages.{Cell, cell, keeps, no_nib, step, Moves, Goes}
-use Rattle.seq_bus_core.specs.Batches.{entries_of}
 use Rattle.seq_bus_core.specs.Histories.{IsLegal}
-use Rattle.seq_bus_core.specs.declared.change.Change.{Change}
 use Rattle.registry_snapshots_core.specs.Publications.{flat, IsKept, Adds}
 use Rattle.registry_snapshots_core.specs.declared.history.Publication.{Publication}
 use Rattle.registry_snapshots_core.proofs.Prefixes.{prefix_whole, flat_append, flat_prefix}
@@ -60,7 +58,3 @@ adds_moves v p old new len more may cs log kept pre away =
     let P : List Cell → Type 0 = λ c. (0 < length c) × ((cell c 0).1 ≡ true)
     × Goes IsKept shown moved 0 (v, (no_nib, None)) (λ n. either (n == old) new n) (Adds (step 0 old new p) (v, (no_nib, None))) c log in
     subst P (sym kept.words) (omega arith, refl, adds_goes log v p old new len more may kept.legal pre (length (flat log) == old) refl)
-
-pub as_many_entries : (seat number : ℕ) (changes : List Change) → length (entries_of seat number changes) ≡ length changes
-as_many_entries seat number [] = refl
-as_many_entries seat number (change ∷ changes) = ap suc (as_many_entries seat (number + 1) changes)

@@ -42,8 +42,5 @@ flat_append (p ∷ ps) qs = ap (λ rest. p.entries ++ rest) (flat_append ps qs) 
 pub flat_prefix : (ps qs : List Publication) → IsPrefix ps qs → IsPrefix (flat ps) (flat qs)
 flat_prefix ps qs p = (flat p.0, sym (flat_append ps p.0) ∙ ap flat p.1)
 
-pub begins_trans : (xs ys zs : History) → Begins xs ys → Begins ys zs → Begins xs zs
-begins_trans xs ys zs p q = (p.0 ++ q.0, sym (append_assoc xs p.0 q.0) ∙ (ap (λ w. w ++ q.0) p.1 ∙ q.1))
-
 pub begins_same : (xs ys : History) → xs ≡ ys → Begins xs ys
 begins_same xs ys same = ([], append-nil xs ∙ same)

@@ -1,5 +1,5 @@
 -- What the one knows who uses a plain bus.
-use Rattle.std.proofs.Common.{◌≡◌, ℕ, ◌+◌, ◌≤◌, true, List, [], ◌∷◌, ◌++◌, length, Some, refl, sym, ap, ◌∙◌, arith, inl, length-append, suc}
+use Rattle.std.proofs.Common.{◌≡◌, ◌+◌, ◌≤◌, true, List, [], ◌∷◌, ◌++◌, length, Some, refl, sym, ap, ◌∙◌, arith, inl, length-append}
 use Rattle.std.specs.List.{AllByRecursion}
 use mathlib.Core.List.{append-nil}
 use Rattle.seq_bus_core.specs.Batches.{entries_of}
@@ -7,6 +7,7 @@ use Rattle.seq_bus_core.specs.Histories.{History, IsLegal, numbers_of}
 use Rattle.seq_bus_core.specs.declared.change.Change.{Change}
 use Rattle.seq_bus_core.specs.declared.entry.Entry.{Entry}
 use Rattle.seq_bus_core.specs.declared.outcome.Outcome.{Outcome}
+use Rattle.seq_bus_core.proofs.Extending.{entries_length}
 use Rattle.seq_bus.proofs.HistoryLemmas.{count_numbers}
 use Rattle.seq_bus.specs.PlainBus.{PlainBus, AreMade, IsMade}
 use Rattle.bus_view.specs.Views.{Reaches, AreChanged, IsChanged, IsRead, IsUnread, IsNoted, having_made}
@@ -15,10 +16,6 @@ use Rattle.seq_bus.specs.PlainViews.{noted, knowledge_of}
 noted_more : (history : History) (e : Entry) (more : History) → noted (history ++ e ∷ more) ≡ Some (history ++ e ∷ more)
 noted_more [] e more = refl
 noted_more (x ∷ history) e more = refl
-
-count_entries : (seat number : ℕ) (changes : List Change) → length (entries_of seat number changes) ≡ length changes
-count_entries seat number [] = refl
-count_entries seat number (change ∷ changes) = ap suc (count_entries seat (number + 1) changes)
 
 there : (history : History) → Reaches true history history
 there history = record { begun = ([], append-nil history); same = λ _. refl }
@@ -56,7 +53,7 @@ added_more old new change more own_before own published =
     let added : new.seen ≡ old.seen ++ entries_of 1 (length old.seen + 1) changes = ap (λ (b : PlainBus). b.seen) published in
     let seen : new.seen ≡ old.seen ++ entries_of 1 (length (numbers_of 1 old.seen) + 1) changes = added ∙ ap (λ n. old.seen ++ entries_of 1 (n + 1) changes) (sym before) in
     let long = ap length added ∙ length-append old.seen (entries_of 1 (length old.seen + 1) changes) in
-    let made : length (numbers_of 1 new.seen) ≡ length (numbers_of 1 old.seen) + length changes = omega (arith, before, now, long, count_entries 1 (length old.seen + 1) changes) in
+    let made : length (numbers_of 1 new.seen) ≡ length (numbers_of 1 old.seen) + length changes = omega (arith, before, now, long, entries_length 1 (length old.seen + 1) changes) in
     let held : noted new.seen ≡ Some (old.seen ++ entries_of 1 (length (numbers_of 1 old.seen) + 1) changes) = ap noted seen ∙ noted_more old.seen _ _ in
     λ i. record { registry = 0; opening = opening i; seat = 1; seen = seen i; made = made i; last = length (seen i); held = held i }
 

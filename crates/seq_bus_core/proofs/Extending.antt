@@ -1,14 +1,16 @@
 -- What more entries do to a history. One entry is a batch of one: `entries_of seat number (change ∷ [])` is
 -- `entry_alone seat number change ∷ []`.
-use Rattle.std.proofs.Common.{◌≡◌, ◌≢◌, ℕ, zero, suc, ◌+◌, ◌≤◌, ◌==◌, Bool, true, false, cond, List, [], ◌∷◌, ◌++◌, length, map, refl, ap, sym, ◌∙◌, subst, arith}
+use Rattle.std.proofs.Common.{append_assoc, ◌≡◌, ◌≢◌, ℕ, zero, suc, ◌+◌, ◌≤◌, ◌==◌, Bool, true, false, cond, List, [], ◌∷◌, ◌++◌, length, map, refl, ap, sym, ◌∙◌, subst, arith}
 use Rattle.std.proofs.lemmas.Bool.{and_parts, and_from, or_left, or_right}
 use Rattle.std.proofs.lemmas.Bool.Decides.{nat_tests}
 use Rattle.std.proofs.lemmas.List.{append-nil, map-append}
 use Rattle.std.proofs.lemmas.List.Elements.{filter-append}
 use Rattle.std.specs.List.{range_with_len, filter}
 use Rattle.seq_bus_core.specs.Batches.{entries_of}
-use Rattle.seq_bus_core.specs.Histories.{History, HasJust, IsLegal, numbers_of, goes_on, has_whole_publications, ends_publication}
+use Rattle.seq_bus_core.specs.BusState.{BusState}
+use Rattle.seq_bus_core.specs.Histories.{History, Begins, HasJust, IsLegal, after, numbers_of, goes_on, has_whole_publications, ends_publication}
 use Rattle.seq_bus_core.specs.Laws.{BatchesAreLegal}
+use Rattle.seq_bus_core.specs.Steps.{step}
 use Rattle.seq_bus_core.specs.Tickets.{WholeBus, bus_step, bus_after}
 use Rattle.seq_bus_core.specs.declared.change.Change.{Change}
 use Rattle.seq_bus_core.specs.declared.entry.Entry.{Entry}
@@ -16,6 +18,17 @@ use Rattle.seq_bus_core.specs.declared.entry.Entry.{Entry}
 pub after_more : (b : WholeBus) (h more : History) → bus_after b (h ++ more) ≡ bus_after (bus_after b h) more
 after_more b [] more = refl
 after_more b (x ∷ h) more = after_more (bus_step b x.seat x.change).0 h more
+
+pub state_more : (s : BusState) (h more : History) → after s (h ++ more) ≡ after (after s h) more
+state_more s [] more = refl
+state_more s (x ∷ h) more = state_more (step s x.seat x.change).0 h more
+
+pub begins_trans : (a b c : History) → Begins a b → Begins b c → Begins a c
+begins_trans a b c p q = (p.0 ++ q.0, sym (append_assoc a p.0 q.0) ∙ ap (λ h. h ++ q.0) p.1 ∙ q.1)
+
+pub entries_length : (seat number : ℕ) (changes : List Change) → length (entries_of seat number changes) ≡ length changes
+entries_length seat number [] = refl
+entries_length seat number (change ∷ changes) = ap suc (entries_length seat (number + 1) changes)
 
 pub range_more : (a m n : ℕ) → range_with_len a (m + n) ≡ range_with_len a m ++ range_with_len (a + m) n
 range_more a zero n = let none : zero + n ≡ n = omega arith in let same : a ≡ a + 0 = omega arith in ap (range_with_len a) none ∙ ap (λ k. range_with_len k n) same

@@ -1,11 +1,10 @@
 -- Beginnings of legal histories.
-use Rattle.std.proofs.Common.{◌≡◌, ℕ, ◌+◌, nat_eq, true, List, [], ◌∷◌, ◌++◌, map, length, refl, sym, ap, ◌∙◌, subst}
-use Rattle.std.specs.List.{range_with_len, filter}
+use Rattle.std.proofs.Common.{◌≡◌, ℕ, ◌+◌, true, List, [], ◌∷◌, ◌++◌, length, refl, sym, subst}
+use Rattle.std.specs.List.{range_with_len}
 use Rattle.std.proofs.lemmas.Bool.{and_parts, and_from}
-use Rattle.std.proofs.lemmas.List.Elements.{filter-append}
-use Rattle.std.proofs.lemmas.List.{map-append}
 use Rattle.seq_bus_core.specs.Histories.{History, numbers_of, goes_on, has_whole_publications, ends_publication, IsLegal}
 use Rattle.seq_bus_core.specs.Laws.{BeginningsAreLegal}
+use Rattle.seq_bus_core.proofs.Extending.{numbers_more}
 
 counted_front : (from : ℕ) (xs ys : List ℕ) → xs ++ ys ≡ range_with_len from (length (xs ++ ys)) → xs ≡ range_with_len from (length xs)
 counted_front from [] ys e = refl
@@ -13,10 +12,6 @@ counted_front from (x ∷ xs) ys e =
     let first : x ≡ from = cc in
     let others : xs ++ ys ≡ range_with_len (from + 1) (length (xs ++ ys)) = cc in
     λ i. first i ∷ counted_front (from + 1) xs ys others i
-
-numbers_of-append : (seat : ℕ) (front rest : History) → numbers_of seat (front ++ rest) ≡ numbers_of seat front ++ numbers_of seat rest
-numbers_of-append seat front rest =
-    ap (map (λ e. e.number)) (filter-append (λ e. nat_eq e.seat seat) front rest) ∙ map-append (λ e. e.number) (filter (λ e. nat_eq e.seat seat) front) (filter (λ e. nat_eq e.seat seat) rest)
 
 whole_front : (front rest : History) → ends_publication front ≡ true → has_whole_publications (front ++ rest) ≡ true → has_whole_publications front ≡ true
 whole_front [] rest ends whole = refl
@@ -29,6 +24,6 @@ pub beginnings_are_legal : BeginningsAreLegal
 beginnings_are_legal front history begins ends legal =
     let joined : IsLegal (front ++ begins.0) = subst IsLegal (sym begins.1) legal in
     record {
-      numbered = λ seat. counted_front 1 (numbers_of seat front) (numbers_of seat begins.0) (subst (λ ns. ns ≡ range_with_len 1 (length ns)) (numbers_of-append seat front begins.0) (joined.numbered seat));
+      numbered = λ seat. counted_front 1 (numbers_of seat front) (numbers_of seat begins.0) (subst (λ ns. ns ≡ range_with_len 1 (length ns)) (numbers_more seat front begins.0) (joined.numbered seat));
       whole = whole_front front begins.0 ends joined.whole;
     }

@@ -9,8 +9,7 @@ use Rattle.std.proofs.lemmas.Bool.Decides.{nat_tests}
 use Rattle.std.proofs.lemmas.List.Folds.{list_any-append}
 use Rattle.seq_bus_core.specs.BusState.{BusState}
 use Rattle.seq_bus_core.specs.Histories.{History, after, opening}
-use Rattle.seq_bus_core.specs.Steps.{step}
-use Rattle.seq_bus_core.proofs.Extending.{range_more}
+use Rattle.seq_bus_core.proofs.Extending.{range_more, state_more}
 use Rattle.trace_lines.specs.Lines.{Line, Subject, Made, Asked, Routed}
 use Rattle.trace_check_core.specs.KeptLines.{IsSeated}
 use Rattle.trace_check_core.specs.Legality.{changes_in, entries_at, entries_if_at, entries_of, history_to, is_change, number_made, places_before, state_at}
@@ -130,10 +129,6 @@ found_entries place number (line ∷ lines) one = by_test (is_change_at place li
 
 -- ## The bus at each place
 
-after_both : (s : BusState) (h more : History) → after s (h ++ more) ≡ after (after s h) more
-after_both s [] more = refl
-after_both s (e ∷ h) more = after_both (step s e.seat e.change).0 h more
-
 flat_last : {X Y : Type 0} (f : X → List Y) (xs : List X) (x : X) → flat_map f (xs ++ x ∷ []) ≡ flat_map f xs ++ f x
 flat_last f [] x = append-nil (f x)
 flat_last f (y ∷ xs) x = ap (λ rest. f y ++ rest) (flat_last f xs x) ∙ sym (append_assoc (f y) (flat_map f xs) (f x))
@@ -161,7 +156,7 @@ pub state_next : (t : Trace) (place : ℕ) → Each (IsSeated t.routers) t.lines
 state_next t zero seated = ap (after (opening t.profile t.routers t.services)) (sym (no_entries 0 t.lines (none_at_opening t.routers t.lines seated)))
 state_next t (suc place) seated =
     ap (after (opening t.profile t.routers t.services)) (history_next t.lines place)
-    ∙ after_both (opening t.profile t.routers t.services) (history_to t.lines place) (entries_at t.lines (suc place))
+    ∙ state_more (opening t.profile t.routers t.services) (history_to t.lines place) (entries_at t.lines (suc place))
 
 -- ## What the walk finds
 

@@ -2,9 +2,10 @@ use Rattle.std.proofs.Common.{ap, refl, sym, subst, ◌∙◌}
 use Rattle.std.specs.List.{list_any}
 use Rattle.seq_bus_core.specs.BusState.{BusState, is_monitor}
 use Rattle.seq_bus_core.specs.Histories.{History, HasJust, Begins}
+use Rattle.seq_bus_core.proofs.Extending.{begins_trans}
 use Rattle.registry_snapshots_core.specs.Copies.{SnapView}
 use Rattle.registry_snapshots.specs.Seats.{SeatView}
-use Rattle.registry_snapshots_core.proofs.Prefixes.{begins_same, begins_trans}
+use Rattle.registry_snapshots_core.proofs.Prefixes.{begins_same}
 use Rattle.registry_snapshots.proofs.seat.Seat.end_reading.Goals as goal
 
 pub invariant_of-self : goal.invariant_of-self

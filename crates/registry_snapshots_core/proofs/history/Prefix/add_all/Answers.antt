@@ -1,9 +1,10 @@
 use Rattle.std.proofs.Common.{◌≡◌, ◌+◌, length, sym, ◌∙◌, ap, subst, ◌++◌, arith, length-append, rules}
 use Rattle.seq_bus_core.specs.Batches.{entries_of}
 use Rattle.seq_bus_core.specs.Histories.{History, IsLegal}
+use Rattle.seq_bus_core.proofs.Extending.{entries_length}
 use Rattle.registry_snapshots_core.specs.Copies.{PrefixView}
 use Rattle.registry_snapshots_core.specs.Publications.{flat, publication_of_batch}
-use Rattle.registry_snapshots_core.proofs.Adding.{adds_moves, as_many_entries}
+use Rattle.registry_snapshots_core.proofs.Adding.{adds_moves}
 use Rattle.registry_snapshots_core.proofs.history.Prefix.add_all.Goals as goal
 
 pub compare_exchange-found-requires : goal.compare_exchange-found-requires
@@ -18,7 +19,7 @@ compare_exchange-found-requires c =
     let changes = batch.changes.items in
     let more = entries_of batch.seat batch.first changes in
     let count : c.len.result ≡ length changes = search rules in
-    let next = ap (λ n. c.self.inside.count + n) (count ∙ sym (as_many_entries batch.seat batch.first changes)) in
+    let next = ap (λ n. c.self.inside.count + n) (count ∙ sym (entries_length batch.seat batch.first changes)) in
     let may : IsLegal (flat c.self.inside.seen.log ++ more) = subst (λ (l : History). IsLegal (l ++ more)) (sym logs) c.requires.legal in (
       ap (λ w. w.tracked) h,
       book,
@@ -37,6 +38,6 @@ invariant_of-result c =
     let now : flat c.compare_exchange-found.new.seen.log ≡ before ++ more = search rules in
     let same : flat c.self.inside.seen.log ≡ before = ap (λ (v : PrefixView). v.log) c.self.view_is in
     let count : c.len.result ≡ length changes = search rules in (
-      omega (arith, c.self.invariant.0, ap length same, ap length now, length-append before more, count, as_many_entries batch.seat batch.first changes),
+      omega (arith, c.self.invariant.0, ap length same, ap length now, length-append before more, count, entries_length batch.seat batch.first changes),
       subst IsLegal (sym now) c.requires.legal,
     )
