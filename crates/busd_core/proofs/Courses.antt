@@ -16,7 +16,7 @@ use Rattle.busd_core.specs.declared.run_fault.RunFault.TheVariants as fault
 use Rattle.busd_core.specs.Happenings.{written_to, mails_of, closed_by, Happens, AllHappen}
 use Rattle.busd_core.specs.Sessions.{piece_of, IsLife, IsServing, Serves}
 use Rattle.busd_core.specs.Parts.{IsBrought, IsCutShort, AreMailedSo, Delivers, HappensSo, IsCarriedOut}
-use Rattle.busd_core.proofs.OneThread.{all_happened_so}
+use Rattle.busd_core.proofs.OneThread.{happen_alike}
 
 module _ {N G : Type 0} (told : N → History) (passes : G → GatedCall → G → Type 0) (alone : Bool) (seat key : ℕ) where
   -- ## One event
@@ -67,7 +67,7 @@ module _ {N G : Type 0} (told : N → History) (passes : G → GatedCall → G �
   pub serves_so : (before : State G) (events : List (Event N)) (read written : List ℕ) (after : State G) → IsLife key events → AllHappen told passes alone seat key before events written after →
       read ≡ flat_map piece_of events → Serves told passes alone seat key before events read written after
   serves_so before events read written after life happen reads =
-      record { life = life; happen = happen; reads = reads; one_thread = λ is readers granted. all_happened_so told passes alone seat key is readers before events written after happen granted }
+      record { life = life; happen = happen; reads = reads; one_thread = λ is granted start end others again same also. happen_alike told passes alone seat key before after start end events written others happen again is same granted also }
 
   -- what was read and written since the connection came
   pub record IsUnderWay (before after : State G) (read written : List ℕ) : Type 0 where

@@ -4,6 +4,7 @@ pub mod Closing
 pub mod Quiet
 pub mod Mailing
 pub mod Letters
+pub mod Alone
 pub mod OneThread
 pub mod Courses
 pub mod Endings

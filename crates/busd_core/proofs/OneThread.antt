@@ -10,15 +10,18 @@ use Rattle.router_core.specs.declared.action.Action.{Action}
 use Rattle.router_core.specs.declared.action.Action.TheVariants.{Write, Put, Close, Run}
 use Rattle.router_core.specs.declared.event.Event.{Event}
 use Rattle.router_core.specs.declared.event.Event.TheVariants as event
-use Rattle.router_core.specs.Acts.{IsGranted, State}
+use Rattle.router_core.specs.Acts.{Exchange, IsGranted, State}
 use Rattle.router_core.specs.Deeds.{Deed, Writes, Sends, Puts, Closes, Runs, GatedCall, IsDoneBy, IsWriting, AreDoneBy}
 use Rattle.router_core.specs.Events.{Occasion, Mail, occasion_of}
-use Rattle.router_core.specs.OneThread.{AreReadBy, Readers, Rest, effect}
+use Rattle.router_core.specs.OneThread.{Rest}
+use Rattle.router_core.proofs.Alone.{AreReadBy, Readers, effect}
+use Rattle.router_core.proofs.Readers.{AreRight, read_so, readers_of, right_append, right_lawful}
 use Rattle.router.specs.OneEvent.{rest_in}
-use Rattle.router.proofs.Grants.{granted_parts, read_parts}
+use Rattle.router.proofs.OneEvent.{brought_so}
+use Rattle.router_core.proofs.Grants.{granted_parts, read_parts}
 use Rattle.router.proofs.Writings.{written_once}
-use Rattle.busd_core.specs.Happenings.{bytes_for, written_to, Delivery, mail_to_all, mail_of, mails_of, Carries, AreMailed, Happens, AllHappen}
-use Rattle.busd_core.specs.OneThread.{bytes_done, mail_done, mailed, happened, all_happened, asked_mailed, asked_all}
+use Rattle.busd_core.specs.Happenings.{bytes_for, written_to, Delivery, mail_to_all, mail_of, mails_of, Carries, AreMailed, Happens, AllHappen, asked_mailed, asked_all}
+use Rattle.busd_core.proofs.Alone.{bytes_done, mail_done, mailed, happened, all_happened}
 
 -- ## Bytes
 
@@ -122,7 +125,7 @@ module _ {N G : Type 0} (told : N → History) (passes : G → GatedCall → G �
       let reads = read_parts readers asked later read in
       let brought : List Deed × Rest = effect readers (rest_in before) (Mail delivery.slot delivery.number None delivery.said) in
       let same = ap (λ (o : Occasion). effect readers (rest_in before) o) (as_mail one.envelope delivery one.carries) in
-      let given_so = one.serves.one_thread is grants.0 readers reads.0 in
+      let given_so = brought_so told passes alone before between (event.Mail delivery.slot one.envelope) one.actions one.serves.served is grants.0 readers reads.0 in
       let bytes : m.1 ≡ bytes_done key brought.0 =
       one.writes ∙ sym (bytes_are key one.actions one.serves.served.deeds one.serves.served.done)
       ∙ ap (λ (ds : List Deed). bytes_done key ds) (given_so.0 ∙ ap (λ (end : List Deed × Rest). end.0) same) in
@@ -143,7 +146,7 @@ module _ {N G : Type 0} (told : N → History) (passes : G → GatedCall → G �
       let reads = read_parts readers asked later read in
       let brought : List Deed × Rest = effect readers (rest_in before) (occasion_of told event) in
       let deeds = h.serves.served.deeds in
-      let given_so = h.serves.one_thread is grants.0 readers reads.0 in
+      let given_so = brought_so told passes alone before h.between event h.actions h.serves.served is grants.0 readers reads.0 in
       let bytes : written_to key h.actions ≡ bytes_done key brought.0 =
       sym (bytes_are key h.actions deeds h.serves.served.done) ∙ ap (λ (ds : List Deed). bytes_done key ds) given_so.0 in
       let mails : mails_of seat h.actions ≡ mail_done seat brought.0 =
@@ -171,4 +174,44 @@ module _ {N G : Type 0} (told : N → History) (passes : G → GatedCall → G �
       let others = all_happened_so h.0 events h.2 after h.4 grants.1 reads.1 in (
         h.5 ∙ ap (λ (bs : List ℕ). bs ++ h.2) first.0 ∙ ap (λ (bs : List ℕ). brought.0 ++ bs) (others.0 ∙ ap (λ (r : Rest). (all_happened readers seat key r occasions).0) first.1),
         others.1 ∙ ap (λ (r : Rest). (all_happened readers seat key r occasions).1) first.1,
+      )
+
+-- ## What was read
+
+module _ {N G : Type 0} (told : N → History) (passes : G → GatedCall → G → Type 0) (alone : Bool) (seat key : ℕ) where
+  mailed_right : (before : State G) (deliveries : List Delivery) (written : List ℕ) (after : State G) (m : AreMailed told passes alone seat key before deliveries written after) →
+      AreRight (asked_mailed told passes alone seat key before deliveries written after m)
+  mailed_right before [] written after m = tt
+  mailed_right before (delivery ∷ deliveries) written after m =
+      let one = m.3.serves.served in
+      right_append one.asked (asked_mailed told passes alone seat key m.0 deliveries m.2 after m.4) (right_lawful alone one.asked before.view m.0.view one.served.lawful) (mailed_right m.0 deliveries m.2 after m.4)
+
+  pub happens_right : (before : State G) (event : Event N) (written : List ℕ) (after : State G) (h : Happens told passes alone seat key before event written after) → AreRight (h.serves.served.asked ++ asked_mailed told passes alone seat key h.between (mails_of seat h.actions) h.later after h.mailed)
+  happens_right before event written after h =
+      let one = h.serves.served in
+      right_append one.asked (asked_mailed told passes alone seat key h.between (mails_of seat h.actions) h.later after h.mailed) (right_lawful alone one.asked before.view h.between.view one.served.lawful)
+      (mailed_right h.between (mails_of seat h.actions) h.later after h.mailed)
+
+  pub all_right : (before : State G) (events : List (Event N)) (written : List ℕ) (after : State G) (h : AllHappen told passes alone seat key before events written after) →
+      AreRight (asked_all told passes alone seat key before events written after h)
+  all_right before [] written after h = tt
+  all_right before (event ∷ events) written after h =
+      let one = h.3 in
+      right_append (one.serves.served.asked ++ asked_mailed told passes alone seat key one.between (mails_of seat one.actions) one.later h.0 one.mailed) (asked_all told passes alone seat key h.0 events h.2 after h.4) (happens_right before event h.1 h.0 h.3) (all_right h.0 events h.2 after h.4)
+
+  -- whatever happens again brings the same
+  pub happen_alike : (before after start end : State G) (events : List (Event N)) (written others : List ℕ) (h : AllHappen told passes alone seat key before events written after) (again : AllHappen told passes alone seat key start events others end) →
+      alone ≡ true → rest_in start ≡ rest_in before → IsGranted (asked_all told passes alone seat key before events written after h) → IsGranted (asked_all told passes alone seat key start events others end again) →
+      (others ≡ written) × (rest_in end ≡ rest_in after)
+  happen_alike before after start end events written others h again is same granted also =
+      let these : List Exchange = asked_all told passes alone seat key before events written after h in
+      let those : List Exchange = asked_all told passes alone seat key start events others end again in
+      let readers : Readers = readers_of (these ++ those) in
+      let right = right_append these those (all_right before events written after h) (all_right start events others end again) in
+      let reads = read_parts readers these those (read_so (these ++ those) right) in
+      let first = all_happened_so told passes alone seat key is readers before events written after h granted reads.0 in
+      let later = all_happened_so told passes alone seat key is readers start events others end again also reads.1 in
+      let occasions : List Occasion = map (occasion_of told) events in (
+        later.0 ∙ ap (λ (r : Rest). (all_happened readers seat key r occasions).0) same ∙ sym first.0,
+        later.1 ∙ ap (λ (r : Rest). (all_happened readers seat key r occasions).1) same ∙ sym first.1,
       )

@@ -12,7 +12,7 @@ use Rattle.router_core.specs.declared.action.Action.TheVariants.{Write, Put, Clo
 use Rattle.router_core.specs.declared.cause.CloseCause.{CloseCause}
 use Rattle.router_core.specs.declared.event.Event.{Event}
 use Rattle.router_core.specs.declared.event.Event.TheVariants.{Mail}
-use Rattle.router_core.specs.Acts.{State}
+use Rattle.router_core.specs.Acts.{Exchange, State}
 use Rattle.router_core.specs.Deeds.{GatedCall}
 use Rattle.router.specs.OneEvent.{IsServedWell}
 
@@ -119,3 +119,15 @@ module _ {N G : Type 0} (told : N → History) (passes : G → GatedCall → G �
     pub put : mails_of seat actions ≡ come ++ left
     pub mailed : AreMailed between come later after
     pub writes : written ++ missing ≡ written_to key actions ++ later
+
+-- ## What was asked and answered
+
+module _ {N G : Type 0} (told : N → History) (passes : G → GatedCall → G → Type 0) (alone : Bool) (seat key : ℕ) where
+  abbrev pub asked_mailed : (before : State G) (deliveries : List Delivery) (written : List ℕ) (after : State G) → AreMailed told passes alone seat key before deliveries written after → List Exchange
+  asked_mailed before [] written after mailed = []
+  asked_mailed before (delivery ∷ deliveries) written after mailed = mailed.3.serves.served.asked ++ asked_mailed mailed.0 deliveries mailed.2 after mailed.4
+
+  abbrev pub asked_all : (before : State G) (events : List (Event N)) (written : List ℕ) (after : State G) → AllHappen told passes alone seat key before events written after → List Exchange
+  asked_all before [] written after happen = []
+  asked_all before (event ∷ events) written after happen =
+      (happen.3.serves.served.asked ++ asked_mailed happen.3.between (mails_of seat happen.3.actions) happen.3.later happen.0 happen.3.mailed) ++ asked_all happen.0 events happen.2 after happen.4

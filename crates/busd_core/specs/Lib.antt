@@ -1,5 +1,4 @@
 pub mod Happenings
-pub mod OneThread
 pub mod Sessions
 pub mod Parts
 pub mod Transfers

@@ -1,5 +1,5 @@
 -- How the engine of a router serves the stream of one connection.
-use Rattle.std.specs.Prelude.{◌≡◌, ◌⊎◌, ℕ, Bool, true, Option, None, Result, Ok, Err, List, [], ◌∷◌, ◌++◌, map}
+use Rattle.std.specs.Prelude.{◌≡◌, ◌⊎◌, ℕ, Bool, true, Option, None, Result, Ok, Err, List, [], ◌∷◌, ◌++◌}
 use Rattle.std.specs.Io.KnownBytes.{Consumes, Appends}
 use Rattle.std.specs.List.{flat_map, AllByRecursion}
 use Rattle.seq_bus_core.specs.Histories.{History}
@@ -7,14 +7,12 @@ use Rattle.router_core.specs.declared.event.Event.{Event}
 use Rattle.router_core.specs.declared.event.Event.TheVariants.{Opened, Bytes, Next, Closed}
 use Rattle.router_core.specs.Acts.{Exchange, IsGranted, State}
 use Rattle.router_core.specs.Deeds.{GatedCall}
-use Rattle.router_core.specs.Events.{IsFree, occasion_of}
-use Rattle.router_core.specs.OneThread.{AreReadBy, Readers}
+use Rattle.router_core.specs.Events.{IsFree}
 use Rattle.router.specs.OneEvent.{rest_in}
 use Rattle.router.specs.Upcoming.{HasNoNext}
 use Rattle.busd_core.specs.declared.run_fault.RunFault.{RunFault}
 use Rattle.busd_core.specs.declared.run_fault.RunFault.TheVariants as fault
-use Rattle.busd_core.specs.Happenings.{AllHappen, Happens, Closes, Breaks}
-use Rattle.busd_core.specs.OneThread.{all_happened, asked_all}
+use Rattle.busd_core.specs.Happenings.{AllHappen, Happens, Closes, Breaks, asked_all}
 
 abbrev pub piece_of : {N : Type 0} → Event N → List ℕ
 piece_of (Bytes key piece) = piece.items
@@ -39,14 +37,15 @@ IsOf key event = IsServing key event
 
 module _ {N G : Type 0} (told : N → History) (passes : G → GatedCall → G → Type 0) (alone : Bool) (seat key : ℕ) where
   -- So far these events happened to the connection, by which these bytes were read and these written. Where nobody else makes changes of
-  -- the bus and nothing is refused, what was written is what the events bring over the bus of one thread.
+  -- the bus and nothing is refused, what is written is a function of the events: wherever they happen to an engine that is the same, these
+  -- bytes are written, and the engine is left the same.
   pub record Serves (before : State G) (events : List (Event N)) (read written : List ℕ) (after : State G) : Type 0 where
     pub life : IsLife key events
     pub happen : AllHappen told passes alone seat key before events written after
     pub reads : read ≡ flat_map piece_of events
-    pub one_thread : alone ≡ true → (readers : Readers) → IsGranted (asked_all told passes alone seat key before events written after happen) →
-        AreReadBy readers (asked_all told passes alone seat key before events written after happen) →
-        (written ≡ (all_happened readers seat key (rest_in before) (map (occasion_of told) events)).0) × (rest_in after ≡ (all_happened readers seat key (rest_in before) (map (occasion_of told) events)).1)
+    pub one_thread : alone ≡ true → IsGranted (asked_all told passes alone seat key before events written after happen) →
+        (start end : State G) (others : List ℕ) (again : AllHappen told passes alone seat key start events others end) → rest_in start ≡ rest_in before →
+        IsGranted (asked_all told passes alone seat key start events others end again) → (others ≡ written) × (rest_in end ≡ rest_in after)
 
   -- all that was asked and answered until then
   abbrev pub asked_in : {before after : State G} {events : List (Event N)} {read written : List ℕ} → Serves before events read written after → List Exchange

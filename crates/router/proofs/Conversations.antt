@@ -13,7 +13,8 @@ use Rattle.sasl.proofs.Outcomes.{outcome, outcome_is}
 use Rattle.router_core.specs.declared.cause.CloseCause.TheVariants as cause
 use Rattle.router_core.specs.Deeds.{Deed, Writes, Closes}
 use Rattle.router_core.specs.Events.{Bytes, Stands, for_peer, with_bytes, is_user, answering, after_conversing, hearing}
-use Rattle.router_core.specs.OneThread.{Readers, Rest, effect, bytes_if, opening_of, bytes_to}
+use Rattle.router_core.specs.OneThread.{Rest, bytes_if, opening_of, bytes_to}
+use Rattle.router_core.proofs.Alone.{Readers, effect}
 use Rattle.router_core.specs.Scripts.{Gives, and_then}
 use Rattle.router_core.specs.Standing.{Stage, Authenticating, Unnamed, Closing, Peer, SpeaksDBus, peer_at, with_peer, conn_of, closing_peer}
 use Rattle.router.proofs.Feeding.{bytes_given, come_to, more_if, rest_more, standing_so}

@@ -8,7 +8,6 @@ pub mod Indexing
 pub mod Endings
 pub mod Keeping
 pub mod OneEvent
-pub mod Grants
 pub mod Writings
 pub mod Feeding
 pub mod Speaking

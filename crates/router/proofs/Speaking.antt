@@ -20,7 +20,8 @@ use Rattle.router_core.specs.declared.fate.PeerFate.TheVariants as fate
 use Rattle.router_core.specs.Answers.{Heard, Says, Refuses, error_for}
 use Rattle.router_core.specs.Events.{Mail, Next, OfPeer, with_bytes, closing, after_serving, closing_if_found, closing_former, writing, for_entry, for_peer, refusing_hello, dismissal, greeting, after_hello, after_hello_by, serving_hello, serving_named, serving_at, serving_incoming, next_at, serving_next, mail_delivery}
 use Rattle.router_core.specs.Incoming.{Incoming, Waits, Whole, Faulty}
-use Rattle.router_core.specs.OneThread.{Readers, Rest, Course, alone, effect}
+use Rattle.router_core.specs.OneThread.{Rest}
+use Rattle.router_core.proofs.Alone.{Readers, Course, alone, effect}
 use Rattle.router_core.specs.Scripts.{Script, Gives, Changing, ChangingAll, Asking, Routing, AskingPresence, Noting, Framing, Calling, Gating, Wanting, Requiring, Doing, Announcing, and_then}
 use Rattle.router_core.specs.Serving.{replying, serving}
 use Rattle.router_core.specs.Standing.{Stage, Authenticating, Unnamed, Named, Closing, Peer, Standing, SpeaksDBus, first_stage, newcomer, with_newcomer, peer_at, with_peer, is_conn}

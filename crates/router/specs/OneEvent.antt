@@ -6,20 +6,20 @@ use Rattle.router_core.specs.declared.action.Action.{Action}
 use Rattle.router_core.specs.declared.event.Event.{Event}
 use Rattle.router_core.specs.declared.gate.Gate.{Ghosts as Gate}
 use Rattle.router_core.specs.Acts.{IsGranted, IsServed, State}
-use Rattle.router_core.specs.Deeds.{GatedCall}
+use Rattle.router_core.specs.Deeds.{Deed, GatedCall}
 use Rattle.router_core.specs.Events.{occasion_of}
-use Rattle.router_core.specs.OneThread.{AreReadBy, Readers, Rest, effect}
+use Rattle.router_core.specs.OneThread.{IsEffect, Rest}
 
 -- what an engine keeps between events, but for its gate
 abbrev pub rest_in : {G : Type 0} → State G → Rest
 rest_in s = record { standing = s.standing; view = s.view }
 
 -- The event is served for some answers that the bus may give. Where nobody else makes changes of the bus and nothing is refused, what it
--- brings is what the event brings over the bus of one thread.
+-- brings is a function of it: over the bus of one thread it brings nothing else.
 pub record IsServedWell {N G : Type 0} (told : N → History) (passes : G → GatedCall → G → Type 0) (alone : Bool) (before : State G) (event : Event N) (actions : List (Action N)) (after : State G) : Type 0 where
   pub served : IsServed told passes alone before event actions after
-  pub one_thread : alone ≡ true → IsGranted served.asked → (readers : Readers) → AreReadBy readers served.asked →
-      (served.deeds ≡ (effect readers (rest_in before) (occasion_of told event)).0) × (rest_in after ≡ (effect readers (rest_in before) (occasion_of told event)).1)
+  pub one_thread : alone ≡ true → IsGranted served.asked → (deeds : List Deed) (end : Rest) → IsEffect (rest_in before) (occasion_of told event) deeds end →
+      (served.deeds ≡ deeds) × (rest_in after ≡ end)
 
 -- the same by a view and a gate
 abbrev pub IsServedWellBy : {V N R G : Type 0} → BusView V N R → Gate G → State G → Event N → List (Action N) → State G → Type 0

@@ -12,13 +12,16 @@ use Rattle.seq_bus_core.specs.declared.outcome.Outcome.{Outcome}
 use Rattle.seq_bus_core.specs.declared.query.Query.{Query}
 use Rattle.seq_bus_core.specs.declared.verdict.Verdict.{Verdict}
 use Rattle.bus_view.specs.Views.{Knowledge, bus_seen, next_entry, having_made, having_changed}
-use Rattle.router_core.specs.Acts.{Exchange, Changed, ChangedAll, Asked, Routed, AskedPresence, Wanted, Goes, IsLawful, IsGranted}
+use Rattle.router_core.specs.Acts.{Exchange, Changed, ChangedAll, Asked, Routed, AskedPresence, Wanted, Goes, IsLawful, IsGranted, IsServedBy}
 use Rattle.router_core.specs.Answers.{Heard, Says, Refuses}
 use Rattle.router_core.specs.Deeds.{Deed, puts_of_signals}
-use Rattle.router_core.specs.Events.{script}
+use Rattle.router_core.specs.Events.{Occasion, script}
 use Rattle.router_core.specs.Laws.{OneThreadIsAFunction, BytesAreAFunction}
-use Rattle.router_core.specs.OneThread.{Readers, AreReadBy, Course, learning, doing, alone, effect, rest_after, keys_after, bytes_to, bus_bytes}
+use Rattle.router_core.specs.OneThread.{IsRun, Rest, bytes_to, keys_after}
+use Rattle.router_core.proofs.Alone.{Readers, AreReadBy, Course, learning, doing, alone, effect}
 use Rattle.router_core.specs.Scripts.{Script, Gives, Changing, ChangingAll, Asking, Routing, AskingPresence, Noting, Framing, Calling, Gating, Wanting, Requiring, Doing, Announcing}
+use Rattle.router_core.proofs.Grants.{read_parts}
+use Rattle.router_core.proofs.Readers.{read_so, readers_of, right_append, right_lawful}
 use Rattle.router_core.proofs.Knowing.{read_alone, added_alone, all_added_alone}
 
 -- how a script ends that asked this and did these deeds
@@ -138,19 +141,33 @@ module _ (readers : Readers) {X : Type 0} where
       let here = ends s asked p.0 x k p.2 (doing w (puts_of_signals signals)) lawful granted read in
       record { result = here.result; view = here.view; done = here.done ∙ append_assoc w.deeds (puts_of_signals signals) p.0 })
 
-pub one_thread_is_a_function : OneThreadIsAFunction
-one_thread_is_a_function readers before after occasion asked deeds served granted read =
+-- an event that was served, by readers who read so
+pub effect_is : (readers : Readers) (before after : Rest) (occasion : Occasion) (asked : List Exchange) (deeds : List Deed) →
+    IsServedBy true before.standing before.view occasion asked deeds after.standing after.view → IsGranted asked → AreReadBy readers asked →
+    (deeds ≡ (effect readers before occasion).0) × (after ≡ (effect readers before occasion).1)
+effect_is readers before after occasion asked deeds served granted read =
     let here = ends readers (script before.standing occasion) asked deeds after.standing after.view served.goes (record { view = before.view; deeds = [] }) served.lawful granted read in
     (sym here.done, λ i. record { standing = sym here.result i; view = sym here.view i })
 
+pub one_thread_is_a_function : OneThreadIsAFunction
+one_thread_is_a_function before after end occasion deeds others one other =
+    let readers : Readers = readers_of (one.asked ++ other.asked) in
+    let right = right_append one.asked other.asked (right_lawful true one.asked before.view after.view one.served.lawful) (right_lawful true other.asked before.view end.view other.served.lawful) in
+    let reads = read_parts readers one.asked other.asked (read_so (one.asked ++ other.asked) right) in
+    let these = effect_is readers before after occasion one.asked deeds one.served one.granted reads.0 in
+    let those = effect_is readers before end occasion other.asked others other.served other.granted reads.1 in
+    (these.0 ∙ sym those.0, these.1 ∙ sym those.1)
+
 pub bytes_are_a_function : BytesAreAFunction
-bytes_are_a_function readers opening keys before after [] bytes run = run
-bytes_are_a_function readers opening keys before after (occasion ∷ occasions) bytes run =
+bytes_are_a_function opening keys before after end [] bytes others one other = (one.0 ∙ sym other.0, one.1 ∙ sym other.1)
+bytes_are_a_function opening keys before after end (occasion ∷ occasions) bytes others one other =
     let now = keys_after occasion keys in
-    let first = one_thread_is_a_function readers before run.2 occasion run.0 run.1 run.4 run.5 run.6 in
-    let others = bytes_are_a_function readers opening now run.2 after occasions run.3 run.7 in (
-      run.8
-          ∙ ap (λ deeds. bytes_to opening now deeds ++ run.3) first.0
-          ∙ ap (λ later. bytes_to opening now (effect readers before occasion).0 ++ later) (others.0 ∙ ap (λ r. bus_bytes readers opening now r occasions) first.1),
-      others.1 ∙ ap (λ r. rest_after readers r occasions) first.1,
+    let first = one_thread_is_a_function before one.1 other.1 occasion one.0 other.0 one.3 other.3 in
+    let so = subst (λ (r : Rest). IsRun opening now r occasions other.2 end) (sym first.1) other.4 in
+    let later = bytes_are_a_function opening now one.1 after end occasions one.2 other.2 one.4 so in (
+      one.5
+          ∙ ap (λ (deeds : List Deed). bytes_to opening now deeds ++ one.2) first.0
+          ∙ ap (λ (bs : List ℕ). bytes_to opening now other.0 ++ bs) later.0
+          ∙ sym other.5,
+      later.1,
     )

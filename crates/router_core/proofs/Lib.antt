@@ -1,6 +1,13 @@
 pub mod Knowing
 pub mod Asked
 pub mod Registries
+pub mod Grants
+pub mod FieldFaults
+pub mod Faults
+pub mod Incoming
+pub mod Calls
+pub mod Alone
+pub mod Readers
 pub mod Functions
 pub mod FirstMessages
 pub mod Keys

@@ -15,10 +15,10 @@ use Rattle.router_core.specs.declared.cause.CloseCause.TheVariants.{NotHello, Mo
 use Rattle.router_core.specs.declared.action.Action.{Action}
 use Rattle.router_core.specs.declared.event.Event.{Event}
 use Rattle.router_core.specs.declared.gate.Gate.{Ghosts as Gate}
-use Rattle.router_core.specs.Acts.{State, BringsBy, IsServed, IsServedBy, Exchange, IsGranted}
+use Rattle.router_core.specs.Acts.{State, BringsBy, IsServed}
 use Rattle.router_core.specs.Deeds.{Deed, Closes, IsDoneBy, CarriesOwn}
 use Rattle.router_core.specs.Events.{Occasion, Bytes, Next, Turn, IsFree, hearing, is_user, script, serving_at}
-use Rattle.router_core.specs.OneThread.{Readers, Rest, effect, rest_after, bus_bytes, AreReadBy, IsRun}
+use Rattle.router_core.specs.OneThread.{Rest, IsEffect, IsRun}
 use Rattle.router_core.specs.Scripts.{Gives, World, having_done, RunsTo}
 use Rattle.router_core.specs.Serving.{serving, is_unknown, staying_open}
 use Rattle.router_core.specs.Standing.{Authenticating, Unnamed, Named, Closing, Peer, Standing, peer_at, with_peer, with_newcomer, closing_peer, is_conn}
@@ -96,13 +96,12 @@ NotesAreOwn {N = N} {G = G} view gate = (before after : State G) (event : Event 
     BringsBy view gate before event actions after →
     (after.view.registry ≡ before.view.registry) × AllByRecursion (CarriesOwn view.registry_of before.view.registry) actions
 
--- Over a bus of one thread, where nothing is refused, what an occasion brings is a function of it and of what was read.
+-- Over a bus of one thread, where nothing is refused, what an occasion brings is a function of it.
 abbrev pub OneThreadIsAFunction : Type 0
-OneThreadIsAFunction = (readers : Readers) (before after : Rest) (occasion : Occasion) (asked : List Exchange) (deeds : List Deed) →
-    IsServedBy true before.standing before.view occasion asked deeds after.standing after.view → IsGranted asked → AreReadBy readers asked →
-    (deeds ≡ (effect readers before occasion).0) × (after ≡ (effect readers before occasion).1)
+OneThreadIsAFunction = (before after end : Rest) (occasion : Occasion) (deeds others : List Deed) →
+    IsEffect before occasion deeds after → IsEffect before occasion others end → (deeds ≡ others) × (after ≡ end)
 
--- So for every list of occasions the bytes that go to each connection are a function of the occasions and of what was read.
+-- So for every list of occasions the bytes that go to each connection are a function of the occasions.
 abbrev pub BytesAreAFunction : Type 0
-BytesAreAFunction = (readers : Readers) (opening : ℕ) (keys : List ℕ) (before after : Rest) (occasions : List Occasion) (bytes : List ℕ) →
-    IsRun readers opening keys before occasions bytes after → (bytes ≡ bus_bytes readers opening keys before occasions) × (after ≡ rest_after readers before occasions)
+BytesAreAFunction = (opening : ℕ) (keys : List ℕ) (before after end : Rest) (occasions : List Occasion) (bytes others : List ℕ) →
+    IsRun opening keys before occasions bytes after → IsRun opening keys before occasions others end → (bytes ≡ others) × (after ≡ end)

@@ -10,4 +10,5 @@ pub mod Standing
 pub mod Events
 pub mod Acts
 pub mod OneThread
+pub mod Readings
 pub mod Laws

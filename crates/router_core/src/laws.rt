@@ -73,15 +73,13 @@ pub fn notes_are_own<V: BusView, G: Gate>()
     ensures { NotesAreOwn V.BusView G.Gate }
 {}
 
-/// Over a bus of one thread, where nothing is refused, what an event brings is a function of it and
-/// of what was read.
-#[tactic(auto, using(crate::proofs::Functions::one_thread_is_a_function))]
+/// Over a bus of one thread, where nothing is refused, what an event brings is a function of it.
 pub fn one_thread_is_a_function()
     ensures { OneThreadIsAFunction }
 {}
 
 /// Over a bus of one thread, where nothing is refused, the bytes that go to each connection are a
-/// function of the events and of what was read, however many events there are.
+/// function of the events, however many there are.
 #[tactic(auto, using(crate::proofs::Functions::bytes_are_a_function))]
 pub fn bytes_are_a_function()
     ensures { BytesAreAFunction }

@@ -8,8 +8,9 @@
 //!
 //! The definitions stand in `specs/`: `Serving` says what is done for a message, `Events` what is
 //! done at an event, as a script of calls of the bus whose answers decide what comes next;
-//! `OneThread` says what the scripts come to over a bus of one thread, and which bytes go to each
-//! connection. Their laws stand in [`laws`].
+//! `OneThread` says what events bring over a bus of one thread where nothing is refused, and which
+//! bytes go to each connection. Their laws stand in [`laws`], and in [`readings`] that what is read
+//! is read in one way.
 //!
 //! ```
 //! use router_core::Action;
@@ -42,6 +43,7 @@ mod gate;
 mod joint;
 pub mod laws;
 pub mod limits;
+pub mod readings;
 mod recipients;
 mod start_end;
 mod written;

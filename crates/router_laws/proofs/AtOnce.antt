@@ -5,13 +5,14 @@ use Rattle.message_core.specs.declared.fault.FrameFault.{FrameFault}
 use Rattle.router_core.specs.Deeds.{Deed}
 use Rattle.router_core.specs.Events.{Bytes, Mail, Next, Occasion, Opened}
 use Rattle.router_core.specs.Incoming.{Incoming, Waits, Whole, Faulty}
-use Rattle.router_core.specs.OneThread.{Readers, Rest, effect}
+use Rattle.router_core.specs.OneThread.{Rest}
+use Rattle.router_core.proofs.Alone.{Readers, effect}
 use Rattle.router_core.specs.Standing.{Peer, Stage, Authenticating, Unnamed, Named, Closing, peer_at}
 use Rattle.router.proofs.Feeding.{TakesBytes, authenticating_given, bytes_given, end_more, mail_given, none_given, nothing_fed, pieces_joined, rest_more, closing_given, waiting_given}
 use Rattle.router.proofs.Speaking.{SpeaksAt, comes_speaking, mail_speaks, more_speaks, next_speaks}
 use Rattle.busd_core.specs.Happenings.{Delivery}
-use Rattle.busd_core.specs.OneThread.{bytes_done, mail_done, mailed, happened, all_happened}
-use Rattle.router_laws.specs.Readings.{with_behind}
+use Rattle.busd_core.proofs.Alone.{bytes_done, mail_done, mailed, happened, all_happened}
+use Rattle.router_core.specs.Readings.{with_behind}
 use Rattle.router_laws.proofs.Cutting.{Commutes, commutes}
 
 -- the connection is served

@@ -5,10 +5,11 @@ use Rattle.router_core.specs.declared.cause.CloseCause.TheVariants as cause
 use Rattle.router_core.specs.Deeds.{Deed, Closes}
 use Rattle.router_core.specs.Events.{Next, with_bytes}
 use Rattle.router_core.specs.Incoming.{Incoming, Waits, Whole, Faulty}
-use Rattle.router_core.specs.OneThread.{Readers, Rest, effect}
+use Rattle.router_core.specs.OneThread.{Rest}
+use Rattle.router_core.proofs.Alone.{Readers, effect}
 use Rattle.router_core.specs.Standing.{Peer, Stage, Authenticating, Unnamed, Named, Closing, peer_at}
 use Rattle.router.proofs.Feeding.{TakesBytes, authenticating_given, closed_more, end_more, faulty_given, more, more_if, next_given, peer_with_more, rest_more, closing_given}
-use Rattle.router_laws.specs.Readings.{with_behind}
+use Rattle.router_core.specs.Readings.{with_behind}
 
 module _ (readers : Readers) where
   -- the next message is served in the same way with these bytes behind it

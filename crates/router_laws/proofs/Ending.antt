@@ -9,20 +9,23 @@ use Rattle.router_core.specs.Acts.{Exchange, Framed, IsGranted, State}
 use Rattle.router_core.specs.Deeds.{GatedCall}
 use Rattle.router_core.specs.Events.{Closed, Next, Occasion, occasion_of}
 use Rattle.router_core.specs.Incoming.{Waits}
-use Rattle.router_core.specs.OneThread.{AreReadBy, Readers, Rest, effect}
+use Rattle.router_core.specs.OneThread.{Rest}
+use Rattle.router_core.proofs.Alone.{AreReadBy, Readers, effect}
 use Rattle.router_core.specs.Standing.{Peer, Stage, Authenticating, Unnamed, Named, Closing, peer_at}
 use Rattle.router_steps.specs.Quiet.{IsQuiet, IsQuietAt}
 use Rattle.router.specs.OneEvent.{rest_in}
 use Rattle.router.proofs.Feeding.{authenticating_given, none_given, closing_given, waiting_given}
-use Rattle.router.proofs.Grants.{granted_parts, read_parts}
-use Rattle.busd_core.specs.OneThread.{asked_all, happened}
+use Rattle.router_core.proofs.Grants.{granted_parts, read_parts}
+use Rattle.busd_core.specs.Happenings.{asked_all}
+use Rattle.busd_core.proofs.Alone.{happened}
 use Rattle.busd_core.specs.Sessions.{Goes, piece_of, asked_in}
-use Rattle.router_laws.proofs.Readers.{AreRight, read_so, readers_of, right_append}
+use Rattle.router_core.proofs.Readers.{AreRight, read_so, readers_of, right_append}
 use Rattle.bus_view.specs.declared.view.BusView.{Ghosts as BusView}
 use Rattle.router_core.specs.declared.gate.Gate.{Ghosts as Gate}
 use Rattle.router_laws.specs.Streams.{StreamsAgree, exchanges_at, exchanges_until_gone}
 use Rattle.router_laws.proofs.AtOnce.{AllSettled, all_at_once, arrived, served}
-use Rattle.router_laws.proofs.Extending.{all_right, all_settled, asked_of, bytes_are, extended, extended_all, extended_all_right, happens_right, one_so, serving_is}
+use Rattle.busd_core.proofs.OneThread.{all_happened_so, all_right, happens_right}
+use Rattle.router_laws.proofs.Extending.{all_settled, asked_of, bytes_are, extended, extended_all, extended_all_right, one_so, serving_is}
 
 -- ## Where nothing is left
 
@@ -95,7 +98,7 @@ module _ {N G : Type 0} (told : N → History) (passes : G → GatedCall → G �
       let grants = granted_parts asked (exchanges_at told passes alone seat key g.goes) granted in
       let read_of = read_parts readers asked (exchanges_at told passes alone seat key g.goes) reads in
       let mores = read_parts readers (extended_all told passes alone seat key before events g.first g.between happen) (left_of (peer_at g.between.standing key)) more in
-      let so = g.serves.one_thread is readers grants.0 read_of.0 in
+      let so = all_happened_so told passes alone seat key is readers before events g.first g.between happen grants.0 read_of.0 in
       let gone = one_so told passes alone seat key is readers g.between (event.Closed key) g.last after g.goes grants.1 read_of.1 in
       let here = granted_parts (asked_of told passes alone seat key before (event.Opened key None) happen.1 happen.0 happen.3) (asked_all told passes alone seat key happen.0 g.later happen.2 g.between happen.4) grants.0 in
       let there = read_parts readers (asked_of told passes alone seat key before (event.Opened key None) happen.1 happen.0 happen.3) (asked_all told passes alone seat key happen.0 g.later happen.2 g.between happen.4) read_of.0 in

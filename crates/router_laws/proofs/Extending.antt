@@ -10,18 +10,19 @@ use Rattle.router_core.specs.Acts.{Exchange, Changed, ChangedAll, Asked, Routed,
 use Rattle.router_core.specs.Deeds.{Deed, GatedCall}
 use Rattle.router_core.specs.Events.{Next, serving_next, next_at, occasion_of, script}
 use Rattle.router_core.specs.Incoming.{Incoming, Waits, Whole, Faulty, IsIncoming}
-use Rattle.router_core.specs.OneThread.{AreReadBy, Readers, Rest}
+use Rattle.router_core.specs.OneThread.{Rest}
+use Rattle.router_core.proofs.Alone.{AreReadBy, Readers}
 use Rattle.router_core.specs.Standing.{Peer, Stage, Standing, Authenticating, Unnamed, Named, Closing, peer_at}
 use Rattle.router.specs.OneEvent.{rest_in}
 use Rattle.router.proofs.Feeding.{TakesBytes}
-use Rattle.router.proofs.Grants.{granted_parts, read_parts}
-use Rattle.busd_core.specs.Happenings.{Delivery, mails_of, AreMailed, Happens, AllHappen}
-use Rattle.busd_core.specs.OneThread.{asked_mailed, asked_all, happened}
+use Rattle.router_core.proofs.Grants.{granted_parts, read_parts}
+use Rattle.busd_core.specs.Happenings.{mails_of, Happens, AllHappen, asked_mailed, asked_all}
+use Rattle.busd_core.proofs.Alone.{happened}
 use Rattle.busd_core.specs.Sessions.{IsServing, piece_of}
 use Rattle.busd_core.proofs.OneThread.{all_happened_so}
-use Rattle.router_laws.specs.Readings.{with_behind}
-use Rattle.router_laws.proofs.Incoming.{incoming_stays}
-use Rattle.router_laws.proofs.Readers.{AreRight, right_append, right_lawful}
+use Rattle.router_core.specs.Readings.{with_behind}
+use Rattle.router_core.proofs.Incoming.{incoming_stays}
+use Rattle.router_core.proofs.Readers.{AreRight, right_append, right_lawful}
 use Rattle.router_laws.proofs.AtOnce.{AllSettled, Serving, Settled, bytes_in}
 
 -- ## More bytes behind what was read
@@ -98,25 +99,6 @@ module _ {N G : Type 0} (told : N → History) (passes : G → GatedCall → G �
   abbrev pub extended_all : (before : State G) (events : List (Event N)) (written : List ℕ) (after : State G) → AllHappen told passes alone seat key before events written after → List Exchange
   extended_all before [] written after h = []
   extended_all before (event ∷ events) written after h = extended (flat_map piece_of events) h.3.serves.served.asked ++ extended_all h.0 events h.2 after h.4
-
-  mailed_right : (before : State G) (deliveries : List Delivery) (written : List ℕ) (after : State G) (m : AreMailed told passes alone seat key before deliveries written after) →
-      AreRight (asked_mailed told passes alone seat key before deliveries written after m)
-  mailed_right before [] written after m = tt
-  mailed_right before (delivery ∷ deliveries) written after m =
-      let one = m.3.serves.served in
-      right_append one.asked (asked_mailed told passes alone seat key m.0 deliveries m.2 after m.4) (right_lawful alone one.asked before.view m.0.view one.served.lawful) (mailed_right m.0 deliveries m.2 after m.4)
-
-  pub happens_right : (before : State G) (event : Event N) (written : List ℕ) (after : State G) (h : Happens told passes alone seat key before event written after) → AreRight (asked_of before event written after h)
-  happens_right before event written after h =
-      let one = h.serves.served in
-      right_append one.asked (asked_mailed told passes alone seat key h.between (mails_of seat h.actions) h.later after h.mailed) (right_lawful alone one.asked before.view h.between.view one.served.lawful)
-      (mailed_right h.between (mails_of seat h.actions) h.later after h.mailed)
-
-  pub all_right : (before : State G) (events : List (Event N)) (written : List ℕ) (after : State G) (h : AllHappen told passes alone seat key before events written after) →
-      AreRight (asked_all told passes alone seat key before events written after h)
-  all_right before [] written after h = tt
-  all_right before (event ∷ events) written after h =
-      right_append (asked_of before event h.1 h.0 h.3) (asked_all told passes alone seat key h.0 events h.2 after h.4) (happens_right before event h.1 h.0 h.3) (all_right h.0 events h.2 after h.4)
 
   pub extended_all_right : (before : State G) (events : List (Event N)) (written : List ℕ) (after : State G) (h : AllHappen told passes alone seat key before events written after) →
       AreRight (extended_all before events written after h)

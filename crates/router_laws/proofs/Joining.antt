@@ -5,7 +5,7 @@ use Rattle.router_core.specs.Acts.{Exchange, Changed, ChangedAll, Asked, Routed,
 use Rattle.router_core.specs.Answers.{Says, Refuses}
 use Rattle.router_core.specs.Events.{Occasion}
 use Rattle.router_core.specs.OneThread.{Rest, keys_after, bytes_to}
-use Rattle.router.proofs.Grants.{granted_parts}
+use Rattle.router_core.proofs.Grants.{granted_parts}
 use Rattle.router_laws.specs.Turns.{Turn, exchanges_of, keys_of, run_bytes}
 use Rattle.router_laws.specs.GrantedRuns.{ComeToTheSame, IsGrantedRun}
 

@@ -5,11 +5,6 @@ pub mod Places
 pub mod Writes
 pub mod Courses
 pub mod Counting
-pub mod FieldFaults
-pub mod Faults
-pub mod Incoming
-pub mod Calls
-pub mod Readers
 pub mod Agreeing
 pub mod Joining
 pub mod Recutting

@@ -11,22 +11,23 @@ use Rattle.router_core.specs.Acts.{Exchange, Framed, Wanted, Goes, IsGranted, Is
 use Rattle.router_core.specs.Deeds.{Deed}
 use Rattle.router_core.specs.Events.{Occasion, Bytes, Next, Stands, answering, after_conversing, with_bytes, for_peer, hearing, serving_next, next_at, serving_incoming, serving_at}
 use Rattle.router_core.specs.Incoming.{Incoming, Waits, Whole, Faulty, IsIncoming}
-use Rattle.router_core.specs.OneThread.{Course, Readers, Rest, alone, doing, effect, bytes_to}
+use Rattle.router_core.specs.OneThread.{Rest, bytes_to}
+use Rattle.router_core.proofs.Alone.{Course, Readers, alone, doing, effect}
 use Rattle.router_core.specs.Scripts.{Script, Gives, Changing, ChangingAll, Asking, Routing, AskingPresence, Noting, Framing, Calling, Gating, Wanting, Requiring, Doing, Announcing, and_then}
 use Rattle.router_core.specs.Standing.{Peer, Stage, Standing, SpeaksDBus, Authenticating, Unnamed, Named, Closing, peer_at, closing_peer, with_peer}
-use Rattle.router_core.proofs.Functions.{one_thread_is_a_function}
+use Rattle.router_core.proofs.Functions.{effect_is}
 use Rattle.router.proofs.Conversations.{hears_joined}
 use Rattle.router.proofs.Feeding.{bytes_given, closed_more, more, more_if, peer_with_more, pieces_joined, rest_more, seen_as, serve_more, with_more}
-use Rattle.router.proofs.Grants.{granted_parts, read_parts}
+use Rattle.router_core.proofs.Grants.{granted_parts, read_parts}
 use Rattle.router.proofs.Speaking.{Speaks, SpeaksAt, more_speaks, next_speaks}
 use Rattle.router_laws.specs.Turns.{Turn, exchanges_of}
 use Rattle.router_laws.specs.Cuts.{HasCome, LinesAreNotServed, PiecesAreJoined, ShortMessagesWait, WholeMessagesComeFirst}
 use Rattle.router_laws.specs.GrantedRuns.{IsGrantedRun}
-use Rattle.router_laws.specs.Readings.{with_behind}
+use Rattle.router_core.specs.Readings.{with_behind}
 use Rattle.router_laws.proofs.Agreeing.{run_right, runs_are_one}
-use Rattle.router_laws.proofs.Incoming.{incoming_is_one, incoming_stays}
+use Rattle.router_core.proofs.Incoming.{incoming_is_one, incoming_stays}
 use Rattle.router_laws.proofs.Joining.{StandFor, between, granted_append}
-use Rattle.router_laws.proofs.Readers.{read_so, readers_of}
+use Rattle.router_core.proofs.Readers.{read_so, readers_of}
 
 -- ## Scripts whose result is looked at in another way
 
@@ -214,8 +215,8 @@ joined key first second r (one ∷ two ∷ []) after run =
     let first_end : List Deed × Rest = effect readers r (Bytes key first) in
     let last_end : List Deed × Rest = effect readers first_end.1 (Bytes key second) in
     let all : List Deed × Rest = effect readers r (Bytes key (first ++ second)) in
-    let a = one_thread_is_a_function readers r run.served.0 (Bytes key first) one.asked one.deeds run.served.1 grants.0 reads.0 in
-    let b = one_thread_is_a_function readers run.served.0 run.served.2.0 (Bytes key second) two.asked two.deeds run.served.2.1 last_grants.0 last_reads.0 in
+    let a = effect_is readers r run.served.0 (Bytes key first) one.asked one.deeds run.served.1 grants.0 reads.0 in
+    let b = effect_is readers run.served.0 run.served.2.0 (Bytes key second) two.asked two.deeds run.served.2.1 last_grants.0 last_reads.0 in
     let same : effect readers run.served.0 (Bytes key second) ≡ last_end = ap (λ (s : Rest). effect readers s (Bytes key second)) a.1 in
     let may = bytes_may key (first ++ second) readers r in
     let end : after ≡ all.1 = run.served.2.2 ∙ b.1 ∙ ap (λ (e : List Deed × Rest). e.1) same ∙ (given_joined readers key r first second 0 []).1 in (
@@ -290,8 +291,8 @@ bytes_after key piece r after one two run speaks =
     let reads = read_parts readers one.asked (two.asked ++ []) read in
     let last_grants = granted_parts two.asked [] grants.1 in
     let last_reads = read_parts readers two.asked [] reads.1 in
-    let a = one_thread_is_a_function readers r now (Next key) one.asked one.deeds run.served.1 grants.0 reads.0 in
-    let b = one_thread_is_a_function readers now run.served.2.0 (Bytes key piece) two.asked two.deeds run.served.2.1 last_grants.0 last_reads.0 in
+    let a = effect_is readers r now (Next key) one.asked one.deeds run.served.1 grants.0 reads.0 in
+    let b = effect_is readers now run.served.2.0 (Bytes key piece) two.asked two.deeds run.served.2.1 last_grants.0 last_reads.0 in
     let still : SpeaksAt key now.standing = subst (λ (s : Rest). SpeaksAt key s.standing) (sym a.1) (next_speaks readers key r speaks) in
     let fed_so = bytes_given readers piece key now still in
     (b.0 ∙ ap (λ (end : List Deed × Rest). end.0) fed_so, b.1 ∙ ap (λ (end : List Deed × Rest). end.1) fed_so)

@@ -1,7 +1,6 @@
 pub mod Turns
 pub mod Runs
 pub mod Outputs
-pub mod Readings
 pub mod GrantedRuns
 pub mod Cuts
 pub mod Streams

@@ -7,8 +7,7 @@ use Rattle.router_core.specs.declared.gate.Gate.{Ghosts as Gate}
 use Rattle.router_core.specs.Acts.{Exchange, IsGranted, State}
 use Rattle.router_core.specs.Deeds.{GatedCall}
 use Rattle.router.specs.OneEvent.{rest_in}
-use Rattle.busd_core.specs.Happenings.{Happens, mails_of}
-use Rattle.busd_core.specs.OneThread.{asked_mailed}
+use Rattle.busd_core.specs.Happenings.{Happens, mails_of, asked_mailed}
 use Rattle.busd_core.specs.Sessions.{Goes, asked_in}
 
 module _ {N G : Type 0} (told : N → History) (passes : G → GatedCall → G → Type 0) (alone : Bool) (seat key : ℕ) where

@@ -27,11 +27,10 @@
 //!
 //! Where no call of the bus and no memory is refused, everything that an engine does is a function
 //! of its events: any two runs of the same events write the same bytes to each connection
-//! ([`runs`]), and it does not matter how those bytes were cut that came ([`cuts`]). This is so
-//! since what is read is read in one way ([`readings`]). Of [`busd_core::run`] the same is said in
-//! fewer words: what it writes for a stream depends on the bytes of the stream alone ([`streams`]).
-//! Each function of these modules does nothing: what it ensures is the law, for the proof of
-//! whoever calls it.
+//! ([`runs`]), and it does not matter how those bytes were cut that came ([`cuts`]). Of
+//! [`busd_core::run`] the same is said in fewer words: what it writes for a stream depends on the
+//! bytes of the stream alone ([`streams`]). Each function of these modules does nothing: what it
+//! ensures is the law, for the proof of whoever calls it.
 //!
 //! ```
 //! ghost use Rattle.router_laws.specs.GrantedRuns.{RunsAgree};
@@ -52,7 +51,6 @@
 pub mod cuts;
 mod fault;
 mod outlets;
-pub mod readings;
 pub mod runs;
 mod session;
 pub mod streams;

@@ -12,8 +12,8 @@ use Rattle.message.specs.Framing.{IsWaiting, IsJudged}
 use Rattle.message.proofs.Front.{announced_append}
 use Rattle.message.proofs.Once.{one_message}
 use Rattle.router_core.specs.Incoming.{Waits, Whole, Faulty, IsIncoming}
-use Rattle.router_laws.specs.Readings.{IncomingIsOne, IncomingStays}
-use Rattle.router_laws.proofs.Faults.{one_judgement, same_number, not_both}
+use Rattle.router_core.specs.Readings.{IncomingIsOne, IncomingStays}
+use Rattle.router_core.proofs.Faults.{one_judgement, same_number, not_both}
 
 -- what bytes that announce no message, or one that is refused, are refused for
 abbrev Why : ℕ → FrameFault → List ℕ → Type 0

@@ -16,7 +16,7 @@ use Rattle.driver.specs.declared.method.Method.TheVariants.{Hello, RequestName, 
 use Rattle.driver.specs.Arguments.{only_text, elements_and_number, texts_of}
 use Rattle.driver.specs.Methods.{method_of}
 use Rattle.driver.specs.Calls.{Reading, IsRuleOf, AreRuleTexts, has_rule_fault, AreRulesOfTexts, monitor_fault, AreRulesUnless, AreMonitorRulesOf, calling, IsOfRule, IsOfMonitor, IsReadBy, IsReadAs}
-use Rattle.router_laws.specs.Readings.{CallsAreOne, CallsAreRead}
+use Rattle.router_core.specs.Readings.{CallsAreOne, CallsAreRead}
 
 -- ## One reading
 

@@ -1,13 +1,11 @@
--- What events bring over a bus of one thread, where nothing is refused: a function of the events.
-use Rattle.std.specs.Prelude.{ℕ, Bool, ◌==◌, None, List, [], ◌∷◌, ◌++◌, if◌then◌else◌}
-use Rattle.seq_bus_core.specs.Histories.{History}
+-- What events bring over a bus of one thread where nothing is refused, as a function of them and of what is read.
+use Rattle.std.specs.Prelude.{ℕ, ◌==◌, None, List, [], ◌∷◌, ◌++◌, if◌then◌else◌}
 use Rattle.message.specs.MessageBytes.{message_bytes}
-use Rattle.router_core.specs.declared.event.Event.{Event}
-use Rattle.router_core.specs.Acts.{Exchange, State}
-use Rattle.router_core.specs.Deeds.{Deed, Writes, Sends, Puts, GatedCall}
+use Rattle.router_core.specs.Deeds.{Deed, Writes, Sends, Puts}
 use Rattle.router_core.specs.Events.{Occasion, Mail}
-use Rattle.router_core.specs.OneThread.{Readers, Rest, effect}
-use Rattle.busd_core.specs.Happenings.{Delivery, mail_to_all, mails_of, AreMailed, AllHappen}
+use Rattle.router_core.specs.OneThread.{Rest}
+use Rattle.router_core.proofs.Alone.{Readers, effect}
+use Rattle.busd_core.specs.Happenings.{Delivery, mail_to_all}
 
 -- what deeds write to the connection of a key
 abbrev pub bytes_done : ℕ → List Deed → List ℕ
@@ -44,15 +42,3 @@ module _ (readers : Readers) (seat key : ℕ) where
       let first = happened r occasion in
       let later = all_happened first.1 occasions in
       (first.0 ++ later.0, later.1)
-
--- ## What was asked
-
-module _ {N G : Type 0} (told : N → History) (passes : G → GatedCall → G → Type 0) (alone : Bool) (seat key : ℕ) where
-  abbrev pub asked_mailed : (before : State G) (deliveries : List Delivery) (written : List ℕ) (after : State G) → AreMailed told passes alone seat key before deliveries written after → List Exchange
-  asked_mailed before [] written after mailed = []
-  asked_mailed before (delivery ∷ deliveries) written after mailed = mailed.3.serves.served.asked ++ asked_mailed mailed.0 deliveries mailed.2 after mailed.4
-
-  abbrev pub asked_all : (before : State G) (events : List (Event N)) (written : List ℕ) (after : State G) → AllHappen told passes alone seat key before events written after → List Exchange
-  asked_all before [] written after happen = []
-  asked_all before (event ∷ events) written after happen =
-      (happen.3.serves.served.asked ++ asked_mailed happen.3.between (mails_of seat happen.3.actions) happen.3.later happen.0 happen.3.mailed) ++ asked_all happen.0 events happen.2 after happen.4

@@ -2,7 +2,7 @@
 use Rattle.std.proofs.Common.{true, false, List, [], ◌∷◌, ◌++◌}
 use Rattle.router_core.specs.Acts.{Exchange, Changed, ChangedAll, Asked, Routed, AskedPresence, Noted, Framed, Called, Gated, Wanted, IsGranted}
 use Rattle.router_core.specs.Answers.{Says, Refuses}
-use Rattle.router_core.specs.OneThread.{AreReadBy, Readers}
+use Rattle.router_core.proofs.Alone.{AreReadBy, Readers}
 
 pub granted_parts : (first later : List Exchange) → IsGranted (first ++ later) → IsGranted first × IsGranted later
 granted_parts [] later h = (tt, h)

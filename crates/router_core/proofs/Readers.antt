@@ -7,9 +7,9 @@ use Rattle.bus_view.specs.Views.{Knowledge}
 use Rattle.driver.specs.Calls.{IsCall}
 use Rattle.router_core.specs.Acts.{Exchange, Changed, ChangedAll, Asked, Routed, AskedPresence, Noted, Framed, Called, Gated, Wanted, IsLawful}
 use Rattle.router_core.specs.Incoming.{Incoming, Waits, IsIncoming}
-use Rattle.router_core.specs.OneThread.{Readers, AreReadBy}
-use Rattle.router_laws.proofs.Calls.{calls_are_one, calls_are_read}
-use Rattle.router_laws.proofs.Incoming.{incoming_is_one}
+use Rattle.router_core.proofs.Alone.{Readers, AreReadBy}
+use Rattle.router_core.proofs.Calls.{calls_are_one, calls_are_read}
+use Rattle.router_core.proofs.Incoming.{incoming_is_one}
 
 -- ## What is read rightly
 

@@ -1,6 +1,6 @@
 //! What bytes and calls are read as.
 
-ghost use Rattle.router_laws.specs.Readings.{CallsAreOne, CallsAreRead, IncomingIsOne, IncomingStays};
+ghost use Rattle.router_core.specs.Readings.{CallsAreOne, CallsAreRead, IncomingIsOne, IncomingStays};
 
 /// What stands at the front of bytes is one thing: a message and what is behind it, or one fault,
 /// or the beginning of a message.

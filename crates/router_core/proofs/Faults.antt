@@ -20,7 +20,7 @@ use Rattle.message_core.proofs.Announced.{announced_facts}
 use Rattle.message_core.proofs.Unread.{not_so}
 use Rattle.message.specs.Framing.{IsJudged}
 use Rattle.message.proofs.Front.{announced_append}
-use Rattle.router_laws.proofs.FieldFaults.{one_code, not_faulty, one_list}
+use Rattle.router_core.proofs.FieldFaults.{one_code, not_faulty, one_list}
 
 -- ## Results
 
