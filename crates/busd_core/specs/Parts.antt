@@ -61,6 +61,16 @@ module _ {N G : Type 0} (told : N → History) (passes : G → GatedCall → G �
   IsCarriedOut before event wrote_old wrote_new after result =
       (written : List ℕ) × Appends wrote_old wrote_new written × HappensSo before event written after result
 
--- the same of deliveries, by a view and a gate
+-- ## The same by a view and a gate
+
+abbrev pub IsBroughtBy : {V N R G : Type 0} → BusView V N R → Gate G → (key : ℕ) → State G → Event N → List (Action N) → (wrote_old wrote_new : Option (List ℕ)) → State G → Type 0
+IsBroughtBy view gate key before event actions wrote_old wrote_new after = IsBrought view.told view.registry_of gate.passes view.alone key before event actions wrote_old wrote_new after
+
+abbrev pub IsCutShortBy : {V N R G : Type 0} → BusView V N R → Gate G → (key : ℕ) → State G → Event N → (wrote_old wrote_new : Option (List ℕ)) → State G → RunFault → Type 0
+IsCutShortBy view gate key before event wrote_old wrote_new after fault = IsCutShort view.told view.registry_of gate.passes view.alone key before event wrote_old wrote_new after fault
+
 abbrev pub DeliversBy : {V N R G : Type 0} → BusView V N R → Gate G → (seat key : ℕ) → State G → List Delivery → (wrote_old wrote_new : Option (List ℕ)) → State G → Result (Unit {0}) RunFault → Type 0
 DeliversBy view gate seat key before deliveries wrote_old wrote_new after result = Delivers view.told gate.passes view.alone seat key before deliveries wrote_old wrote_new after result
+
+abbrev pub IsCarriedOutBy : {V N R G : Type 0} → BusView V N R → Gate G → (seat key : ℕ) → State G → Event N → (wrote_old wrote_new : Option (List ℕ)) → State G → Result (Unit {0}) RunFault → Type 0
+IsCarriedOutBy view gate seat key before event wrote_old wrote_new after result = IsCarriedOut view.told gate.passes view.alone seat key before event wrote_old wrote_new after result

@@ -3,8 +3,10 @@ use Rattle.std.specs.Prelude.{◌≡◌, ◌⊎◌, ℕ, Bool, true, Option, Non
 use Rattle.std.specs.Io.KnownBytes.{Consumes, Appends}
 use Rattle.std.specs.List.{flat_map, AllByRecursion}
 use Rattle.seq_bus_core.specs.Histories.{History}
+use Rattle.bus_view.specs.declared.view.BusView.{Ghosts as BusView}
 use Rattle.router_core.specs.declared.event.Event.{Event}
 use Rattle.router_core.specs.declared.event.Event.TheVariants.{Opened, Bytes, Next, Closed}
+use Rattle.router_core.specs.declared.gate.Gate.{Ghosts as Gate}
 use Rattle.router_core.specs.Acts.{Exchange, IsGranted, State}
 use Rattle.router_core.specs.Deeds.{GatedCall}
 use Rattle.router_core.specs.Events.{IsFree}
@@ -94,3 +96,9 @@ abbrev pub Runs : {N G : Type 0} → (N → History) → (G → GatedCall → G 
 Runs told passes alone seat before after read_old read_new wrote_old wrote_new result =
     (key : ℕ) × (read written : List ℕ) × IsFree before.standing key
     × Consumes read_old read_new read × Appends wrote_old wrote_new written × Ends told passes alone seat key before after read written result
+
+-- the same by a view and a gate
+abbrev pub RunsBy : {V N R G : Type 0} → BusView V N R → Gate G → (seat : ℕ) → (before after : State G) → (read_old read_new wrote_old wrote_new : Option (List ℕ))
+    → Result (Unit {0}) RunFault → Type 0
+RunsBy view gate seat before after read_old read_new wrote_old wrote_new result =
+    Runs view.told gate.passes view.alone seat before after read_old read_new wrote_old wrote_new result

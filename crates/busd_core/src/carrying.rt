@@ -2,7 +2,7 @@
 
 ghost use Rattle.std.specs.Prelude.{IfOk, IfErr};
 ghost use Rattle.router_core.specs.Events.{CanHappen};
-ghost use Rattle.busd_core.specs.Parts.{IsBrought, IsCutShort};
+ghost use Rattle.busd_core.specs.Parts.{IsBroughtBy, IsCutShortBy};
 
 use crate::actions::write_out;
 use crate::run_fault::RunFault;
@@ -28,10 +28,10 @@ pub fn dispatch<V: BusView, G: Gate, W: Write>(
 ) -> Result<Vec<Action<V::Note>>, RunFault>
     requires { CanHappen V.registry_of engine.old.view.registry engine.old.standing event }
     ensures ok { IfOk result
-        (λ actions. IsBrought V.told V.registry_of G.passes V.alone key engine.old event
-        actions.items (W.contents writer.old) (W.contents writer.new) engine.new) }
+        (λ actions. IsBroughtBy V.BusView G.Gate key engine.old event actions.items
+        (W.contents writer.old) (W.contents writer.new) engine.new) }
     ensures err { IfErr result
-        (λ fault. IsCutShort V.told V.registry_of G.passes V.alone key engine.old event
+        (λ fault. IsCutShortBy V.BusView G.Gate key engine.old event
         (W.contents writer.old) (W.contents writer.new) engine.new fault) }
 {
     let mut event = event;

@@ -3,8 +3,8 @@
 ghost use Rattle.std.specs.Prelude.{◌≡◌, ◌<◌, [], length, IfOk, IfErr, IfSome, IfNone, OnOk};
 ghost use Rattle.std.specs.Io.KnownBytes.{Consumes, IsAtEnd};
 ghost use Rattle.router_core.specs.Events.{CanHappen};
-ghost use Rattle.busd_core.specs.Parts.{LosesPiece, IsCarriedOut};
-ghost use Rattle.busd_core.specs.Sessions.{Runs};
+ghost use Rattle.busd_core.specs.Parts.{LosesPiece, IsCarriedOutBy};
+ghost use Rattle.busd_core.specs.Sessions.{RunsBy};
 
 use crate::actions::closed_by;
 use crate::carrying::{Endpoint, dispatch};
@@ -59,7 +59,7 @@ fn carry_out<V: BusView, G: Gate, W: Write>(
     writer: &mut W,
 ) -> Result<(), RunFault>
     requires { CanHappen V.registry_of engine.old.view.registry engine.old.standing event }
-    ensures { IsCarriedOut V.told G.passes V.alone endpoint.seat endpoint.key engine.old event
+    ensures { IsCarriedOutBy V.BusView G.Gate endpoint.seat endpoint.key engine.old event
         (W.contents writer.old) (W.contents writer.new) engine.new result }
 {
     let actions = dispatch(engine, right, endpoint.key, event, writer)?;
@@ -93,7 +93,7 @@ pub fn run<V: BusView, G: Gate, R: Read, W: Write>(
     reader: &mut R,
     writer: &mut W,
 ) -> Result<(), RunFault>
-    ensures runs { Runs V.told G.passes V.alone seat engine.old engine.new (R.remaining reader.old)
+    ensures runs { RunsBy V.BusView G.Gate seat engine.old engine.new (R.remaining reader.old)
         (R.remaining reader.new) (W.contents writer.old) (W.contents writer.new) result }
     ensures whole { OnOk result (IsAtEnd (R.remaining reader.new)) }
 {
