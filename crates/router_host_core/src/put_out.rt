@@ -21,12 +21,13 @@ pub struct PutOut {
 impl Model for PutOut {
     ghost use Rattle.std.specs.Prelude.{◌≡◌, List, Option, length};
     ghost use Rattle.seq_bus_core.specs.declared.connection.Conn.{Conn};
+    ghost use Rattle.router_host_core.specs.declared.put_out.TheConstants.{SLOTS};
 
     ghost Value = { List (Option Conn) };
 
     ghost view = { λ p. p.conns };
 
-    ghost invariant = { λ p. length p.conns ≡ 256 };
+    ghost invariant = { λ p. length p.conns ≡ SLOTS };
 }
 
 impl PutOut {
