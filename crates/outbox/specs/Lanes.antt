@@ -3,6 +3,7 @@ use Rattle.std.specs.Prelude.{◌≡◌, ℕ, zero, suc, ◌+◌, ◌<◌, ◌�
 use mathlib.Core.Option.{some}
 use lib.ListN.{get_elem?}
 use Rattle.std.proofs.Common.{eqb, not}
+use Rattle.outbox.specs.declared.ends.TheConstants.{ROOM}
 use Rattle.outbox.specs.declared.hand.Entry.{Entry}
 use Rattle.outbox.specs.declared.hand.Hand.{Hand}
 use Rattle.atomic_table.specs.Seated.{TableId}
@@ -75,7 +76,7 @@ module _ {E : Type 0} where
 
   -- The queue of this end was full at some moment.
   abbrev pub WasFull : End E → Type 0
-  WasFull e = Held 256 (Shows e.hand)
+  WasFull e = Held ROOM (Shows e.hand)
 
   -- It was empty at some moment.
   abbrev pub WasEmpty : End E → Type 0

@@ -10,7 +10,7 @@ use std::marker::Model;
 use std::sync::{Arc, Wait};
 
 /// How many items a queue holds.
-const ROOM: usize = 256;
+pub const ROOM: usize = 256;
 
 type Queue<E> = RuledArrayQueue<E, Hand<E>, InOrder>;
 
@@ -30,13 +30,14 @@ impl<E> Model for End<E> {
     ghost use Rattle.std.specs.Arc.{arc_value};
     ghost use Rattle.crossbeam_queue.specs.Passes.{IsPassOf, ruled_capacity};
     ghost use Rattle.outbox.specs.Lanes.{End as Known, end_of};
+    ghost use Rattle.outbox.specs.declared.ends.TheConstants.{ROOM};
 
     ghost Value = { Known E };
 
     ghost view = { λ s. end_of s.pass };
 
     ghost invariant = { λ s. IsPassOf (arc_value s.queue) s.pass
-        × (ruled_capacity (arc_value s.queue) ≡ 256) };
+        × (ruled_capacity (arc_value s.queue) ≡ ROOM) };
 }
 
 impl<E: Drop> End<E> {
@@ -78,13 +79,14 @@ impl<E> Model for Tap<E> {
     ghost use Rattle.std.specs.Arc.{arc_value};
     ghost use Rattle.crossbeam_queue.specs.Passes.{IsPassOf, ruled_capacity};
     ghost use Rattle.outbox.specs.Lanes.{End as Known, end_of};
+    ghost use Rattle.outbox.specs.declared.ends.TheConstants.{ROOM};
 
     ghost Value = { Known E };
 
     ghost view = { λ s. end_of s.pass };
 
     ghost invariant = { λ s. IsPassOf (arc_value s.queue) s.pass
-        × (ruled_capacity (arc_value s.queue) ≡ 256) × ((end_of s.pass).hand.takes ≡ true) };
+        × (ruled_capacity (arc_value s.queue) ≡ ROOM) × ((end_of s.pass).hand.takes ≡ true) };
 }
 
 /// A new queue, with all in one hand.

@@ -1,8 +1,8 @@
 //! What the routers of a bus send one another, and the bounded queues that carry it.
 //!
-//! Each place for a connection has an outbox: a queue of 256 envelopes, which all seats put into
-//! and the router of the place takes from. [`Outboxes::new`] makes them: a [`Lane`] for each seat,
-//! and for each router the [`Tap`]s of its places.
+//! Each place for a connection has an outbox: a queue of [`ROOM`] envelopes, which all seats put
+//! into and the router of the place takes from. [`Outboxes::new`] makes them: a [`Lane`] for each
+//! seat, and for each router the [`Tap`]s of its places.
 //!
 //! An envelope carries a note of the registry that the outboxes are of: its type says so.
 //!
@@ -45,10 +45,10 @@
 //!
 //! [`open_lanes`] makes such queues of any items: one for each slot; [`open_queue`] makes one
 //! alone. A thread that puts has a lane, which reaches all queues; what comes out of a queue is
-//! taken by its one tap. A queue holds 256 items, and neither putting nor taking allocates. What is
-//! taken from a queue is a beginning of what was put into it, in this order: each item comes once,
-//! and those of a lane in the lane's order. [`Lane::compare`] shows it of a lane and a tap, once
-//! both are in one hand.
+//! taken by its one tap. A queue holds [`ROOM`] items, and neither putting nor taking allocates.
+//! What is taken from a queue is a beginning of what was put into it, in this order: each item comes
+//! once, and those of a lane in the lane's order. [`Lane::compare`] shows it of a lane and a tap,
+//! once both are in one hand.
 //!
 //! ```
 //! use outbox::open_queue;
@@ -75,7 +75,7 @@ mod lane;
 mod opening;
 mod outboxes;
 
-pub use ends::{Full, Tap};
+pub use ends::{Full, ROOM, Tap};
 pub use lane::Lane;
 pub use opening::{open_lanes, open_queue};
 pub use outboxes::{EnvelopeOf, Outboxes};

@@ -1,6 +1,7 @@
 -- How routers reach one another, and whoever runs the programs of services.
 use Rattle.std.specs.Prelude.{◌≡◌, ◌+◌, ◌-◌, ◌^◌, ◌<◌, ◌≤◌, ◌/◌, ◌⊎◌, max, min, ℕ, Bool, true, false, nat_le, List, [], ◌∷◌, ◌++◌, length, map, Some, slice_get, slice_set}
 use Rattle.seq_bus_core.specs.BusState.{max_connections}
+use Rattle.outbox.specs.declared.ends.TheConstants.{ROOM}
 use Rattle.outbox.specs.declared.hand.Hand.{Hand}
 use Rattle.outbox.specs.Lanes.{End, HadItems, Took, WasEmpty, WasFull, sent, with}
 use Rattle.router_core.specs.declared.limits.TheConstants.{MAX_EFFECTS}
@@ -10,9 +11,10 @@ use Rattle.routers.specs.declared.slot_mail.Kept.{Kept}
 abbrev pub places_of : ℕ → ℕ
 places_of routers = max_connections / max routers 1
 
--- Where fewer envelopes wait that a router put for a place of its own, it has room for one more.
+-- Where fewer envelopes wait that a router put for a place of its own than an outbox holds, it has room
+-- for one more.
 abbrev pub max_own : ℕ
-max_own = 256
+max_own = ROOM
 
 -- how many wait there at most, where an event brings many at once
 abbrev pub most_own : ℕ

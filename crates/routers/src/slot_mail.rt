@@ -4,7 +4,7 @@ ghost use Rattle.std.specs.Prelude.{◌≡◌, ◌<◌, ◌≤◌, ◌∷◌, �
 ghost use Rattle.outbox.specs.Lanes.{WasEmpty};
 ghost use Rattle.routers.specs.Posts.{HasNone, HasRoom, IsFirst, IsFull, Takes, TakesOfOthers, is_due, kept, kept_behind, max_own, most_own, new_slot_mail};
 
-use outbox::Tap;
+use outbox::{ROOM, Tap};
 use router_core::limits::MAX_EFFECTS;
 use std::alloc::{AllocError, AllocFailed, Global};
 use std::collections::VecDeque;
@@ -14,10 +14,10 @@ use std::sync::Wait;
 
 /// Where so many envelopes wait that a router put for a place of its own, no later event puts one
 /// more there: as many as an outbox holds.
-const ROOM: usize = 256;
+const MAX_OWN: usize = ROOM;
 
 /// So many may wait where an event brings many at once, which it may while there is memory.
-const MOST: usize = ROOM + MAX_EFFECTS;
+const MOST_OWN: usize = MAX_OWN + MAX_EFFECTS;
 
 /// There was no room for this item.
 #[derive(Drop)]
@@ -58,7 +58,7 @@ impl<E: Drop> OwnQueue<E> {
     fn new(alloc: Global) -> Result<OwnQueue<E>, AllocError>
         ensures { IfOk result (λ q. q ≡ []) }
     {
-        let kept = VecDeque::with_capacity(alloc, ROOM)?;
+        let kept = VecDeque::with_capacity(alloc, MAX_OWN)?;
         Ok(OwnQueue {
             kept,
             event: 0,
@@ -76,7 +76,11 @@ impl<E: Drop> OwnQueue<E> {
             self.event = event;
             self.waited = self.kept.len();
         }
-        if self.waited < ROOM { MOST } else { ROOM }
+        if self.waited < MAX_OWN {
+            MOST_OWN
+        } else {
+            MAX_OWN
+        }
     }
 
     /// Puts an item of this event behind so many that others put.

@@ -3,6 +3,7 @@ use Rattle.std.proofs.lemmas.List.{set-get_or}
 use Rattle.std.proofs.lemmas.List.Elements.{All-get_or, All-set}
 use Rattle.std.proofs.lemmas.Option.{get_or_from_slice_get}
 use Rattle.crossbeam_queue.specs.Fifo.{Held}
+use Rattle.outbox.specs.declared.ends.TheConstants.{ROOM}
 use Rattle.outbox.specs.declared.hand.Hand.{Hand}
 use Rattle.outbox.specs.Lanes.{End, MayPut, Shows, sent, with}
 use Rattle.outbox.proofs.Lists.{either, each}
@@ -29,4 +30,4 @@ returns-clause-rule g c e at = let items = c.self.inside.ends.items in let slot 
     λ i. set (c.self.view_is i) slot (same i))
     (λ _ h.
     let same : new ≡ get_or items slot was = (λ i. record { queue = c.put.ensures.queue i; hand = h.1 i }) ∙ c.index_mut.ensures.value in
-    (h.0, ap (λ (x : End _). set items slot x) same ∙ set-get_or items slot was ∙ c.self.view_is, subst (λ (x : End _). Held 256 (Shows x.hand)) is h.2))
+    (h.0, ap (λ (x : End _). set items slot x) same ∙ set-get_or items slot was ∙ c.self.view_is, subst (λ (x : End _). Held ROOM (Shows x.hand)) is h.2))
