@@ -1,5 +1,6 @@
 //! Why a run ends early.
 
+use seq_bus_core::limits::MAX_BATCH;
 use std::alloc::AllocError;
 use thiserror::Error;
 
@@ -14,7 +15,7 @@ pub enum EventFault {
     #[error("event {0}: no one may log in")]
     NoLogin(usize),
     /// The event of this index is a turn of no keys, or of more than 64.
-    #[error("event {0}: a turn has 1 to 64 keys")]
+    #[error("event {0}: a turn has 1 to {max} keys", max = MAX_BATCH)]
     NoTurn(usize),
     #[error("out of memory")]
     NoMemory,
