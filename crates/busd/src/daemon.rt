@@ -28,7 +28,7 @@ where
     let options = Options::of(found)?;
     let (bus, listening) = Bus::open(rt, options)?;
     let served = serve_opened(rt, &bus, listening, options.prints_address);
-    // Else nobody could serve there again before it was removed by hand.
+    // A file that is left there keeps the next bus from starting.
     let _ = remove_file(rt, options.path.as_str());
     served
 }

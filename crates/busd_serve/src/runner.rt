@@ -12,6 +12,7 @@ pub enum ProgramEnd {
     NotRun,
     /// It exited with a status.
     Exited(u32),
+    /// A signal ended it.
     Killed,
 }
 

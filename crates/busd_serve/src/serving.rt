@@ -70,7 +70,7 @@ impl<J: Naming, F: Drop> Parts<J, F> {
     }
 }
 
-/// Picks the registry.
+/// Serves over a registry of its own.
 pub(crate) fn begin<F: Read + Write + Send + Drop, R: DaemonRuntime>(
     rt: &R,
     bus: &Bus<'_>,

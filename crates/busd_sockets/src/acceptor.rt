@@ -19,6 +19,7 @@ const SHARE: usize = 64;
 
 /// Who is told that connections can't be accepted.
 pub trait AcceptLog {
+    /// The system refused to accept one.
     fn tell(&mut self, error: &io::Error);
 
     /// A connection was closed, since as many wait for its router as may.
@@ -42,7 +43,7 @@ enum Accepted {
     /// No connection waits.
     All,
     /// More may wait.
-    Some,
+    More,
     /// It fails now, as where there are too many open files. Nothing tells when it no longer does.
     Later,
 }
@@ -96,7 +97,7 @@ impl<'a, F: Read + Drop, L: AcceptLog + Drop, C: Chores + Drop> Acceptor<'a, F, 
 
     /// Accepts what waits, as many as routers take in a turn, and wakes the routers.
     fn accept_some<R: Wait>(&mut self, rt: &R) -> Result<Accepted, Fault> {
-        let mut accepted = Accepted::Some;
+        let mut accepted = Accepted::More;
         for _ in 0..self.new_connections.len().saturating_mul(SHARE) {
             match self.listener.accept() {
                 Ok((stream, _address)) => self.hand_over(rt, stream)?,
@@ -144,7 +145,7 @@ impl<'a, F: Read + Drop, L: AcceptLog + Drop, C: Chores + Drop> Acceptor<'a, F, 
 fn wait_of(accepted: Accepted, due: Option<u64>) -> Option<Duration> {
     let due = match (accepted, due) {
         (Accepted::All, due) => due?,
-        (Accepted::Some, _) => 0,
+        (Accepted::More, _) => 0,
         (Accepted::Later, Some(due)) => due.min(RETRY_AFTER),
         (Accepted::Later, None) => RETRY_AFTER,
     };

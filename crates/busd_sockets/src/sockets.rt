@@ -22,6 +22,7 @@ const NEW: usize = 64;
 
 /// Who writes down which connections ended, or are not served.
 pub trait EndLog {
+    /// A connection is over.
     fn note(&mut self, ended: Ended);
 
     /// A connection that came was closed.
@@ -30,17 +31,17 @@ pub trait EndLog {
 
 /// What became of a socket, as far as it is not told yet.
 #[derive(Clone, Copy)]
-struct Change {
+struct Readiness {
     key: usize,
     readable: bool,
     closing: bool,
     writable: bool,
 }
 
-impl Change {
-    fn of(event: &Event) -> Change {
+impl Readiness {
+    fn of(event: &Event) -> Readiness {
         let fails = event.is_error();
-        Change {
+        Readiness {
             key: event.token().0,
             readable: event.is_readable() || event.is_read_closed() || fails,
             closing: event.is_read_closed() || fails,
@@ -57,7 +58,7 @@ pub struct Sockets<'a, L: EndLog + Drop, R: Clock> {
     events: Events,
     new_connections: &'a NewConnections,
     /// What is not told yet, the last first.
-    changes: Vec<Change>,
+    readiness: Vec<Readiness>,
     /// How many connections that came may be told of before the next wait.
     left: usize,
     login_timer: LoginTimer<'a, R>,
@@ -77,7 +78,7 @@ impl<'a, L: EndLog + Drop, R: Clock> Sockets<'a, L, R> {
             poll,
             events: Events::with_capacity(alloc, EVENTS)?,
             new_connections,
-            changes: Vec::with_capacity(alloc, EVENTS)?,
+            readiness: Vec::with_capacity(alloc, EVENTS)?,
             left: NEW,
             login_timer: LoginTimer::new(rt),
             log,
@@ -85,33 +86,33 @@ impl<'a, L: EndLog + Drop, R: Clock> Sockets<'a, L, R> {
     }
 
     /// Takes over what the poll told. There is room for it.
-    fn note_changes(&mut self) -> Result<(), Fault> {
-        self.changes.clear();
+    fn note_readiness(&mut self) -> Result<(), Fault> {
+        self.readiness.clear();
         for event in self.events.iter() {
-            if event.token() != WAKER && self.changes.push(Change::of(event)).is_err() {
+            if event.token() != WAKER && self.readiness.push(Readiness::of(event)).is_err() {
                 return Err(Fault::Memory);
             }
         }
-        self.changes.reverse();
+        self.readiness.reverse();
         Ok(())
     }
 
-    /// What the last change tells first. The change goes once it has told all.
+    /// What a socket is ready for first. It goes once it has told all.
     fn next_event(&mut self) -> Option<SourceEvent<ClientSocket>> {
-        let Change {
+        let Readiness {
             key,
             readable,
             closing,
             writable,
-        } = self.changes.pop()?;
+        } = self.readiness.pop()?;
         if readable && writable {
-            let rest = Change {
+            let rest = Readiness {
                 key,
                 readable: false,
                 closing: false,
                 writable,
             };
-            let _has_room = self.changes.push(rest);
+            let _has_room = self.readiness.push(rest);
         }
         match readable {
             true => Some(SourceEvent::Readable { key, closing }),
@@ -147,7 +148,7 @@ impl<'a, L: EndLog + Drop, R: Clock> Source<ClientSocket> for Sockets<'a, L, R> 
         if self.poll.poll(&mut self.events, most).is_err() {
             return Err(Fault::Poll);
         }
-        self.note_changes()
+        self.note_readiness()
     }
 
     fn next<W: Wait>(&mut self, rt: &W) -> Option<SourceEvent<ClientSocket>> {

@@ -16,11 +16,11 @@ use std::time::Duration;
 const SLOTS: usize = MAX_CONNECTIONS;
 
 /// How long a router waits at most until another one ends a turn, in milliseconds.
-const WAIT: u64 = 2;
+const TURN_WAIT: u64 = 2;
 
 /// A router that ends so many turns has had one that it began after they were counted: it may have
 /// been in one then.
-const TURNS: u64 = 2;
+const TURNS_APART: u64 = 2;
 
 /// Ends the wait of one thread.
 pub trait Wake {
@@ -35,7 +35,7 @@ struct RouterState<W: Wake + Drop> {
     waker: W,
     /// It waits, or is about to: whoever has something for it wakes it.
     sleeps: AtomicBool,
-    /// There is mail from another router for a place of it: which one, the flag of the place says.
+    /// There is mail from another router for a slot of it: which one, the flag of the slot says.
     mail: AtomicBool,
     /// A connection of it was full for another router.
     check_due: AtomicBool,
@@ -89,7 +89,7 @@ impl<W: Wake + Drop> RouterState<W> {
         self.turns.park_timeout(
             rt,
             (turns & 0xffff_ffff) as u32,
-            Duration::from_millis(WAIT),
+            Duration::from_millis(TURN_WAIT),
         );
     }
 }
@@ -107,7 +107,7 @@ fn lower(flag: &AtomicBool) -> bool {
 }
 
 /// What the threads of a bus share, besides its registry and the queues between them: how to wake
-/// each, which places have mail, and whether they are to end. Contracts see how many routers there
+/// each, which slots have mail, and whether they are to end. Contracts see how many routers there
 /// are.
 #[derive(Drop)]
 pub struct Coordinator<W: Wake + Drop> {
@@ -150,7 +150,7 @@ fn tellings_of(alloc: Global, threads: usize) -> Result<Vec<Telling>, AllocError
     Ok(tellings)
 }
 
-/// A flag for each place.
+/// A flag for each slot.
 fn flags(alloc: Global) -> Result<Vec<AtomicBool>, AllocError> {
     let mut flags = Vec::with_capacity(alloc, SLOTS)?;
     for _slot in 0..SLOTS {
@@ -203,25 +203,25 @@ impl<W: Wake + Drop> Coordinator<W> {
         SLOTS / self.states.len().max(1)
     }
 
-    /// The router of a place, counted from 0.
+    /// The router of a slot, counted from 0.
     fn router_of(&self, slot: usize) -> usize {
         slot / self.places().max(1)
     }
 
-    /// There is mail for a place of another router, which is to be woken at the end of the turn.
+    /// There is mail for a slot of another router, which is to be woken at the end of the turn.
     pub(crate) fn tell_of_mail(&self, slot: usize) {
         if let Some(flag) = self.mail.get(slot) {
             raise(flag);
         }
-        // Behind the place's flag: whoever sees this one sees that one.
+        // Behind the slot's flag: whoever sees this one sees that one.
         if let Some(state) = self.states.get(self.router_of(slot)) {
             raise(&state.mail);
             raise(&state.owed);
         }
     }
 
-    /// How many turns the router of a place has ended. None where it does not serve, or where the
-    /// connection of the place did not take its mail though its router had a turn.
+    /// How many turns the router of a slot has ended. None where it does not serve, or where the
+    /// connection of the slot did not take its mail though its router had a turn.
     pub(crate) fn turns_of(&self, slot: usize) -> Option<u64> {
         let stuck = self.stuck.get(slot)?;
         let state = self.states.get(self.router_of(slot))?;
@@ -231,33 +231,33 @@ impl<W: Wake + Drop> Coordinator<W> {
         Some(state.turns.load(Ordering::SeqCst))
     }
 
-    /// Whether the router of a place has had a turn that began after it had ended so many, or will
+    /// Whether the router of a slot has had a turn that began after it had ended so many, or will
     /// have none.
     pub(crate) fn has_had_turn(&self, slot: usize, turns: u64) -> bool {
         match self.states.get(self.router_of(slot)) {
             Some(state) => {
                 !state.serves.load(Ordering::SeqCst)
-                    || state.turns.load(Ordering::SeqCst) >= turns.saturating_add(TURNS)
+                    || state.turns.load(Ordering::SeqCst) >= turns.saturating_add(TURNS_APART)
             }
             None => true,
         }
     }
 
-    /// Waits until the router of a place ends a turn, but not for long.
+    /// Waits until the router of a slot ends a turn, but not for long.
     pub(crate) fn await_turn<R: Wait>(&self, rt: &R, slot: usize) {
         if let Some(state) = self.states.get(self.router_of(slot)) {
             state.await_turn(rt);
         }
     }
 
-    /// The connection of a place does not take its mail, though its router had a turn.
+    /// The connection of a slot does not take its mail, though its router had a turn.
     pub(crate) fn note_stuck(&self, slot: usize) {
         if let Some(flag) = self.stuck.get(slot) {
             raise(flag);
         }
     }
 
-    /// The connection of a place takes its mail.
+    /// The connection of a slot takes its mail.
     pub(crate) fn note_taking(&self, slot: usize) {
         if let Some(flag) = self.stuck.get(slot) {
             lower(flag);
@@ -265,14 +265,14 @@ impl<W: Wake + Drop> Coordinator<W> {
     }
 
     /// A router begins to serve.
-    pub(crate) fn begin(&self, router: usize) {
+    pub(crate) fn begin_serving(&self, router: usize) {
         if let Some(state) = self.states.get(router) {
             state.serves.store(true, Ordering::SeqCst);
         }
     }
 
     /// A router serves no more.
-    pub(crate) fn end(&self, router: usize) {
+    pub(crate) fn end_serving(&self, router: usize) {
         if let Some(state) = self.states.get(router) {
             state.serves.store(false, Ordering::SeqCst);
         }
@@ -341,7 +341,7 @@ impl<W: Wake + Drop> Coordinator<W> {
         }
     }
 
-    /// Whether there is mail for any place of a router. It is asked for once, before the places
+    /// Whether there is mail for any slot of a router. The flag is lowered, before those of the slots
     /// are.
     pub(crate) fn take_any_mail(&self, router: usize) -> bool {
         match self.states.get(router) {
@@ -350,7 +350,7 @@ impl<W: Wake + Drop> Coordinator<W> {
         }
     }
 
-    /// Whether there is mail for this place. It is asked for once.
+    /// Whether there is mail for this slot. The flag is lowered.
     pub(crate) fn take_mail(&self, slot: usize) -> bool {
         match self.mail.get(slot) {
             Some(flag) => lower(flag),
@@ -373,7 +373,7 @@ impl<W: Wake + Drop> Coordinator<W> {
         }
     }
 
-    /// The connection of this place was full for another router than its own, which is to check
+    /// The connection of this slot was full for another router than its own, which is to check
     /// whether it is present.
     pub(crate) fn ask_check(&self, slot: usize) {
         if let Some(state) = self.states.get(self.router_of(slot)) {
@@ -383,7 +383,7 @@ impl<W: Wake + Drop> Coordinator<W> {
     }
 
     /// Connections that were to leave the bus before have left it: any router may have one, and all
-    /// but that of this place are to check which of theirs are present.
+    /// but that of this slot are to check which of theirs are present.
     pub(crate) fn ask_checks_of_others(&self, slot: usize) {
         let own = self.router_of(slot);
         for (router, state) in self.states.iter().enumerate() {
@@ -394,7 +394,7 @@ impl<W: Wake + Drop> Coordinator<W> {
         }
     }
 
-    /// Whether a connection of this router was full for another. It is asked for once.
+    /// Whether a connection of this router was full for another. The flag is lowered.
     pub(crate) fn take_check(&self, router: usize) -> bool {
         match self.states.get(router) {
             Some(state) => lower(&state.check_due),

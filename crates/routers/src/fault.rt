@@ -14,6 +14,7 @@ pub enum Fault {
     /// The lines of the trace can't be written.
     #[error("device: trace")]
     Trace,
+    /// There was no memory for what a thread cannot do without.
     #[error("memory")]
     Memory,
 }

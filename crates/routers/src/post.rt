@@ -40,7 +40,7 @@ pub struct LanePost<'a, J: Naming, W: Wake + Drop> {
     /// The others have put what comes of their changes up to this position.
     cleared: u64,
     /// How many envelopes were put for other routers since it was looked how many wait.
-    unseen: u8,
+    puts_since_look: u8,
     /// What another router is behind with.
     backlog: Option<Backlog>,
 }
@@ -62,7 +62,7 @@ const LOOK: u8 = 7;
 /// routers put until they look.
 const MUCH: usize = 80;
 
-/// So many turns of 2 ms each are waited for at most.
+/// How often a turn of another router is waited for at most, some milliseconds each time.
 const WAITS: u32 = 100;
 
 impl<'a, J: Naming, W: Wake + Drop> Model for LanePost<'a, J, W> {
@@ -126,7 +126,7 @@ impl<'a, J: Naming, W: Wake + Drop> LanePost<'a, J, W> {
             last: 0,
             is_telling: false,
             cleared: 0,
-            unseen: 0,
+            puts_since_look: 0,
             backlog: None,
         })
     }
@@ -234,11 +234,11 @@ impl<'a, J: Naming, W: Wake + Drop> LanePost<'a, J, W> {
     fn is_to_look(&mut self) -> bool
         ensures same { self.new ≡ self.old }
     {
-        self.unseen = self.unseen.saturating_add(1);
-        if self.unseen < LOOK {
+        self.puts_since_look = self.puts_since_look.saturating_add(1);
+        if self.puts_since_look < LOOK {
             return false;
         }
-        self.unseen = 0;
+        self.puts_since_look = 0;
         true
     }
 
@@ -268,7 +268,7 @@ impl<'a, J: Naming, W: Wake + Drop> LanePost<'a, J, W> {
         // That one may wait for this thread.
         self.coordinator.tell_all(self.me, self.seen);
         for _ in 0..WAITS {
-            if self.is_over(right, Backlog { slot, turns }) {
+            if self.is_settled(right, Backlog { slot, turns }) {
                 return;
             }
             self.coordinator.await_turn(right, slot);
@@ -296,7 +296,7 @@ impl<'a, J: Naming, W: Wake + Drop> LanePost<'a, J, W> {
 
     /// Whether a backlog is no reason to wait any more: it is gone, or its connection does not take
     /// its mail.
-    fn is_over<R: Wait>(&mut self, right: &R, backlog: Backlog) -> bool
+    fn is_settled<R: Wait>(&mut self, right: &R, backlog: Backlog) -> bool
         ensures same { self.new ≡ self.old }
     {
         if !self.has_much(right, backlog.slot) {
@@ -387,10 +387,10 @@ impl<'a, 'b, J: Naming, W: Wake + Drop, R: Wait> Post<Traced<Desk<'b, J, R>>>
         let Some(backlog) = self.backlog else {
             return;
         };
-        if !self.is_over(right, backlog) {
+        if !self.is_settled(right, backlog) {
             self.coordinator.await_turn(right, backlog.slot);
         }
-        if self.is_over(right, backlog) {
+        if self.is_settled(right, backlog) {
             self.backlog = None;
         }
     }

@@ -44,9 +44,13 @@ pub enum SourceEvent<S: Drop> {
 /// sockets of type `S`.
 pub trait Source<S: Socket> {
     /// Waits for what happens next, no longer than this.
+    ///
+    /// # Errors
+    ///
+    /// The system tells no more what happens, or there is no memory for it.
     fn wait(&mut self, timeout: Timeout) -> Result<(), Fault>;
 
-    /// What happened since, one after another.
+    /// The next thing that happened; none once all is told.
     fn next<R: Wait>(&mut self, rt: &R) -> Option<SourceEvent<S>>;
 
     /// Whether the time in which who connects is to have a name has passed once more. It runs only

@@ -20,9 +20,10 @@ const SLEEP: u64 = 2;
 /// A position is a number of changes of the bus.
 #[derive(Drop)]
 pub(crate) struct Telling {
-    /// All that the thread made up to this position is told. In no turn it makes none.
+    /// All that the thread made up to this position is told: `u64::MAX` between turns, when it
+    /// makes none.
     told: AtomicU64,
-    /// The same, as far as its thread knows.
+    /// The last position that its own thread told in a turn; nobody else reads it.
     known: AtomicU64,
     /// Another thread waits for more.
     is_awaited: AtomicBool,
@@ -80,7 +81,8 @@ impl Telling {
         false
     }
 
-    /// Sleeps until more is told than this, but not for long.
+    /// Sleeps until more is told than this, but not for long: the low half of the position is what
+    /// it sleeps on.
     fn sleep<R: Wait>(&self, rt: &R, told: u64) {
         self.is_awaited.store(true, Ordering::SeqCst);
         self.told.park_timeout(

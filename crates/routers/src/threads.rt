@@ -24,7 +24,9 @@ use std::thread::{Scope, Threads};
 /// What a router begins with.
 #[derive(Drop)]
 pub struct RouterSetup<J: Naming, E, G: Gate, T> {
+    /// Where it makes changes and asks.
     pub seat: Seat<J>,
+    /// Into all outboxes.
     pub lane: Lane<EnvelopeOf<J>>,
     /// The outboxes of its places.
     pub taps: Vec<Tap<EnvelopeOf<J>>>,
@@ -32,7 +34,9 @@ pub struct RouterSetup<J: Naming, E, G: Gate, T> {
     pub starts: Lane<StartRequest>,
     /// Where it hears of what happens.
     pub source: E,
+    /// What is shown each call to the bus.
     pub gate: G,
+    /// Who may log in; none where nobody is asked.
     pub login: Option<Login>,
     /// Where it writes what it recorded.
     pub trace: T,
@@ -179,7 +183,7 @@ impl<
             setup,
             socket: _,
         } = self;
-        coordinator.begin(me);
+        coordinator.begin_serving(me);
         let served = serve_as_router::<J, S, E, G, W, T, R>(
             rt,
             alloc,
@@ -188,7 +192,7 @@ impl<
             coordinator,
             setup,
         );
-        coordinator.end(me);
+        coordinator.end_serving(me);
         if let Err(fault) = served {
             coordinator.fail(rt, fault);
         }
