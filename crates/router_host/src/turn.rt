@@ -145,10 +145,44 @@ impl<V: BusView, G: Gate, P: Post<V>, S: Socket> Host<V, G, P, S> {
             return Ok(());
         }
         if self.carrier.carry_out(right, &mut self.undone) {
-            self.carrier.post.event_carried_out();
+            self.end_event();
             return Ok(());
         }
         Err(AllocError)
+    }
+
+    /// Carries out what events brought that is not carried out yet, before one more is served.
+    fn begin_event(&mut self, right: &V::Right) -> Result<(), AllocError>
+        ensures catches_up { CatchesUp P.puts P.starts self.old self.new }
+        ensures ok { OnOk result (self.new.undone ≡ []) }
+    {
+        self.catch_up(right)?;
+        self.note_event();
+        Ok(())
+    }
+
+    /// The post hears that an event is about to be served.
+    fn note_event(&mut self)
+        ensures { self.new ≡ self.old }
+    {
+        self.carrier.post.event_begins();
+    }
+
+    /// The post hears of the event that was served.
+    fn note_served(&mut self, tells: bool)
+        ensures { self.new ≡ self.old }
+    {
+        let view = self.engine.view();
+        self.carrier
+            .post
+            .event_served(view.place(), view.last(), tells);
+    }
+
+    /// The post hears that all is put that comes of the event.
+    fn end_event(&mut self)
+        ensures { self.new ≡ self.old }
+    {
+        self.carrier.post.event_carried_out();
     }
 
     /// Carries out what an event brought, and keeps what there is no room for now.
@@ -162,23 +196,15 @@ impl<V: BusView, G: Gate, P: Post<V>, S: Socket> Host<V, G, P, S> {
         ensures kept { self.new.kept ≡ self.old.kept }
     {
         self.changes_rules = seem_of_rules(&actions);
-        self.tell_post();
+        self.note_served(tell_of_changes(&actions));
         let mut actions = actions;
         actions.reverse();
         if self.carrier.carry_out(right, &mut actions) {
-            self.carrier.post.event_carried_out();
+            self.end_event();
             self.engine.give_back(actions);
         } else {
             self.undone = actions;
         }
-    }
-
-    /// The post hears of the event that was served.
-    fn tell_post(&mut self)
-        ensures { self.new ≡ self.old }
-    {
-        let view = self.engine.view();
-        self.carrier.post.event_served(view.place(), view.last());
     }
 
     /// Serves an event, and carries out what it brings. Where there is no memory for it, or no room
@@ -195,7 +221,7 @@ impl<V: BusView, G: Gate, P: Post<V>, S: Socket> Host<V, G, P, S> {
         ensures err { OnErr result (CatchesUp P.puts P.starts self.old self.new) }
         ensures handed_back { OnErr result (event.new ≡ event.old) }
     {
-        self.catch_up(right)?;
+        self.begin_event(right)?;
         let actions = self.engine.event(right, event)?;
         self.carry_out(right, actions);
         Ok(())
@@ -660,5 +686,31 @@ fn is_empty_reply(content: &Content) -> bool {
             BusMessage::Reply { body, .. } => matches!(body, ReplyBody::Empty),
             _ => false,
         },
+    }
+}
+
+/// Whether actions tell somebody of a change of the bus.
+fn tell_of_changes<N: Drop>(actions: &[Action<N>]) -> bool {
+    for action in actions {
+        if tells_of_change(action) {
+            return true;
+        }
+    }
+    false
+}
+
+/// Whether an action tells somebody of a change of the bus: its signals do, and the errors to
+/// callers that waited for a service.
+fn tells_of_change<N: Drop>(action: &Action<N>) -> bool {
+    match action {
+        Action::Put { content, .. } => match content {
+            Content::Relayed(_) => false,
+            Content::Own(message) => match message {
+                BusMessage::Signal(_) => true,
+                BusMessage::Error { .. } => true,
+                _ => false,
+            },
+        },
+        _ => false,
     }
 }

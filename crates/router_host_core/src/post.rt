@@ -82,12 +82,17 @@ pub trait Post<V: BusView>: Drop {
         ensures none { IfNone result (self.new ≡ self.old) }
         ensures empty { IfNone result (lacks self.old slot) };
 
-    /// An event was served: what is put from now on comes of it. Up to then so many changes of the
-    /// bus were seen, and the last that this router made has this place among them, from 1.
-    fn event_served(&mut self, seen: u64, last: u64)
+    /// An event is about to be served: it may change the bus, and what comes of that is not put yet.
+    fn event_begins(&mut self)
         ensures { self.new ≡ self.old };
 
-    /// All that comes of the event that was served last is put.
+    /// The event was served: what is put from now on comes of it. Up to then so many changes of the
+    /// bus were seen, the last that this router made has this place among them, from 1, and what is
+    /// put tells of changes, or only of messages.
+    fn event_served(&mut self, seen: u64, last: u64, tells: bool)
+        ensures { self.new ≡ self.old };
+
+    /// All that comes of the event is put.
     fn event_carried_out(&mut self)
         ensures { self.new ≡ self.old };
 

@@ -18,6 +18,9 @@ const SLOTS: usize = MAX_CONNECTIONS;
 /// How long a router waits at most until another one ends a turn, in milliseconds.
 const TURN_WAIT: u64 = 2;
 
+/// How often the end of a turn is waited for at most by who waits for a router to have had one.
+const WAITS: u32 = 100;
+
 /// A router that ends so many turns has had one that it began after they were counted: it may have
 /// been in one then.
 const TURNS_APART: u64 = 2;
@@ -114,8 +117,7 @@ pub struct Coordinator<W: Wake + Drop> {
     states: Vec<RouterState<W>>,
     /// By routers, and behind them of the main thread: what they have told of their changes.
     tellings: Vec<Telling>,
-    /// There are so many changes, as far as any of them has told. Whoever has made none since, or
-    /// has put all that comes of those that it made, has told as much.
+    /// There are so many changes, as far as any of them has told.
     latest: AtomicU64,
     /// By slots: there is mail from another router.
     mail: Vec<AtomicBool>,
@@ -250,6 +252,18 @@ impl<W: Wake + Drop> Coordinator<W> {
         }
     }
 
+    /// Waits until the router of a slot has had a turn that began after it had ended so many, but
+    /// not for ever. Tells whether it had.
+    pub(crate) fn await_had_turn<R: Wait>(&self, rt: &R, slot: usize, turns: u64) -> bool {
+        for _ in 0..WAITS {
+            if self.has_had_turn(slot, turns) {
+                return true;
+            }
+            self.await_turn(rt, slot);
+        }
+        false
+    }
+
     /// The connection of a slot does not take its mail, though its router had a turn.
     pub(crate) fn note_stuck(&self, slot: usize) {
         if let Some(flag) = self.stuck.get(slot) {
@@ -283,43 +297,33 @@ impl<W: Wake + Drop> Coordinator<W> {
         self.tellings.get(thread.min(self.states.len()))
     }
 
-    /// A turn of a router begins, or of the main thread: it may make changes.
-    pub fn begin_telling(&self, thread: usize) {
+    /// A thread may make changes from now on, which come behind all that are known.
+    pub(crate) fn begin_telling(&self, thread: usize) {
         if let Some(telling) = self.telling(thread) {
             telling.begin(self.latest.load(Ordering::SeqCst));
         }
     }
 
-    /// A turn of a router is over, or of the main thread: what comes of its changes is put.
-    pub fn end_telling(&self, thread: usize) {
+    /// A thread has put what comes of all changes that it made, and has seen so many.
+    pub(crate) fn end_telling(&self, thread: usize, seen: u64) {
+        self.note_changes(seen);
         if let Some(telling) = self.telling(thread) {
             telling.end();
         }
     }
 
     /// There are so many changes.
-    fn note_changes(&self, position: u64) -> u64 {
-        let latest = self.latest.load(Ordering::SeqCst);
-        if position <= latest {
-            return latest;
+    fn note_changes(&self, position: u64) {
+        if position > self.latest.load(Ordering::SeqCst) {
+            self.latest.fetch_max(position, Ordering::SeqCst);
         }
-        self.latest.fetch_max(position, Ordering::SeqCst);
-        position
     }
 
-    /// In its turn a thread has put what comes of its changes up to a position.
+    /// A thread that may have made changes has put what comes of them up to a position.
     pub(crate) fn tell_up_to(&self, thread: usize, position: u64) {
         self.note_changes(position);
         if let Some(telling) = self.telling(thread) {
             telling.advance(position);
-        }
-    }
-
-    /// In its turn a thread has put what comes of all changes that it made, and has seen so many.
-    pub(crate) fn tell_all(&self, thread: usize, seen: u64) {
-        let latest = self.note_changes(seen);
-        if let Some(telling) = self.telling(thread) {
-            telling.advance(latest);
         }
     }
 

@@ -6,6 +6,7 @@ ghost use Rattle.routers.specs.Posts.{AsksFor, IsFullFor, IsOwn, Sends, Waited, 
 use crate::coordinator::{Coordinator, Wake};
 use crate::slot_mail::{NoRoom, SlotMail};
 use outbox::{EnvelopeOf, Lane, Tap};
+use outbox_core::{BusMessage, Content};
 use registry_snapshots::{Desk, Naming, Note};
 use router::Traced;
 use router_host::{Post, StartRequest, TooManyStarts, Unsent};
@@ -35,7 +36,7 @@ pub struct LanePost<'a, J: Naming, W: Wake + Drop> {
     seen: u64,
     /// Which of these was the last that this router made, counted from 1.
     last: u64,
-    /// The last event made a change, and not all is put that comes of it.
+    /// The event made changes, and what is put tells of them.
     is_telling: bool,
     /// The others have put what comes of their changes up to this position.
     cleared: u64,
@@ -62,9 +63,6 @@ const LOOK: u8 = 7;
 /// routers put until they look.
 const MUCH: usize = 80;
 
-/// How often a turn of another router is waited for at most, some milliseconds each time.
-const WAITS: u32 = 100;
-
 impl<'a, J: Naming, W: Wake + Drop> Model for LanePost<'a, J, W> {
     ghost use Rattle.outbox_core.specs.declared.envelope.Envelope.{Envelope};
     ghost use Rattle.router_host_core.specs.declared.post.StartRequest.{StartRequest};
@@ -79,6 +77,13 @@ impl<'a, J: Naming, W: Wake + Drop> Model for LanePost<'a, J, W> {
       first = p.first;
       starts = p.starts;
     } };
+}
+
+fn is_signal(content: &Content) -> bool {
+    match content {
+        Content::Relayed(_) => false,
+        Content::Own(message) => matches!(message, BusMessage::Signal(_)),
+    }
 }
 
 /// The places of these taps.
@@ -242,20 +247,23 @@ impl<'a, J: Naming, W: Wake + Drop> LanePost<'a, J, W> {
         true
     }
 
-    /// Looks now and then whether much mail waits for a slot of another router. A router with places
-    /// lets that one go first once what it serves is served; one without is waited for by nobody,
-    /// and lets it go first at once.
-    fn look<R: Wait>(&mut self, right: &R, slot: usize)
+    /// Looks now and then whether much mail waits for a slot of another router, which is let go
+    /// first once what is served is served. Who has no places serves nobody, and lets it go first at
+    /// once, before it puts what need not come before what others put.
+    fn look<R: Wait>(&mut self, right: &R, slot: usize, envelope: &EnvelopeOf<J>)
         ensures same { self.new ≡ self.old }
     {
         if self.places.is_empty() {
-            self.await_room(right, slot);
+            if !is_signal(&envelope.content) {
+                self.await_room(right, slot);
+            }
         } else if self.is_to_look() && self.has_much(right, slot) {
             self.note_backlog(slot);
         }
     }
 
-    /// Waits while much mail waits for a slot of another router, but not for ever.
+    /// Where much mail waits for a slot of another router, waits until that one has had a turn, but
+    /// not for ever.
     fn await_room<R: Wait>(&mut self, right: &R, slot: usize)
         ensures same { self.new ≡ self.old }
     {
@@ -266,12 +274,10 @@ impl<'a, J: Naming, W: Wake + Drop> LanePost<'a, J, W> {
             return;
         };
         // That one may wait for this thread.
-        self.coordinator.tell_all(self.me, self.seen);
-        for _ in 0..WAITS {
-            if self.is_settled(right, Backlog { slot, turns }) {
-                return;
-            }
-            self.coordinator.await_turn(right, slot);
+        self.coordinator.end_telling(self.me, self.seen);
+        let had_turn = self.coordinator.await_had_turn(right, slot, turns);
+        if !had_turn || self.has_much(right, slot) {
+            self.coordinator.note_stuck(slot);
         }
     }
 
@@ -337,7 +343,7 @@ impl<'a, 'b, J: Naming, W: Wake + Drop, R: Wait> Post<Traced<Desk<'b, J, R>>>
         match self.own_place(slot) {
             Some(place) => self.put_own(right, slot, place, envelope),
             None => {
-                self.look(right, slot);
+                self.look(right, slot, &envelope);
                 self.put_away(right, slot, envelope)
             }
         }
@@ -363,19 +369,25 @@ impl<'a, 'b, J: Naming, W: Wake + Drop, R: Wait> Post<Traced<Desk<'b, J, R>>>
         self.places[place].take(right)
     }
 
-    fn event_served(&mut self, seen: u64, last: u64) {
+    fn event_begins(&mut self) {
+        self.coordinator.begin_telling(self.me);
+    }
+
+    fn event_served(&mut self, seen: u64, last: u64, tells: bool) {
         self.events = self.events.wrapping_add(1);
-        self.is_telling = last > self.last;
+        self.is_telling = tells && last > self.last;
         self.seen = seen;
         self.last = last;
     }
 
     fn event_carried_out(&mut self) {
         self.is_telling = false;
-        self.coordinator.tell_all(self.me, self.seen);
+        self.coordinator.end_telling(self.me, self.seen);
     }
 
     fn turn_ends(&mut self, _right: &R) {
+        // An event that there was no memory for made no change.
+        self.coordinator.end_telling(self.me, self.seen);
         self.coordinator.wake_owed();
     }
 

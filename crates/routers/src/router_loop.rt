@@ -129,14 +129,12 @@ impl<'a, V: BusView, G: Gate, P: Post<V>, S: Socket, E: Source<S>, W: Wake + Dro
     fn take_events<R: Wait>(&mut self, rt: &R, right: &V::Right) -> bool
         ensures serves { WorksOnBy V.BusView G.Gate P.Post self.old self.new }
     {
-        self.coordinator.begin_telling(self.me);
         self.coordinator.look_for_connections(self.me);
         for _ in rt.forever() {
             let Some(event) = self.source.next(rt) else {
                 return false;
             };
             if self.take_event(right, event) {
-                self.coordinator.end_telling(self.me);
                 return true;
             }
         }
@@ -186,7 +184,6 @@ impl<'a, V: BusView, G: Gate, P: Post<V>, S: Socket, E: Source<S>, W: Wake + Dro
         let ticked = self.tick(right);
         let turned = self.host.turn(right);
         self.is_short_of_memory = any_failed(ticked, turned);
-        self.coordinator.end_telling(self.me);
         self.tell_ended();
     }
 

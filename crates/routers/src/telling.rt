@@ -8,11 +8,14 @@ use std::time::Duration;
 /// How often it is looked whether a thread has told enough before this thread sleeps.
 const LOOKS: u32 = 200;
 
-/// How often it is slept at most. A thread that takes longer for a turn is not waited for.
+/// How often it is slept at most while no more is told. A thread that takes longer is not waited for.
 const SLEEPS: u32 = 50;
 
 /// How long it is slept at a time, in milliseconds.
 const SLEEP: u64 = 2;
+
+/// How often it is looked at most, though more is told meanwhile.
+const MOST_LOOKS: u32 = 5000;
 
 /// What one thread has told of the changes that it made: what comes of a change is put for whoever
 /// gets it once the change is made. Until then nobody is to put what comes later.
@@ -20,11 +23,9 @@ const SLEEP: u64 = 2;
 /// A position is a number of changes of the bus.
 #[derive(Drop)]
 pub(crate) struct Telling {
-    /// All that the thread made up to this position is told: `u64::MAX` between turns, when it
-    /// makes none.
+    /// All that the thread made up to this position is told: `u64::MAX` while it serves no event,
+    /// when it makes none. Only its own thread writes it.
     told: AtomicU64,
-    /// The last position that its own thread told in a turn; nobody else reads it.
-    known: AtomicU64,
     /// Another thread waits for more.
     is_awaited: AtomicBool,
 }
@@ -33,7 +34,6 @@ impl Telling {
     pub(crate) fn new() -> Telling {
         Telling {
             told: AtomicU64::new(u64::MAX),
-            known: AtomicU64::new(0),
             is_awaited: AtomicBool::new(false),
         }
     }
@@ -45,24 +45,24 @@ impl Telling {
         }
     }
 
-    /// A turn begins: from now on the thread may make changes, which come behind this position.
+    /// From now on the thread may make changes, which come behind this position. Whoever sees one
+    /// of them sees this, too.
     pub(crate) fn begin(&self, position: u64) {
-        self.known.store(position, Ordering::SeqCst);
-        self.tell(position);
+        self.told.store(position, Ordering::Release);
     }
 
-    /// A turn ends: all that the thread made is told.
+    /// All that the thread made is told.
     pub(crate) fn end(&self) {
-        self.tell(u64::MAX);
+        if !self.has_told(u64::MAX) {
+            self.tell(u64::MAX);
+        }
     }
 
-    /// In a turn all is told up to a position.
+    /// All is told up to a position.
     pub(crate) fn advance(&self, position: u64) {
-        if self.has_told(u64::MAX) || position <= self.known.load(Ordering::SeqCst) {
-            return;
+        if !self.has_told(position) {
+            self.tell(position);
         }
-        self.known.store(position, Ordering::SeqCst);
-        self.tell(position);
     }
 
     /// Whether all is told up to a position.
@@ -97,12 +97,17 @@ impl Telling {
         if self.tells_soon(position) {
             return;
         }
-        for _ in 0..SLEEPS {
+        let mut sleeps = SLEEPS;
+        for _ in 0..MOST_LOOKS {
             let told = self.told.load(Ordering::SeqCst);
-            if told >= position {
+            if told >= position || sleeps == 0 {
                 return;
             }
             self.sleep(rt, told);
+            sleeps = match self.told.load(Ordering::SeqCst) == told {
+                true => sleeps.saturating_sub(1),
+                false => SLEEPS,
+            };
         }
     }
 }

@@ -22,7 +22,6 @@ use std::sync::Wait;
 #[derive(Drop)]
 pub struct MainSeat<'a, J: Naming, S: Socket, W: Wake + Drop, Q: Programs + Drop, T, R: Wait> {
     rt: &'a R,
-    coordinator: &'a Coordinator<W>,
     starter: Starter<Traced<Desk<'a, J, R>>, OpenGate, LanePost<'a, J, W>, S, Q>,
     trace: T,
 }
@@ -66,12 +65,7 @@ impl<
         let none = Vec::new(alloc);
         let post = LanePost::new(alloc, usize::MAX, lane, none, starts, coordinator).ok()?;
         let starter = Starter::over(alloc, view, post, programs)?;
-        Some(MainSeat {
-            rt,
-            coordinator,
-            starter,
-            trace,
-        })
+        Some(MainSeat { rt, starter, trace })
     }
 
     /// Runs what is asked for, tells the bus how starts ended, and writes what it recorded, at this
@@ -84,9 +78,7 @@ impl<
     pub fn turn<X: Wait>(&mut self, rt: &X, now: u64) -> Result<Option<u64>, Fault>
         ensures steps { MakesMainSteps self.old self.new }
     {
-        self.coordinator.begin_telling(usize::MAX);
         let turned = self.starter.turn(rt, self.rt, now);
-        self.coordinator.end_telling(usize::MAX);
         self.starter.record(&mut self.trace)?;
         Ok(match turned {
             Ok(true) => Some(0),

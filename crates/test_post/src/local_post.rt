@@ -149,7 +149,9 @@ impl Post<SeqBus> for LocalPost {
         self.mails[slot].take()
     }
 
-    fn event_served(&mut self, _seen: u64, _last: u64) {}
+    fn event_begins(&mut self) {}
+
+    fn event_served(&mut self, _seen: u64, _last: u64, _tells: bool) {}
 
     fn event_carried_out(&mut self) {}
 
