@@ -4,8 +4,8 @@ ghost use Rattle.std.specs.Prelude.{◌≡◌, ◌+◌, ◌-◌, ◌*◌, ◌^�
 ghost use Rattle.routers.specs.Posts.{AsksFor, IsFullFor, IsOwn, Sends, Waited, new_slot_mail, places_of};
 
 use crate::coordinator::{Coordinator, Wake};
-use crate::slot_mail::{NoRoom, SlotMail};
-use outbox::{EnvelopeOf, Lane, Tap};
+use crate::slot_mail::SlotMail;
+use outbox::{EnvelopeOf, Full, Lane, Tap};
 use outbox_core::{BusMessage, Content};
 use registry_snapshots::{Desk, Naming, Note};
 use router::Traced;
@@ -207,7 +207,7 @@ impl<'a, J: Naming, W: Wake + Drop> LanePost<'a, J, W> {
         let waiting = self.waiting(right, slot);
         match self.places[place].put(envelope, waiting, self.events) {
             Ok(()) => Ok(()),
-            Err(NoRoom(back)) => Err(Unsent(back)),
+            Err(Full(back)) => Err(Unsent(back)),
         }
     }
 
@@ -228,7 +228,7 @@ impl<'a, J: Naming, W: Wake + Drop> LanePost<'a, J, W> {
         if slot >= self.lane.slots() {
             return Err(Unsent(envelope));
         }
-        if let Err(outbox::Full(back)) = self.lane.put(right, slot, envelope) {
+        if let Err(Full(back)) = self.lane.put(right, slot, envelope) {
             return Err(Unsent(back));
         }
         self.coordinator.tell_of_mail(slot);
@@ -356,7 +356,7 @@ impl<'a, 'b, J: Naming, W: Wake + Drop, R: Wait> Post<Traced<Desk<'b, J, R>>>
         if self.starts.slots() == 0 {
             return Err(TooManyStarts);
         }
-        if let Err(outbox::Full(_request)) = self.starts.put(right, 0, request) {
+        if let Err(Full(_request)) = self.starts.put(right, 0, request) {
             return Err(TooManyStarts);
         }
         self.coordinator.wake_main();

@@ -4,7 +4,7 @@ ghost use Rattle.std.specs.Prelude.{◌≡◌, ◌<◌, ◌≤◌, ◌∷◌, �
 ghost use Rattle.outbox.specs.Lanes.{WasEmpty};
 ghost use Rattle.routers.specs.Posts.{HasNone, HasRoom, IsFirst, IsFull, Takes, TakesOfOthers, is_due, kept, kept_behind, max_own, most_own, new_slot_mail};
 
-use outbox::{ROOM, Tap};
+use outbox::{Full, ROOM, Tap};
 use router_core::limits::MAX_EFFECTS;
 use std::alloc::{AllocError, AllocFailed, Global};
 use std::collections::VecDeque;
@@ -18,10 +18,6 @@ const MAX_OWN: usize = ROOM;
 
 /// So many may wait where an event brings many at once, which it may while there is memory.
 const MOST_OWN: usize = MAX_OWN + MAX_EFFECTS;
-
-/// There was no room for this item.
-#[derive(Drop)]
-pub(crate) struct NoRoom<E>(pub E);
 
 /// An item, and how many of what others put come before it, counted from the first that was ever
 /// taken.
@@ -84,17 +80,17 @@ impl<E: Drop> OwnQueue<E> {
     }
 
     /// Puts an item of this event behind so many that others put.
-    fn put(&mut self, item: E, others: u64, event: u64) -> Result<(), NoRoom<E>>
+    fn put(&mut self, item: E, others: u64, event: u64) -> Result<(), Full<E>>
         ensures { MatchResult result
             (λ _. (length self.old < most_own) × (self.new ≡ kept_behind self.old item others))
             (λ back. (back.0 ≡ item) × (self.new ≡ self.old) × (max_own ≤ length self.old)) }
     {
         if self.kept.len() >= self.limit(event) {
-            return Err(NoRoom(item));
+            return Err(Full(item));
         }
         match self.kept.push_back(Kept { item, others }) {
             Ok(()) => Ok(()),
-            Err(AllocFailed { value }) => Err(NoRoom(value.item)),
+            Err(AllocFailed { value }) => Err(Full(value.item)),
         }
     }
 
@@ -173,7 +169,7 @@ impl<E: Drop> SlotMail<E> {
     }
 
     /// Puts an item of its own router, which this event brought, where so many wait that others put.
-    pub(crate) fn put(&mut self, item: E, waiting: usize, event: u64) -> Result<(), NoRoom<E>>
+    pub(crate) fn put(&mut self, item: E, waiting: usize, event: u64) -> Result<(), Full<E>>
         ensures { MatchResult result
             (λ _. HasRoom self.old × (self.new ≡ kept self.old item waiting))
             (λ back. (back.0 ≡ item) × (self.new ≡ self.old) × IsFull self.old) }
