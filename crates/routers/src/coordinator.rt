@@ -1,6 +1,6 @@
 //! What the threads of a bus share, besides its registry and the queues between them.
 
-ghost use Rattle.std.specs.Prelude.{◌≡◌, IfOk, length};
+ghost use Rattle.std.specs.Prelude.{◌≡◌, ◌-◌, ◌*◌, ◌^◌, min, IfOk, length};
 ghost use Rattle.routers.specs.Posts.{places_of};
 
 use crate::fault::Fault;
@@ -203,6 +203,13 @@ impl<W: Wake + Drop> Coordinator<W> {
         ensures { result ≡ places_of self.now }
     {
         SLOTS / self.states.len().max(1)
+    }
+
+    /// The slot of a router's first place.
+    pub(crate) fn first_slot(&self, router: usize) -> usize
+        ensures { result ≡ min (router * places_of self.now) (2 ^ 64 - 1) }
+    {
+        router.saturating_mul(self.places())
     }
 
     /// The router of a slot, counted from 0.

@@ -124,7 +124,7 @@ impl<'a, J: Naming, W: Wake + Drop> LanePost<'a, J, W> {
             places,
             starts,
             coordinator,
-            first: me.saturating_mul(coordinator.places()),
+            first: coordinator.first_slot(me),
             me,
             events: 0,
             seen: 0,

@@ -233,9 +233,8 @@ impl<'a, V: BusView, G: Gate, P: Post<V>, S: Socket, E: Source<S>, W: Wake + Dro
     fn take_mail_flags(&mut self)
         ensures same { self.new ≡ self.old }
     {
-        let places = self.coordinator.places();
-        let first = self.me.saturating_mul(places);
-        for slot in first..first.saturating_add(places) {
+        let first = self.coordinator.first_slot(self.me);
+        for slot in first..first.saturating_add(self.coordinator.places()) {
             if self.coordinator.take_mail(slot) {
                 if let Ok(slot) = u16::try_from(slot) {
                     self.host.mail_came(slot);

@@ -135,9 +135,8 @@ fn serve_with<
     let Ok(engine) = Engine::new(alloc, view, gate, login) else {
         return Err(Fault::Memory);
     };
-    let places = coordinator.places();
-    let first = u16::try_from(me.saturating_mul(places)).unwrap_or(u16::MAX);
-    let count = u16::try_from(places).unwrap_or(0);
+    let first = u16::try_from(coordinator.first_slot(me)).unwrap_or(u16::MAX);
+    let count = u16::try_from(coordinator.places()).unwrap_or(0);
     let made: Result<Host<V, G, P, S>, AllocError> = Host::new(alloc, engine, post, first, count);
     let Ok(host) = made else {
         return Err(Fault::Memory);
