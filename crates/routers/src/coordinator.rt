@@ -12,6 +12,10 @@ use std::sync::atomic::{AtomicBool, AtomicU64, Ordering};
 use std::sync::{OnceLock, Wait};
 use std::time::Duration;
 
+/// The number of the main thread where threads are told apart by numbers: those of the routers are
+/// smaller.
+pub const MAIN_THREAD: usize = usize::MAX;
+
 /// How many places for connections a bus has.
 const SLOTS: usize = MAX_CONNECTIONS;
 
@@ -299,7 +303,7 @@ impl<W: Wake + Drop> Coordinator<W> {
         }
     }
 
-    /// What a router has told, or the main thread, which any greater number is.
+    /// What a thread has told: a router, or else the main thread.
     fn telling(&self, thread: usize) -> Option<&Telling> {
         self.tellings.get(thread.min(self.states.len()))
     }

@@ -39,7 +39,7 @@ mod telling;
 mod threads;
 mod trace_sink;
 
-pub use coordinator::{Coordinator, Wake};
+pub use coordinator::{Coordinator, MAIN_THREAD, Wake};
 pub use fault::Fault;
 pub use post::LanePost;
 pub use router_loop::Router;

@@ -28,7 +28,7 @@ pub struct LanePost<'a, J: Naming, W: Wake + Drop> {
     coordinator: &'a Coordinator<W>,
     /// The slot of its first place.
     first: usize,
-    /// Which router's it is, or a greater number.
+    /// Whose it is: a router's number, or [`MAIN_THREAD`](crate::MAIN_THREAD).
     me: usize,
     /// How many events were served.
     events: u64,
@@ -98,8 +98,8 @@ fn places_over<E: Drop>(alloc: Global, taps: Vec<Tap<E>>) -> Result<Vec<SlotMail
 }
 
 impl<'a, J: Naming, W: Wake + Drop> LanePost<'a, J, W> {
-    /// The post of router `me` of the coordinator, with its lane and the taps of its places, and
-    /// its lane to whoever runs the programs of services.
+    /// The post of router `me` of the coordinator, or of [`MAIN_THREAD`](crate::MAIN_THREAD), with
+    /// its lane and the taps of its places, and its lane to whoever runs the programs of services.
     ///
     /// # Errors
     ///

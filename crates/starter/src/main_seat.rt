@@ -9,7 +9,9 @@ use registry_snapshots::{Desk, Naming, Seat, Shared};
 use router::Traced;
 use router_core::OpenGate;
 use router_host::{Socket, StartRequest};
-use routers::{Coordinator, Fault, LanePost, RETRY_AFTER, TraceSink, TraceWriter, Wake, traced};
+use routers::{
+    Coordinator, Fault, LanePost, MAIN_THREAD, RETRY_AFTER, TraceSink, TraceWriter, Wake, traced,
+};
 use std::alloc::{AllocError, Global};
 use std::marker::Model;
 use std::sync::Wait;
@@ -63,7 +65,7 @@ impl<
         let desk: Desk<'_, J, R> = Desk::new(seat, shared);
         let view = traced(alloc, desk, trace.records());
         let none = Vec::new(alloc);
-        let post = LanePost::new(alloc, usize::MAX, lane, none, starts, coordinator).ok()?;
+        let post = LanePost::new(alloc, MAIN_THREAD, lane, none, starts, coordinator).ok()?;
         let starter = Starter::over(alloc, view, post, programs)?;
         Some(MainSeat { rt, starter, trace })
     }
