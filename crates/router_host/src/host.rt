@@ -9,7 +9,7 @@ ghost use Rattle.router_host.specs.Happening.{CatchesUp, HappensBy};
 ghost use Rattle.router_host.specs.Opening.{MakesRoom, OpensBy};
 
 use crate::kept::Kept;
-use crate::opening::{MOST_UNNAMED, OpenFault, Opened, open};
+use crate::opening::{OpenFault, Opened, open};
 use bus_view::BusView;
 use router::Engine;
 use router_core::{Action, Event, Gate, StartEnd};
@@ -97,12 +97,6 @@ impl<V: BusView + Drop, G: Gate + Drop, P: Post<V>, S: Socket> Host<V, G, P, S> 
 }
 
 impl<V: BusView, G: Gate, P: Post<V>, S: Socket> Host<V, G, P, S> {
-    /// Whether there are as many connections without a name as there may be: one that comes now is
-    /// refused.
-    pub fn is_crowded(&self) -> bool {
-        self.engine.unnamed() >= MOST_UNNAMED
-    }
-
     /// The key that the next connection will have.
     pub fn free_key(&self) -> usize {
         self.engine.free_key()

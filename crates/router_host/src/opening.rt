@@ -13,7 +13,7 @@ use router_core::{Action, Event, Gate};
 use thiserror::Error;
 
 /// The most connections without a name.
-pub(crate) const MOST_UNNAMED: usize = 64;
+const MOST_UNNAMED: usize = 64;
 
 /// Why a connection that came is not served. Its socket is gone.
 #[derive(Clone, Copy, Debug, PartialEq, Eq, Error)]
