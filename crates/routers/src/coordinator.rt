@@ -195,15 +195,8 @@ impl<W: Wake + Drop> Coordinator<W> {
         })
     }
 
-    /// How many routers there are.
-    pub fn routers(&self) -> usize
-        ensures { result ≡ self.now }
-    {
-        self.states.len()
-    }
-
     /// How many connections each router has places for.
-    pub fn places(&self) -> usize
+    pub(crate) fn places(&self) -> usize
         ensures { result ≡ places_of self.now }
     {
         SLOTS / self.states.len().max(1)
