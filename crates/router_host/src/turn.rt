@@ -81,7 +81,7 @@ impl<V: BusView, G: Gate, P: Post<V>, S: Socket> Host<V, G, P, S> {
             self.carrier.lines.note_all();
             self.carrier.slots.note_all();
         }
-        self.carrier.post.turn_ends(right);
+        self.carrier.post.wake_others(right);
     }
 
     /// Time has passed.
@@ -108,7 +108,7 @@ impl<V: BusView, G: Gate, P: Post<V>, S: Socket> Host<V, G, P, S> {
         if leaves {
             self.carrier.post.ask_checks(right);
         }
-        self.carrier.post.turn_ends(right);
+        self.carrier.post.wake_others(right);
     }
 
     fn serve_all(&mut self, right: &V::Right) -> Result<(), AllocError>
@@ -311,7 +311,7 @@ impl<V: BusView, G: Gate, P: Post<V>, S: Socket> Host<V, G, P, S> {
         self.untold = self.untold.saturating_add(1);
         if self.untold >= FEW {
             self.untold = 0;
-            self.carrier.post.turn_ends(right);
+            self.carrier.post.wake_others(right);
         }
     }
 

@@ -106,8 +106,9 @@ pub trait Post<V: BusView>: Drop {
     fn ask_checks(&mut self, right: &V::Right)
         ensures { self.new ≡ self.old };
 
-    /// A turn ends: whoever something was put for may be woken.
-    fn turn_ends(&mut self, right: &V::Right)
+    /// Wakes whoever waits and has something that was put for it. From then on nobody waits for
+    /// what is not put yet.
+    fn wake_others(&mut self, right: &V::Right)
         ensures { self.new ≡ self.old };
 
     /// Whether another router is behind with what was put for it: nothing that may put more is to

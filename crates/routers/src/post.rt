@@ -385,7 +385,7 @@ impl<'a, 'b, J: Naming, W: Wake + Drop, R: Wait> Post<Traced<Desk<'b, J, R>>>
         self.coordinator.end_telling(self.me, self.seen);
     }
 
-    fn turn_ends(&mut self, _right: &R) {
+    fn wake_others(&mut self, _right: &R) {
         // An event that there was no memory for made no change.
         self.coordinator.end_telling(self.me, self.seen);
         self.coordinator.wake_owed();

@@ -161,7 +161,7 @@ impl Post<SeqBus> for LocalPost {
         self.checks_asked = self.checks_asked.wrapping_add(1);
     }
 
-    fn turn_ends(&mut self, _right: &()) {}
+    fn wake_others(&mut self, _right: &()) {}
 
     fn is_behind(&self) -> bool {
         false
