@@ -28,6 +28,8 @@
 
 mod main_seat;
 mod starter;
+mod unfinished;
 
 pub use main_seat::MainSeat;
 pub use starter::{Programs, Starter};
+pub use unfinished::Unfinished;

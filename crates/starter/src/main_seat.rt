@@ -4,6 +4,7 @@ ghost use Rattle.std.specs.Prelude.{◌≡◌, [], IfSome};
 ghost use Rattle.starter.specs.MainSeats.{MakesMainSteps};
 
 use crate::starter::{Programs, Starter};
+use crate::unfinished::Unfinished;
 use outbox::{EnvelopeOf, Lane};
 use registry_snapshots::{Desk, Naming, Seat, Shared};
 use router::Traced;
@@ -12,7 +13,7 @@ use router_host::{Socket, StartRequest};
 use routers::{
     Coordinator, Fault, LanePost, MAIN_THREAD, RETRY_AFTER, TraceSink, TraceWriter, Wake, traced,
 };
-use std::alloc::{AllocError, Global};
+use std::alloc::Global;
 use std::marker::Model;
 use std::sync::Wait;
 
@@ -85,7 +86,7 @@ impl<
         Ok(match turned {
             Ok(true) => Some(0),
             Ok(false) => self.starter.due().map(|due| due.saturating_sub(now)),
-            Err(AllocError) => Some(RETRY_AFTER),
+            Err(Unfinished) => Some(RETRY_AFTER),
         })
     }
 }

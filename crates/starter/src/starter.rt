@@ -3,6 +3,7 @@
 ghost use Rattle.std.specs.Prelude.{◌≡◌, ◌<◌, ◌++◌, ◌∷◌, [], IfErr, IfSome, OnOk, OnErr, reverse, vec_capacity, vec_len};
 ghost use Rattle.starter.specs.Ends.{AreDoneBy, HasEndedBy, IsDoneBy, MakesStepsBy, MayCatchUpBy, end_of};
 
+use crate::unfinished::Unfinished;
 use bus_view::BusView;
 use names::BusName;
 use router::Engine;
@@ -101,9 +102,9 @@ impl<V: BusView, G: Gate, P: Post<V>, S: Socket, Q: Programs + Drop> Starter<V, 
     ///
     /// # Errors
     ///
-    /// There was no memory for something. It is done first in the next turn, which is to come some
+    /// Something could not be done yet. It is done first in the next turn, which is to come some
     /// time later.
-    pub fn turn<R: Wait>(&mut self, rt: &R, right: &V::Right, now: u64) -> Result<bool, AllocError>
+    pub fn turn<R: Wait>(&mut self, rt: &R, right: &V::Right, now: u64) -> Result<bool, Unfinished>
         ensures steps { MakesStepsBy V.BusView G.Gate P.Post self.old.host self.new.host }
     {
         let reported = self.tell_all(rt, right, now);
@@ -125,14 +126,14 @@ impl<V: BusView, G: Gate, P: Post<V>, S: Socket, Q: Programs + Drop> Starter<V, 
     /// What a turn came to.
     fn outcome(
         &self,
-        reported: Result<bool, AllocError>,
+        reported: Result<bool, Unfinished>,
         ticked: Result<(), AllocError>,
         turned: Result<(), AllocError>,
-    ) -> Result<bool, AllocError> {
+    ) -> Result<bool, Unfinished> {
         turned?;
         ticked?;
         match self.host.wants_tick() {
-            true => Err(AllocError),
+            true => Err(Unfinished),
             false => reported,
         }
     }
@@ -148,7 +149,9 @@ impl<V: BusView, G: Gate, P: Post<V>, S: Socket, Q: Programs + Drop> Starter<V, 
         trace_writer.record(&mut self.host)
     }
 
-    fn tell_all<R: Wait>(&mut self, rt: &R, right: &V::Right, now: u64) -> Result<bool, AllocError>
+    /// Tells the supervisor the time, and what happened since, up to a handful. Tells whether more may
+    /// be waiting.
+    fn tell_all<R: Wait>(&mut self, rt: &R, right: &V::Right, now: u64) -> Result<bool, Unfinished>
         ensures steps { MakesStepsBy V.BusView G.Gate P.Post self.old.host self.new.host }
     {
         self.go_on(right)?;
@@ -163,7 +166,7 @@ impl<V: BusView, G: Gate, P: Post<V>, S: Socket, Q: Programs + Drop> Starter<V, 
     }
 
     /// Something happened to a program, or is asked for.
-    fn tell(&mut self, right: &V::Right, event: Event) -> Result<(), AllocError>
+    fn tell(&mut self, right: &V::Right, event: Event) -> Result<(), Unfinished>
         ensures steps { MakesStepsBy V.BusView G.Gate P.Post self.old.host self.new.host }
     {
         self.happened = Some(event);
@@ -171,7 +174,7 @@ impl<V: BusView, G: Gate, P: Post<V>, S: Socket, Q: Programs + Drop> Starter<V, 
     }
 
     /// Does what is left to be done. A program that can't be run is one more thing that happened.
-    fn go_on(&mut self, right: &V::Right) -> Result<(), AllocError>
+    fn go_on(&mut self, right: &V::Right) -> Result<(), Unfinished>
         ensures steps { MakesStepsBy V.BusView G.Gate P.Post self.old.host self.new.host }
     {
         self.do_all(right)?;
@@ -180,7 +183,7 @@ impl<V: BusView, G: Gate, P: Post<V>, S: Socket, Q: Programs + Drop> Starter<V, 
     }
 
     /// Tells the supervisor what happened, and does what it decides.
-    fn supervise(&mut self, right: &V::Right) -> Result<(), AllocError>
+    fn supervise(&mut self, right: &V::Right) -> Result<(), Unfinished>
         ensures steps { MakesStepsBy V.BusView G.Gate P.Post self.old.host self.new.host }
     {
         let Some(event) = self.happened else {
@@ -194,7 +197,7 @@ impl<V: BusView, G: Gate, P: Post<V>, S: Socket, Q: Programs + Drop> Starter<V, 
     }
 
     /// Does what is to be done.
-    fn do_all(&mut self, right: &V::Right) -> Result<(), AllocError>
+    fn do_all(&mut self, right: &V::Right) -> Result<(), Unfinished>
         ensures done { AreDoneBy V.BusView G.Gate P.Post
             (reverse self.old.deeds.items) self.old.host
             (reverse self.new.deeds.items) self.new.host }
@@ -204,7 +207,7 @@ impl<V: BusView, G: Gate, P: Post<V>, S: Socket, Q: Programs + Drop> Starter<V, 
         while let Some(deed) = self.deeds.pop() {
             if let Err(deed) = self.do_one(right, deed) {
                 push_back(&mut self.deeds, deed);
-                return Err(AllocError);
+                return Err(Unfinished);
             }
         }
         Ok(())
