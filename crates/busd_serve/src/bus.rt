@@ -9,7 +9,7 @@ use busd_core::{
     Device, Options, ServeFault, SocketPath, TraceFiles, open_random, random_bytes, read_cookie,
     read_services, rising_names,
 };
-use busd_sockets::{NewConnections, PollWaker};
+use busd_sockets::{Entrance, NewConnections, PollWaker};
 use mio::Poll;
 use mio::net::UnixListener;
 use names::WellKnown;
@@ -31,16 +31,6 @@ pub struct Bus<'a> {
     pub(crate) coordinator: Coordinator<PollWaker>,
     /// By routers.
     pub(crate) new_connections: Vec<NewConnections>,
-}
-
-/// Where connections come in.
-#[derive(Drop)]
-pub(crate) struct Entrance<F: Drop> {
-    pub(crate) listener: UnixListener,
-    /// Random bytes.
-    pub(crate) random: F,
-    /// The poll of the thread that accepts.
-    pub(crate) poll: Poll,
 }
 
 /// What the threads of a bus will work with, made when it is opened.

@@ -4,7 +4,7 @@ ghost use Rattle.std.specs.Prelude.{◌≡◌, []};
 ghost use Rattle.owner_queues.specs.declared.request.Profile.TheVariants.{Two};
 ghost use Rattle.seq_bus_core.specs.Tickets.{opening_bus};
 
-use crate::bus::{Bus, Entrance, Listening};
+use crate::bus::{Bus, Listening};
 use crate::chores::SeatByClock;
 use crate::fault::{fault_of, poll_fault};
 use crate::logging::{AcceptErrors, EndLogger};
@@ -13,14 +13,14 @@ use crate::programs::start_launcher;
 use crate::runtime::DaemonRuntime;
 use crate::tracing::TraceFile;
 use busd_core::ServeFault;
-use busd_sockets::{Acceptor, Chores, EndLog, NewConnections, PollWaker, Sockets};
+use busd_sockets::{Acceptor, Chores, EndLog, Entrance, NewConnections, PollWaker, Sockets};
 use mio::Poll;
 use names::WellKnown;
 use outbox::{EnvelopeOf, Lane, Outboxes, Tap, open_queue};
 use registry_snapshots::{Naming, NewHistory, Seat, Shared};
 use router_core::OpenGate;
 use router_host::StartRequest;
-use routers::{Coordinator, RouterSetup, serve};
+use routers::{Coordinator, RouterSetup, SeatSetup, serve};
 use starter::{MainSeat, Programs};
 use std::alloc::AllocError;
 use std::io::{Read, Write};
@@ -45,23 +45,14 @@ struct Parts<J: Naming, F> {
     polls: Vec<Poll>,
 }
 
-/// What a seat is served by: its lanes, and where it writes what it recorded.
-#[derive(Drop)]
-struct SeatParts<J: Naming, F> {
-    seat: Seat<J>,
-    lane: Lane<EnvelopeOf<J>>,
-    starts: Lane<StartRequest>,
-    trace: TraceFile<F>,
-}
-
 impl<J: Naming, F: Drop> Parts<J, F> {
     /// The last seat that is not taken yet.
-    fn take_seat(&mut self) -> Result<SeatParts<J, F>, AllocError> {
+    fn take_seat(&mut self) -> Result<SeatSetup<J, TraceFile<F>>, AllocError> {
         let trace = self.traces.pop().ok_or(AllocError)?;
         let lane = self.lanes.pop().ok_or(AllocError)?;
         let starts = self.starts.pop().ok_or(AllocError)?;
         let seat = self.seats.pop().ok_or(AllocError)?;
-        Ok(SeatParts {
+        Ok(SeatSetup {
             seat,
             lane,
             starts,
@@ -139,21 +130,12 @@ fn setup<'a, J: Naming, F: Drop, R: Net + Eprint + Clock + AllocGlobal>(
     let log = EndLogger::new(rt, bus.options.is_verbose);
     let source = Sockets::new(rt, alloc, poll, new_connections, log)?;
     let taps = parts.taps.pop().ok_or(AllocError)?;
-    let SeatParts {
-        seat,
-        lane,
-        starts,
-        trace,
-    } = parts.take_seat()?;
     Ok(RouterSetup {
-        seat,
-        lane,
+        seat: parts.take_seat()?,
         taps,
-        starts,
         source,
         gate: OpenGate,
         login: Some(login),
-        trace,
     })
 }
 
@@ -162,28 +144,10 @@ fn main_seat<'a, J: Naming, F: Write + Drop, Q: Programs + Drop, R: Wait + Clock
     rt: &'a R,
     shared: &'a Shared<J>,
     coordinator: &'a Coordinator<PollWaker>,
-    parts: SeatParts<J, F>,
+    setup: SeatSetup<J, TraceFile<F>>,
     programs: Q,
 ) -> Result<SeatByClock<'a, J, Q, TraceFile<F>, R>, ServeFault> {
-    let alloc = rt.alloc();
-    let SeatParts {
-        seat,
-        lane,
-        starts,
-        trace,
-    } = parts;
-    let made = MainSeat::new(
-        rt,
-        alloc,
-        shared,
-        coordinator,
-        seat,
-        lane,
-        starts,
-        programs,
-        trace,
-    );
-    match made {
+    match MainSeat::new(rt, rt.alloc(), shared, coordinator, setup, programs) {
         Some(seat) => Ok(SeatByClock::new(rt, seat)),
         None => Err(ServeFault::Memory),
     }
@@ -245,8 +209,8 @@ fn serve_with<
     programs: Q,
 ) -> Result<(), ServeFault> {
     let setups = setups(rt, bus, parts)?;
-    let seat_parts = parts.take_seat()?;
-    let seat = main_seat(rt, shared, &bus.coordinator, seat_parts, programs)?;
+    let setup = parts.take_seat()?;
+    let seat = main_seat(rt, shared, &bus.coordinator, setup, programs)?;
     run_threads(rt, shared, bus, setups, entrance, seat)
 }
 
@@ -266,17 +230,10 @@ fn run_threads<
     chores: C,
 ) -> Result<(), ServeFault> {
     let alloc = rt.alloc();
-    let Entrance {
-        listener,
-        random,
-        poll,
-    } = entrance;
     let coordinator = &bus.coordinator;
     let mut acceptor = Acceptor::new(
         alloc,
-        poll,
-        listener,
-        random,
+        entrance,
         coordinator,
         bus.new_connections.as_slice(),
         AcceptErrors::new(rt, bus.options.is_verbose),

@@ -37,6 +37,16 @@ pub trait Chores {
     fn turn<R: Wait>(&mut self, rt: &R) -> Result<Option<u64>, Fault>;
 }
 
+/// Where connections come in.
+#[derive(Drop)]
+pub struct Entrance<F> {
+    pub listener: UnixListener,
+    /// Random bytes.
+    pub random: F,
+    /// The poll of the thread that accepts.
+    pub poll: Poll,
+}
+
 /// How accepting came to its end for now.
 #[derive(Clone, Copy, PartialEq, Eq)]
 enum Accepted {
@@ -67,18 +77,21 @@ pub struct Acceptor<'a, F: Read + Drop, L: AcceptLog + Drop, C: Chores + Drop> {
 }
 
 impl<'a, F: Read + Drop, L: AcceptLog + Drop, C: Chores + Drop> Acceptor<'a, F, L, C> {
-    /// Accepts the connections of this listener for the routers of the coordinator, whose main
-    /// waker wakes this poll.
+    /// Accepts what comes in there for the routers of the coordinator, whose main waker wakes the
+    /// poll.
     pub fn new(
         alloc: Global,
-        poll: Poll,
-        mut listener: UnixListener,
-        random: F,
+        entrance: Entrance<F>,
         coordinator: &'a Coordinator<PollWaker>,
         new_connections: &'a [NewConnections],
         log: L,
         chores: C,
     ) -> io::Result<Acceptor<'a, F, L, C>> {
+        let Entrance {
+            mut listener,
+            random,
+            poll,
+        } = entrance;
         let events = Events::with_capacity(alloc, 8)?;
         poll.registry()
             .register(&mut listener, LISTENER, Interest::READABLE)?;

@@ -34,7 +34,7 @@ mod new_connection;
 mod sockets;
 mod waker;
 
-pub use acceptor::{AcceptLog, Acceptor, Chores};
+pub use acceptor::{AcceptLog, Acceptor, Chores, Entrance};
 pub use client_socket::ClientSocket;
 pub use new_connection::{NewConnection, NewConnections};
 pub use sockets::{EndLog, Sockets};

@@ -44,5 +44,5 @@ pub use fault::Fault;
 pub use post::LanePost;
 pub use router_loop::Router;
 pub use source::{RETRY_AFTER, Source, SourceEvent, Timeout};
-pub use threads::{MainTask, RouterSetup, serve};
+pub use threads::{MainTask, RouterSetup, SeatSetup, serve};
 pub use trace_sink::{TraceSink, TraceWriter, traced};

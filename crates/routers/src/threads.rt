@@ -21,25 +21,31 @@ use std::sync::Wait;
 use std::thread;
 use std::thread::{Scope, Threads};
 
-/// What a router begins with.
+/// What the thread of a seat begins with, a router's or the main thread.
 #[derive(Drop)]
-pub struct RouterSetup<J: Naming, E, G: Gate, T> {
+pub struct SeatSetup<J: Naming, T> {
     /// Where it makes changes and asks.
     pub seat: Seat<J>,
     /// Into all outboxes.
     pub lane: Lane<EnvelopeOf<J>>,
-    /// The outboxes of its places.
-    pub taps: Vec<Tap<EnvelopeOf<J>>>,
     /// To whoever runs the programs of services.
     pub starts: Lane<StartRequest>,
+    /// Where it writes what it recorded.
+    pub trace: T,
+}
+
+/// What a router begins with.
+#[derive(Drop)]
+pub struct RouterSetup<J: Naming, E, G: Gate, T> {
+    pub seat: SeatSetup<J, T>,
+    /// The outboxes of its places.
+    pub taps: Vec<Tap<EnvelopeOf<J>>>,
     /// Where it hears of what happens.
     pub source: E,
     /// What is shown each call to the bus.
     pub gate: G,
     /// Who may log in; none where nobody is asked.
     pub login: Option<Login>,
-    /// Where it writes what it recorded.
-    pub trace: T,
 }
 
 /// What the thread that started the routers does meanwhile: in a daemon it accepts connections.
@@ -83,14 +89,17 @@ fn serve_as_router<
 ) -> Result<(), Fault> {
     let RouterSetup {
         seat,
-        lane,
         taps,
-        starts,
         source,
         gate,
         login,
-        trace,
     } = setup;
+    let SeatSetup {
+        seat,
+        lane,
+        starts,
+        trace,
+    } = seat;
     let desk: Desk<'_, J, R> = Desk::new(seat, shared);
     let post = LanePost::new(alloc, me, lane, taps, starts, coordinator).map_err(no_memory)?;
     let parts = RouterParts {

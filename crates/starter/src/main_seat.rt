@@ -5,13 +5,13 @@ ghost use Rattle.starter.specs.MainSeats.{MakesMainSteps};
 
 use crate::starter::{Programs, Starter};
 use crate::unfinished::Unfinished;
-use outbox::{EnvelopeOf, Lane};
-use registry_snapshots::{Desk, Naming, Seat, Shared};
+use registry_snapshots::{Desk, Naming, Shared};
 use router::Traced;
 use router_core::OpenGate;
-use router_host::{Socket, StartRequest};
+use router_host::Socket;
 use routers::{
-    Coordinator, Fault, LanePost, MAIN_THREAD, RETRY_AFTER, TraceSink, TraceWriter, Wake, traced,
+    Coordinator, Fault, LanePost, MAIN_THREAD, RETRY_AFTER, SeatSetup, TraceSink, TraceWriter,
+    Wake, traced,
 };
 use std::alloc::Global;
 use std::marker::Model;
@@ -53,16 +53,19 @@ impl<
         alloc: Global,
         shared: &'a Shared<J>,
         coordinator: &'a Coordinator<W>,
-        seat: Seat<J>,
-        lane: Lane<EnvelopeOf<J>>,
-        starts: Lane<StartRequest>,
+        setup: SeatSetup<J, T>,
         programs: Q,
-        trace: T,
     ) -> Option<MainSeat<'a, J, S, W, Q, T, R>>
-        ensures lane { IfSome result (λ main. main.carried.post.lane ≡ lane) }
-        ensures starts { IfSome result (λ main. main.carried.post.starts ≡ starts) }
+        ensures lane { IfSome result (λ main. main.carried.post.lane ≡ setup.lane) }
+        ensures starts { IfSome result (λ main. main.carried.post.starts ≡ setup.starts) }
         ensures none { IfSome result (λ main. main.carried.post.places ≡ []) }
     {
+        let SeatSetup {
+            seat,
+            lane,
+            starts,
+            trace,
+        } = setup;
         let desk: Desk<'_, J, R> = Desk::new(seat, shared);
         let view = traced(alloc, desk, trace.records());
         let none = Vec::new(alloc);

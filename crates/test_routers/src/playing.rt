@@ -12,7 +12,7 @@ use crate::stopper::Stopper;
 use crate::trace_sink::SharedTrace;
 use outbox::{Outboxes, open_queue};
 use registry_snapshots::{Naming, NewHistory, Seat, Shared};
-use routers::{Coordinator, Fault, RouterSetup, serve};
+use routers::{Coordinator, Fault, RouterSetup, SeatSetup, serve};
 use std::alloc::{AllocError, Global};
 use std::marker::Brand;
 use std::rt::Clock;
@@ -136,19 +136,22 @@ fn setups_of<'a, J: Naming, R: Wait + Clock>(
         ) else {
             return Err(Fail::from("no seat"));
         };
+        let trace = SharedTrace {
+            rt,
+            progress,
+            tracing: scenario.tracing,
+        };
         setups.push(RouterSetup {
-            seat,
-            lane,
+            seat: SeatSetup {
+                seat,
+                lane,
+                starts,
+                trace,
+            },
             taps,
-            starts,
             source: ScenarioSource::new(rt, progress, me, steps),
             gate: HoldingGate::new(rt, progress, scenario.holds),
             login: None,
-            trace: SharedTrace {
-                rt,
-                progress,
-                tracing: scenario.tracing,
-            },
         })?;
     }
     setups.reverse();

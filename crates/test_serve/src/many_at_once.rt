@@ -3,7 +3,7 @@
 
 use crate::client::{Client, Wrong, push};
 use busd_sockets::{
-    AcceptLog, Acceptor, Chores, ClientSocket, EndLog, NewConnections, PollWaker, Sockets,
+    AcceptLog, Acceptor, Chores, ClientSocket, EndLog, Entrance, NewConnections, PollWaker, Sockets,
 };
 use mio::Poll;
 use mio::net::UnixListener;
@@ -92,17 +92,12 @@ fn accept<R: Wait>(
         queue: &queues[0],
         seen,
     };
-    let random = io::repeat(7);
-    let mut acceptor = Acceptor::new(
-        alloc,
-        poll,
+    let entrance = Entrance {
         listener,
-        random,
-        coordinator,
-        queues,
-        NoLog,
-        chores,
-    )?;
+        random: io::repeat(7),
+        poll,
+    };
+    let mut acceptor = Acceptor::new(alloc, entrance, coordinator, queues, NoLog, chores)?;
     match acceptor.run(rt) == Err(END) {
         true => Ok(()),
         false => Err(Wrong("accepting doesn't end as its chores want")),
