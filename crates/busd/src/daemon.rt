@@ -15,26 +15,29 @@ fn print_address<R: Print>(rt: &R, address: BusAddress<'_>) -> Result<(), ServeF
     printed.map_err(|_error| ServeFault::Device(Device::Output))
 }
 
-/// Serves what the matches of the command line ask for.
+/// Opens the bus that the command line asks for, serves its clients, and removes its socket.
 ///
 /// # Errors
 ///
 /// What is wrong at the start, the first of: the command line, what [`Bus::open`] tells, standard
 /// output; and later what the system gave no more.
-fn serve_bus<R: DaemonRuntime + Print>(rt: &R, found: &ArgMatches<'_>) -> Result<(), ServeFault>
+fn open_and_serve<R: DaemonRuntime + Print>(
+    rt: &R,
+    found: &ArgMatches<'_>,
+) -> Result<(), ServeFault>
 where
     R::File: Send,
 {
     let options = Options::of(found)?;
     let (bus, listening) = Bus::open(rt, options)?;
-    let served = serve_opened(rt, &bus, listening, options.prints_address);
+    let served = announce_and_serve(rt, &bus, listening, options.prints_address);
     // A file that is left there keeps the next bus from starting.
     let _ = remove_file(rt, options.path.as_str());
     served
 }
 
 /// Tells where the bus is reached, if that is wanted, and serves its clients.
-fn serve_opened<R: DaemonRuntime + Print>(
+fn announce_and_serve<R: DaemonRuntime + Print>(
     rt: &R,
     bus: &Bus<'_>,
     listening: Listening<R::File>,
@@ -50,11 +53,11 @@ where
 }
 
 /// Serves the clients of a socket, and tells why it ends.
-pub(crate) fn serve_clients<R: DaemonRuntime + Print>(rt: &R, found: &ArgMatches<'_>) -> ExitCode
+pub(crate) fn run_daemon<R: DaemonRuntime + Print>(rt: &R, found: &ArgMatches<'_>) -> ExitCode
 where
     R::File: Send,
 {
-    let Err(fault) = serve_bus(rt, found) else {
+    let Err(fault) = open_and_serve(rt, found) else {
         return ExitCode::SUCCESS;
     };
     let _ = eprintln!(rt; "busd: {fault}");

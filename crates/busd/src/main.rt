@@ -2,31 +2,25 @@
 //! message stream on standard input.
 #![tactic(auto)]
 
-ghost use Rattle.std.specs.Prelude.{◌≡◌, ◌⊎◌, []};
+ghost use Rattle.std.specs.Prelude.{◌≡◌, ◌⊎◌};
 ghost use Rattle.std.specs.Process.{exit_status};
 ghost use Rattle.clap.specs.Values.{kind_of};
-ghost use Rattle.owner_queues.specs.declared.request.Profile.TheVariants.{Two};
-ghost use Rattle.seq_bus_core.specs.Tickets.{opening_bus};
 ghost use Rattle.busd_core.specs.Statuses.{run_status};
 ghost use Rattle.busd_core.specs.declared.run_fault.RunFault.TheVariants.{Output};
 ghost use Rattle.std.specs.IoError.{error_kind};
 ghost use Rattle.busd.specs.Statuses.{refusal_status, unread_status};
 
 mod daemon;
+mod stream;
 
-use crate::daemon::serve_clients;
-use bus_view::BusView;
-use busd_core::{RunFault, run, serve_command};
+use crate::daemon::run_daemon;
+use crate::stream::run_stream;
+use busd_core::{RunFault, serve_command};
 use clap::error::ErrorKind;
 use clap::{Command, Error};
-use registry_snapshots::{Desk, Naming, NewHistory, Seat, Shared};
-use router::Engine;
-use router_core::OpenGate;
 use std::alloc::{AllocError, Global};
-use std::marker::Brand;
 use std::process::ExitCode;
 use std::rt::Env;
-use std::sync::Wait;
 use std::{env, io};
 
 /// What stands behind the commands in the help.
@@ -93,52 +87,6 @@ fn fail<R: Eprint>(rt: &R, fault: RunFault) -> ExitCode
     ExitCode::from(fault.status())
 }
 
-/// Serves the stream as the router of this seat.
-fn serve_at<J: Naming, R: Input + Print + AllocGlobal + Wait>(
-    rt: &R,
-    shared: &Shared<J>,
-    seat: Seat<J>,
-) -> Result<(), RunFault> {
-    let desk = Desk::new(seat, shared);
-    let number = desk.seat();
-    let Ok(mut engine) = Engine::new(rt.alloc(), desk, OpenGate, None) else {
-        return Err(RunFault::Memory);
-    };
-    run(
-        rt.alloc(),
-        &mut engine,
-        rt,
-        number,
-        &mut rt.reader(),
-        &mut io::writer(rt),
-    )
-}
-
-/// Opens a registry with one router and no services, and serves the stream over it.
-fn serve_over<J: Naming, R: Input + Print + AllocGlobal + Wait>(
-    rt: &R,
-    opened: NewHistory,
-) -> Result<(), RunFault>
-    requires { (opened ≡ J.book) × (J.opening ≡ opening_bus Two 1 []) }
-{
-    let Ok((shared, mut seats)) = Shared::<J>::new(rt, rt.alloc(), opened, &[], 1) else {
-        return Err(RunFault::Memory);
-    };
-    let end = match seats.pop() {
-        Some(router) => serve_at(rt, &shared, router),
-        None => Err(RunFault::Memory),
-    };
-    shared.end(rt);
-    end
-}
-
-fn serve<R: Input + Print + Eprint + AllocGlobal + Wait>(rt: &R) -> ExitCode {
-    match serve_over::<Brand, R>(rt, NewHistory::new()) {
-        Ok(()) => ExitCode::SUCCESS,
-        Err(fault) => fail(rt, fault),
-    }
-}
-
 fn words<R: Env + AllocGlobal>(rt: &R) -> io::Result<Vec<String>> {
     Ok(env::args(rt)?.collect(rt.alloc())?)
 }
@@ -164,8 +112,11 @@ fn main(rt: HostRuntime) -> ExitCode {
     };
     match command.try_get_matches_from(words.as_slice()) {
         Ok(found) => match found.subcommand_matches("serve") {
-            Some(asked) => serve_clients(&rt, asked),
-            None => serve(&rt),
+            Some(asked) => run_daemon(&rt, asked),
+            None => match run_stream(&rt) {
+                Ok(()) => ExitCode::SUCCESS,
+                Err(fault) => fail(&rt, fault),
+            },
         },
         Err(error) => refuse(&rt, &error),
     }
