@@ -110,11 +110,26 @@ fn serve_as_router<
         login,
         trace_writer: trace,
     };
-    serve_with::<_, _, _, S, _, _, _, _>(rt, rt, alloc, me, coordinator, parts)
+    serve_over_view::<_, _, _, S, _, _, _, _>(rt, rt, alloc, me, coordinator, parts)
+}
+
+/// The host of a router, whose slots are those of its places.
+fn host_of<V: BusView + Drop, P: Post<V>, G: Gate + Drop, S: Socket, W: Wake + Drop>(
+    alloc: Global,
+    me: usize,
+    coordinator: &Coordinator<W>,
+    engine: Engine<V, G>,
+    post: P,
+) -> Result<Host<V, G, P, S>, AllocError>
+    requires { P.registry post ≡ engine.view.registry }
+{
+    let first = u16::try_from(coordinator.first_slot(me)).unwrap_or(u16::MAX);
+    let count = u16::try_from(coordinator.places()).unwrap_or(0);
+    Host::new(alloc, engine, post, first, count)
 }
 
 /// Serves as one router, over any view of the bus and any post.
-fn serve_with<
+fn serve_over_view<
     V: BusView + Drop,
     P: Post<V> + Drop,
     G: Gate + Drop,
@@ -144,10 +159,7 @@ fn serve_with<
     let Ok(engine) = Engine::new(alloc, view, gate, login) else {
         return Err(Fault::Memory);
     };
-    let first = u16::try_from(coordinator.first_slot(me)).unwrap_or(u16::MAX);
-    let count = u16::try_from(coordinator.places()).unwrap_or(0);
-    let made: Result<Host<V, G, P, S>, AllocError> = Host::new(alloc, engine, post, first, count);
-    let Ok(host) = made else {
+    let Ok(host) = host_of::<V, P, G, S, W>(alloc, me, coordinator, engine, post) else {
         return Err(Fault::Memory);
     };
     let mut router = Router::new(me, coordinator, host, source);
