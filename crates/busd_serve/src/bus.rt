@@ -3,7 +3,7 @@
 use crate::login::LoginSettings;
 use crate::polls::{Polls, open_polls};
 use crate::runtime::DaemonRuntime;
-use crate::serving::begin;
+use crate::serving::serve_bus;
 use crate::tracing::{TraceFile, begin_files, open_files};
 use busd_core::{
     Device, Options, ServeFault, SocketPath, TraceFiles, open_random, random_bytes, read_cookie,
@@ -209,7 +209,7 @@ impl<'a> Bus<'a> {
     where
         R::File: Send,
     {
-        begin(rt, self, listening)
+        serve_bus(rt, self, listening)
     }
 
     /// The bus is to end: its threads do so after their turn, and [`Bus::serve`] returns.

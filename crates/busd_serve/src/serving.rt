@@ -15,17 +15,15 @@ use crate::tracing::TraceFile;
 use busd_core::ServeFault;
 use busd_sockets::{Acceptor, Chores, EndLog, Entrance, NewConnections, PollWaker, Sockets};
 use mio::Poll;
-use names::WellKnown;
 use outbox::{EnvelopeOf, Lane, Outboxes, Tap, open_queue};
 use registry_snapshots::{Naming, NewHistory, Seat, Shared};
 use router_core::OpenGate;
 use router_host::StartRequest;
-use routers::{Coordinator, RouterSetup, SeatSetup, serve};
+use routers::{Coordinator, RouterSetup, SeatSetup};
 use starter::{MainSeat, Programs};
 use std::alloc::AllocError;
 use std::io::{Read, Write};
 use std::marker::Brand;
-use std::mem;
 use std::net::Net;
 use std::rt::Clock;
 use std::sync::Wait;
@@ -61,37 +59,30 @@ impl<J: Naming, F: Drop> Parts<J, F> {
     }
 }
 
-/// Serves over a registry of its own.
-pub(crate) fn begin<F: Read + Write + Send + Drop, R: DaemonRuntime>(
+/// Serves the clients of a bus over a registry of its own.
+pub(crate) fn serve_bus<F: Read + Write + Send + Drop, R: DaemonRuntime>(
     rt: &R,
     bus: &Bus<'_>,
-    mut listening: Listening<F>,
+    listening: Listening<F>,
 ) -> Result<(), ServeFault> {
-    let names = mem::replace(&mut listening.names, Vec::new(rt.alloc()));
-    open_registry::<Brand, F, R>(rt, NewHistory::new(), bus, names.as_slice(), listening)
+    serve_over_registry::<Brand, F, R>(rt, NewHistory::new(), bus, listening)
 }
 
-/// Opens a registry with these services, and serves over it.
-fn open_registry<
+/// Opens a registry with the services of the bus, serves over it, and ends it.
+fn serve_over_registry<
     J: Naming + Send + Sync + 'static,
     F: Read + Write + Send + Drop,
     R: DaemonRuntime,
->(
-    rt: &R,
-    opened: NewHistory,
-    bus: &Bus<'_>,
-    services: &[WellKnown],
-    listening: Listening<F>,
-) -> Result<(), ServeFault>
+>(rt: &R, opened: NewHistory, bus: &Bus<'_>, listening: Listening<F>) -> Result<(), ServeFault>
     requires { (opened ≡ J.book)
-        × (J.opening ≡ opening_bus Two bus.now.options.routers services.now) }
+        × (J.opening ≡ opening_bus Two bus.now.options.routers listening.names.items) }
 {
     let routers = bus.options.routers;
-    let made = Shared::<J>::new(rt, rt.alloc(), opened, services, routers);
-    let Ok((shared, seats)) = made else {
+    let names = listening.names.as_slice();
+    let Ok((shared, seats)) = Shared::<J>::new(rt, rt.alloc(), opened, names, routers) else {
         return Err(ServeFault::Memory);
     };
-    let served = serve_over(rt, &shared, seats, bus, listening);
+    let served = serve_over_outboxes(rt, &shared, seats, bus, listening);
     shared.end(rt);
     served
 }
@@ -153,8 +144,8 @@ fn main_seat<'a, J: Naming, F: Write + Drop, Q: Programs + Drop, R: Wait + Clock
     }
 }
 
-/// Runs the programs of services, and the threads beside.
-fn serve_over<
+/// Makes the ways between the threads and what runs the programs of services, and serves over them.
+fn serve_over_outboxes<
     'a,
     J: Naming + Send + Sync + 'static,
     F: Read + Write + Send + Drop,
@@ -188,13 +179,13 @@ fn serve_over<
         polls: router_polls,
     };
     let programs = start_launcher(rt, alloc, bus, services, requests, waker)?;
-    let served = serve_with(rt, shared, &mut parts, bus, entrance, programs);
+    let served = set_up_and_run(rt, shared, &mut parts, bus, entrance, programs);
     drop(parts);
     served
 }
 
 /// Makes what each thread begins with, and runs them.
-fn serve_with<
+fn set_up_and_run<
     'a,
     J: Naming + Send + Sync + 'static,
     F: Read + Write + Send + Drop,
@@ -240,5 +231,5 @@ fn run_threads<
         chores,
     )
     .map_err(poll_fault)?;
-    serve(rt, alloc, shared, coordinator, setups, &mut acceptor).map_err(fault_of)
+    routers::serve(rt, alloc, shared, coordinator, setups, &mut acceptor).map_err(fault_of)
 }

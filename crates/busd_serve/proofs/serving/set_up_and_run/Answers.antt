@@ -1,5 +1,5 @@
 use mathlib.Core.List.{not-mem-nil}
-use Rattle.busd_serve.proofs.serving.serve_with.Goals as goal
+use Rattle.busd_serve.proofs.serving.set_up_and_run.Goals as goal
 
 -- The naming of a registry borrows nothing.
 pub run_threads-requires-lives-C-Chores-2 : goal.run_threads-requires-lives-C-Chores-2
