@@ -21,42 +21,46 @@ use router_core::OpenGate;
 use router_host::StartRequest;
 use routers::{Coordinator, RouterSetup, SeatSetup};
 use starter::{MainSeat, Programs};
-use std::alloc::AllocError;
+use std::alloc::{AllocError, Global};
 use std::io::{Read, Write};
 use std::marker::Brand;
 use std::net::Net;
 use std::rt::Clock;
 use std::sync::Wait;
 use std::thread::Threads;
+use std::vec;
 
-/// What the seats are served by, those of the last router last, and those of the main thread first.
+/// What the threads begin with.
 #[derive(Drop)]
 struct Parts<J: Naming, F> {
-    seats: Vec<Seat<J>>,
-    lanes: Vec<Lane<EnvelopeOf<J>>>,
-    /// Lanes to the main thread.
-    starts: Vec<Lane<StartRequest>>,
-    traces: Vec<TraceFile<F>>,
-    /// Of routers alone.
+    /// That of the main thread first.
+    seats: Vec<SeatSetup<J, TraceFile<F>>>,
+    /// By routers.
     taps: Vec<Vec<Tap<EnvelopeOf<J>>>>,
-    /// Of routers alone.
+    /// By routers.
     polls: Vec<Poll>,
 }
 
-impl<J: Naming, F: Drop> Parts<J, F> {
-    /// The last seat that is not taken yet.
-    fn take_seat(&mut self) -> Result<SeatSetup<J, TraceFile<F>>, AllocError> {
-        let trace = self.traces.pop().ok_or(AllocError)?;
-        let lane = self.lanes.pop().ok_or(AllocError)?;
-        let starts = self.starts.pop().ok_or(AllocError)?;
-        let seat = self.seats.pop().ok_or(AllocError)?;
-        Ok(SeatSetup {
+/// What the thread of each seat begins with, that of the main thread first.
+fn seat_setups<J: Naming, F: Drop>(
+    alloc: Global,
+    seats: Vec<Seat<J>>,
+    lanes: Vec<Lane<EnvelopeOf<J>>>,
+    starts: Vec<Lane<StartRequest>>,
+    traces: Vec<TraceFile<F>>,
+) -> Result<Vec<SeatSetup<J, TraceFile<F>>>, AllocError> {
+    let mut setups = Vec::with_capacity(alloc, seats.len())?;
+    let lanes = lanes.into_iter().zip(starts);
+    for ((seat, (lane, starts)), trace) in seats.into_iter().zip(lanes).zip(traces) {
+        let setup = SeatSetup {
             seat,
             lane,
             starts,
             trace,
-        })
+        };
+        push(&mut setups, setup)?;
     }
+    Ok(setups)
 }
 
 /// Serves the clients of a bus over a registry of its own.
@@ -87,42 +91,54 @@ fn serve_over_registry<
     served
 }
 
-/// What a router begins with.
+/// What a router of the daemon begins with.
 type Setup<'a, J, F, R> = RouterSetup<J, Sockets<'a, EndLogger<'a, R>, R>, OpenGate, TraceFile<F>>;
 
-/// What the routers begin with.
+/// What its routers begin with.
 type Setups<'a, J, F, R> = Vec<Setup<'a, J, F, R>>;
 
-/// What each router begins with. The seat of the main thread is left.
-fn setups<'a, J: Naming, F: Drop, R: Net + Eprint + Clock + AllocGlobal>(
+/// What each router begins with.
+fn router_setups<'a, J: Naming, F: Drop, R: Net + Eprint + Clock + AllocGlobal>(
     rt: &'a R,
     bus: &'a Bus<'_>,
-    parts: &mut Parts<J, F>,
+    seats: vec::IntoIter<SeatSetup<J, TraceFile<F>>>,
+    taps: Vec<Vec<Tap<EnvelopeOf<J>>>>,
+    polls: Vec<Poll>,
 ) -> Result<Setups<'a, J, F, R>, ServeFault> {
-    let mut setups = Vec::new(rt.alloc());
-    for new_connections in bus.new_connections.iter().rev() {
-        push(&mut setups, setup(rt, bus, new_connections, parts)?)?;
+    let mut setups = Vec::with_capacity(rt.alloc(), polls.len())?;
+    let sources = polls.into_iter().zip(&bus.new_connections);
+    for ((seat, taps), (poll, new_connections)) in seats.zip(taps).zip(sources) {
+        let source = sockets_of(rt, bus, poll, new_connections)?;
+        push(
+            &mut setups,
+            router_setup(rt.alloc(), bus, seat, taps, source)?,
+        )?;
     }
-    setups.reverse();
     Ok(setups)
 }
 
-/// What the last router that is not taken yet begins with: its seat, its ways to the others, and
-/// the connections that come to it.
-fn setup<'a, J: Naming, F: Drop, R: Net + Eprint + Clock + AllocGlobal>(
+/// Where a router hears of its sockets, and of the connections that come to it.
+fn sockets_of<'a, R: Net + Eprint + Clock + AllocGlobal>(
     rt: &'a R,
-    bus: &'a Bus<'_>,
+    bus: &Bus<'_>,
+    poll: Poll,
     new_connections: &'a NewConnections,
-    parts: &mut Parts<J, F>,
-) -> Result<Setup<'a, J, F, R>, ServeFault> {
-    let alloc = rt.alloc();
-    let login = bus.login.login(alloc)?;
-    let poll = parts.polls.pop().ok_or(AllocError)?;
+) -> Result<Sockets<'a, EndLogger<'a, R>, R>, AllocError> {
     let log = EndLogger::new(rt, bus.options.is_verbose);
-    let source = Sockets::new(rt, alloc, poll, new_connections, log)?;
-    let taps = parts.taps.pop().ok_or(AllocError)?;
+    Sockets::new(rt, rt.alloc(), poll, new_connections, log)
+}
+
+/// What a router begins with.
+fn router_setup<'a, J: Naming, F: Drop, R: Eprint + Clock>(
+    alloc: Global,
+    bus: &Bus<'_>,
+    seat: SeatSetup<J, TraceFile<F>>,
+    taps: Vec<Tap<EnvelopeOf<J>>>,
+    source: Sockets<'a, EndLogger<'a, R>, R>,
+) -> Result<Setup<'a, J, F, R>, ServeFault> {
+    let login = bus.login.login(alloc)?;
     Ok(RouterSetup {
-        seat: parts.take_seat()?,
+        seat,
         taps,
         source,
         gate: OpenGate,
@@ -170,18 +186,13 @@ fn serve_over_outboxes<
         waker,
         router_polls,
     } = listening;
-    let mut parts = Parts {
-        seats,
-        lanes,
-        starts,
-        traces,
+    let parts = Parts {
+        seats: seat_setups(alloc, seats, lanes, starts, traces)?,
         taps,
         polls: router_polls,
     };
     let programs = start_launcher(rt, alloc, bus, services, requests, waker)?;
-    let served = set_up_and_run(rt, shared, &mut parts, bus, entrance, programs);
-    drop(parts);
-    served
+    set_up_and_run(rt, shared, parts, bus, entrance, programs)
 }
 
 /// Makes what each thread begins with, and runs them.
@@ -194,15 +205,19 @@ fn set_up_and_run<
 >(
     rt: &'a R,
     shared: &'a Shared<J>,
-    parts: &mut Parts<J, F>,
+    parts: Parts<J, F>,
     bus: &'a Bus<'_>,
     entrance: Entrance<F>,
     programs: Q,
 ) -> Result<(), ServeFault> {
-    let setups = setups(rt, bus, parts)?;
-    let setup = parts.take_seat()?;
-    let seat = main_seat(rt, shared, &bus.coordinator, setup, programs)?;
-    run_threads(rt, shared, bus, setups, entrance, seat)
+    let Parts { seats, taps, polls } = parts;
+    let mut seats = seats.into_iter();
+    let Some(main) = seats.next() else {
+        return Err(ServeFault::Memory);
+    };
+    let setups = router_setups(rt, bus, seats, taps, polls)?;
+    let main = main_seat(rt, shared, &bus.coordinator, main, programs)?;
+    run_threads(rt, shared, bus, setups, entrance, main)
 }
 
 /// Runs the routers, and beside them accepts connections and does the chores of the main thread.
