@@ -1,20 +1,12 @@
 //! What is read before the bus listens.
 
-use crate::serve_fault::{Device, ServeFault};
+use crate::serve_fault::{Device, ServeFault, device_fault};
 use sasl::{Cookie, KeyringFault, read_keyring};
 use std::alloc::Global;
+use std::fs;
 use std::fs::File;
 use std::io::Read;
 use std::rt::Files;
-use std::{fs, io};
-
-/// Tells want of memory from what else a device may refuse.
-pub(crate) fn device(error: io::Error, device: Device) -> ServeFault {
-    if error.kind() == io::ErrorKind::OutOfMemory {
-        return ServeFault::Memory;
-    }
-    ServeFault::Device(device)
-}
 
 /// The cookie of a keyring's bytes.
 fn cookie_of(alloc: Global, bytes: &[u8]) -> Result<Cookie, ServeFault> {
@@ -34,7 +26,7 @@ fn cookie_of(alloc: Global, bytes: &[u8]) -> Result<Cookie, ServeFault> {
 pub fn read_cookie<R: Files + AllocGlobal>(rt: &R, path: &str) -> Result<Cookie, ServeFault> {
     match fs::read(rt, path) {
         Ok(bytes) => cookie_of(rt.alloc(), bytes.as_slice()),
-        Err(error) => Err(device(error, Device::Input)),
+        Err(error) => Err(device_fault(error, Device::Input)),
     }
 }
 
@@ -44,7 +36,7 @@ pub fn read_cookie<R: Files + AllocGlobal>(rt: &R, path: &str) -> Result<Cookie,
 ///
 /// `Device(Random)` where there is none.
 pub fn open_random<R: Files>(rt: &R) -> Result<R::File, ServeFault> {
-    File::open(rt, "/dev/urandom").map_err(|error| device(error, Device::Random))
+    File::open(rt, "/dev/urandom").map_err(|error| device_fault(error, Device::Random))
 }
 
 /// 16 random bytes of this source.
@@ -56,6 +48,6 @@ pub fn random_bytes<F: Read>(source: &mut F) -> Result<[u8; 16], ServeFault> {
     let mut bytes = [0; 16];
     match source.read_exact(&mut bytes) {
         Ok(()) => Ok(bytes),
-        Err(error) => Err(device(error, Device::Random)),
+        Err(error) => Err(device_fault(error, Device::Random)),
     }
 }

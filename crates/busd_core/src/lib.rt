@@ -67,7 +67,7 @@ pub use command::serve_command;
 pub use files::{open_random, random_bytes, read_cookie};
 pub use options::Options;
 pub use run_fault::RunFault;
-pub use serve_fault::{Device, ServeFault};
+pub use serve_fault::{Device, ServeFault, device_fault};
 pub use service_fault::{FileName, ServiceCode};
 pub use services::{read_services, rising_names};
 pub use stream::run;

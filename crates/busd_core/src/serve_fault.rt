@@ -5,7 +5,7 @@ ghost use Rattle.std.specs.Prelude.{◌≡◌};
 use crate::service_fault::{FileName, ServiceCode};
 use sasl::KeyringCode;
 use std::alloc::AllocError;
-use std::fmt;
+use std::{fmt, io};
 use thiserror::Error;
 
 /// What the system gave no more.
@@ -36,6 +36,14 @@ impl fmt::Display for Device {
             Device::Poll => "poll",
         })
     }
+}
+
+/// The fault of a device that refused something: want of memory, where the error tells that.
+pub fn device_fault(error: io::Error, device: Device) -> ServeFault {
+    if error.kind() == io::ErrorKind::OutOfMemory {
+        return ServeFault::Memory;
+    }
+    ServeFault::Device(device)
 }
 
 /// Why a bus isn't served, or is served no more.

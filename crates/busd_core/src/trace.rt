@@ -3,8 +3,7 @@
 ghost use Rattle.std.specs.Prelude.{◌≡◌, ◌++◌, string_bytes, IfOk, OnOk};
 ghost use Rattle.busd_core.specs.Heads.{ended, head_text};
 
-use crate::files::device;
-use crate::serve_fault::{Device, ServeFault};
+use crate::serve_fault::{Device, ServeFault, device_fault};
 use crate::services::push;
 use names::WellKnown;
 use owner_queues::Profile;
@@ -129,7 +128,7 @@ impl<F: OpenFile + Write + Drop> TraceFiles<F> {
         let TraceFiles { head, seats } = self;
         match write_head(alloc, head, &seats, routers, services) {
             Ok(()) => Ok(seats),
-            Err(error) => Err(device(error, Device::Trace)),
+            Err(error) => Err(device_fault(error, Device::Trace)),
         }
     }
 }
@@ -162,5 +161,5 @@ pub fn open_trace<R: Files + AllocGlobal>(
     folder: &str,
     routers: u8,
 ) -> Result<TraceFiles<R::File>, ServeFault> {
-    open_all(rt, folder, routers).map_err(|error| device(error, Device::Trace))
+    open_all(rt, folder, routers).map_err(|error| device_fault(error, Device::Trace))
 }

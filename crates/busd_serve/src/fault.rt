@@ -1,15 +1,12 @@
 //! Faults of a bus in the words of `busd serve`.
 
-use busd_core::{Device, ServeFault};
+use busd_core::{Device, ServeFault, device_fault};
 use routers::Fault;
 use std::io;
 
 /// The fault of a poll.
 pub(crate) fn poll_fault(error: io::Error) -> ServeFault {
-    if error.kind() == io::ErrorKind::OutOfMemory {
-        return ServeFault::Memory;
-    }
-    ServeFault::Device(Device::Poll)
+    device_fault(error, Device::Poll)
 }
 
 /// The fault of routers.
