@@ -130,12 +130,7 @@ fn set_up<'a, F: OpenFile + Write + Drop, R: Net + AllocGlobal + Clone + Drop>(
     } = open_polls(rt, rt.alloc(), options.routers)?;
     let traces = begin_files(rt.alloc(), traces, options.routers, names.as_slice())?;
     let bus = Bus {
-        login: LoginSettings {
-            guid,
-            user: options.user,
-            cookie,
-            allow_anonymous: options.allow_anonymous,
-        },
+        login: LoginSettings::new(&options, guid, cookie),
         options,
         coordinator,
         new_connections,

@@ -1,6 +1,6 @@
 //! Who may log in.
 
-use busd_core::ServeFault;
+use busd_core::{Options, ServeFault};
 use router::Login;
 use sasl::Cookie;
 use std::alloc::Global;
@@ -15,7 +15,17 @@ pub(crate) struct LoginSettings<'a> {
     pub(crate) allow_anonymous: bool,
 }
 
-impl LoginSettings<'_> {
+impl<'a> LoginSettings<'a> {
+    /// What the options ask for, with the cookie of their keyring.
+    pub(crate) fn new(options: &Options<'a>, guid: [u8; 16], cookie: Cookie) -> LoginSettings<'a> {
+        LoginSettings {
+            guid,
+            user: options.user,
+            cookie,
+            allow_anonymous: options.allow_anonymous,
+        }
+    }
+
     /// The login of one router.
     pub(crate) fn login(&self, alloc: Global) -> Result<Login, ServeFault> {
         Ok(Login {
