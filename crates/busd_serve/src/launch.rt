@@ -117,7 +117,7 @@ impl ProgramJob {
 
 /// Starts a thread that runs a program to its end, and tells the main thread how that was. Nobody
 /// waits for the thread. It is false where there can't be one more.
-fn start_program<R: Threads + Wait + RunsPrograms + Clock + Copy + Send + 'static>(
+fn spawn_runner<R: Threads + Wait + RunsPrograms + Clock + Copy + Send + 'static>(
     rt: &R,
     job: ProgramJob,
 ) -> bool {
@@ -126,9 +126,9 @@ fn start_program<R: Threads + Wait + RunsPrograms + Clock + Copy + Send + 'stati
     thread.spawn(rt, move || job.run(&theirs)).is_ok()
 }
 
-/// Starts the program of a job in a thread of its own. Where that can't be, the main thread is told
+/// Runs the program of a job in a thread of its own. Where that can't be, the main thread is told
 /// so.
-fn start_job<R: Threads + Wait + RunsPrograms + Clock + Copy + Send + 'static>(
+fn run_in_thread<R: Threads + Wait + RunsPrograms + Clock + Copy + Send + 'static>(
     rt: &R,
     job: ProgramJob,
 ) {
@@ -136,27 +136,28 @@ fn start_job<R: Threads + Wait + RunsPrograms + Clock + Copy + Send + 'static>(
     let Ok(launch) = Arc::try_clone(&job.launch) else {
         return job.launch.tell(rt, Event::NotRun { start });
     };
-    if !start_program(rt, job) {
+    if !spawn_runner(rt, job) {
         launch.tell(rt, Event::NotRun { start });
     }
 }
 
-/// Starts the programs of the jobs that come, until none will come any more.
-fn start_jobs<R: Threads + Wait + RunsPrograms + Clock + Copy + Send + 'static>(
+/// Runs the programs of the jobs that come, until none will come any more.
+fn run_jobs<R: Threads + Wait + RunsPrograms + Clock + Copy + Send + 'static>(
     rt: &R,
     jobs: &Receiver<ProgramJob, Global>,
 ) {
     for job in jobs.iter(rt) {
-        start_job(rt, job);
+        run_in_thread(rt, job);
     }
 }
 
-/// Starts the thread that starts programs. It ends once no more of them can be asked for.
-pub(crate) fn start_launching<R: Threads + Wait + RunsPrograms + Clock + Copy + Send + 'static>(
+/// Starts the thread that starts programs. It ends once no more of them can be asked for. It is
+/// false where there can be none.
+pub(crate) fn spawn_launcher<R: Threads + Wait + RunsPrograms + Clock + Copy + Send + 'static>(
     rt: &R,
     jobs: Receiver<ProgramJob, Global>,
 ) -> bool {
     let theirs = *rt;
     let thread = thread::Builder::new().stack_size(STACK);
-    thread.spawn(rt, move || start_jobs(&theirs, &jobs)).is_ok()
+    thread.spawn(rt, move || run_jobs(&theirs, &jobs)).is_ok()
 }

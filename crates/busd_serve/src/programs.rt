@@ -1,7 +1,7 @@
 //! The programs of services.
 
 use crate::bus::Bus;
-use crate::launch::{Launch, ProgramJob, start_launching};
+use crate::launch::{Launch, ProgramJob, spawn_launcher};
 use crate::runtime::DaemonRuntime;
 use busd_sockets::PollWaker;
 use crossbeam_channel::{Sender, bounded};
@@ -44,7 +44,7 @@ pub(crate) fn start_launcher<'a, R: DaemonRuntime>(
 ) -> Result<Launcher<'a, R>, AllocError> {
     let launch = Launch::new(alloc, services, bus.options.path, waker)?;
     let (jobs, taken) = bounded(alloc, JOBS)?;
-    if launch.has_services() && !start_launching(rt, taken) {
+    if launch.has_services() && !spawn_launcher(rt, taken) {
         return Err(AllocError);
     }
     let Ok(launch) = Arc::new(alloc, launch) else {
