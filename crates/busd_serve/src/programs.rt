@@ -3,6 +3,7 @@
 use crate::bus::Bus;
 use crate::launch::{Launch, ProgramJob, spawn_launcher};
 use crate::runtime::DaemonRuntime;
+use busd_core::ServeFault;
 use busd_sockets::PollWaker;
 use crossbeam_channel::{Sender, bounded};
 use names::BusName;
@@ -10,7 +11,7 @@ use outbox::Tap;
 use router_host::StartRequest;
 use service_files::Service;
 use starter::Programs;
-use std::alloc::{AllocError, Global};
+use std::alloc::Global;
 use std::sync::{Arc, Wait};
 use supervisor::Event;
 
@@ -41,14 +42,14 @@ pub(crate) fn start_launcher<'a, R: DaemonRuntime>(
     services: Vec<Service>,
     requests: Tap<StartRequest>,
     waker: PollWaker,
-) -> Result<Launcher<'a, R>, AllocError> {
+) -> Result<Launcher<'a, R>, ServeFault> {
     let launch = Launch::new(alloc, services, bus.options.path, waker)?;
     let (jobs, taken) = bounded(alloc, JOBS)?;
     if launch.has_services() && !spawn_launcher(rt, taken) {
-        return Err(AllocError);
+        return Err(ServeFault::Memory);
     }
     let Ok(launch) = Arc::new(alloc, launch) else {
-        return Err(AllocError);
+        return Err(ServeFault::Memory);
     };
     Ok(Launcher {
         rt,
