@@ -1,5 +1,6 @@
 //! Why the routers of a bus end.
 
+use std::alloc::AllocError;
 use thiserror::Error;
 
 /// Why the routers of a bus end.
@@ -17,4 +18,10 @@ pub enum Fault {
     /// There was no memory for what a thread cannot do without.
     #[error("memory")]
     Memory,
+}
+
+impl From<AllocError> for Fault {
+    fn from(_error: AllocError) -> Fault {
+        Fault::Memory
+    }
 }

@@ -54,10 +54,6 @@ pub trait MainTask {
     fn run<R: Wait>(&mut self, rt: &R) -> Result<(), Fault>;
 }
 
-fn no_memory(_refused: AllocError) -> Fault {
-    Fault::Memory
-}
-
 /// What a router is made of: a view of the bus, a way to the other routers, and where it hears of
 /// what happens.
 #[derive(Drop)]
@@ -101,7 +97,7 @@ fn serve_as_router<
         trace,
     } = seat;
     let desk: Desk<'_, J, R> = Desk::new(seat, shared);
-    let post = LanePost::new(alloc, me, lane, taps, starts, coordinator).map_err(no_memory)?;
+    let post = LanePost::new(alloc, me, lane, taps, starts, coordinator)?;
     let parts = RouterParts {
         view: traced(alloc, desk, trace.records()),
         post,
@@ -276,7 +272,7 @@ pub fn serve<
     setups: Vec<RouterSetup<J, E, G, T>>,
     main: &mut M,
 ) -> Result<(), Fault> {
-    let mut tasks = Vec::with_capacity(alloc, setups.len()).map_err(no_memory)?;
+    let mut tasks = Vec::with_capacity(alloc, setups.len())?;
     for (me, setup) in setups.into_iter().enumerate() {
         let task: RouterTask<'_, J, S, E, G, W, T> = RouterTask {
             alloc,
