@@ -82,7 +82,8 @@ pub trait Post<V: BusView>: Drop {
         ensures none { IfNone result (self.new ≡ self.old) }
         ensures empty { IfNone result (lacks self.old slot) };
 
-    /// An event is about to be served: it may change the bus, and what comes of that is not put yet.
+    /// An event is about to be served: it may change the bus, and what comes of that is not put
+    /// yet.
     fn event_begins(&mut self)
         ensures { self.new ≡ self.old };
 

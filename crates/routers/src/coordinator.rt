@@ -296,9 +296,14 @@ impl<W: Wake + Drop> Coordinator<W> {
         }
     }
 
-    /// What a thread has told: a router, or else the main thread.
+    /// Where what a thread has told stands: that of the main thread behind those of the routers.
+    fn telling_index(&self, thread: usize) -> usize {
+        thread.min(self.states.len())
+    }
+
+    /// What a thread has told.
     fn telling(&self, thread: usize) -> Option<&Telling> {
-        self.tellings.get(thread.min(self.states.len()))
+        self.tellings.get(self.telling_index(thread))
     }
 
     /// A thread may make changes from now on, which come behind all that are known.
@@ -334,9 +339,9 @@ impl<W: Wake + Drop> Coordinator<W> {
     /// Waits until all other threads have put what comes of their changes up to a position, but not
     /// for ever.
     pub(crate) fn await_others<R: Wait>(&self, rt: &R, me: usize, position: u64) {
-        let me = me.min(self.states.len());
-        for (thread, telling) in self.tellings.iter().enumerate() {
-            if thread != me {
+        let own = self.telling_index(me);
+        for (index, telling) in self.tellings.iter().enumerate() {
+            if index != own {
                 telling.await_told(rt, position);
             }
         }
@@ -349,8 +354,8 @@ impl<W: Wake + Drop> Coordinator<W> {
         }
     }
 
-    /// Whether there is mail for any slot of a router. The flag is lowered, before those of the slots
-    /// are.
+    /// Whether there is mail for any slot of a router. The flag is lowered, before those of the
+    /// slots are.
     pub(crate) fn take_any_mail(&self, router: usize) -> bool {
         match self.states.get(router) {
             Some(state) => lower(&state.mail),

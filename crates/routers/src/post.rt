@@ -248,8 +248,8 @@ impl<'a, J: Naming, W: Wake + Drop> LanePost<'a, J, W> {
     }
 
     /// Looks now and then whether much mail waits for a slot of another router, which is let go
-    /// first once what is served is served. Who has no places serves nobody, and lets it go first at
-    /// once, before it puts what need not come before what others put.
+    /// first once what is served is served. Who has no places serves nobody, and lets it go first
+    /// at once, before it puts what need not come before what others put.
     fn look<R: Wait>(&mut self, right: &R, slot: usize, envelope: &EnvelopeOf<J>)
         ensures same { self.new ≡ self.old }
     {

@@ -168,7 +168,8 @@ impl<E: Drop> SlotMail<E> {
         Ok(SlotMail { tap, own, taken: 0 })
     }
 
-    /// Puts an item of its own router, which this event brought, where so many wait that others put.
+    /// Puts an item of its own router, which this event brought, where so many wait that others
+    /// put.
     pub(crate) fn put(&mut self, item: E, waiting: usize, event: u64) -> Result<(), Full<E>>
         ensures { MatchResult result
             (λ _. HasRoom self.old × (self.new ≡ kept self.old item waiting))

@@ -8,7 +8,8 @@ use std::time::Duration;
 /// How often it is looked whether a thread has told enough before this thread sleeps.
 const LOOKS: u32 = 200;
 
-/// How often it is slept at most while no more is told. A thread that takes longer is not waited for.
+/// How often it is slept at most while no more is told. A thread that takes longer is not waited
+/// for.
 const SLEEPS: u32 = 50;
 
 /// How long it is slept at a time, in milliseconds.
