@@ -5,11 +5,12 @@ use Rattle.std.specs.Prelude.{option_map, option_and_then}
 use Rattle.std.proofs.lemmas.Bool.{cond_both, true≢false, not-false, not_from_false, and_parts}
 use Rattle.names.specs.Texts.{Text, text_eq}
 use Rattle.names.specs.BusName.{is_bus}
+use Rattle.match_rules.specs.OwnedRules.{is_rule_of}
 use Rattle.activation.specs.Holding.{given_as, waiting_for, waiting_for_others}
 use Rattle.owner_queues.specs.Queues.{requested}
 use Rattle.owner_queues.specs.declared.request.RequestFlags.{RequestFlags}
 use Rattle.seq_bus_core.specs.BusState.{BusState, Connection, RunningStart, conn_of, connection_of, client_of, head_of, is_service, start_of, queue_of}
-use Rattle.seq_bus_core.specs.Steps.{Stepped, add_match, become_monitor, exited_well, fail_with_start, for_client, free_slot, has_room_for_ticket, hello, hold, is_reserved, is_rule_of, is_run, is_within_names, is_within_rules, leave, owned_outcome, pass_or_wait, release, remove_match, request, settled, start, step, unchanged, wait_for, wait_with_start, with_owned, with_rule}
+use Rattle.seq_bus_core.specs.Steps.{Stepped, add_match, become_monitor, exited_well, fail_with_start, for_client, free_slot, has_room_for_ticket, hello, hold, is_reserved, is_run, is_within_names, is_within_rules, leave, owned_outcome, pass_or_wait, release, remove_match, request, settled, start, step, unchanged, wait_for, wait_with_start, with_owned, with_rule}
 use Rattle.seq_bus_core.specs.Tickets.{WholeBus, bus_step, new_ticket}
 use Rattle.seq_bus_core.specs.declared.change.Change.{Change}
 use Rattle.seq_bus_core.specs.declared.change.Change.TheVariants.{Hello, Leave, Request, Release, AddMatch, RemoveMatch, BecomeMonitor, Start, Hold, ChildEnded, StartTimedOut}

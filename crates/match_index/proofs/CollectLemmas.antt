@@ -7,7 +7,7 @@ use Rattle.std.proofs.lemmas.Bool.{and_parts, eq-eqb, eqb-true, ne_eqb, true≢f
 use Rattle.std.proofs.lemmas.Bool.Decides.{nat_tests}
 use Rattle.std.proofs.lemmas.Grind.{flat_map-append}
 use Rattle.std.proofs.lemmas.List.{append-nil, map-append, take_more}
-use Rattle.std.proofs.lemmas.List.Folds.{list_any-append}
+use Rattle.std.proofs.lemmas.List.Folds.{list_any-append, flat_map-map}
 use Rattle.std.proofs.lemmas.List.Sums.{sum_by-append, sum_by-cons}
 use Rattle.match_rules.specs.CanonicalTexts.{rule_text}
 use Rattle.match_rules.specs.Facts.{Facts}
@@ -15,10 +15,10 @@ use Rattle.match_rules.specs.Fitting.{Heads, fits}
 use Rattle.match_rules.specs.RuleTexts.{IsRuleText}
 use Rattle.match_rules.specs.Rules.{Rule, same_rule}
 use Rattle.match_rules.proofs.RuleLemmas.{same_rule-true}
+use Rattle.match_rules.specs.OwnedRules.{OwnedRule, has_fitting, is_of}
 use Rattle.match_index.specs.Buckets.{asked, bucket_of, code_of, message_parts, shape_of}
 use Rattle.match_index.specs.Collecting.{AreAmong, AreOwned, connections_of, entries_at, entry_at, is_near_below, is_tested, is_wanting, is_wanting_below}
 use Rattle.match_index.specs.Entries.{by_code, has_key, is_there, live, owned_rule, positions}
-use Rattle.match_index.specs.Indexed.{OwnedRule, has_fitting, is_of}
 use Rattle.match_index.specs.Indexes.{AreFiled, AreShaped}
 use Rattle.match_index.specs.Near.{is_near, near_rules}
 use Rattle.match_index.specs.PlaceIndexes.{places_in}
@@ -96,10 +96,6 @@ pub entry_at_is : (es : List Entry) (k : ℕ) (d : Entry) → k < length es → 
 entry_at_is [] k d lt = absurd (omega (arith, lt))
 entry_at_is (e ∷ es) zero d lt = refl
 entry_at_is (e ∷ es) (suc k) d lt = entry_at_is es k d (omega (arith, lt))
-
-flat_map-map : {X Y A : Type 0} (f : Y → List A) (g : X → Y) (xs : List X) → flat_map f (map g xs) ≡ flat_map (λ x. f (g x)) xs
-flat_map-map f g [] = refl
-flat_map-map f g (x ∷ xs) = ap (λ rest. f (g x) ++ rest) (flat_map-map f g xs)
 
 pub entries_at_positions : (k : ℕ) (es : List Entry) → entries_at es (positions by_code k es) ≡ filter (has_key by_code k) es
 entries_at_positions k [] = refl

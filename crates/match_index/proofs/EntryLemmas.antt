@@ -5,12 +5,11 @@ use Rattle.std.proofs.lemmas.Bool.Decides.{nat_tests}
 use Rattle.std.proofs.lemmas.Bool.{and_parts, eq-eqb, eqb-true, true≢false}
 use Rattle.std.proofs.lemmas.List.{map-append}
 use Rattle.std.proofs.lemmas.List.Sums.{sum_by-cons}
+use Rattle.std.proofs.lemmas.List.Folds.{flat_map-map}
 use Rattle.match_rules.specs.Rules.{Rule, same_rule}
-use Rattle.match_index.specs.Indexed.{OwnedRule, count_of, is_of, is_rule_of, rules_by, rules_without, without_first}
+use Rattle.match_rules.specs.OwnedRules.{OwnedRule, count_of, is_of, is_rule_of, rules_by, rules_without, without_first}
 use Rattle.match_index.specs.Entries.{Key, by_connection, has_key, has_rule, is_there, live, marked, new_places, owned_rule, positions, rule_at}
-use Rattle.match_index.specs.PlaceIndexes.{places_in}
 use Rattle.match_index.specs.declared.entries.Entry.{Entry}
-use Rattle.match_index.specs.declared.place_index.KeyedPlace.{KeyedPlace}
 use Rattle.match_index.proofs.Lists.{first_place, list_any-map, one_done}
 
 -- ## The entry at a place
@@ -46,10 +45,6 @@ length_marked (e ∷ es) zero = refl
 length_marked (e ∷ es) (suc k) = ap suc (length_marked es k)
 
 -- ## The places of a key
-
-flat_map-map : {X Y A : Type 0} (f : Y → List A) (g : X → Y) (xs : List X) → flat_map f (map g xs) ≡ flat_map (λ x. f (g x)) xs
-flat_map-map f g [] = refl
-flat_map-map f g (x ∷ xs) = ap (λ rest. f (g x) ++ rest) (flat_map-map f g xs)
 
 pub first_place-map : {X Y : Type 0} (test : Y → Bool) (f : X → Y) (xs : List X) → first_place test (map f xs) ≡ first_place (λ x. test (f x)) xs
 first_place-map test f [] = refl
@@ -110,10 +105,6 @@ positions_within key c (e ∷ es) = by_test (has_key key c e) (each_suc (length 
     by_test : (b : Bool) → Each (λ k. k < suc (length es)) (map suc (positions key c es)) → Each (λ k. k < suc (length es)) (if b then 0 ∷ map suc (positions key c es) else map suc (positions key c es))
     by_test true h = (omega arith, h)
     by_test false h = h
-
-pub each_place : (n : ℕ) (xs : List KeyedPlace) → Each (λ k. k < n) (places_in xs) → Each (λ p. p.place < n) xs
-each_place n [] h = tt
-each_place n (x ∷ xs) h = (h.0, each_place n xs h.1)
 
 -- ## One more rule
 

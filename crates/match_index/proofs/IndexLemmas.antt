@@ -3,9 +3,9 @@ use Rattle.std.proofs.Common.{◌≡◌, ℕ, zero, suc, ◌+◌, ◌<◌, ◌�
 use Rattle.std.specs.List.{position}
 use Rattle.std.proofs.lemmas.Bool.{eq-eqb, eqb-true}
 use Rattle.std.proofs.lemmas.List.{append-nil, length-append, take_at}
+use Rattle.match_rules.specs.OwnedRules.{OwnedRule, rules_without}
 use Rattle.match_index.specs.Buckets.{bucket_of}
 use Rattle.match_index.specs.Entries.{ArePlaced, Key, by_code, by_connection, has_key, is_there, live, marked, new_places, positions}
-use Rattle.match_index.specs.Indexed.{OwnedRule, rules_without}
 use Rattle.match_index.specs.Indexes.{AreFiled, AreIndexed, AreShaped}
 use Rattle.match_index.specs.PlaceIndexes.{places_in, places_of}
 use Rattle.match_index.specs.declared.entries.Entry.{Entry}

@@ -5,8 +5,8 @@ use Rattle.std.proofs.lemmas.List.Sums.{sum_by-cons}
 use Rattle.names.specs.UniqueName.{unique_text}
 use Rattle.match_rules.specs.Rules.{value_at}
 use Rattle.match_rules.specs.declared.key.Key.TheVariants.{Argument, Interface, Member, Sender}
+use Rattle.match_rules.specs.OwnedRules.{OwnedRule}
 use Rattle.match_index.specs.Collecting.{connections_of}
-use Rattle.match_index.specs.Indexed.{OwnedRule}
 use Rattle.match_index.specs.Laws.{ConnectionsAreFew, NearRulesAreFew, OtherArgumentsAreNotNear, OtherInterfacesAreNotNear, OtherKindsAreNotNear, OtherMembersAreNotNear}
 use Rattle.match_index.specs.Near.{agrees, argument_agrees, is_kind, is_near, is_near_by_header, is_near_sender, kind_asked}
 use Rattle.match_index.specs.Sets.{is_in}

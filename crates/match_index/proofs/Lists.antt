@@ -2,10 +2,10 @@
 use Rattle.std.proofs.Common.{◌≡◌, ℕ, zero, suc, ◌+◌, ◌<◌, ◌≤◌, nat_lt, nat_le, Bool, true, false, cond, ◌||◌, Option, Some, None, is_some, option_map, List, [], ◌∷◌, ◌++◌, map, filter, length, take, drop, insert, remove, get_or, add-one, refl, sym, ap, ◌∙◌, arith, if◌then◌else◌}
 use Rattle.std.proofs.Math.Seq.{drop-cons, take-suc}
 use Rattle.std.specs.List.{AllByRecursion as Each, AllWithin, list_any, position, position_or_len}
-use Rattle.std.specs.List.Sorted.{IsPartitionedBy}
+use Rattle.std.specs.List.Sorted.{IsPartitionPoint, IsPartitionedBy}
 use Rattle.std.proofs.lemmas.Bool.Decides.{nat_tests}
 pub use Rattle.match_rules.proofs.Lists.{each_weaker}
-use Rattle.match_index.specs.PlaceIndexes.{Pairwise}
+use Rattle.match_rules.specs.Lists.{Pairwise}
 
 -- ## Each, and pairs
 
@@ -80,8 +80,46 @@ is_le a b h = grind (arith, nat_tests)
 pub not_le : (a b : ℕ) → nat_le a b ≡ false → b < a
 not_le a b h = grind (arith, nat_tests)
 
-pub within_weaker : {X : Type 0} (P Q : X → Type 0) → ((x : X) → P x → Q x) → (xs : List X) (i j : ℕ) → AllWithin P xs i j → AllWithin Q xs i j
-within_weaker P Q weaker xs i j h k d low high = weaker (get_or xs k d) (h k d low high)
+-- what a search finds by a test that passes those in front: they pass it, and those behind fail it
+pub parted : {X : Type 0} (R : X → X → Type 0) (test : X → Bool) → ((a b : X) → R a b → test b ≡ true → test a ≡ true) → (xs : List X) (i : ℕ) → Pairwise R xs → i ≤ length xs →
+    (IsPartitionedBy test xs → IsPartitionPoint (λ x. test x ≡ true) (λ x. test x ≡ false) xs i) → Each (λ x. test x ≡ true) (take i xs) × Each (λ x. test x ≡ false) (drop i xs)
+parted R test down xs i pairs le point =
+    let sides = point (partitioned R test down xs pairs) in
+    (before_place (λ x. test x ≡ true) xs i le sides.0, behind_place (λ x. test x ≡ false) xs i sides.1)
+
+-- the same of a search by number
+pub parted_by : {X : Type 0} (number : X → ℕ) (n : ℕ) (R : X → X → Type 0) → ((a b : X) → R a b → number a ≤ number b) → (xs : List X) (i : ℕ) → Pairwise R xs → i ≤ length xs →
+    (IsPartitionedBy (λ x. nat_lt (number x) n) xs → IsPartitionPoint (λ x. nat_lt (number x) n ≡ true) (λ x. nat_lt (number x) n ≡ false) xs i) →
+    Each (λ x. number x < n) (take i xs) × Each (λ x. n ≤ number x) (drop i xs)
+parted_by number n R up xs i pairs le point =
+    let sides = parted R (λ x. nat_lt (number x) n) (λ a b r passes. lower_too (number a) (number b) (up a b r) passes) xs i pairs le point in (
+      each_weaker (λ x. nat_lt (number x) n ≡ true) (λ x. number x < n) (λ x passes. is_lt (number x) n passes) (take i xs) sides.0,
+      each_weaker (λ x. nat_lt (number x) n ≡ false) (λ x. n ≤ number x) (λ x fails. not_lt (number x) n fails) (drop i xs) sides.1,
+    )
+  where
+    lower_too : (a b : ℕ) → a ≤ b → nat_lt b n ≡ true → nat_lt a n ≡ true
+    lower_too a b below passes = grind (arith, nat_tests)
+
+-- ## Elements that are mapped
+
+pub each_mapped : {X Y : Type 0} (P : Y → Type 0) (f : X → Y) (xs : List X) → Each P (map f xs) → Each (λ x. P (f x)) xs
+each_mapped P f [] h = tt
+each_mapped P f (x ∷ xs) h = (h.0, each_mapped P f xs h.1)
+
+pub pairs_mapped : {X Y : Type 0} (R : Y → Y → Type 0) (f : X → Y) (xs : List X) → Pairwise R (map f xs) → Pairwise (λ a b. R (f a) (f b)) xs
+pairs_mapped R f [] h = tt
+pairs_mapped R f (x ∷ xs) h = (each_mapped (R (f x)) f xs h.0, pairs_mapped R f xs h.1)
+
+pub taken_mapped : {X Y : Type 0} (P : Y → Type 0) (f : X → Y) (xs : List X) (n : ℕ) → Each (λ x. P (f x)) (take n xs) → Each P (take n (map f xs))
+taken_mapped P f xs zero h = tt
+taken_mapped P f [] (suc n) h = tt
+taken_mapped P f (x ∷ xs) (suc n) h = (h.0, taken_mapped P f xs n h.1)
+
+pub dropped_mapped : {X Y : Type 0} (P : Y → Type 0) (f : X → Y) (xs : List X) (n : ℕ) → Each (λ x. P (f x)) (drop n xs) → Each P (drop n (map f xs))
+dropped_mapped P f [] zero h = tt
+dropped_mapped P f [] (suc n) h = tt
+dropped_mapped P f (x ∷ xs) zero h = (h.0, dropped_mapped P f xs zero h.1)
+dropped_mapped P f (x ∷ xs) (suc n) h = dropped_mapped P f xs n h
 
 -- ## Places
 

@@ -1,5 +1,5 @@
 -- Places by rising key.
-use Rattle.std.proofs.Common.{◌≡◌, ℕ, zero, suc, ◌+◌, ◌<◌, ◌≤◌, ◌==◌, nat_lt, nat_le, Bool, true, false, cond, List, [], ◌∷◌, ◌++◌, map, filter, length, take, drop, insert, remove, get_or, set, refl, sym, ap, ◌∙◌, subst, arith}
+use Rattle.std.proofs.Common.{◌≡◌, ℕ, zero, suc, ◌+◌, ◌<◌, ◌≤◌, ◌==◌, nat_le, Bool, true, false, cond, List, [], ◌∷◌, ◌++◌, map, filter, length, take, drop, insert, remove, get_or, set, refl, sym, ap, ◌∙◌, subst, arith}
 use Rattle.std.specs.List.{AllByRecursion as Each}
 use Rattle.std.proofs.lemmas.Bool.{eq-eqb, ne_eqb, eqb-true}
 use Rattle.std.proofs.lemmas.Bool.Decides.{nat_tests}
@@ -8,9 +8,6 @@ use Rattle.match_index.specs.PlaceIndexes.{places_of, places_in, ByKey}
 use Rattle.match_index.specs.declared.place_index.KeyedPlace.{KeyedPlace}
 
 -- ## The searches
-
-pub lower_too : (c : ℕ) (a b : KeyedPlace) → a.key ≤ b.key → nat_lt b.key c ≡ true → nat_lt a.key c ≡ true
-lower_too c a b le passes = grind (arith, nat_tests)
 
 pub not_higher_too : (c : ℕ) (a b : KeyedPlace) → a.key ≤ b.key → nat_le b.key c ≡ true → nat_le a.key c ≡ true
 not_higher_too c a b le passes = grind (arith, nat_tests)

@@ -3,8 +3,8 @@ use Rattle.std.specs.Prelude.{◌≡◌, ℕ, zero, suc, nat_lt, ◌==◌, Bool,
 use Rattle.std.specs.List.{AllByRecursion, flat_map}
 use Rattle.match_rules.specs.Facts.{Facts}
 use Rattle.match_rules.specs.Fitting.{Heads, fits}
+use Rattle.match_rules.specs.OwnedRules.{OwnedRule, is_of}
 use Rattle.match_index.specs.Buckets.{shape_of}
-use Rattle.match_index.specs.Indexed.{OwnedRule, is_of}
 use Rattle.match_index.specs.Near.{is_near}
 use Rattle.match_index.specs.Sets.{AreRising, is_in, with_number}
 use Rattle.match_index.specs.declared.collecting.Tested.{Tested}

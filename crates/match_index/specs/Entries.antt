@@ -1,7 +1,7 @@
 -- Match rules as they stand in an index. Those that were taken out stand there until they are swept out.
 use Rattle.std.specs.Prelude.{◌≡◌, ℕ, zero, suc, ◌==◌, ◌&&◌, Bool, true, false, not, List, [], ◌∷◌, map, filter, length, if◌then◌else◌}
 use Rattle.match_rules.specs.Rules.{Rule, same_rule}
-use Rattle.match_index.specs.Indexed.{OwnedRule}
+use Rattle.match_rules.specs.OwnedRules.{OwnedRule}
 use Rattle.match_index.specs.PlaceIndexes.{places_of}
 use Rattle.match_index.specs.declared.entries.Entry.{Entry}
 use Rattle.match_index.specs.declared.place_index.KeyedPlace.{KeyedPlace}

@@ -3,10 +3,13 @@ use Rattle.std.specs.Prelude.{◌≡◌, ◌≤◌, ◌+◌, ◌*◌, ℕ, List,
 use Rattle.std.specs.List.{AllByRecursion}
 use Rattle.match_index.specs.Buckets.{bucket_of}
 use Rattle.match_index.specs.Entries.{ArePlaced, by_code, by_connection, live}
-use Rattle.match_index.specs.Indexed.{max_rules}
 use Rattle.match_index.specs.PlaceIndexes.{PlacesInRoom}
 use Rattle.match_index.specs.declared.entries.Entry.{Entry}
 use Rattle.match_index.specs.declared.place_index.KeyedPlace.{KeyedPlace}
+
+-- the most rules that an index has
+abbrev pub max_rules : ℕ
+max_rules = 4096
 
 -- as many rules that are gone may stand there as rules, and so many more
 abbrev pub max_gone : ℕ

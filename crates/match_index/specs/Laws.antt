@@ -8,8 +8,8 @@ use Rattle.match_rules.specs.Kinds.{kind_number}
 use Rattle.match_rules.specs.Rules.{Rule, value_at}
 use Rattle.match_rules.specs.declared.kind.MessageKind.{MessageKind}
 use Rattle.match_rules.specs.declared.key.Key.TheVariants.{Argument, Interface, Member}
+use Rattle.match_rules.specs.OwnedRules.{OwnedRule}
 use Rattle.match_index.specs.Collecting.{connections_of}
-use Rattle.match_index.specs.Indexed.{OwnedRule}
 use Rattle.match_index.specs.Near.{is_near, kind_asked, near_by_header, near_rules}
 use Rattle.match_index.specs.Sets.{AreRising, is_in}
 

@@ -1,6 +1,5 @@
 pub mod PlaceIndexes
 pub mod Sets
-pub mod Indexed
 pub mod Near
 pub mod Buckets
 pub mod Entries

@@ -10,7 +10,7 @@ use Rattle.match_rules.specs.Kinds.{kind_named, kind_number}
 use Rattle.match_rules.specs.Rules.{Rule, value_at}
 use Rattle.match_rules.specs.declared.kind.MessageKind.{MessageKind}
 use Rattle.match_rules.specs.declared.key.Key.TheVariants.{«Type» as MessageType, Argument, Sender, Interface, Member}
-use Rattle.match_index.specs.Indexed.{OwnedRule}
+use Rattle.match_rules.specs.OwnedRules.{OwnedRule}
 
 -- the type of message that a rule asks for
 abbrev pub kind_asked : Rule → Option MessageKind

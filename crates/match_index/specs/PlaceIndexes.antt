@@ -1,11 +1,7 @@
 -- Where things stand, by a key of each.
-use Rattle.std.specs.Prelude.{◌≤◌, ◌==◌, ℕ, List, [], ◌∷◌, map, filter}
-use Rattle.std.specs.List.{AllByRecursion}
+use Rattle.std.specs.Prelude.{◌≤◌, ◌==◌, ℕ, List, map, filter}
+use Rattle.match_rules.specs.Lists.{Pairwise}
 use Rattle.match_index.specs.declared.place_index.KeyedPlace.{KeyedPlace}
-
-abbrev pub Pairwise : {X : Type 0} → (X → X → Type 0) → List X → Type 0
-Pairwise R [] = Unit {0}
-Pairwise R (x ∷ xs) = AllByRecursion (R x) xs × Pairwise R xs
 
 -- places, and how many have room
 pub record PlacesInRoom : Type 0 where

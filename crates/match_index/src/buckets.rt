@@ -5,10 +5,9 @@ ghost use Rattle.match_index.specs.Buckets.{argument_part, asked, bit, bucket_of
 ghost use Rattle.names.specs.BusName.{is_unique};
 ghost use Rattle.names.specs.UniqueName.{unique_text};
 ghost use Rattle.match_rules.specs.FactsView.{argument_of};
-ghost use Rattle.match_rules.specs.Fitting.{is_string_argument, is_text};
 ghost use Rattle.match_index.specs.Near.{agrees, argument_agrees, is_kind, is_near, is_near_sender, kind_asked};
 
-use match_rules::{Argument, Facts, MessageKind, Rule};
+use match_rules::{Argument, Facts, MessageKind, Rule, is_string_argument, is_text};
 
 /// How many shapes of rules there are: each asks for a type or does not, for an interface, for a
 /// member, for a first argument, and for no sender, for a well-known name or the bus, or for a
@@ -122,17 +121,8 @@ fn agrees(value: Option<&str>, text: Option<&str>) -> bool
         (λ t. t.now) text.entry) }
 {
     match value {
-        Some(value) => is_text(value, text),
+        Some(value) => is_text(value.as_bytes(), text),
         None => true,
-    }
-}
-
-fn is_text(value: &str, text: Option<&str>) -> bool
-    ensures { result ≡ is_text value.now (option_map (λ t. t.now) text.entry) }
-{
-    match text {
-        Some(text) => text.as_bytes() == value.as_bytes(),
-        None => false,
     }
 }
 
@@ -148,15 +138,6 @@ fn argument_agrees(value: Option<&[u8]>, facts: &Facts<'_>) -> bool
     match value {
         Some(value) => is_string_argument(value, first_argument(facts)),
         None => true,
-    }
-}
-
-fn is_string_argument(value: &[u8], argument: Option<Argument<'_>>) -> bool
-    ensures { result ≡ is_string_argument value.now (option_map argument_of argument.entry) }
-{
-    match argument {
-        Some(Argument::String(text)) => text.as_bytes() == value,
-        _ => false,
     }
 }
 

@@ -3,9 +3,9 @@
 ghost use Rattle.std.specs.Prelude.{◌≡◌, ◌≤◌, ◌<◌, ◌+◌, ◌||◌, ℕ, [], true, length, count_by, IfSome, if◌then◌else◌};
 ghost use Rattle.std.specs.List.{AllByRecursion, list_any};
 ghost use Rattle.names.specs.UniqueName.{unique_text};
+ghost use Rattle.match_rules.specs.OwnedRules.{has_fitting};
 ghost use Rattle.match_index.specs.Collecting.{AreAmong, AreOwned, IsKnown, connections_of, entries_at, is_tested, is_wanted, is_wanting};
 ghost use Rattle.match_index.specs.Entries.{ArePlaced, by_code, live};
-ghost use Rattle.match_index.specs.Indexed.{has_fitting};
 ghost use Rattle.match_index.specs.Indexes.{AreFiled, AreShaped};
 ghost use Rattle.match_index.specs.Near.{near_rules};
 ghost use Rattle.match_index.specs.PlaceIndexes.{places_in};

@@ -2,11 +2,11 @@
 
 ghost use Rattle.std.specs.Prelude.{◌≡◌, ◌<◌, ◌≤◌, ◌+◌, ◌++◌, ◌∷◌, ◌==◌, ℕ, nat_lt, [], length, vec_capacity, IfOk};
 ghost use Rattle.std.specs.List.{list_any};
+ghost use Rattle.match_rules.specs.OwnedRules.{count_of, has_fitting, is_rule_of, rules_by, rules_without, without_first};
 ghost use Rattle.match_index.specs.Entries.{live};
 ghost use Rattle.match_index.specs.Collecting.{connections_of};
 ghost use Rattle.match_index.specs.Near.{near_rules};
 ghost use Rattle.match_index.specs.Sets.{AreRising, is_in};
-ghost use Rattle.match_index.specs.Indexed.{count_of, has_fitting, is_rule_of, rules_by, rules_without, without_first};
 ghost use Rattle.match_index.specs.RulesOf.{rules_left};
 
 use crate::buckets::{SHAPES, bucket_of};
@@ -42,8 +42,8 @@ pub struct Index {
 
 impl Model for Index {
     ghost use Rattle.std.specs.Prelude.{List, vec_capacity};
+    ghost use Rattle.match_rules.specs.OwnedRules.{OwnedRule};
     ghost use Rattle.match_index.specs.Entries.{live};
-    ghost use Rattle.match_index.specs.Indexed.{OwnedRule};
     ghost use Rattle.match_index.specs.Indexes.{IsIndex};
 
     ghost Value = { List OwnedRule };

@@ -1,8 +1,8 @@
 //! Entries with their indexes: what is taken out of them, and sweeps.
 
 ghost use Rattle.std.specs.Prelude.{◌≡◌, ◌<◌, ◌≤◌, ◌+◌, ◌*◌, length, slice_index_or, vec_capacity, Bool, List};
+ghost use Rattle.match_rules.specs.OwnedRules.{rules_without};
 ghost use Rattle.match_index.specs.Entries.{by_connection, live, marked, positions};
-ghost use Rattle.match_index.specs.Indexed.{rules_without};
 ghost use Rattle.match_index.specs.Indexes.{AreIndexed, AreShaped};
 
 use crate::entries::{Entry, mark, number};

@@ -12,3 +12,5 @@ pub mod RuleFaults
 pub mod Rules
 pub mod RuleTexts
 pub mod CanonicalTexts
+pub mod OwnedRules
+pub mod Lists

@@ -73,7 +73,8 @@ fn argument_at<'a>(facts: &Facts<'a>, number: u8) -> Option<Argument<'a>>
     facts.arguments.get(number as usize).copied()
 }
 
-fn is_text(value: &[u8], text: Option<&str>) -> bool
+/// Whether a text is there, and is this value.
+pub fn is_text(value: &[u8], text: Option<&str>) -> bool
     ensures { result ≡ is_text value.now (option_map (λ t. t.now) text.entry) }
 {
     match text {
@@ -174,7 +175,8 @@ fn are_paths_alike(a: &[u8], b: &[u8]) -> bool
     a == b || (ends_in_slash(a) && b.starts_with(a)) || (ends_in_slash(b) && a.starts_with(b))
 }
 
-fn is_string_argument(value: &[u8], argument: Option<Argument<'_>>) -> bool
+/// Whether an argument is a string with this value.
+pub fn is_string_argument(value: &[u8], argument: Option<Argument<'_>>) -> bool
     ensures { result ≡ is_string_argument value.now (option_map argument_of argument.entry) }
 {
     match argument {

@@ -44,7 +44,7 @@ mod rule;
 
 pub use facts::{Argument, Facts};
 pub use fault::RuleFault;
-pub use fitting::Owners;
+pub use fitting::{Owners, is_string_argument, is_text};
 pub use key::{Key, MAX_ARGUMENTS};
 pub use kind::MessageKind;
 pub use room::MAX_RULE_LENGTH;

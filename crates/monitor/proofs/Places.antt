@@ -1,22 +1,9 @@
--- Monitors that come to their places, and that leave them.
-use Rattle.std.proofs.Common.{◌≡◌, ℕ, zero, suc, ◌+◌, ◌<◌, ◌≤◌, Bool, true, false, nat_lt, not, cond, Option, Some, None, List, [], ◌∷◌, map, length, insert, remove, take, refl, sym, ap, ◌∙◌, arith}
+-- Places in lists, and what stays where one leaves.
+use Rattle.std.proofs.Common.{◌≡◌, ℕ, zero, suc, ◌+◌, ◌<◌, ◌≤◌, Bool, true, false, nat_lt, not, cond, Option, Some, None, List, [], ◌∷◌, map, length, remove, take, refl, sym, ap, ◌∙◌, arith}
 use Rattle.std.specs.Prelude.{unwrap_or}
 use Rattle.std.specs.List.{filter, position, position_or_len}
 use Rattle.std.proofs.lemmas.Bool.Decides.{nat_tests}
-use Rattle.monitor.specs.Monitors.{Monitor, inserted}
-
--- where the first with a higher number stands
-abbrev pub above : ℕ → List Monitor → ℕ
-above number monitors = position_or_len (λ m. nat_lt number m.conn.number) monitors
-
-pub inserted_above : (monitor : Monitor) (monitors : List Monitor) → insert monitors (above monitor.conn.number monitors) monitor ≡ inserted monitor monitors
-inserted_above monitor [] = refl
-inserted_above monitor (m ∷ monitors) = by_test (nat_lt monitor.conn.number m.conn.number) refl (inserted_above monitor monitors)
-  where
-    by_test : (b : Bool) → nat_lt monitor.conn.number m.conn.number ≡ b → insert monitors (above monitor.conn.number monitors) monitor ≡ inserted monitor monitors →
-        insert (m ∷ monitors) (above monitor.conn.number (m ∷ monitors)) monitor ≡ inserted monitor (m ∷ monitors)
-    by_test true is behind = rw is refl
-    by_test false is behind = let next : 1 + above monitor.conn.number monitors ≡ suc (above monitor.conn.number monitors) = omega arith in rw (is, next) (ap (λ ms. m ∷ ms) behind)
+use Rattle.seq_bus_core.proofs.Inserting.{found_at, found_nowhere}
 
 -- where one leaves that does not pass, those that pass stay
 pub removed_first : {X : Type 0} (test : X → Bool) (xs : List X) → position_or_len test xs < length xs → filter (λ x. not (test x)) (remove xs (position_or_len test xs)) ≡ filter (λ x. not (test x)) xs
@@ -58,26 +45,6 @@ place_or_end test xs = by_test (nat_lt (position_or_len test xs) (length xs)) re
     by_test : (b : Bool) → nat_lt (position_or_len test xs) (length xs) ≡ b → unwrap_or (position test xs) (length xs) ≡ position_or_len test xs
     by_test true is = rw is refl
     by_test false is = rw is (let far : length xs ≤ position_or_len test xs = grind (arith, nat_tests) in omega (arith, far, place_within test xs))
-
-some_place : (m n : ℕ) → ◌≡◌ {A = Option ℕ} (Some m) (Some n) → m ≡ n
-some_place m n e = cc
-
-pub found_at : {X : Type 0} (test : X → Bool) (xs : List X) (i : ℕ) → ◌≡◌ {A = Option ℕ} (position test xs) (Some i) → (position_or_len test xs ≡ i) × (i < length xs)
-found_at test xs i e = by_test (nat_lt (position_or_len test xs) (length xs)) refl
-  where
-    by_test : (b : Bool) → nat_lt (position_or_len test xs) (length xs) ≡ b → (position_or_len test xs ≡ i) × (i < length xs)
-    by_test true is =
-        let at : position_or_len test xs ≡ i = some_place (position_or_len test xs) i (rw is at e) in
-        let there : position_or_len test xs < length xs = grind (arith, nat_tests) in
-        (at, omega (arith, at, there))
-    by_test false is = let never : ◌≡◌ {A = Option ℕ} None (Some i) = rw is at e in absurd cc
-
-pub found_nowhere : {X : Type 0} (test : X → Bool) (xs : List X) → ◌≡◌ {A = Option ℕ} (position test xs) None → length xs ≤ position_or_len test xs
-found_nowhere test xs e = by_test (nat_lt (position_or_len test xs) (length xs)) refl
-  where
-    by_test : (b : Bool) → nat_lt (position_or_len test xs) (length xs) ≡ b → length xs ≤ position_or_len test xs
-    by_test true is = let never : ◌≡◌ {A = Option ℕ} (Some (position_or_len test xs)) None = rw is at e in absurd cc
-    by_test false is = grind (arith, nat_tests)
 
 -- the elements of one that leaves
 pub first_removed : {X : Type 0} (test : X → Bool) (xs : List X) (i : ℕ) → ◌≡◌ {A = Option ℕ} (position test xs) (Some i) → filter (λ x. not (test x)) (remove xs i) ≡ filter (λ x. not (test x)) xs

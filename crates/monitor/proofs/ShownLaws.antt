@@ -1,42 +1,31 @@
 -- What the monitors of a bus are shown.
-use Rattle.std.proofs.Common.{◌≡◌, ◌==◌, ℕ, suc, Bool, true, false, Option, Some, None, List, [], ◌∷◌, map, length, refl, ap, arith}
-use Rattle.std.proofs.lemmas.Bool.Decides.{nat_tests}
-use Rattle.std.specs.List.{filter, list_any}
+use Rattle.std.proofs.Common.{◌≡◌, Bool, true, false, cond, Option, Some, None, List, [], ◌∷◌, map, filter, refl, ap}
 use Rattle.match_rules.specs.Facts.{Facts}
-use Rattle.match_rules.specs.Fitting.{fits}
+use Rattle.match_rules.specs.Fitting.{Heads}
 use Rattle.match_rules.specs.Rules.{Rule}
-use Rattle.seq_bus_core.specs.BusState.{BusState, Connection, conn_of, head_of}
-use Rattle.seq_bus_core.specs.Recipients.{watches as is_shown}
-use Rattle.seq_bus_core.specs.declared.connection.Conn.{Conn}
-use Rattle.monitor.specs.Monitors.{watches}
+use Rattle.seq_bus_core.specs.BusState.{Connection, conn_of, head_of}
+use Rattle.seq_bus_core.specs.Recipients.{conns_that, watched, watches_by}
+use Rattle.monitor.specs.Monitors.{Monitor, conns_shown}
 use Rattle.monitor.specs.Laws.{monitors_of, ShownAreThoseOfTheBus}
 
-abbrev those_of_table : BusState → Facts → List Connection → List Conn
-those_of_table s facts cs = map (λ m. m.conn) (filter (λ m. watches (head_of s) facts m.rules) (monitors_of cs))
-
-abbrev those_of_bus : BusState → Facts → List Connection → List Conn
-those_of_bus s facts cs = map conn_of (filter (is_shown s facts) cs)
-
-abbrev with_rules : Connection → Option (List Rule) → Connection
-with_rules c monitor = record c { monitor = monitor }
-
-some_rules : (n : ℕ) → (suc n == 0) ≡ false
-some_rules n = grind (arith, nat_tests)
-
-one_more : (s : BusState) (facts : Facts) (c : Connection) (monitor : Option (List Rule)) (cs : List Connection) → those_of_table s facts cs ≡ those_of_bus s facts cs →
-    those_of_table s facts (with_rules c monitor ∷ cs) ≡ those_of_bus s facts (with_rules c monitor ∷ cs)
-one_more s facts c None cs others = others
-one_more s facts c (Some []) cs others = ap (λ conns. conn_of c ∷ conns) others
-one_more s facts c (Some (rule ∷ rules)) cs others = by_test (list_any (λ r. fits (head_of s) r facts) (rule ∷ rules)) refl
+pub shown_in : (heads : Heads) (facts : Facts) (cs : List Connection) → conns_shown heads facts (monitors_of cs) ≡ conns_that (watches_by heads facts) cs
+shown_in heads facts [] = refl
+shown_in heads facts (c ∷ cs) = by_monitor c.monitor (shown_in heads facts cs)
   where
-    by_test : (b : Bool) → list_any (λ r. fits (head_of s) r facts) (rule ∷ rules) ≡ b →
-        those_of_table s facts (with_rules c (Some (rule ∷ rules)) ∷ cs) ≡ those_of_bus s facts (with_rules c (Some (rule ∷ rules)) ∷ cs)
-    by_test true is = rw (some_rules (length rules), is) (ap (λ conns. conn_of c ∷ conns) others)
-    by_test false is = rw (some_rules (length rules), is) others
+    monitors : List Monitor
+    monitors = filter (λ m. watched heads facts m.rules) (monitors_of cs)
 
-pub shown_by_all : (s : BusState) (facts : Facts) (cs : List Connection) → those_of_table s facts cs ≡ those_of_bus s facts cs
-shown_by_all s facts [] = refl
-shown_by_all s facts (c ∷ cs) = one_more s facts c c.monitor cs (shown_by_all s facts cs)
+    watchers : List Connection
+    watchers = filter (watches_by heads facts) cs
+
+    by_monitor : (o : Option (List Rule)) → conns_shown heads facts (monitors_of cs) ≡ conns_that (watches_by heads facts) cs →
+        conns_shown heads facts (monitors_of (record c { monitor = o } ∷ cs)) ≡ conns_that (watches_by heads facts) (record c { monitor = o } ∷ cs)
+    by_monitor None others = others
+    by_monitor (Some rules) others = by_test (watched heads facts rules)
+      where
+        by_test : (b : Bool) → map (λ m. m.conn) (cond b (record { conn = conn_of c; rules = rules } ∷ monitors) monitors) ≡ map conn_of (cond b (record c { monitor = Some rules } ∷ watchers) watchers)
+        by_test true = ap (λ conns. conn_of c ∷ conns) others
+        by_test false = others
 
 pub shown_are_those_of_the_bus : ShownAreThoseOfTheBus
-shown_are_those_of_the_bus s facts = shown_by_all s facts s.connections
+shown_are_those_of_the_bus s facts = shown_in (head_of s) facts s.connections

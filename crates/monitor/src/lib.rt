@@ -41,5 +41,5 @@ pub mod laws;
 mod monitor;
 mod monitors;
 
-pub use monitor::Monitor;
+pub use monitor::{Monitor, is_watched};
 pub use monitors::Monitors;

@@ -3,7 +3,7 @@
 ghost use Rattle.std.specs.Prelude.{◌≡◌, ◌≤◌, [], length, IfOk};
 ghost use Rattle.std.specs.List.{list_any};
 ghost use Rattle.match_rules.specs.Fitting.{fits};
-ghost use Rattle.monitor.specs.Monitors.{watches};
+ghost use Rattle.seq_bus_core.specs.Recipients.{watched};
 
 use match_rules::{Facts, Owners, Rule};
 use seq_bus_core::Conn;
@@ -67,12 +67,19 @@ impl Monitor {
         self.rules.as_slice()
     }
 
-    /// Whether it is shown a message: it has no rules, or one that fits.
+    /// Whether it is shown a message.
     pub fn watches<O: Owners>(&self, facts: &Facts<'_>, owners: &O) -> bool
-        ensures { result ≡ watches (O.heads owners.now) facts.now self.now.rules }
+        ensures { result ≡ watched (O.heads owners.now) facts.now self.now.rules }
     {
-        self.rules.is_empty() || any_fits(&self.rules, facts, owners)
+        is_watched(&self.rules, facts, owners)
     }
+}
+
+/// Whether a monitor with these rules is shown a message: it has none, or one that fits.
+pub fn is_watched<O: Owners>(rules: &[Rule], facts: &Facts<'_>, owners: &O) -> bool
+    ensures { result ≡ watched (O.heads owners.now) facts.now rules.now }
+{
+    rules.is_empty() || any_fits(rules, facts, owners)
 }
 
 /// Whether one of these rules fits a message.

@@ -1,12 +1,12 @@
 -- What is asked of a registry as it will be.
 use Rattle.std.proofs.Common.{◌≡◌, ◌&&◌, [], refl, sym, ap}
 use Rattle.match_rules.specs.Facts.{Facts}
+use Rattle.match_rules.specs.OwnedRules.{rules_without}
 use Rattle.seq_bus_core.specs.BusState.{BusState, head_of}
 use Rattle.seq_bus_core.specs.Consistency.{IsConsistent}
-use Rattle.seq_bus_core.specs.Recipients.{all_that_want}
-use Rattle.seq_bus_core.specs.Steps.{rules_without}
-use Rattle.registry_core.specs.Listening.{conns_that, stays, wants_by}
-use Rattle.registry.specs.Hellos.{client_at}
+use Rattle.seq_bus_core.specs.Recipients.{all_that_want, conns_that, wants_by}
+use Rattle.registry_core.specs.Listening.{stays}
+use Rattle.registry_core.specs.ConnectionTables.{newcomer}
 use Rattle.registry.specs.Pendings.{IsDue, leaver_of, state_after}
 use Rattle.registry.specs.declared.after.Pending.{Pending}
 use Rattle.registry.specs.declared.after.Pending.TheVariants.{Joined, Requeued, Left, Becoming}
@@ -17,7 +17,7 @@ use Rattle.registry.proofs.MonitorLemmas.{becoming_want}
 -- those of before the change that want a message after it
 pub wanting_after : (s : BusState) (p : Pending) (facts : Facts) → IsConsistent s → IsDue p s →
     conns_that (λ c. stays (leaver_of p) c.number && wants_by (head_of (state_after p s)) s.rules facts c) s.connections ≡ all_that_want (state_after p s) facts
-wanting_after s (Joined conn privileged) facts h next = sym (joined_want s (client_at conn privileged) facts h next)
+wanting_after s (Joined conn privileged) facts h next = sym (joined_want s (newcomer conn privileged) facts h next)
 wanting_after s (Requeued name queue) facts h next = refl
 wanting_after s (Left connection) facts h next = sym (left_want s connection facts)
 wanting_after s (Becoming connection rules) facts h next = sym (becoming_want s connection rules.now facts)

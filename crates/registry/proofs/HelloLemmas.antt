@@ -4,8 +4,9 @@ use Rattle.std.specs.List.{AllByRecursion as Each}
 use Rattle.std.proofs.lemmas.List.{length_push}
 use Rattle.std.proofs.lemmas.Bool.Decides.{nat_tests}
 use Rattle.match_rules.specs.Facts.{Facts}
+use Rattle.match_rules.specs.OwnedRules.{has_fitting}
 use Rattle.seq_bus_core.specs.BusState.{BusState, Connection, conn_of, head_of, is_monitor, max_connections, max_number}
-use Rattle.seq_bus_core.specs.Recipients.{conn_at, all_that_want, monitors_shown}
+use Rattle.seq_bus_core.specs.Recipients.{conn_at, all_that_want, monitors_shown, conns_that, wants_by, watches_by}
 use Rattle.seq_bus_core.specs.Steps.{free_slot, with_connection, welcomed, hello, unchanged, step}
 use Rattle.seq_bus_core.specs.Consistency.{IsGiven, IsConsistent, IsWithinLimits}
 use Rattle.seq_bus_core.specs.declared.change.Change.TheVariants.{Hello}
@@ -13,10 +14,10 @@ use Rattle.seq_bus_core.specs.declared.connection.Conn.{Conn}
 use Rattle.seq_bus_core.specs.declared.outcome.Reply.TheVariants.{LimitsExceeded}
 use Rattle.seq_bus_core.proofs.LimitLaws.{steps_keep_limits}
 use Rattle.seq_bus_core.proofs.Lists.{each_weaker}
-use Rattle.registry_core.specs.Listening.{conns_that, has_fitting, wants_by, watches_by}
 use Rattle.match_index.proofs.Lists.{one_done}
-use Rattle.registry.specs.Hellos.{next_conn, client_at, welcomed_as}
-use Rattle.registry.proofs.ListeningLemmas.{none_fits, push_none, rules_below, shown_same}
+use Rattle.registry_core.specs.ConnectionTables.{newcomer}
+use Rattle.registry.specs.Hellos.{next_conn, welcomed_as}
+use Rattle.registry.proofs.ListeningLemmas.{none_fits, push_none, rules_below}
 
 -- a Hello is known by the connection that it makes
 pub hello_by : (s : BusState) (seat : ℕ) (privileged : Bool) → step s seat (Hello privileged) ≡ welcomed_as s privileged (next_conn s seat)
@@ -40,7 +41,7 @@ hello_by s seat privileged = by_slot (free_slot s seat)
 
 -- the state after a Hello, by the connection that it makes
 pub hello_state : (s : BusState) (seat : ℕ) (privileged : Bool) (conn : Conn) → next_conn s seat ≡ Some conn →
-    (step s seat (Hello privileged)).0 ≡ with_connection s (client_at conn privileged)
+    (step s seat (Hello privileged)).0 ≡ with_connection s (newcomer conn privileged)
 hello_state s seat privileged conn e = ap (λ r. r.0) (hello_by s seat privileged) ∙ ap (λ o. (welcomed_as s privileged o).0) e
 
 -- the number of the connection that a Hello makes
@@ -61,8 +62,8 @@ next_number_is s seat conn e = by_last (nat_lt max_number s.next_number) refl (f
 -- where a Hello makes a connection, there is room for it
 pub has_room : (s : BusState) (seat : ℕ) (conn : Conn) → IsConsistent s → IsWithinLimits s → next_conn s seat ≡ Some conn → length s.connections < max_connections
 has_room s seat conn h limits e =
-    let after : IsWithinLimits (with_connection s (client_at conn false)) = subst IsWithinLimits (hello_state s seat false conn e) (steps_keep_limits s seat (Hello false) h limits) in
-    let count : length s.connections + 1 ≤ max_connections = subst (λ k. k ≤ max_connections) (length_push s.connections (client_at conn false)) after.connections in
+    let after : IsWithinLimits (with_connection s (newcomer conn false)) = subst IsWithinLimits (hello_state s seat false conn e) (steps_keep_limits s seat (Hello false) h limits) in
+    let count : length s.connections + 1 ≤ max_connections = subst (λ k. k ≤ max_connections) (length_push s.connections (newcomer conn false)) after.connections in
     omega arith
 
 -- it has a higher number than all others
@@ -84,10 +85,10 @@ joined_want s c facts h numbered =
     and_false false = refl
 
 pub joined_shown : (s : BusState) (conn : Conn) (privileged : Bool) (facts : Facts) →
-    monitors_shown (with_connection s (client_at conn privileged)) facts ≡ conns_that (watches_by (head_of (with_connection s (client_at conn privileged))) facts) s.connections
+    monitors_shown (with_connection s (newcomer conn privileged)) facts ≡ conns_that (watches_by (head_of (with_connection s (newcomer conn privileged))) facts) s.connections
 joined_shown s conn privileged facts =
-    let c = client_at conn privileged in
-    shown_same (with_connection s c) facts ∙ push_none (watches_by (head_of (with_connection s c)) facts) s.connections c refl
+    let c = newcomer conn privileged in
+    push_none (watches_by (head_of (with_connection s c)) facts) s.connections c refl
 
 -- no connection has the number that is given next
 none_given : (cs : List Connection) (n : ℕ) → Each (λ d. d.number < n) cs → filter (λ d. d.number == n) cs ≡ []
@@ -100,10 +101,10 @@ nobody_has_next s n h numbered =
 
 -- the connection of a number once a connection is there
 pub conn_joined : (s : BusState) (conn : Conn) (privileged : Bool) (n : ℕ) →
-    conn_at (with_connection s (client_at conn privileged)) (Some n) ≡ conn_at s (Some n) ++ (if conn.number == n then conn ∷ [] else [])
-conn_joined s conn privileged n = one_done conn_of (λ c. c.number == n) s.connections (client_at conn privileged)
+    conn_at (with_connection s (newcomer conn privileged)) (Some n) ≡ conn_at s (Some n) ++ (if conn.number == n then conn ∷ [] else [])
+conn_joined s conn privileged n = one_done conn_of (λ c. c.number == n) s.connections (newcomer conn privileged)
 
 -- what a Hello is told that makes a connection
 pub hello_told : (s : BusState) (seat : ℕ) (conn : Conn) (privileged : Bool) → next_conn s seat ≡ Some conn →
-    (step s seat (Hello privileged)).1 ≡ (welcomed s (client_at conn privileged)).1
+    (step s seat (Hello privileged)).1 ≡ (welcomed s (newcomer conn privileged)).1
 hello_told s seat conn privileged e = ap (λ r. r.1) (hello_by s seat privileged) ∙ ap (λ o. (welcomed_as s privileged o).1) e

@@ -7,18 +7,18 @@ use Rattle.std.proofs.lemmas.Bool.Decides.{nat_tests}
 use Rattle.owner_queues.specs.Queues.{Queue, is_in, queue_head}
 use Rattle.match_rules.specs.Facts.{Facts}
 use Rattle.match_rules.specs.Fitting.{Heads, fits}
-use Rattle.seq_bus_core.specs.BusState.{BusState, Connection, AddedRule, OwnedName, conn_of, connection_of, head_of, is_client, is_monitor}
+use Rattle.match_rules.specs.OwnedRules.{OwnedRule, rules_without, has_fitting}
+use Rattle.seq_bus_core.specs.BusState.{BusState, Connection, OwnedName, conn_of, connection_of, head_of, is_client, is_monitor}
 use Rattle.seq_bus_core.specs.Consistency.{IsConsistent, Pairwise}
-use Rattle.seq_bus_core.specs.Recipients.{all_that_want, monitors_shown}
-use Rattle.seq_bus_core.specs.Steps.{addressed, is_owner, leave, names_owned, rules_without, signals_of_leave, step, without_connection}
+use Rattle.seq_bus_core.specs.Recipients.{all_that_want, monitors_shown, conns_that, wants_by, watches_by}
+use Rattle.seq_bus_core.specs.Steps.{addressed, is_owner, leave, names_owned, signals_of_leave, step, without_connection}
 use Rattle.seq_bus_core.specs.declared.change.Change.TheVariants.{Leave}
 use Rattle.seq_bus_core.specs.declared.outcome.Reply.TheVariants.{Done, Gone}
 use Rattle.seq_bus_core.specs.declared.signal.BusSignal.{BusSignal}
-use Rattle.registry_core.specs.Listening.{stays, conns_that, has_fitting, wants_by, watches_by}
+use Rattle.registry_core.specs.Listening.{stays}
 use Rattle.registry_core.proofs.ConnectionEntries.{filter_alike}
 use Rattle.registry.specs.Departures.{signals_of_name, told_of_name}
 use Rattle.registry.specs.declared.leave.Departure.{Departure}
-use Rattle.registry.proofs.ListeningLemmas.{shown_same}
 
 -- ## The connection that leaves
 
@@ -92,7 +92,7 @@ filter_twice keep test (x ∷ xs) = by_test (keep x) (filter_twice keep test xs)
     by_test true others = ap (λ rest. cond (test x) (x ∷ rest) rest) others
     by_test false others = others
 
-pub fits_other : (heads : Heads) (facts : Facts) (k n : ℕ) (rules : List AddedRule) → (k == n) ≡ false → has_fitting heads (rules_without n rules) facts k ≡ has_fitting heads rules facts k
+pub fits_other : (heads : Heads) (facts : Facts) (k n : ℕ) (rules : List OwnedRule) → (k == n) ≡ false → has_fitting heads (rules_without n rules) facts k ≡ has_fitting heads rules facts k
 fits_other heads facts k n [] other = refl
 fits_other heads facts k n (r ∷ rules) other = by_test (r.connection == n) refl (fits_other heads facts k n rules other)
   where
@@ -119,7 +119,7 @@ left_want s n facts =
 pub left_shown : (s : BusState) (n : ℕ) (facts : Facts) →
     monitors_shown (without_connection s n) facts ≡ conns_that (λ c. stays (Some n) c.number && watches_by (head_of (without_connection s n)) facts c) s.connections
 left_shown s n facts =
-    shown_same (without_connection s n) facts ∙ ap (map conn_of) (filter_twice (λ c. not (c.number == n)) (watches_by (head_of (without_connection s n)) facts) s.connections)
+    ap (map conn_of) (filter_twice (λ c. not (c.number == n)) (watches_by (head_of (without_connection s n)) facts) s.connections)
 
 -- no monitor comes by a Leave
 pub left_unwatched : (n : ℕ) (cs : List Connection) → list_any is_monitor cs ≡ false → list_any is_monitor (filter (λ c. not (c.number == n)) cs) ≡ false

@@ -14,4 +14,3 @@ pub mod StartLemmas
 pub mod LeaveLemmas
 pub mod MonitorLemmas
 pub mod AfterLemmas
-pub mod EntryLemmas

@@ -5,33 +5,18 @@ use Rattle.std.specs.Option.{option_map_or, option_to_list}
 use Rattle.std.proofs.lemmas.Bool.{true≢false}
 use Rattle.std.proofs.lemmas.Bool.Decides.{nat_tests}
 use Rattle.match_rules.specs.Facts.{Facts}
-use Rattle.match_rules.specs.Fitting.{Heads, fits}
+use Rattle.match_rules.specs.Fitting.{Heads}
 use Rattle.match_rules.specs.Rules.{Rule}
-use Rattle.seq_bus_core.specs.BusState.{BusState, Connection, AddedRule, conn_of, connection_of, head_of, is_client, is_monitor}
+use Rattle.match_rules.specs.OwnedRules.{OwnedRule, has_fitting}
+use Rattle.seq_bus_core.specs.BusState.{BusState, Connection, conn_of, connection_of, head_of, is_client, is_monitor}
 use Rattle.seq_bus_core.specs.Consistency.{IsGiven, IsConsistent, Pairwise}
-use Rattle.seq_bus_core.specs.Recipients.{all_that_want, conn_at, monitors_shown, watches}
+use Rattle.seq_bus_core.specs.Recipients.{all_that_want, conn_at, monitors_shown, watches, conns_that, wants_by, watched, watches_by}
 use Rattle.seq_bus_core.specs.declared.connection.Conn.{Conn}
 use Rattle.seq_bus_core.proofs.Lists.{any_having, any_map, each_weaker}
 use Rattle.registry_core.specs.declared.connection_entry.ConnectionEntry.{ConnectionEntry}
-use Rattle.registry_core.specs.Listening.{conns_that, has_fitting, has_number, entry_wants, stays, wants_by, watched, watches_by}
+use Rattle.registry_core.specs.Listening.{has_number, entry_wants, stays}
 use Rattle.registry_core.specs.ConnectionTables.{entry_of}
-use Rattle.registry_core.proofs.ConnectionEntries.{filter_alike}
 use Rattle.match_index.proofs.Lists.{one_done}
-
-pub watches_same : (s : BusState) (facts : Facts) (c : Connection) → watches s facts c ≡ watches_by (head_of s) facts c
-watches_same s facts c = by_rules c.monitor
-  where
-    or_false : (b : Bool) → (b || false) ≡ b
-    or_false true = refl
-    or_false false = refl
-
-    by_rules : (o : Option (List Rule)) → watches s facts (record c { monitor = o }) ≡ watches_by (head_of s) facts (record c { monitor = o })
-    by_rules None = refl
-    by_rules (Some []) = refl
-    by_rules (Some (rule ∷ rules)) = or_false (list_any (λ r. fits (head_of s) r facts) (rule ∷ rules))
-
-pub shown_same : (s : BusState) (facts : Facts) → monitors_shown s facts ≡ conns_that (watches_by (head_of s) facts) s.connections
-shown_same s facts = ap (map conn_of) (filter_alike (watches s facts) (watches_by (head_of s) facts) s.connections (watches_same s facts))
 
 -- ## Where there is no monitor
 
@@ -52,7 +37,7 @@ nobody_watches heads facts (c ∷ cs) none = by_test (is_monitor c) refl none (�
     by_test false is e others = rw (plain_watches_nothing heads facts c is) (others e)
 
 pub nobody_shown : (s : BusState) (facts : Facts) → list_any is_monitor s.connections ≡ false → monitors_shown s facts ≡ []
-nobody_shown s facts none = shown_same s facts ∙ nobody_watches (head_of s) facts s.connections none
+nobody_shown s facts none = nobody_watches (head_of s) facts s.connections none
 
 -- ## Where there are no rules
 
@@ -83,10 +68,10 @@ rules_below s h =
     both true b e = refl
     both false b e = e
 
-    below : (c : Connection) (r : AddedRule) → ((c.number == r.connection) && not (is_monitor c)) ≡ true → c.number < s.next_number → r.connection < s.next_number
+    below : (c : Connection) (r : OwnedRule) → ((c.number == r.connection) && not (is_monitor c)) ≡ true → c.number < s.next_number → r.connection < s.next_number
     below c r passes given = let same : (c.number == r.connection) ≡ true = both (c.number == r.connection) (not (is_monitor c)) passes in grind (arith, nat_tests)
 
-pub none_fits : (heads : Heads) (facts : Facts) (n : ℕ) (rules : List AddedRule) → Each (λ r. r.connection < n) rules → has_fitting heads rules facts n ≡ false
+pub none_fits : (heads : Heads) (facts : Facts) (n : ℕ) (rules : List OwnedRule) → Each (λ r. r.connection < n) rules → has_fitting heads rules facts n ≡ false
 none_fits heads facts n [] h = refl
 none_fits heads facts n (r ∷ rules) h = let other : (r.connection == n) ≡ false = grind (arith, nat_tests) in rw other (none_fits heads facts n rules h.1)
 
@@ -120,7 +105,7 @@ conn_at_is s n o h is = ap option_to_list is ∙ by_found (find (λ c. c.number 
 
 -- ## In their table
 
-pub entries_that_want : (heads : Heads) (rules : List AddedRule) (facts : Facts) (leaver : Option ℕ) (cs : List Connection) →
+pub entries_that_want : (heads : Heads) (rules : List OwnedRule) (facts : Facts) (leaver : Option ℕ) (cs : List Connection) →
     map (λ m. m.conn) (filter (λ m. stays leaver m.conn.number && entry_wants heads rules facts m) (map entry_of cs))
     ≡ conns_that (λ c. stays leaver c.number && wants_by heads rules facts c) cs
 entries_that_want heads rules facts leaver [] = refl
@@ -137,7 +122,7 @@ entries_that_want heads rules facts leaver (c ∷ cs) = by_test (stays leaver c.
 
 -- each rule is of a connection that stands there
 pub rules_owned : (s : BusState) → IsConsistent s → Each (λ r. has_number (map entry_of s.connections) r.connection ≡ true) s.rules
-rules_owned s h = each_weaker (λ (r : AddedRule). is_client s.connections r.connection ≡ true) (λ (r : AddedRule). has_number (map entry_of s.connections) r.connection ≡ true) (λ r is. there r.connection s.connections is) s.rules h.rules_of_clients
+rules_owned s h = each_weaker (λ (r : OwnedRule). is_client s.connections r.connection ≡ true) (λ (r : OwnedRule). has_number (map entry_of s.connections) r.connection ≡ true) (λ r is. there r.connection s.connections is) s.rules h.rules_of_clients
   where
     there : (n : ℕ) (cs : List Connection) → is_client cs n ≡ true → has_number (map entry_of cs) n ≡ true
     there n cs is = any_map (λ c. (c.number == n) && not (is_monitor c)) (λ m. m.conn.number == n) entry_of (λ c both. first (c.number == n) (not (is_monitor c)) both) cs is

@@ -5,8 +5,9 @@ use Rattle.std.proofs.lemmas.Bool.Decides.{nat_tests}
 use Rattle.std.proofs.lemmas.List.{length_push}
 use Rattle.std.proofs.lemmas.List.Sums.{sum_by-append}
 use Rattle.match_rules.specs.Rules.{Rule}
-use Rattle.seq_bus_core.specs.BusState.{BusState, Connection, AddedRule, is_client, is_monitor, client_of, max_rules, max_rules_of_one, rules_of}
-use Rattle.seq_bus_core.specs.Steps.{Stepped, add_match, announced, for_client, is_rule_of, is_within_rules, remove_match, replied, step, unchanged, with_rule, without_first}
+use Rattle.match_rules.specs.OwnedRules.{OwnedRule, count_of, is_rule_of, without_first}
+use Rattle.seq_bus_core.specs.BusState.{BusState, Connection, is_client, is_monitor, client_of, max_rules, max_rules_of_one}
+use Rattle.seq_bus_core.specs.Steps.{Stepped, add_match, announced, for_client, is_within_rules, remove_match, replied, step, unchanged, with_rule}
 use Rattle.seq_bus_core.specs.declared.change.Change.TheVariants.{AddMatch, RemoveMatch}
 use Rattle.seq_bus_core.specs.declared.outcome.Reply.TheVariants.{Gone, LimitsExceeded, Done, RuleNotFound}
 use Rattle.registry.specs.Matches.{reply_to_add, reply_to_remove}
@@ -29,16 +30,16 @@ of_client s number does = by_found (client_of s number) ∙ ap (λ b. if not b t
 
 -- ## AddMatch
 
-one_more : (n : ℕ) (rules : List AddedRule) (rule : Rule) → rules_of n (rules ++ record { connection = n; rule = rule } ∷ []) ≡ rules_of n rules + 1
+one_more : (n : ℕ) (rules : List OwnedRule) (rule : Rule) → count_of n (rules ++ record { connection = n; rule = rule } ∷ []) ≡ count_of n rules + 1
 one_more n rules rule =
     let same : (n == n) ≡ true = grind (arith, nat_tests) in
     sum_by-append (λ r. cond (r.connection == n) 1 0) rules (record { connection = n; rule = rule } ∷ []) ∙ rw same refl
 
-within : (s : BusState) (number : ℕ) (rule : Rule) → is_within_rules (with_rule s number rule) number ≡ (nat_lt (length s.rules) max_rules && nat_lt (rules_of number s.rules) max_rules_of_one)
+within : (s : BusState) (number : ℕ) (rule : Rule) → is_within_rules (with_rule s number rule) number ≡ (nat_lt (length s.rules) max_rules && nat_lt (count_of number s.rules) max_rules_of_one)
 within s number rule =
-    ap (λ n. nat_le n max_rules && nat_le (rules_of number (with_rule s number rule).rules) max_rules_of_one) (length_push s.rules (record { connection = number; rule = rule }))
+    ap (λ n. nat_le n max_rules && nat_le (count_of number (with_rule s number rule).rules) max_rules_of_one) (length_push s.rules (record { connection = number; rule = rule }))
     ∙ ap (λ n. nat_le (length s.rules + 1) max_rules && nat_le n max_rules_of_one) (one_more number s.rules rule)
-    ∙ ap (λ b. b && nat_le (rules_of number s.rules + 1) max_rules_of_one) (below (length s.rules) max_rules) ∙ ap (λ b. nat_lt (length s.rules) max_rules && b) (below (rules_of number s.rules) max_rules_of_one)
+    ∙ ap (λ b. b && nat_le (count_of number s.rules + 1) max_rules_of_one) (below (length s.rules) max_rules) ∙ ap (λ b. nat_lt (length s.rules) max_rules && b) (below (count_of number s.rules) max_rules_of_one)
   where
     below : (n limit : ℕ) → nat_le (n + 1) limit ≡ nat_lt n limit
     below n limit = by_test (nat_lt n limit) refl
@@ -50,14 +51,14 @@ within s number rule =
 add_by : (s : BusState) (seat number : ℕ) (rule : Rule) →
     step s seat (AddMatch number rule)
     ≡ (if not (is_client s.connections number) then unchanged s Gone
-    else if nat_lt (length s.rules) max_rules && nat_lt (rules_of number s.rules) max_rules_of_one then announced (with_rule s number rule) Done []
+    else if nat_lt (length s.rules) max_rules && nat_lt (count_of number s.rules) max_rules_of_one then announced (with_rule s number rule) Done []
     else unchanged s LimitsExceeded)
 add_by s seat number rule =
     of_client s number (add_match s number rule)
     ∙ ap (λ b. if not (is_client s.connections number) then unchanged s Gone else if b then announced (with_rule s number rule) Done [] else unchanged s LimitsExceeded) (within s number rule)
 
 pub add_told : (s : BusState) (seat number : ℕ) (rule : Rule) → (step s seat (AddMatch number rule)).1 ≡ replied (reply_to_add s number)
-add_told s seat number rule = ap (λ r. r.1) (add_by s seat number rule) ∙ by_tests (is_client s.connections number) (nat_lt (length s.rules) max_rules && nat_lt (rules_of number s.rules) max_rules_of_one)
+add_told s seat number rule = ap (λ r. r.1) (add_by s seat number rule) ∙ by_tests (is_client s.connections number) (nat_lt (length s.rules) max_rules && nat_lt (count_of number s.rules) max_rules_of_one)
   where
     by_tests : (client room : Bool) →
         (if not client then unchanged s Gone else if room then announced (with_rule s number rule) Done [] else unchanged s LimitsExceeded).1
@@ -67,7 +68,7 @@ add_told s seat number rule = ap (λ r. r.1) (add_by s seat number rule) ∙ by_
     by_tests true false = refl
 
 pub add_made : (s : BusState) (seat number : ℕ) (rule : Rule) → reply_to_add s number ≡ Done → ((step s seat (AddMatch number rule)).0 ≡ with_rule s number rule) × (length s.rules < max_rules)
-add_made s seat number rule e = by_tests (is_client s.connections number) (nat_lt (length s.rules) max_rules) (nat_lt (rules_of number s.rules) max_rules_of_one) refl (ap (λ r. r.0) (add_by s seat number rule)) e
+add_made s seat number rule e = by_tests (is_client s.connections number) (nat_lt (length s.rules) max_rules) (nat_lt (count_of number s.rules) max_rules_of_one) refl (ap (λ r. r.0) (add_by s seat number rule)) e
   where
     by_tests : (client room few : Bool) → nat_lt (length s.rules) max_rules ≡ room →
         (step s seat (AddMatch number rule)).0 ≡ (if not client then unchanged s Gone else if room && few then announced (with_rule s number rule) Done [] else unchanged s LimitsExceeded).0 →
@@ -80,7 +81,7 @@ add_made s seat number rule e = by_tests (is_client s.connections number) (nat_l
 
 pub add_not_made : (s : BusState) (seat number : ℕ) (rule : Rule) → (reply_to_add s number ≡ Done → ⊥) → (step s seat (AddMatch number rule)).0 ≡ s
 add_not_made s seat number rule other =
-    ap (λ r. r.0) (add_by s seat number rule) ∙ by_tests (is_client s.connections number) (nat_lt (length s.rules) max_rules && nat_lt (rules_of number s.rules) max_rules_of_one) other
+    ap (λ r. r.0) (add_by s seat number rule) ∙ by_tests (is_client s.connections number) (nat_lt (length s.rules) max_rules && nat_lt (count_of number s.rules) max_rules_of_one) other
   where
     by_tests : (client room : Bool) → ((if not client then Gone else if room then Done else LimitsExceeded) ≡ Done → ⊥) →
         (if not client then unchanged s Gone else if room then announced (with_rule s number rule) Done [] else unchanged s LimitsExceeded).0 ≡ s

@@ -10,15 +10,16 @@ use Rattle.match_rules.specs.Fitting.{Heads}
 use Rattle.match_rules.specs.Rules.{Rule}
 use Rattle.seq_bus_core.specs.BusState.{BusState, Connection, client_named, client_of, conn_of, head_of, is_client, is_monitor}
 use Rattle.seq_bus_core.specs.Consistency.{IsConsistent, Pairwise}
-use Rattle.seq_bus_core.specs.Recipients.{all_that_want, conn_at, inserted_conn}
-use Rattle.seq_bus_core.specs.Steps.{Stepped, announced, become_monitor, for_client, monitor_if, rules_without, signals_of_monitor, step, unchanged, with_monitor, without_connection}
+use Rattle.seq_bus_core.specs.Recipients.{all_that_want, conn_at, inserted_conn, conns_that, wants_by, watched, watches_by}
+use Rattle.seq_bus_core.specs.Steps.{Stepped, announced, become_monitor, for_client, monitor_if, signals_of_monitor, step, unchanged, with_monitor, without_connection}
 use Rattle.seq_bus_core.specs.declared.change.Change.TheVariants.{BecomeMonitor}
 use Rattle.seq_bus_core.specs.declared.outcome.Reply.TheVariants.{Gone, Done, AccessDenied}
 use Rattle.seq_bus_core.specs.declared.connection.Conn.{Conn}
 use Rattle.names.specs.BusName.{is_bus, is_unique}
+use Rattle.match_rules.specs.OwnedRules.{rules_without}
 use Rattle.owner_queues.specs.Queues.{queue_head}
 use Rattle.seq_bus_core.specs.BusState.{queue_of}
-use Rattle.registry_core.specs.Listening.{conns_that, stays, wants_by, watched, watches_by}
+use Rattle.registry_core.specs.Listening.{stays}
 use Rattle.registry_core.proofs.ConnectionEntries.{filter_alike}
 use Rattle.registry.specs.Monitors.{is_privileged, reply_to_monitor}
 use Rattle.registry.proofs.LeaveLemmas.{fits_other, none_above}

@@ -2,15 +2,15 @@
 use Rattle.std.specs.Prelude.{ℕ, nat_lt, ◌&&◌, not, length, if◌then◌else◌}
 use Rattle.std.specs.List.{list_any}
 use Rattle.match_rules.specs.Rules.{Rule}
-use Rattle.seq_bus_core.specs.BusState.{BusState, is_client, max_rules, max_rules_of_one, rules_of}
-use Rattle.seq_bus_core.specs.Steps.{is_rule_of}
+use Rattle.match_rules.specs.OwnedRules.{count_of, is_rule_of}
+use Rattle.seq_bus_core.specs.BusState.{BusState, is_client, max_rules, max_rules_of_one}
 use Rattle.seq_bus_core.specs.declared.outcome.Reply.{Reply}
 use Rattle.seq_bus_core.specs.declared.outcome.Reply.TheVariants.{Gone, LimitsExceeded, Done, RuleNotFound}
 
 abbrev pub reply_to_add : BusState → ℕ → Reply
 reply_to_add s number =
     if not (is_client s.connections number) then Gone
-    else if nat_lt (length s.rules) max_rules && nat_lt (rules_of number s.rules) max_rules_of_one then Done
+    else if nat_lt (length s.rules) max_rules && nat_lt (count_of number s.rules) max_rules_of_one then Done
     else LimitsExceeded
 
 abbrev pub reply_to_remove : BusState → ℕ → Rule → Reply

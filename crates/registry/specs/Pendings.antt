@@ -2,13 +2,13 @@
 use Rattle.std.specs.Prelude.{◌≡◌, ℕ, true, Option, Some, None}
 use Rattle.seq_bus_core.specs.BusState.{BusState, is_client}
 use Rattle.seq_bus_core.specs.Steps.{with_connection, with_monitor, without_connection}
-use Rattle.registry.specs.Hellos.{client_at}
+use Rattle.registry_core.specs.ConnectionTables.{newcomer}
 use Rattle.registry.specs.Requests.{requeued}
 use Rattle.registry.specs.declared.after.Pending.{Pending}
 use Rattle.registry.specs.declared.after.Pending.TheVariants.{Joined, Requeued, Left, Becoming}
 
 abbrev pub state_after : Pending → BusState → BusState
-state_after (Joined conn privileged) s = with_connection s (client_at conn privileged)
+state_after (Joined conn privileged) s = with_connection s (newcomer conn privileged)
 state_after (Requeued name queue) s = requeued s name.now queue.now
 state_after (Left connection) s = without_connection s connection
 state_after (Becoming connection rules) s = with_monitor s connection rules.now

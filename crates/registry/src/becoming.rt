@@ -108,7 +108,7 @@ impl Registry {
             Reply::Done => {
                 self.connections.become_monitor(connection, rules);
                 self.names.leave(connection);
-                self.rules.remove_all(connection);
+                self.rules.drop_owner(connection);
             }
             _ => {}
         }

@@ -40,7 +40,7 @@ impl<'a, L: Ledger> Owners for Current<'a, L> {
 
 impl<'a, L: Ledger> Audience for Current<'a, L> {
     ghost use Rattle.std.specs.Prelude.{◌≤◌, ◌+◌, refl};
-    ghost use Rattle.registry_core.specs.Listening.{near_rules};
+    ghost use Rattle.match_index.specs.Near.{near_rules};
 
     type Count = Steps<L>;
 

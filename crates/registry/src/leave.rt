@@ -123,7 +123,7 @@ impl Registry {
         }
         self.connections.leave(connection);
         self.names.leave(connection);
-        self.rules.remove_all(connection);
+        self.rules.drop_owner(connection);
     }
 
     /// The head of a name once a connection has left.

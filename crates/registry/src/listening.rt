@@ -1,16 +1,17 @@
 //! Who listens to a message, where names are owned as others say.
 
 ghost use Rattle.std.specs.Prelude.{◌≡◌, ◌≤◌, ◌+◌, ◌&&◌, true, false, [], length};
-ghost use Rattle.std.specs.List.{list_any};
-ghost use Rattle.match_rules.specs.Fitting.{fits};
+ghost use Rattle.match_index.specs.Near.{near_rules};
 ghost use Rattle.seq_bus_core.specs.BusState.{is_client};
 ghost use Rattle.seq_bus_core.specs.Consistency.{IsConsistent};
 ghost use Rattle.seq_bus_core.specs.Steps.{with_monitor};
-ghost use Rattle.registry_core.specs.Listening.{conns_that, near_rules, stays, wants_by, watched, watches_by};
+ghost use Rattle.seq_bus_core.specs.Recipients.{conns_that, wants_by, watches_by};
+ghost use Rattle.registry_core.specs.Listening.{stays};
 
 use crate::registry::Registry;
 use match_index::Steps;
 use match_rules::{Facts, Owners, Rule};
+use monitor::is_watched;
 use registry_core::listening::{add_all_that_want, add_those_that_want};
 use seq_bus_core::Recipients;
 use std::sync::ledger::Ledger;
@@ -107,20 +108,4 @@ impl Registry {
             None => {}
         }
     }
-}
-
-/// Whether a monitor with these rules is shown a message.
-fn is_watched<O: Owners>(rules: &[Rule], facts: &Facts<'_>, owners: &O) -> bool
-    ensures { result ≡ watched (O.heads owners.now) facts.now rules.now }
-{
-    if rules.is_empty() {
-        return true;
-    }
-    has_fitting(rules, facts, owners)
-}
-
-fn has_fitting<O: Owners>(rules: &[Rule], facts: &Facts<'_>, owners: &O) -> bool
-    ensures { result ≡ list_any (λ r. fits (O.heads owners.now) r facts.now) rules.now }
-{
-    rules.iter().any(|rule| rule.fits(facts, owners))
 }

@@ -61,7 +61,7 @@ impl Registry {
         ensures { self.new ≡ (step self.old seat (AddMatch connection rule.now)).0 }
     {
         match self.reply_to_add(connection) {
-            Reply::Done => self.rules.push(connection, *rule),
+            Reply::Done => self.rules.add(connection, *rule),
             _ => {}
         }
     }

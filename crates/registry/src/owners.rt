@@ -4,7 +4,7 @@ ghost use Rattle.std.specs.Prelude.{◌≡◌, Bool};
 ghost use Rattle.names.specs.BusName.{is_unique};
 ghost use Rattle.seq_bus_core.specs.BusState.{client_named, head_of};
 ghost use Rattle.seq_bus_core.specs.Steps.{with_connection};
-ghost use Rattle.registry.specs.Hellos.{client_at};
+ghost use Rattle.registry_core.specs.ConnectionTables.{newcomer};
 ghost use Rattle.registry.specs.Requests.{requeued};
 
 use crate::registry::Registry;
@@ -52,7 +52,7 @@ impl Registry {
     /// The head of a name once a connection has said Hello.
     pub(crate) fn head_joined(&self, conn: Conn, name: &str) -> Option<u64>
         ensures { (privileged : Bool) → result
-            ≡ head_of (with_connection self.now (client_at conn privileged)) name.now }
+            ≡ head_of (with_connection self.now (newcomer conn privileged)) name.now }
     {
         match self.head(name) {
             Some(number) => Some(number),

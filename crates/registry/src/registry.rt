@@ -1,26 +1,26 @@
 //! The registry.
 
-ghost use Rattle.std.specs.Prelude.{◌≡◌, ◌≤◌, IfOk, List, OnErr, length, is_some, map, option_map};
+ghost use Rattle.std.specs.Prelude.{◌≡◌, ◌≤◌, IfOk, OnErr, length, is_some, map, option_map};
 ghost use Rattle.std.specs.List.{list_any};
+ghost use Rattle.match_rules.specs.OwnedRules.{rules_by};
+ghost use Rattle.match_index.specs.RulesOf.{rules_left};
 ghost use Rattle.monitor.specs.Laws.{monitors_of};
-ghost use Rattle.seq_bus_core.specs.BusState.{AddedRule, connection_of, conn_of, head_of, is_client, is_monitor, queue_of};
+ghost use Rattle.seq_bus_core.specs.BusState.{connection_of, conn_of, head_of, is_client, is_monitor, queue_of};
 ghost use Rattle.seq_bus_core.specs.Consistency.{IsConsistent, IsWithinLimits};
 ghost use Rattle.seq_bus_core.specs.Histories.{CanOpen, max_services, opening};
 ghost use Rattle.seq_bus_core.specs.Steps.{step};
-ghost use Rattle.registry_core.specs.Listening.{connection_of_entry};
+ghost use Rattle.registry_core.specs.ConnectionTables.{entry_of};
 ghost use Rattle.registry_core.specs.NameTables.{owned_name};
-ghost use Rattle.registry_core.specs.RulesOf.{rules_by, rules_left};
 ghost use Rattle.registry.specs.PreparedChanges.{prepared_on};
 
 use crate::prepared::{Act, Prepared};
 use crate::services::ServiceTable;
+use match_index::{Index, RulesOf};
 use match_rules::Owners;
 use monitor::Monitor;
 use names::{BusName, WellKnown};
 use owner_queues::{Profile, Queue, QueuedOwner};
-use registry_core::{
-    ConnectionEntry, ConnectionTable, NameEntry, NameTable, RuleTable, RulesOf, StartTable,
-};
+use registry_core::{ConnectionEntry, ConnectionTable, NameEntry, NameTable, StartTable};
 use seq_bus_core::{Change, Conn};
 use std::alloc::{AllocError, Global};
 use std::marker::Model;
@@ -37,7 +37,7 @@ pub struct Registry {
     /// By rising number.
     pub(crate) connections: ConnectionTable,
     pub(crate) names: NameTable,
-    pub(crate) rules: RuleTable,
+    pub(crate) rules: Index,
     pub(crate) starts: StartTable,
     pub(crate) next_number: u64,
     pub(crate) next_ticket: u64,
@@ -80,7 +80,7 @@ impl Registry {
             services: ServiceTable::new(alloc, services)?,
             connections: ConnectionTable::new(alloc)?,
             names: NameTable::new(alloc)?,
-            rules: RuleTable::new(alloc)?,
+            rules: Index::new(alloc)?,
             starts: StartTable::new(alloc)?,
             next_number: 1,
             next_ticket: 1,
@@ -282,8 +282,7 @@ impl Registry {
 
     /// The connections, by rising number.
     pub fn connections(&self) -> &[ConnectionEntry]
-        ensures { (rules : List AddedRule) × (map (connection_of_entry rules) result.now
-            ≡ self.now.connections) }
+        ensures { result.now ≡ map entry_of self.now.connections }
     {
         self.connections.as_slice()
     }

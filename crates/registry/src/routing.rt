@@ -1,7 +1,7 @@
 //! Where messages go. (D-Bus Specification: "Message Bus Message Routing")
 
 ghost use Rattle.std.specs.Prelude.{◌≡◌, ◌≤◌, ◌<◌, ◌+◌, [], Some, option_to_list};
-ghost use Rattle.registry_core.specs.Listening.{near_rules};
+ghost use Rattle.match_index.specs.Near.{near_rules};
 ghost use Rattle.seq_bus_core.specs.BusState.{is_service};
 ghost use Rattle.seq_bus_core.specs.Consistency.{IsConsistent};
 ghost use Rattle.seq_bus_core.specs.Recipients.{recipients, conn_at, verdict, verdict_of};

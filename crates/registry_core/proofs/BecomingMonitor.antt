@@ -16,9 +16,8 @@ use Rattle.registry_core.specs.Listening.{Rising}
 use Rattle.registry_core.specs.ConnectionTables.{rules_among, connection_in, connections_in, those_without, Ascending, AreEntries}
 use Rattle.registry_core.specs.declared.connection_entry.ConnectionEntry.{ConnectionEntry}
 use Rattle.registry_core.proofs.ConnectionTableLemmas.{other_rules, same_connection, left_monitors, few_monitors, few_others, rising_entries}
-use Rattle.registry_core.proofs.ConnectionEntries.{found_at, found_nowhere}
+use Rattle.registry_core.proofs.ConnectionEntries.{found_at, found_nowhere, find-map}
 use Rattle.match_index.proofs.Lists.{first_place, position_is}
-use Rattle.registry_core.proofs.Places.{find-map}
 
 abbrev pub marked : ℕ → ConnectionEntry → ConnectionEntry
 marked number m = record m { is_monitor = (m.conn.number == number) || m.is_monitor }

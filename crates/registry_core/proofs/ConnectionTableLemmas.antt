@@ -5,20 +5,17 @@ use Rattle.std.specs.Option.{option_map_or}
 use Rattle.std.proofs.lemmas.Bool.Decides.{nat_tests}
 use Rattle.std.proofs.lemmas.Grind.{flat_map-append}
 use Rattle.std.proofs.lemmas.List.{map-append, length_push}
-use Rattle.match_rules.specs.Facts.{Facts}
-use Rattle.match_rules.specs.Fitting.{Heads, fits}
 use Rattle.match_rules.specs.Rules.{Rule}
 use Rattle.monitor.specs.Laws.{as_monitor, monitors_of}
-use Rattle.monitor.specs.Monitors.{Monitor, conns_shown, without}
+use Rattle.monitor.specs.Monitors.{Monitor, without}
 use Rattle.seq_bus_core.specs.BusState.{Connection, conn_of, is_client, is_monitor, max_connections}
 use Rattle.seq_bus_core.specs.declared.connection.Conn.{Conn}
 use Rattle.seq_bus_core.proofs.Lists.{each_weaker, none_any, pairs_filter, pairs_push}
-use Rattle.registry_core.specs.Listening.{conns_that, watches_by, Rising}
+use Rattle.registry_core.specs.Listening.{Rising}
 use Rattle.registry_core.specs.ConnectionTables.{rules_among, connection_in, connections_in, entry_of, newcomer, those_without, Ascending, AreEntries}
 use Rattle.registry_core.specs.declared.connection_entry.ConnectionEntry.{ConnectionEntry}
-use Rattle.registry_core.proofs.ConnectionEntries.{found_at, found_nowhere}
-use Rattle.match_index.proofs.Lists.{first_place}
-use Rattle.registry_core.proofs.Places.{find-map}
+use Rattle.registry_core.proofs.ConnectionEntries.{found_at, found_nowhere, find-map}
+use Rattle.match_index.proofs.Lists.{first_place, pairs_mapped}
 
 -- ## ConnectionEntries and connections
 
@@ -33,13 +30,8 @@ pub entries_again : (monitors : List Monitor) (ms : List ConnectionEntry) → ma
 entries_again monitors [] = refl
 entries_again monitors (m ∷ ms) = ap (λ n. n ∷ map entry_of (connections_in monitors ms)) (entry_again monitors m) ∙ ap (λ ns. m ∷ ns) (entries_again monitors ms)
 
-each_of : (monitors : List Monitor) (n : ℕ) (ms : List ConnectionEntry) → Each (λ c. n < c.number) (connections_in monitors ms) → Each (λ m. n < m.conn.number) ms
-each_of monitors n [] h = tt
-each_of monitors n (m ∷ ms) h = (h.0, each_of monitors n ms h.1)
-
 pub rising_entries : (monitors : List Monitor) (ms : List ConnectionEntry) → Ascending (connections_in monitors ms) → Rising ms
-rising_entries monitors [] h = tt
-rising_entries monitors (m ∷ ms) h = (each_of monitors m.conn.number ms h.0, rising_entries monitors ms h.1)
+rising_entries monitors ms h = pairs_mapped (λ a b. a.number < b.number) (connection_in monitors) ms h
 
 -- ## The connection of a number
 
@@ -99,21 +91,6 @@ any_monitor (c ∷ cs) = by_monitor c.monitor (any_monitor cs)
         not (length (monitors_of (record c { monitor = o } ∷ cs)) == 0) ≡ list_any is_monitor (record c { monitor = o } ∷ cs)
     by_monitor None others = others
     by_monitor (Some rules) others = ap not (some_monitors (length (monitors_of cs)))
-
-pub shown_in : (heads : Heads) (facts : Facts) (cs : List Connection) → conns_shown heads facts (monitors_of cs) ≡ conns_that (watches_by heads facts) cs
-shown_in heads facts [] = refl
-shown_in heads facts (c ∷ cs) = by_monitor c.monitor (shown_in heads facts cs)
-  where
-    by_monitor : (o : Option (List Rule)) → conns_shown heads facts (monitors_of cs) ≡ conns_that (watches_by heads facts) cs →
-        conns_shown heads facts (monitors_of (record c { monitor = o } ∷ cs)) ≡ conns_that (watches_by heads facts) (record c { monitor = o } ∷ cs)
-    by_monitor None others = others
-    by_monitor (Some []) others = ap (λ conns. conn_of c ∷ conns) others
-    by_monitor (Some (rule ∷ rules)) others = by_test (list_any (λ r. fits heads r facts) (rule ∷ rules)) refl
-      where
-        by_test : (b : Bool) → list_any (λ r. fits heads r facts) (rule ∷ rules) ≡ b →
-            conns_shown heads facts (monitors_of (record c { monitor = Some (rule ∷ rules) } ∷ cs)) ≡ conns_that (watches_by heads facts) (record c { monitor = Some (rule ∷ rules) } ∷ cs)
-        by_test true is = rw (some_monitors (length rules), is) (ap (λ conns. conn_of c ∷ conns) others)
-        by_test false is = rw (some_monitors (length rules), is) others
 
 pub few_monitors : (cs : List Connection) → length (monitors_of cs) ≤ length cs
 few_monitors [] = omega arith

@@ -6,7 +6,7 @@ use Rattle.std.proofs.lemmas.Bool.{eq-eqb, eqb-true}
 use Rattle.std.proofs.lemmas.List.Sums.{sum_by-cons, sum_by-remove}
 use Rattle.names.specs.Texts.{Text, text_eq, text_lt}
 use Rattle.seq_bus_core.proofs.TextLemmas.{text_lt-trans, text_eq-true, text_lt-back, text_lt-other}
-use Rattle.match_index.specs.PlaceIndexes.{Pairwise, places_in, places_of}
+use Rattle.match_index.specs.PlaceIndexes.{places_of}
 use Rattle.match_index.specs.declared.place_index.KeyedPlace.{KeyedPlace}
 use Rattle.match_index.proofs.Lists.{each_weaker, pairs_inserted, pairs_removed, first_place, position_is}
 use Rattle.registry_core.specs.NameIndexes.{held, name_at, AreByName, AreSorted}
@@ -20,25 +20,6 @@ before_too a b name not_below below = by_test (text_eq a b) refl
     by_test : (t : Bool) → text_eq a b ≡ t → text_lt a name ≡ true
     by_test true same = subst (λ t. text_lt t name ≡ true) (sym (text_eq-true a b same)) below
     by_test false other = text_lt-trans a b name (text_lt-other b a not_below other) below
-
-each_place : (P : ℕ → Type 0) (ps : List KeyedPlace) → Each P (places_in ps) → Each (λ p. P p.place) ps
-each_place P [] h = tt
-each_place P (p ∷ ps) h = (h.0, each_place P ps h.1)
-
-pub pairs_of_places : (R : ℕ → ℕ → Type 0) (ps : List KeyedPlace) → Pairwise R (places_in ps) → Pairwise (λ a b. R a.place b.place) ps
-pairs_of_places R [] h = tt
-pairs_of_places R (p ∷ ps) h = (each_place (R p.place) ps h.0, pairs_of_places R ps h.1)
-
-pub before_number : (P : ℕ → Type 0) (ps : List KeyedPlace) (n : ℕ) → Each (λ p. P p.place) (take n ps) → Each P (take n (places_in ps))
-before_number P ps zero h = tt
-before_number P [] (suc n) h = tt
-before_number P (p ∷ ps) (suc n) h = (h.0, before_number P ps n h.1)
-
-pub behind_number : (P : ℕ → Type 0) (ps : List KeyedPlace) (n : ℕ) → Each (λ p. P p.place) (drop n ps) → Each P (drop n (places_in ps))
-behind_number P [] zero h = tt
-behind_number P [] (suc n) h = tt
-behind_number P (p ∷ ps) zero h = (h.0, behind_number P ps zero h.1)
-behind_number P (p ∷ ps) (suc n) h = behind_number P ps n h
 
 -- ## The order
 

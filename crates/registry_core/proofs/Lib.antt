@@ -1,7 +1,6 @@
-pub mod Places
 pub mod CountLemmas
 pub mod NameTableLemmas
-pub mod AddedRules
+pub mod RuleOwners
 pub mod ConnectionEntries
 pub mod IndexLemmas
 pub mod TableIndex

@@ -1,7 +1,7 @@
 -- Names by rising bytes, and the place of one of them.
 use Rattle.std.proofs.Common.{inl, inr, Ordering, Result, Ok, Err, ◌≡◌, ℕ, zero, suc, ◌+◌, ◌-◌, ◌<◌, ◌≤◌, nat_le, ◌&&◌, not, true, false, cond, if◌then◌else◌, List, [], ◌∷◌, ◌++◌, map, filter, length, take, drop, insert, remove, get_or, refl, sym, ap, ◌∙◌, subst, arith, append_assoc, append-nil}
-use Rattle.std.specs.List.{AllByRecursion as Each, AllWithin, sum_by}
-use Rattle.std.specs.List.Sorted.{IsBinarySearchResult, IsNonDecreasingBy, IsPartitionedBy, IsSearchInRange}
+use Rattle.std.specs.List.{AllByRecursion as Each, sum_by}
+use Rattle.std.specs.List.Sorted.{IsBinarySearchResult, IsNonDecreasingBy, IsSearchInRange}
 use Rattle.std.specs.Ordering.{nat_cmp, is_lt, ordering_index, ordering_reverse}
 use Rattle.std.specs.declared.cmp.Ordering.TheVariants.{Less, Equal, Greater}
 use Rattle.std.specs.Cmp.Lexicographic.{slice_cmp}
@@ -22,35 +22,10 @@ use Rattle.seq_bus_core.proofs.Lists.{each_always, each_passing}
 use Rattle.seq_bus_core.proofs.TextLemmas.{text_lt-trans, text_eq-true, text_eq-swapped, text_eq-tied, text_lt-itself, text_lt-back, text_lt-differs}
 use Rattle.registry_core.specs.NameTables.{NamesRise, AreOwned, AreInTable, IsAt, WouldStand, SearchGives, are_within}
 use Rattle.registry_core.proofs.CountLemmas.{one_if_in, left_length}
-use Rattle.match_index.proofs.Lists.{each_at as each_passed}
+use Rattle.match_index.proofs.Lists.{before_place, behind_place, dropped_mapped, each_at, each_mapped, taken_mapped}
 
 abbrev pub Below : OwnedName → OwnedName → Type 0
 Below a b = text_lt a.name b.name ≡ true
-
--- ## The search
-
-each_at : {X : Type 0} (f : X → OwnedName) (P : OwnedName → Type 0) (xs : List X) (k : ℕ) (d : X) → Each P (map f xs) → k < length xs → P (f (get_or xs k d))
-each_at f P [] k d h lt = absurd (omega (arith, lt))
-each_at f P (x ∷ xs) zero d h lt = h.0
-each_at f P (x ∷ xs) (suc k) d h lt = each_at f P xs k d h.1 (omega (arith, lt))
-
-pub partitioned : {X : Type 0} (f : X → OwnedName) (name : Text) (xs : List X) → NamesRise (map f xs) → IsPartitionedBy (λ x. text_lt (f x).name name) xs
-partitioned f name [] h i j d le lt passes = absurd (omega (arith, lt))
-partitioned f name (x ∷ xs) h zero zero d le lt passes = passes
-partitioned f name (x ∷ xs) h zero (suc j) d le lt passes = text_lt-trans (f x).name (f (get_or xs j d)).name name (each_at f (Below (f x)) xs j d h.0 (omega (arith, lt))) passes
-partitioned f name (x ∷ xs) h (suc i) zero d le lt passes = absurd (omega (arith, le))
-partitioned f name (x ∷ xs) h (suc i) (suc j) d le lt passes = partitioned f name xs h.1 i j d (omega (arith, le)) (omega (arith, lt)) passes
-
-pub before_place : {X : Type 0} (f : X → OwnedName) (P : OwnedName → Type 0) (xs : List X) (i : ℕ) → i ≤ length xs → AllWithin (λ x. P (f x)) xs 0 i → Each P (take i (map f xs))
-before_place f P xs zero le h = tt
-before_place f P [] (suc i) le h = tt
-before_place f P (x ∷ xs) (suc i) le h = (h 0 x (omega arith) (omega arith), before_place f P xs i (omega (arith, le)) (λ k d low high. h (suc k) d (omega arith) (omega (arith, high))))
-
-pub behind_place : {X : Type 0} (f : X → OwnedName) (P : OwnedName → Type 0) (xs : List X) (i : ℕ) → AllWithin (λ x. P (f x)) xs i (length xs) → Each P (drop i (map f xs))
-behind_place f P [] zero h = tt
-behind_place f P [] (suc i) h = tt
-behind_place f P (x ∷ xs) zero h = (h 0 x (omega arith) (omega arith), behind_place f P xs zero (λ k d low high. h (suc k) d (omega arith) (omega (arith, high))))
-behind_place f P (x ∷ xs) (suc i) h = behind_place f P xs i (λ k d low high. h (suc k) d (omega (arith, low)) (omega (arith, high)))
 
 -- ## Names before and behind another
 
@@ -151,7 +126,7 @@ compares_lower a b name lower = by_order (slice_cmp nat_cmp a name) (slice_cmp n
 compared_rise : {X : Type 0} (f : X → OwnedName) (name : Text) (xs : List X) → NamesRise (map f xs) → IsNonDecreasingBy (λ x. ordering_index (slice_cmp nat_cmp (f x).name name)) xs
 compared_rise f name [] h i j d le lt = absurd (omega (arith, lt))
 compared_rise f name (x ∷ xs) h zero zero d le lt = omega arith
-compared_rise f name (x ∷ xs) h zero (suc j) d le lt = compares_lower (f x).name (f (get_or xs j d)).name name (each_at f (Below (f x)) xs j d h.0 (omega (arith, lt)))
+compared_rise f name (x ∷ xs) h zero (suc j) d le lt = compares_lower (f x).name (f (get_or xs j d)).name name (each_at (λ y. Below (f x) (f y)) xs j d (each_mapped (Below (f x)) f xs h.0) (omega (arith, lt)))
 compared_rise f name (x ∷ xs) h (suc i) zero d le lt = absurd (omega (arith, le))
 compared_rise f name (x ∷ xs) h (suc i) (suc j) d le lt = compared_rise f name xs h.1 i j d (omega (arith, le)) (omega (arith, lt))
 
@@ -178,8 +153,8 @@ searched {X} f name xs (Ok i) rise there equal =
     one_of (x ∷ xs) i lt = x
 searched f name xs (Err i) rise there parted =
     let sides = parted (compared_rise f name xs rise) in
-    let below = before_place f (λ n. text_lt n.name name ≡ true) xs i there (λ k d low high. ap is_lt (sides.0 k d low high)) in
-    let above = behind_place f (λ n. text_lt name n.name ≡ true) xs i (λ k d low high. text_lt-greater (f (get_or xs k d)).name name (sides.1 k d low high)) in
+    let below = taken_mapped (λ n. text_lt n.name name ≡ true) f xs i (before_place (λ x. text_lt (f x).name name ≡ true) xs i there (λ k d low high. ap is_lt (sides.0 k d low high))) in
+    let above = dropped_mapped (λ n. text_lt name n.name ≡ true) f xs i (behind_place (λ x. text_lt name (f x).name ≡ true) xs i (λ k d low high. text_lt-greater (f (get_or xs k d)).name name (sides.1 k d low high))) in
     stands (map f xs) (take i (map f xs)) (drop i (map f xs)) name i (sym (take-append-drop i (map f xs))) (length-take-le i (map f xs) (omega (arith, there, length-map xs f))) below above
 
 -- ## Edits
@@ -558,7 +533,7 @@ nth_waits c n place names d lt same =
     let its : List OwnedName = filter (λ m. is_in c m.queue) names in
     let all : Each (λ m. is_in c m.queue ≡ true) its = each_passing (λ m. Unit {0}) (λ m. is_in c m.queue ≡ true) (λ m. is_in c m.queue) (λ m h passes. passes) names (each_always (λ m. Unit {0}) (λ m. tt) names) in
     let less : n < length its = omega (arith, lt, length-filter (λ (m : OwnedName). is_in c m.queue) names) in
-    ap (λ (m : OwnedName). is_in c m.queue) same ∙ each_passed (λ m. is_in c m.queue ≡ true) its n d all less
+    ap (λ (m : OwnedName). is_in c m.queue) same ∙ each_at (λ m. is_in c m.queue ≡ true) its n d all less
 
 pub between_at : (front back : List OwnedName) (n d : OwnedName) (i : ℕ) → length front ≡ i → get_or (front ++ n ∷ back) i d ≡ n
 between_at [] back n d i is = let none : 0 ≡ i = is in rw (← none) refl

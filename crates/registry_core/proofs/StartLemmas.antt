@@ -5,8 +5,8 @@ use Rattle.std.proofs.lemmas.Bool.{cases_Bool, cond_both, true≢false}
 use Rattle.std.proofs.lemmas.List.Sums.{sum_by-append, sum_by-cons}
 use Rattle.std.proofs.lemmas.List.{length_push}
 use Rattle.names.specs.Texts.{Text, text_eq}
+use Rattle.match_rules.specs.Lists.{Pairwise}
 use Rattle.seq_bus_core.specs.BusState.{RunningStart, tickets_in}
-use Rattle.seq_bus_core.specs.Consistency.{Pairwise}
 use Rattle.seq_bus_core.specs.Steps.{settled, waiting_if}
 use Rattle.seq_bus_core.specs.declared.ticket.Fate.{Fate}
 use Rattle.seq_bus_core.specs.declared.ticket.SettledNumber.{SettledNumber}

@@ -6,11 +6,12 @@ use Rattle.std.proofs.lemmas.Bool.{true≢false, eq-eqb, eqb-true, ne_eqb}
 use Rattle.std.proofs.lemmas.Bool.Decides.{nat_tests}
 use Rattle.std.proofs.lemmas.List.Sums.{sum_by-cons, sum_by-append, sum_by-set, sum_by-insert, sum_by-remove, sum_by-le-sum_by, get_or-le-sum_by}
 use Rattle.names.specs.Texts.{Text, text_lt}
+use Rattle.match_rules.specs.Lists.{Pairwise}
 use Rattle.owner_queues.specs.Queues.{is_in}
 use Rattle.seq_bus_core.specs.BusState.{OwnedName, names_of, max_names}
 use Rattle.seq_bus_core.proofs.Lists.{each_weaker}
 use Rattle.seq_bus_core.proofs.TextLemmas.{text_lt-itself}
-use Rattle.match_index.specs.PlaceIndexes.{Pairwise, places_of}
+use Rattle.match_index.specs.PlaceIndexes.{places_of}
 use Rattle.match_index.proofs.Lists.{each_at, each_inserted, each_removed}
 use Rattle.registry_core.specs.NameIndexes.{IndexedNames, held, name_at, AreSorted}
 use Rattle.registry_core.specs.NameTables.{owned_name, NamesRise, Entry, numbered, waits_here, AreIndexed}

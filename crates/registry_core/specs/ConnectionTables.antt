@@ -1,10 +1,10 @@
 -- Tables of connections, of which some are monitors.
 use Rattle.std.specs.Prelude.{◌≡◌, ◌==◌, ℕ, ◌<◌, ◌≤◌, Bool, Some, None, List, [], ◌∷◌, map, filter, length, not, if◌then◌else◌}
 use Rattle.match_rules.specs.Rules.{Rule}
+use Rattle.match_rules.specs.Lists.{Pairwise}
 use Rattle.monitor.specs.Laws.{monitors_of}
 use Rattle.monitor.specs.Monitors.{Monitor}
 use Rattle.seq_bus_core.specs.BusState.{Connection, conn_of, is_monitor, max_connections}
-use Rattle.seq_bus_core.specs.Consistency.{Pairwise}
 use Rattle.seq_bus_core.specs.declared.connection.Conn.{Conn}
 use Rattle.registry_core.specs.declared.connection_entry.ConnectionEntry.{ConnectionEntry}
 

@@ -1,8 +1,9 @@
 -- Which names each connection owns or waits for.
 use Rattle.std.specs.Prelude.{◌≡◌, ◌==◌, ℕ, false, List, [], length, get_or, count_by}
 use Rattle.names.specs.Texts.{Text, text_lt}
+use Rattle.match_rules.specs.Lists.{Pairwise}
 use Rattle.seq_bus_core.specs.BusState.{max_names, max_queued}
-use Rattle.match_index.specs.PlaceIndexes.{Pairwise, places_of}
+use Rattle.match_index.specs.PlaceIndexes.{places_of}
 use Rattle.match_index.specs.declared.place_index.KeyedPlace.{KeyedPlace}
 
 -- the numbers of names by the connections in their queues, and the names by their numbers

@@ -3,9 +3,9 @@ use Rattle.std.specs.Prelude.{◌≡◌, ◌==◌, ℕ, ◌+◌, ◌≤◌, nat_
 use Rattle.std.specs.List.{AllByRecursion}
 use Rattle.std.specs.Global.{Global}
 use Rattle.names.specs.Texts.{Text, text_lt}
+use Rattle.match_rules.specs.Lists.{Pairwise}
 use Rattle.owner_queues.specs.Queues.{Queue, is_free, is_in}
 use Rattle.seq_bus_core.specs.BusState.{OwnedName, queue_of, queued_in, names_of, max_names, max_queued, max_names_of_one}
-use Rattle.seq_bus_core.specs.Consistency.{Pairwise}
 use Rattle.registry_core.specs.declared.name_table.NameEntry.{NameEntry}
 use Rattle.registry_core.specs.NameIndexes.{IndexedNames, held, name_at}
 

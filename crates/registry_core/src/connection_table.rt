@@ -7,7 +7,7 @@ ghost use Rattle.std.specs.Option.{option_map_or};
 ghost use Rattle.monitor.specs.Laws.{monitors_of};
 ghost use Rattle.seq_bus_core.specs.BusState.{conn_of, is_client, is_monitor};
 ghost use Rattle.seq_bus_core.specs.Steps.{monitor_if};
-ghost use Rattle.registry_core.specs.Listening.{conns_that, watches_by};
+ghost use Rattle.seq_bus_core.specs.Recipients.{conns_that, watches_by};
 ghost use Rattle.registry_core.specs.ConnectionTables.{entry_of, newcomer, those_without};
 
 use crate::connection_entry::{ConnectionEntry, find_place};

@@ -1,28 +1,28 @@
 //! The tables of the registry, and who listens to a message.
 //!
 //! A [`ConnectionTable`] holds the connections of a bus, monitors among them, a [`NameTable`] the
-//! names that have an owner, with their queues, a [`RuleTable`] the match rules that connections
-//! added, in an index, and a [`StartTable`] the starts of services that run, with the calls that
-//! wait for them. All room is made with a table. [`listening`] finds those connections that a
-//! message is for by its facts. Where the heads of names are asked for, any `Owners` will do: those
-//! of the bus as it is, or as it will be after a change.
+//! names that have an owner, with their queues, and a [`StartTable`] the starts of services that
+//! run, with the calls that wait for them. All room is made with a table. [`listening`] finds those
+//! connections that a message is for by its facts, with the index of the match rules that
+//! connections added. Where the heads of names are asked for, any `Owners` will do: those of the
+//! bus as it is, or as it will be after a change.
 //!
 //! ```
+//! use match_index::Index;
 //! use match_rules::Rule;
-//! use registry_core::{ConnectionTable, RuleTable};
-//! use seq_bus_core::limits::MAX_RULES;
+//! use registry_core::ConnectionTable;
 //!
 //! /// Adds a match rule of a client, where there is such a client and room for the rule.
 //! fn add_rule(
 //!     connections: &ConnectionTable,
-//!     rules: &mut RuleTable,
+//!     rules: &mut Index,
 //!     number: u64,
 //!     rule: Rule,
 //! ) -> bool {
-//!     if !connections.is_client(number) || rules.len() >= MAX_RULES {
+//!     if !connections.is_client(number) || !rules.has_room() {
 //!         return false;
 //!     }
-//!     rules.push(number, rule);
+//!     rules.add(number, rule);
 //!     rules.contains(number, &rule)
 //! }
 //! ```
@@ -33,12 +33,9 @@ mod connection_table;
 pub mod listening;
 mod name_index;
 mod name_table;
-mod rule_table;
 mod start_table;
 
 pub use connection_entry::{ConnectionEntry, find_place, number_of};
 pub use connection_table::ConnectionTable;
-pub use match_index::RulesOf;
 pub use name_table::{NameEntry, NameTable};
-pub use rule_table::RuleTable;
 pub use start_table::{StartTable, WaitingTicket};

@@ -3,11 +3,11 @@
 ghost use Rattle.std.specs.Prelude.{◌≡◌, ◌≤◌, ◌+◌, ◌&&◌, true, not, [], length, map, filter};
 ghost use Rattle.std.specs.List.{AllByRecursion};
 ghost use Rattle.match_index.specs.Sets.{is_in};
-ghost use Rattle.registry_core.specs.Listening.{has_number, entry_wants, near_rules, stays, Rising};
+ghost use Rattle.match_index.specs.Near.{near_rules};
+ghost use Rattle.registry_core.specs.Listening.{has_number, entry_wants, stays, Rising};
 
 use crate::connection_entry::ConnectionEntry;
-use crate::rule_table::RuleTable;
-use match_index::{ConnSet, Steps};
+use match_index::{ConnSet, Index, Steps};
 use match_rules::{Facts, Owners};
 use seq_bus_core::Recipients;
 use seq_bus_core::limits::MAX_CONNECTIONS;
@@ -17,7 +17,7 @@ use std::sync::ledger::Ledger;
 /// message. A connection that leaves is not among them.
 pub fn add_those_that_want<O: Owners>(
     entries: &[ConnectionEntry],
-    rules: &RuleTable,
+    rules: &Index,
     facts: &Facts<'_>,
     owners: &O,
     leaver: Option<u64>,
@@ -31,14 +31,14 @@ pub fn add_those_that_want<O: Owners>(
         && entry_wants (O.heads owners.now) rules.now facts.now m) entries.now) }
 {
     let mut found = ConnSet::new();
-    rules.index().gather(facts, owners, &mut found);
+    rules.gather(facts, owners, &mut found);
     add_found(entries, &found, leaver, to);
 }
 
 /// The same where nobody leaves, and each rule that is tested is a step.
 pub fn add_all_that_want<O: Owners, L: Ledger>(
     entries: &[ConnectionEntry],
-    rules: &RuleTable,
+    rules: &Index,
     facts: &Facts<'_>,
     owners: &O,
     to: &mut Recipients,
@@ -53,7 +53,7 @@ pub fn add_all_that_want<O: Owners, L: Ledger>(
     ensures cost { steps.new ≤ steps.old + near_rules facts.now rules.now }
 {
     let mut found = ConnSet::new();
-    rules.index().collect(facts, owners, &mut found, steps);
+    rules.collect(facts, owners, &mut found, steps);
     add_found(entries, &found, None, to);
 }
 

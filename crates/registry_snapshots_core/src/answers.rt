@@ -2,6 +2,9 @@
 
 ghost use Rattle.std.specs.List.{list_any};
 ghost use Rattle.std.specs.Prelude.{◌≡◌, ◌≤◌, ◌+◌, is_some, map, option_map, IfOk, IfErr, OnErr};
+ghost use Rattle.match_rules.specs.OwnedRules.{rules_by};
+ghost use Rattle.match_index.specs.Near.{near_rules};
+ghost use Rattle.match_index.specs.RulesOf.{rules_left};
 ghost use Rattle.bus_view.specs.Bodies.{Answers};
 ghost use Rattle.bus_view.specs.declared.answer.AskFault.TheVariants.{NoMemory as AskNoMemory};
 ghost use Rattle.monitor.specs.Laws.{monitors_of};
@@ -9,18 +12,16 @@ ghost use Rattle.seq_bus_core.specs.Answers.{answer};
 ghost use Rattle.seq_bus_core.specs.BusState.{connection_of, conn_of, head_of, is_monitor, queue_of};
 ghost use Rattle.seq_bus_core.specs.Consistency.{IsConsistent, IsWithinLimits};
 ghost use Rattle.seq_bus_core.specs.Recipients.{recipients};
-ghost use Rattle.registry_core.specs.Listening.{near_rules};
 ghost use Rattle.registry_core.specs.NameTables.{owned_name};
-ghost use Rattle.registry_core.specs.RulesOf.{rules_by, rules_left};
 
 use crate::snap::Snap;
 use bus_view::{AskFault, Asked};
-use match_index::Steps;
+use match_index::{RulesOf, Steps};
 use match_rules::Facts;
 use monitor::Monitor;
 use names::BusName;
 use owner_queues::QueuedOwner;
-use registry_core::{NameEntry, RulesOf};
+use registry_core::NameEntry;
 use seq_bus_core::{Conn, Query, Verdict};
 use std::sync::ledger::Ledger;
 

@@ -3,10 +3,11 @@ use Rattle.std.proofs.Common.{◌≡◌, ℕ, Bool, true, false, Option, Some, N
 use Rattle.std.specs.List.{AllByRecursion, list_any}
 use Rattle.seq_bus_core.specs.Batches.{outcomes_of}
 use Rattle.seq_bus_core.specs.BusState.{BusState, Connection, client_of}
-use Rattle.seq_bus_core.specs.Steps.{Stepped, step, for_client, add_match, remove_match, is_within_rules, is_rule_of, with_rule}
+use Rattle.seq_bus_core.specs.Steps.{Stepped, step, for_client, add_match, remove_match, is_within_rules, with_rule}
 use Rattle.seq_bus_core.specs.Tickets.{WholeBus, bus_after, bus_step, settled_tickets}
 use Rattle.seq_bus_core.specs.declared.outcome.Outcome.{Outcome}
 use Rattle.match_rules.specs.Rules.{Rule}
+use Rattle.match_rules.specs.OwnedRules.{is_rule_of}
 use Rattle.bus_view.specs.Views.{Knowledge, IsChanged}
 use Rattle.router_core.specs.Together.{change_of_joint, change_of_rule}
 use Rattle.router_core.specs.declared.joint.Joint.{Joint}

@@ -5,13 +5,14 @@ use Rattle.std.proofs.lemmas.Bool.{and_from, cond_both, eqb-false, false_from_ne
 use Rattle.std.proofs.lemmas.List.Folds.{list_any-append}
 use Rattle.names.specs.Texts.{Text, text_eq}
 use Rattle.match_rules.specs.Rules.{Rule}
+use Rattle.match_rules.specs.OwnedRules.{OwnedRule, rules_without, without_first}
 use Rattle.owner_queues.specs.Queues.{Queue, IsQueue, requested, released}
 use Rattle.owner_queues.specs.declared.owner.QueuedOwner.{QueuedOwner}
 use Rattle.owner_queues.specs.declared.request.RequestFlags.{RequestFlags}
 use Rattle.owner_queues.proofs.QueueLemmas.{all-without}
 use Rattle.owner_queues.proofs.QueueLaws.{requests_keep, requests_add, releases_take}
-use Rattle.seq_bus_core.specs.BusState.{BusState, Connection, OwnedName, AddedRule, RunningStart, is_client, queue_of, with_queue, start_of}
-use Rattle.seq_bus_core.specs.Steps.{is_reserved, is_taken, with_connection, without_connection, rules_without, with_owned, without_first, monitor_if, with_monitor, waiting_if, wait_with_start, step}
+use Rattle.seq_bus_core.specs.BusState.{BusState, Connection, OwnedName, RunningStart, is_client, queue_of, with_queue, start_of}
+use Rattle.seq_bus_core.specs.Steps.{is_reserved, is_taken, with_connection, without_connection, with_owned, monitor_if, with_monitor, waiting_if, wait_with_start, step}
 use Rattle.seq_bus_core.specs.Histories.{History, opening, after}
 use Rattle.seq_bus_core.specs.Consistency.{IsGiven, IsOwned, IsRunning, ShareNoTicket, IsConsistent}
 use Rattle.seq_bus_core.specs.Laws.{StepsKeepConsistency, BusesAreConsistent}
@@ -53,7 +54,7 @@ after_hello s h c numbered free = record {
 }
 
 -- what a connection gives up when it leaves or becomes a monitor
-rules_of_others : (c : ℕ) (before after : List Connection) → ((m : ℕ) → nat_eq m c ≡ false → is_client before m ≡ true → is_client after m ≡ true) → (rules : List AddedRule) → Each (λ r. is_client before r.connection ≡ true) rules → Each (λ r. is_client after r.connection ≡ true) (rules_without c rules)
+rules_of_others : (c : ℕ) (before after : List Connection) → ((m : ℕ) → nat_eq m c ≡ false → is_client before m ≡ true → is_client after m ≡ true) → (rules : List OwnedRule) → Each (λ r. is_client before r.connection ≡ true) rules → Each (λ r. is_client after r.connection ≡ true) (rules_without c rules)
 rules_of_others c before after stay rules h =
     each_passing (λ r. is_client before r.connection ≡ true) (λ r. is_client after r.connection ≡ true) (λ r. not (nat_eq r.connection c))
     (λ r is keeps. stay r.connection (not-true (nat_eq r.connection c) keeps) is) rules h
@@ -199,11 +200,11 @@ after_release s h c name free =
 
 -- ## Rules
 
-each_without_first : (P : AddedRule → Type 0) (test : AddedRule → Bool) (rules : List AddedRule) → Each P rules → Each P (without_first test rules)
+each_without_first : (P : OwnedRule → Type 0) (test : OwnedRule → Bool) (rules : List OwnedRule) → Each P rules → Each P (without_first test rules)
 each_without_first P test [] h = tt
 each_without_first P test (r ∷ rs) h = cond_both (test r) rs (r ∷ without_first test rs) (Each P) (λ _. h.1) (λ _. (h.0, each_without_first P test rs h.1))
 
-with_rules : (s : BusState) → IsConsistent s → (rules : List AddedRule) → Each (λ r. is_client s.connections r.connection ≡ true) rules → IsConsistent (record s { rules = rules })
+with_rules : (s : BusState) → IsConsistent s → (rules : List OwnedRule) → Each (λ r. is_client s.connections r.connection ≡ true) rules → IsConsistent (record s { rules = rules })
 with_rules s h rules clients = record {
   next_not_bus = h.next_not_bus;
   connections_given = h.connections_given;

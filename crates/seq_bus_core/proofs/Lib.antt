@@ -10,7 +10,7 @@ pub mod HistoryLaws
 pub mod Extending
 pub mod ChangeLaws
 pub mod RecipientLaws
-pub mod InsertedConns
+pub mod Inserting
 pub mod MonitorLaws
 pub mod Counts
 pub mod LimitLaws

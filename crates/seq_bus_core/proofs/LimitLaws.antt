@@ -6,14 +6,15 @@ use Rattle.std.proofs.lemmas.Bool.{cond_both, cond-false, cases_Bool, true≢fal
 use Rattle.std.proofs.lemmas.List.Sums.{sum_by-cons, sum_by-append}
 use Rattle.names.specs.Texts.{Text, text_eq}
 use Rattle.match_rules.specs.Rules.{Rule}
+use Rattle.match_rules.specs.OwnedRules.{OwnedRule, count_of, rules_without, without_first}
 use Rattle.owner_queues.specs.Queues.{Queue, queue_head, is_in, without, requested, released}
 use Rattle.owner_queues.specs.declared.owner.QueuedOwner.{QueuedOwner}
 use Rattle.owner_queues.specs.declared.request.Profile.{Profile}
 use Rattle.owner_queues.specs.declared.request.RequestFlags.{RequestFlags}
 use Rattle.owner_queues.proofs.QueueLemmas.{absent-without, length-without}
 use Rattle.owner_queues.proofs.QueueLaws.{requests_add, releases_take}
-use Rattle.seq_bus_core.specs.BusState.{BusState, Connection, OwnedName, AddedRule, RunningStart, queue_of, with_queue, start_of, max_connections, max_names, max_queued, max_names_of_one, max_rules, max_rules_of_one, max_tickets, max_number, queued_in, names_of, rules_of, tickets_in}
-use Rattle.seq_bus_core.specs.Steps.{slots_of_router, slots_of, is_taken, names_without, rules_without, with_owned, is_within_names, with_rule, is_within_rules, without_first, monitor_if, has_room_for_ticket, step}
+use Rattle.seq_bus_core.specs.BusState.{BusState, Connection, OwnedName, RunningStart, queue_of, with_queue, start_of, max_connections, max_names, max_queued, max_names_of_one, max_rules, max_rules_of_one, max_tickets, max_number, queued_in, names_of, tickets_in}
+use Rattle.seq_bus_core.specs.Steps.{slots_of_router, slots_of, is_taken, names_without, with_owned, is_within_names, with_rule, is_within_rules, monitor_if, has_room_for_ticket, step}
 use Rattle.seq_bus_core.specs.Histories.{History, opening, after}
 use Rattle.seq_bus_core.specs.Consistency.{IsOwned, IsConsistent, IsWithinLimits}
 use Rattle.seq_bus_core.specs.Laws.{StepsKeepLimits, BusesAreWithinLimits}
@@ -146,21 +147,21 @@ bounds_requested s c name flags h within =
 
 -- ## Rules
 
-pub record RuleBounds (rules : List AddedRule) : Type 0 where
+pub record RuleBounds (rules : List OwnedRule) : Type 0 where
   pub all : length rules ≤ max_rules
-  pub of_one : (c : ℕ) → rules_of c rules ≤ max_rules_of_one
+  pub of_one : (c : ℕ) → count_of c rules ≤ max_rules_of_one
 
-abbrev one_if_of : ℕ → AddedRule → ℕ
+abbrev one_if_of : ℕ → OwnedRule → ℕ
 one_if_of c r = cond (nat_eq r.connection c) 1 0
 
 -- a list whose sums are no greater
-fewer_rules : (rules fewer : List AddedRule) → ((f : AddedRule → ℕ) → sum_by f fewer ≤ sum_by f rules) → RuleBounds rules → RuleBounds fewer
+fewer_rules : (rules fewer : List OwnedRule) → ((f : OwnedRule → ℕ) → sum_by f fewer ≤ sum_by f rules) → RuleBounds rules → RuleBounds fewer
 fewer_rules rules fewer less h = record {
   all = omega (arith, length_sum rules, length_sum fewer, less (λ r. 1), h.all);
   of_one = λ c. omega (arith, less (one_if_of c), h.of_one c);
 }
 
-without_first_sum : (f : AddedRule → ℕ) (test : AddedRule → Bool) (rules : List AddedRule) → sum_by f (without_first test rules) ≤ sum_by f rules
+without_first_sum : (f : OwnedRule → ℕ) (test : OwnedRule → Bool) (rules : List OwnedRule) → sum_by f (without_first test rules) ≤ sum_by f rules
 without_first_sum f test [] = omega arith
 without_first_sum f test (r ∷ rs) =
     let rest : sum_by f (without_first test rs) ≤ sum_by f rs = without_first_sum f test rs in
@@ -169,16 +170,16 @@ without_first_sum f test (r ∷ rs) =
 
 one_rule_more : (s : BusState) (c : ℕ) (rule : Rule) → RuleBounds s.rules → is_within_rules (with_rule s c rule) c ≡ true → RuleBounds (with_rule s c rule).rules
 one_rule_more s c rule h within =
-    let new : AddedRule = record { connection = c; rule = rule } in
-    let parts : (nat_le (length (s.rules ++ new ∷ [])) max_rules ≡ true) × (nat_le (rules_of c (s.rules ++ new ∷ [])) max_rules_of_one ≡ true) = and_parts (nat_le (length (s.rules ++ new ∷ [])) max_rules) (nat_le (rules_of c (s.rules ++ new ∷ [])) max_rules_of_one) within in
+    let new : OwnedRule = record { connection = c; rule = rule } in
+    let parts : (nat_le (length (s.rules ++ new ∷ [])) max_rules ≡ true) × (nat_le (count_of c (s.rules ++ new ∷ [])) max_rules_of_one ≡ true) = and_parts (nat_le (length (s.rules ++ new ∷ [])) max_rules) (nat_le (count_of c (s.rules ++ new ∷ [])) max_rules_of_one) within in
     record {
       all = leb-true (length (s.rules ++ new ∷ [])) max_rules parts.0;
       of_one = λ d. elim (cases_Bool (nat_eq c d)) [
-        | inl same ↦ subst (λ e. rules_of e (s.rules ++ new ∷ []) ≤ max_rules_of_one) (eqb-true c d same) (leb-true (rules_of c (s.rules ++ new ∷ [])) max_rules_of_one parts.1)
+        | inl same ↦ subst (λ e. count_of e (s.rules ++ new ∷ []) ≤ max_rules_of_one) (eqb-true c d same) (leb-true (count_of c (s.rules ++ new ∷ [])) max_rules_of_one parts.1)
         | inr other ↦
             let none : one_if_of d new ≡ 0 = cond-false (nat_eq c d) 1 0 other in
             let last : sum_by (one_if_of d) (new ∷ []) ≡ 0 + one_if_of d new = refl in
-            let whole : rules_of d (s.rules ++ new ∷ []) ≡ rules_of d s.rules + sum_by (one_if_of d) (new ∷ []) = sum_by-append (one_if_of d) s.rules (new ∷ []) in
+            let whole : count_of d (s.rules ++ new ∷ []) ≡ count_of d s.rules + sum_by (one_if_of d) (new ∷ []) = sum_by-append (one_if_of d) s.rules (new ∷ []) in
             omega (arith, h.of_one d)
       ];
     }

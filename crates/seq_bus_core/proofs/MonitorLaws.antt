@@ -10,7 +10,7 @@ use Rattle.names.specs.UniqueName.{unique_text}
 use Rattle.match_rules.specs.Facts.{Facts}
 use Rattle.owner_queues.specs.Queues.{Queue, queue_head}
 use Rattle.seq_bus_core.specs.BusState.{BusState, Connection, is_monitor, is_client, conn_of, queue_of, head_of}
-use Rattle.seq_bus_core.specs.Recipients.{conns_where, watches, wants, monitors_shown, may_send, is_for_bus, destination_head, may_start, is_signal}
+use Rattle.seq_bus_core.specs.Recipients.{conns_that, watches, wants, monitors_shown, may_send, is_for_bus, destination_head, may_start, is_signal}
 use Rattle.seq_bus_core.specs.Steps.{is_among}
 use Rattle.seq_bus_core.specs.Consistency.{Pairwise, IsOwned, IsConsistent}
 use Rattle.seq_bus_core.specs.Laws.{NobodyGetsAMessageTwice}
@@ -82,12 +82,12 @@ watcher_is_monitor : (s : BusState) (facts : Facts) (c : Connection) → watches
 watcher_is_monitor s facts c e = something_passes _ c.monitor e
 
 -- connections of which none is a monitor, and the monitors that are shown a message
-apart : (s : BusState) → IsConsistent s → (facts : Facts) (test : Connection → Bool) → Each (λ d. test d ≡ true → is_monitor d ≡ false) s.connections → Each (λ m. is_among (conns_where s test) m ≡ false) (monitors_shown s facts)
+apart : (s : BusState) → IsConsistent s → (facts : Facts) (test : Connection → Bool) → Each (λ d. test d ≡ true → is_monitor d ≡ false) s.connections → Each (λ m. is_among (conns_that test s.connections) m ≡ false) (monitors_shown s facts)
 apart s h facts test clients =
-    each_map (λ c. is_among (conns_where s test) (conn_of c) ≡ false) (λ m. is_among (conns_where s test) m ≡ false) conn_of (λ c is. is) (filter (watches s facts) s.connections)
-    (each_passing (λ c. Each (λ d. nat_eq d.number c.number ≡ true → is_monitor d ≡ is_monitor c) s.connections) (λ c. is_among (conns_where s test) (conn_of c) ≡ false) (watches s facts)
+    each_map (λ c. is_among (conns_that test s.connections) (conn_of c) ≡ false) (λ m. is_among (conns_that test s.connections) m ≡ false) conn_of (λ c is. is) (filter (watches s facts) s.connections)
+    (each_passing (λ c. Each (λ d. nat_eq d.number c.number ≡ true → is_monitor d ≡ is_monitor c) s.connections) (λ c. is_among (conns_that test s.connections) (conn_of c) ≡ false) (watches s facts)
     (λ c others watching.
-    none_any (λ k. nat_eq k.number c.number) (conns_where s test)
+    none_any (λ k. nat_eq k.number c.number) (conns_that test s.connections)
     (each_map (λ d. nat_eq d.number c.number ≡ false) (λ k. nat_eq k.number c.number ≡ false) conn_of (λ d differ. differ) (filter test s.connections)
     (each_passing (λ d. (nat_eq d.number c.number ≡ true → is_monitor d ≡ is_monitor c) × (test d ≡ true → is_monitor d ≡ false)) (λ d. nat_eq d.number c.number ≡ false) test
     (λ d both passes. false_from_ne_true (nat_eq d.number c.number) (λ same. true≢false (sym (both.0 same ∙ watcher_is_monitor s facts c watching) ∙ both.1 passes))) s.connections

@@ -6,10 +6,11 @@ use Rattle.std.proofs.lemmas.Bool.{cond_both, not-true, not-false, true≢false,
 use Rattle.names.specs.Texts.{Text}
 use Rattle.names.specs.BusName.{is_bus}
 use Rattle.match_rules.specs.Rules.{Rule}
+use Rattle.match_rules.specs.OwnedRules.{OwnedRule, is_rule_of, without_first}
 use Rattle.owner_queues.specs.Queues.{requested, released}
 use Rattle.owner_queues.specs.declared.request.RequestFlags.{RequestFlags}
-use Rattle.seq_bus_core.specs.BusState.{BusState, Connection, AddedRule, RunningStart, queue_of, with_queue, head_of, start_of, conn_of, is_client, client_of, connection_of, max_number, is_service}
-use Rattle.seq_bus_core.specs.Steps.{Stepped, add_match, announced, become_monitor, exited_well, fail_with_start, for_client, free_slot, has_room_for_ticket, hello, hold, is_reserved, is_rule_of, is_run, is_taken, is_within_names, is_within_rules, leave, owned_outcome, pass_or_wait, release, release_with_queue, remove_match, request, signals_of_monitor, slots_of, start, step, unchanged, wait_for, wait_with_start, waiting_if, welcomed, with_connection, with_monitor, with_owned, with_rule, without_connection, without_first}
+use Rattle.seq_bus_core.specs.BusState.{BusState, Connection, RunningStart, queue_of, with_queue, head_of, start_of, conn_of, is_client, client_of, connection_of, max_number, is_service}
+use Rattle.seq_bus_core.specs.Steps.{Stepped, add_match, announced, become_monitor, exited_well, fail_with_start, for_client, free_slot, has_room_for_ticket, hello, hold, is_reserved, is_run, is_taken, is_within_names, is_within_rules, leave, owned_outcome, pass_or_wait, release, release_with_queue, remove_match, request, signals_of_monitor, slots_of, start, step, unchanged, wait_for, wait_with_start, waiting_if, welcomed, with_connection, with_monitor, with_owned, with_rule, without_connection}
 use Rattle.seq_bus_core.specs.declared.change.Change.{Change}
 use Rattle.seq_bus_core.specs.declared.change.Change.TheVariants.{Hello, Leave, Request, Release, AddMatch, RemoveMatch, BecomeMonitor, Start, Hold, ChildEnded, StartTimedOut}
 use Rattle.seq_bus_core.specs.declared.outcome.Reply.TheVariants.{Gone, LimitsExceeded, Done, InvalidName, RuleNotFound, AccessDenied, AlreadyRunning, ServiceUnknown, Pass, Ignored}
@@ -39,7 +40,7 @@ pub record EachOutcome (s : BusState) (change : Change) (P : Stepped → Type 0)
   pub request : (number : ℕ) (name : Text) (flags : RequestFlags) → is_client s.connections number ≡ true → is_reserved name ≡ false → let result = requested s.profile number flags (queue_of s.names name) in is_within_names (with_owned s name result.0) number ≡ true → P (with_owned s name result.0, owned_outcome s (with_owned s name result.0) name result)
   pub release : (number : ℕ) (name : Text) → is_reserved name ≡ false → P (release_with_queue s name (released number (queue_of s.names name)))
   pub add_match : (number : ℕ) (rule : Rule) → is_client s.connections number ≡ true → is_within_rules (with_rule s number rule) number ≡ true → P (announced (with_rule s number rule) Done [])
-  pub remove_match : (test : AddedRule → Bool) → P (announced (record s { rules = without_first test s.rules }) Done [])
+  pub remove_match : (test : OwnedRule → Bool) → P (announced (record s { rules = without_first test s.rules }) Done [])
   pub monitor : (number : ℕ) (rules : List Rule) → P (announced (with_monitor s number rules) Done (signals_of_monitor s number))
   pub first_ticket : (c : ℕ) → is_client s.connections c ≡ true → Waits change c → (name : Text) → option_and_then (connection_of s) (head_of s name) ≡ None → start_of s name ≡ None → has_room_for_ticket s name ≡ true → P (wait_with_start s name None)
   pub later_ticket : (c : ℕ) → is_client s.connections c ≡ true → Waits change c → (name : Text) (r : RunningStart) → start_of s name ≡ Some r → has_room_for_ticket s name ≡ true → P (wait_with_start s name (Some r))
@@ -127,7 +128,7 @@ pub record AfterEach (s : BusState) (P : BusState → Type 0) : Type 0 where
   pub request : (number : ℕ) (name : Text) (flags : RequestFlags) → is_client s.connections number ≡ true → is_reserved name ≡ false → is_within_names (with_owned s name (requested s.profile number flags (queue_of s.names name)).0) number ≡ true → P (with_owned s name (requested s.profile number flags (queue_of s.names name)).0)
   pub release : (number : ℕ) (name : Text) → is_reserved name ≡ false → P (record s { names = with_queue name (released number (queue_of s.names name)).0 s.names })
   pub add_match : (number : ℕ) (rule : Rule) → is_client s.connections number ≡ true → is_within_rules (with_rule s number rule) number ≡ true → P (with_rule s number rule)
-  pub remove_match : (test : AddedRule → Bool) → P (record s { rules = without_first test s.rules })
+  pub remove_match : (test : OwnedRule → Bool) → P (record s { rules = without_first test s.rules })
   pub monitor : (number : ℕ) (rules : List Rule) → P (with_monitor s number rules)
   pub first_ticket : (name : Text) → option_and_then (connection_of s) (head_of s name) ≡ None → start_of s name ≡ None → has_room_for_ticket s name ≡ true → P (wait_with_start s name None).0
   pub later_ticket : (name : Text) → has_room_for_ticket s name ≡ true → P (record s { starts = map (waiting_if name s.next_ticket) s.starts; next_ticket = s.next_ticket + 1 })

@@ -6,6 +6,7 @@ use Rattle.names.specs.Texts.{Text, text_eq, text_lt}
 use Rattle.names.specs.BusName.{is_bus, is_unique}
 use Rattle.names.specs.UniqueName.{unique_text}
 use Rattle.match_rules.specs.Rules.{Rule}
+use Rattle.match_rules.specs.OwnedRules.{OwnedRule}
 use Rattle.owner_queues.specs.Queues.{Queue, queue_head, is_in}
 use Rattle.owner_queues.specs.declared.request.Profile.{Profile}
 use Rattle.seq_bus_core.specs.declared.connection.Conn.{Conn}
@@ -24,11 +25,6 @@ pub record OwnedName : Type 0 where
   pub name : Text
   pub queue : Queue
 
--- a rule that a connection added
-pub record AddedRule : Type 0 where
-  pub connection : ℕ
-  pub rule : Rule
-
 -- a start that runs, and the numbers of the tickets that wait for it
 pub record RunningStart : Type 0 where
   pub name : Text
@@ -42,7 +38,7 @@ pub record BusState : Type 0 where
   pub services : List Text
   pub connections : List Connection
   pub names : List OwnedName
-  pub rules : List AddedRule
+  pub rules : List OwnedRule
   pub starts : List RunningStart
   pub next_number : ℕ
   pub next_ticket : ℕ
@@ -139,9 +135,6 @@ queued_in names = sum_by (λ n. length n.queue) names
 
 abbrev pub names_of : ℕ → List OwnedName → ℕ
 names_of connection names = count_by (λ n. is_in connection n.queue) names
-
-abbrev pub rules_of : ℕ → List AddedRule → ℕ
-rules_of connection rules = count_by (λ r. r.connection == connection) rules
 
 abbrev pub tickets_in : List RunningStart → ℕ
 tickets_in starts = sum_by (λ r. length r.tickets) starts

@@ -1,15 +1,12 @@
 -- What holds of the state of every bus.
 use Rattle.std.specs.Prelude.{◌≡◌, ◌≢◌, ℕ, ◌+◌, ◌<◌, ◌≤◌, true, false, ◌==◌, IsSome, List, [], ◌∷◌, length}
 use Rattle.std.specs.List.{AllByRecursion as Each, list_all, list_any}
+pub use Rattle.match_rules.specs.Lists.{Pairwise}
 use Rattle.names.specs.Texts.{text_eq, text_lt}
+use Rattle.match_rules.specs.OwnedRules.{count_of}
 use Rattle.owner_queues.specs.Queues.{IsQueue, queue_head}
-use Rattle.seq_bus_core.specs.BusState.{BusState, Connection, OwnedName, RunningStart, is_client, max_connections, max_names, max_queued, max_names_of_one, max_rules, max_rules_of_one, max_tickets, max_number, queued_in, names_of, rules_of, tickets_in}
+use Rattle.seq_bus_core.specs.BusState.{BusState, Connection, OwnedName, RunningStart, is_client, max_connections, max_names, max_queued, max_names_of_one, max_rules, max_rules_of_one, max_tickets, max_number, queued_in, names_of, tickets_in}
 use Rattle.seq_bus_core.specs.Steps.{is_reserved}
-
--- each of a list stands in a relation to each behind it
-abbrev pub Pairwise : {X : Type 0} → (X → X → Type 0) → List X → Type 0
-Pairwise R [] = Unit {0}
-Pairwise R (x ∷ xs) = Each (R x) xs × Pairwise R xs
 
 -- a connection's number is not the bus's, and has been given
 pub record IsGiven (next_number : ℕ) (c : Connection) : Type 0 where
@@ -56,7 +53,7 @@ pub record IsWithinLimits (s : BusState) : Type 0 where
   pub queued : queued_in s.names ≤ max_queued
   pub names_of_one : (connection : ℕ) → names_of connection s.names ≤ max_names_of_one
   pub rules : length s.rules ≤ max_rules
-  pub rules_of_one : (connection : ℕ) → rules_of connection s.rules ≤ max_rules_of_one
+  pub rules_of_one : (connection : ℕ) → count_of connection s.rules ≤ max_rules_of_one
   pub tickets : tickets_in s.starts ≤ max_tickets
   pub next_number : s.next_number ≤ max_number + 1
   pub next_ticket : s.next_ticket ≤ max_number + 1

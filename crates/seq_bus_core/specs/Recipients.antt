@@ -1,14 +1,16 @@
 -- Who gets a message, and which monitors are shown it.
 -- (D-Bus Specification: "Message Bus Message Routing", "Eavesdropping", "org.freedesktop.DBus.Monitoring.BecomeMonitor".)
-use Rattle.std.specs.Prelude.{ℕ, nat_lt, Bool, true, false, ◌&&◌, ◌||◌, not, ◌==◌, Option, is_some, option_and_then, List, [], ◌∷◌, map, filter, if◌then◌else◌}
+use Rattle.std.specs.Prelude.{ℕ, Bool, true, false, ◌&&◌, ◌||◌, not, ◌==◌, Option, is_some, option_and_then, List, [], map, filter, length, if◌then◌else◌}
 use Rattle.std.specs.List.{list_any}
 use Rattle.std.specs.Option.{option_map_or}
 use Rattle.names.specs.BusName.{is_bus}
 use Rattle.match_rules.specs.declared.kind.MessageKind.{MessageKind}
 use Rattle.match_rules.specs.declared.kind.MessageKind.TheVariants.{MethodCall, MethodReturn, Error, Signal, Unknown}
 use Rattle.match_rules.specs.Facts.{Facts, bus_number}
-use Rattle.match_rules.specs.Fitting.{fits}
+use Rattle.match_rules.specs.Fitting.{Heads, fits}
 use Rattle.match_rules.specs.Rules.{Rule}
+use Rattle.match_rules.specs.OwnedRules.{OwnedRule, has_fitting}
+use Rattle.match_rules.specs.Lists.{inserted_by}
 use Rattle.seq_bus_core.specs.BusState.{BusState, Connection, is_monitor, conn_of, is_client, head_of, is_service}
 use Rattle.seq_bus_core.specs.declared.connection.Conn.{Conn}
 use Rattle.seq_bus_core.specs.declared.signal.AddressedSignal.{AddressedSignal}
@@ -31,13 +33,13 @@ is_signal Error = false
 is_signal Signal = true
 is_signal (Unknown code) = false
 
--- the connections that pass a test, by rising number
-abbrev pub conns_where : BusState → (Connection → Bool) → List Conn
-conns_where s test = map conn_of (filter test s.connections)
+-- the connections that pass a test, in order
+abbrev pub conns_that : (Connection → Bool) → List Connection → List Conn
+conns_that test connections = map conn_of (filter test connections)
 
 -- the connection of a number, if it is there
 abbrev pub conn_at : BusState → Option ℕ → List Conn
-conn_at s number = conns_where s (λ c. option_map_or (λ n. c.number == n) number false)
+conn_at s number = conns_that (λ c. option_map_or (λ n. c.number == n) number false) s.connections
 
 -- a signal of the bus that goes to these connections and is shown to these monitors
 abbrev pub addressed_to : BusSignal → List Conn → List Conn → AddressedSignal
@@ -45,26 +47,30 @@ addressed_to signal to monitors = record { signal = signal; to = to; monitors = 
 
 -- the connections with one more, which stands before the first with a higher number
 abbrev pub inserted_conn : Conn → List Conn → List Conn
-inserted_conn conn [] = conn ∷ []
-inserted_conn conn (c ∷ conns) = if nat_lt conn.number c.number then conn ∷ c ∷ conns else c ∷ inserted_conn conn conns
+inserted_conn conn conns = inserted_by (λ c. c.number) conn conns
 
--- A monitor is shown what one of its rules fits, or everything where it has no rules.
+-- A monitor is shown everything where it has no rules, or what one of them fits.
+abbrev pub watched : Heads → Facts → List Rule → Bool
+watched heads facts rules = (length rules == 0) || list_any (λ rule. fits heads rule facts) rules
+
+abbrev pub watches_by : Heads → Facts → Connection → Bool
+watches_by heads facts c = option_map_or (watched heads facts) c.monitor false
+
 abbrev pub watches : BusState → Facts → Connection → Bool
-watches s facts c = option_map_or (λ rules. list_any (λ rule. fits (head_of s) rule facts) rules || is_empty rules) c.monitor false
-  where
-    is_empty : List Rule → Bool
-    is_empty [] = true
-    is_empty (rule ∷ rules) = false
+watches s facts c = watches_by (head_of s) facts c
 
 abbrev pub monitors_shown : BusState → Facts → List Conn
-monitors_shown s facts = conns_where s (watches s facts)
+monitors_shown s facts = conns_that (watches s facts) s.connections
 
 -- a rule that the connection added fits
+abbrev pub wants_by : Heads → List OwnedRule → Facts → Connection → Bool
+wants_by heads rules facts c = not (is_monitor c) && has_fitting heads rules facts c.number
+
 abbrev pub wants : BusState → Facts → Connection → Bool
-wants s facts c = not (is_monitor c) && list_any (λ r. (r.connection == c.number) && fits (head_of s) r.rule facts) s.rules
+wants s facts c = wants_by (head_of s) s.rules facts c
 
 abbrev pub all_that_want : BusState → Facts → List Conn
-all_that_want s facts = conns_where s (wants s facts)
+all_that_want s facts = conns_that (wants s facts) s.connections
 
 -- the bus itself, or a connection that is no monitor
 abbrev pub may_send : BusState → ℕ → Bool

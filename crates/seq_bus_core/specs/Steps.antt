@@ -8,11 +8,12 @@ use Rattle.names.specs.BusName.{bus_text, is_bus, is_unique}
 use Rattle.names.specs.UniqueName.{unique_text}
 use Rattle.match_rules.specs.declared.kind.MessageKind.TheVariants.{Signal}
 use Rattle.match_rules.specs.Facts.{Facts, bus_number, StringArgument}
-use Rattle.match_rules.specs.Rules.{Rule, same_rule}
+use Rattle.match_rules.specs.Rules.{Rule}
+use Rattle.match_rules.specs.OwnedRules.{count_of, is_rule_of, rules_without, without_first}
 use Rattle.owner_queues.specs.Queues.{Queue, queue_head, without, requested, released}
 use Rattle.owner_queues.specs.declared.request.RequestFlags.{RequestFlags}
 use Rattle.owner_queues.specs.declared.reply.Reply.{Reply as QueueReply}
-use Rattle.seq_bus_core.specs.BusState.{BusState, Connection, OwnedName, AddedRule, RunningStart, is_monitor, conn_of, connection_of, client_of, queue_of, kept_name, with_queue, head_of, is_service, start_of, max_connections, max_names, max_queued, max_names_of_one, max_rules, max_rules_of_one, max_tickets, max_number, queued_in, names_of, rules_of, tickets_in}
+use Rattle.seq_bus_core.specs.BusState.{BusState, Connection, OwnedName, RunningStart, is_monitor, conn_of, connection_of, client_of, queue_of, kept_name, with_queue, head_of, is_service, start_of, max_connections, max_names, max_queued, max_names_of_one, max_rules, max_rules_of_one, max_tickets, max_number, queued_in, names_of, tickets_in}
 use Rattle.seq_bus_core.specs.Recipients.{conn_at, all_that_want, monitors_shown}
 use Rattle.seq_bus_core.specs.declared.change.Change.{Change}
 use Rattle.seq_bus_core.specs.declared.change.Change.TheVariants.{Hello, Leave, Request, Release, AddMatch, RemoveMatch, BecomeMonitor, Start, Hold, ChildEnded, StartTimedOut}
@@ -147,9 +148,6 @@ hello s seat privileged (Some slot) =
 abbrev pub names_without : ℕ → List OwnedName → List OwnedName
 names_without connection names = flat_map (λ n. kept_name n.name (without connection n.queue)) names
 
-abbrev pub rules_without : ℕ → List AddedRule → List AddedRule
-rules_without connection rules = filter (λ r. not (r.connection == connection)) rules
-
 -- the names that a connection owns
 abbrev pub names_owned : ℕ → List OwnedName → List OwnedName
 names_owned connection names = filter (λ n. is_owner (queue_head n.queue) (Some connection)) names
@@ -219,7 +217,7 @@ release s number name =
 -- ## AddMatch and RemoveMatch
 
 abbrev pub is_within_rules : BusState → ℕ → Bool
-is_within_rules s number = nat_le (length s.rules) max_rules && nat_le (rules_of number s.rules) max_rules_of_one
+is_within_rules s number = nat_le (length s.rules) max_rules && nat_le (count_of number s.rules) max_rules_of_one
 
 abbrev pub with_rule : BusState → ℕ → Rule → BusState
 with_rule s number rule = record s { rules = s.rules ++ record { connection = number; rule = rule } ∷ [] }
@@ -228,14 +226,6 @@ abbrev pub add_match : BusState → ℕ → Rule → Stepped
 add_match s number rule =
     if is_within_rules (with_rule s number rule) number then announced (with_rule s number rule) Done []
     else unchanged s LimitsExceeded
-
-abbrev pub is_rule_of : ℕ → Rule → AddedRule → Bool
-is_rule_of number rule r = (r.connection == number) && same_rule r.rule rule
-
--- the rules without the first that passes a test
-abbrev pub without_first : (AddedRule → Bool) → List AddedRule → List AddedRule
-without_first test [] = []
-without_first test (r ∷ rules) = if test r then rules else r ∷ without_first test rules
 
 abbrev pub remove_match : BusState → ℕ → Rule → Stepped
 remove_match s number rule =

@@ -1,8 +1,8 @@
 -- Rules of connections with low numbers.
 use Rattle.std.proofs.Common.{ℕ, suc, ◌+◌, ◌<◌, ◌≤◌, Bool, true, false, cond, not, List, [], ◌∷◌, ◌++◌, length, arith, if◌then◌else◌}
 use Rattle.std.specs.List.{AllByRecursion as Each}
+use Rattle.match_rules.specs.OwnedRules.{OwnedRule, rules_without, without_first}
 use Rattle.match_index.specs.Collecting.{connections_of}
-use Rattle.match_index.specs.Indexed.{OwnedRule, rules_without, without_first}
 use Rattle.match_index.specs.Sets.{AreRising}
 use Rattle.match_index.proofs.CollectLemmas.{rising_connections}
 use Rattle.match_index.proofs.SetLemmas.{each_with}

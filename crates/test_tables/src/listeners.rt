@@ -18,7 +18,7 @@ pub struct Listeners {
 impl Model for Listeners {
     ghost use Rattle.std.specs.Prelude.{List, ◌<◌};
     ghost use Rattle.std.specs.List.{AllByRecursion};
-    ghost use Rattle.match_index.specs.Indexed.{OwnedRule};
+    ghost use Rattle.match_rules.specs.OwnedRules.{OwnedRule};
 
     ghost Value = { List OwnedRule };
 

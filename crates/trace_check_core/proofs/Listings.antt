@@ -8,10 +8,10 @@ use Rattle.names.specs.BusName.{bus_text, is_bus, is_unique}
 use Rattle.names.specs.UniqueName.{unique_text}
 use Rattle.owner_queues.specs.Queues.{Queue}
 use Rattle.owner_queues.specs.declared.owner.QueuedOwner.{QueuedOwner}
-use Rattle.registry_core.specs.Listening.{connection_of_entry}
+use Rattle.registry_core.specs.ConnectionTables.{entry_of}
 use Rattle.registry_core.specs.declared.connection_entry.ConnectionEntry.{ConnectionEntry}
 use Rattle.seq_bus_core.specs.Answers.{NameList, names_there, owner_name, queue_names, queued_names}
-use Rattle.seq_bus_core.specs.BusState.{AddedRule, BusState, Connection, OwnedName, is_monitor, queue_of}
+use Rattle.seq_bus_core.specs.BusState.{BusState, Connection, OwnedName, is_monitor, queue_of}
 use Rattle.trace_lines.specs.Texts.{answer_text}
 use Rattle.trace_check_core.specs.Listings.{behind_comma, client_listed, waiting_listed}
 
@@ -19,46 +19,41 @@ use Rattle.trace_check_core.specs.Listings.{behind_comma, client_listed, waiting
 list_written : (first : Text) (names : List Text) → answer_text (Some (NameList (first ∷ names))) ≡ first ++ flat_map behind_comma names
 list_written first names = refl
 
-pub clients_written : (rules : List AddedRule) (members : List ConnectionEntry) → flat_map client_listed members ≡ flat_map behind_comma (map (λ c. unique_text c.number) (filter (λ c. not (is_monitor c)) (map (connection_of_entry rules) members)))
-clients_written rules [] = refl
-clients_written rules (m ∷ members) = by_test m.is_monitor (clients_written rules members)
+pub clients_written : (cs : List Connection) → flat_map client_listed (map entry_of cs) ≡ flat_map behind_comma (map (λ c. unique_text c.number) (filter (λ c. not (is_monitor c)) cs))
+clients_written [] = refl
+clients_written (c ∷ cs) = by_test (is_monitor c) (clients_written cs)
   where
     others : List Connection
-    others = filter (λ c. not (is_monitor c)) (map (connection_of_entry rules) members)
+    others = filter (λ d. not (is_monitor d)) cs
 
-    c : Bool → Connection
-    c b = connection_of_entry rules (record m { is_monitor = b })
-
-    by_test : (b : Bool) → flat_map client_listed members ≡ flat_map behind_comma (map (λ (c : Connection). unique_text c.number) others) →
-        client_listed (record m { is_monitor = b }) ++ flat_map client_listed members ≡ flat_map behind_comma (map (λ (c : Connection). unique_text c.number) (cond (not (is_monitor (c b))) (c b ∷ others) others))
+    by_test : (b : Bool) → flat_map client_listed (map entry_of cs) ≡ flat_map behind_comma (map (λ (d : Connection). unique_text d.number) others) →
+        (if b then [] else behind_comma (unique_text c.number)) ++ flat_map client_listed (map entry_of cs) ≡ flat_map behind_comma (map (λ (d : Connection). unique_text d.number) (cond (not b) (c ∷ others) others))
     by_test true rest = rest
-    by_test false rest = ap (λ (t : Text). behind_comma (unique_text m.conn.number) ++ t) rest
+    by_test false rest = ap (λ (t : Text). behind_comma (unique_text c.number) ++ t) rest
 
-pub names_written : (s : BusState) (rules : List AddedRule) (members : List ConnectionEntry) → map (connection_of_entry rules) members ≡ s.connections →
-    answer_text (Some (NameList (bus_text ∷ names_there s))) ≡ bus_text ++ (flat_map client_listed members ++ flat_map (λ (n : OwnedName). behind_comma n.name) s.names)
-names_written s rules members is =
-    let unique : Connection → Text = λ c. unique_text c.number in
-    let clients : List Connection → List Text = λ cs. map unique (filter (λ c. not (is_monitor c)) cs) in
+pub names_written : (s : BusState) → answer_text (Some (NameList (bus_text ∷ names_there s))) ≡ bus_text ++ (flat_map client_listed (map entry_of s.connections) ++ flat_map (λ (n : OwnedName). behind_comma n.name) s.names)
+names_written s =
+    let clients : List Text = map (λ c. unique_text c.number) (filter (λ c. not (is_monitor c)) s.connections) in
     ap (λ (t : Text). bus_text ++ t)
-    (flat_map-append behind_comma (clients s.connections) (map (λ (n : OwnedName). n.name) s.names)
-    ∙ ap (λ (cs : List Connection). flat_map behind_comma (clients cs) ++ flat_map behind_comma (map (λ (n : OwnedName). n.name) s.names)) (sym is)
-    ∙ ap (λ (t : Text). t ++ flat_map behind_comma (map (λ (n : OwnedName). n.name) s.names)) (sym (clients_written rules members))
-    ∙ ap (λ (t : Text). flat_map client_listed members ++ t) (flat_map-map behind_comma (λ (n : OwnedName). n.name) s.names))
+    (flat_map-append behind_comma clients (map (λ (n : OwnedName). n.name) s.names)
+    ∙ ap (λ (t : Text). t ++ flat_map behind_comma (map (λ (n : OwnedName). n.name) s.names)) (sym (clients_written s.connections))
+    ∙ ap (λ (t : Text). flat_map client_listed (map entry_of s.connections) ++ t) (flat_map-map behind_comma (λ (n : OwnedName). n.name) s.names))
 
 pub queue_written : (owner : QueuedOwner) (waiting : List QueuedOwner) → answer_text (option_map NameList (queued_names (owner ∷ waiting))) ≡ unique_text owner.connection ++ flat_map waiting_listed waiting
 queue_written owner waiting = ap (λ (t : Text). unique_text owner.connection ++ t) (flat_map-map behind_comma (λ (q : QueuedOwner). unique_text q.connection) waiting)
 
 -- ## What the code appends
 
-pub names_told : (s : BusState) (rules : List AddedRule) (members : List ConnectionEntry) (names : List OwnedName) (bus first whole : Text) → map (connection_of_entry rules) members ≡ s.connections → names ≡ s.names →
+pub names_told : (s : BusState) (members : List ConnectionEntry) (names : List OwnedName) (bus first whole : Text) → members ≡ map entry_of s.connections → names ≡ s.names →
     bus ≡ bus_text → first ≡ bus ++ flat_map client_listed members → whole ≡ first ++ flat_map (λ (n : OwnedName). behind_comma n.name) names →
     whole ≡ answer_text (Some (NameList (bus_text ∷ names_there s)))
-names_told s rules members names bus first whole connections same is_bus clients told =
+names_told s members names bus first whole connections same is_bus clients told =
     told
     ∙ ap (λ (t : Text). t ++ flat_map (λ (n : OwnedName). behind_comma n.name) names) (clients ∙ ap (λ (t : Text). t ++ flat_map client_listed members) is_bus)
     ∙ append_assoc bus_text (flat_map client_listed members) (flat_map (λ (n : OwnedName). behind_comma n.name) names)
-    ∙ ap (λ (ns : List OwnedName). bus_text ++ (flat_map client_listed members ++ flat_map (λ (n : OwnedName). behind_comma n.name) ns)) same
-    ∙ sym (names_written s rules members connections)
+    ∙ ap (λ (ms : List ConnectionEntry). bus_text ++ (flat_map client_listed ms ++ flat_map (λ (n : OwnedName). behind_comma n.name) names)) connections
+    ∙ ap (λ (ns : List OwnedName). bus_text ++ (flat_map client_listed (map entry_of s.connections) ++ flat_map (λ (n : OwnedName). behind_comma n.name) ns)) same
+    ∙ sym (names_written s)
 
 pub queue_told : (s : BusState) (name : Text) (owner : QueuedOwner) (waiting : List QueuedOwner) (first whole : Text) → (is_bus name || is_unique name) ≡ false → queue_of s.names name ≡ owner ∷ waiting →
     first ≡ unique_text owner.connection → whole ≡ first ++ flat_map waiting_listed waiting → whole ≡ answer_text (option_map NameList (queue_names s name))

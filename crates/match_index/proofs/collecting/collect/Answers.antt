@@ -7,7 +7,8 @@ use Rattle.match_index.specs.PlaceIndexes.{places_in}
 use Rattle.match_index.specs.Sets.{is_in}
 use Rattle.match_index.specs.declared.entries.Entry.{Entry}
 use Rattle.match_index.proofs.CollectLemmas.{any_at_first, any_at_last, any_next, any_of_shape, any_skipped, coded_owned, count_at_last, count_next, count_of_shape, entries_at_positions}
-use Rattle.match_index.proofs.EntryLemmas.{each_place, positions_within}
+use Rattle.match_index.proofs.EntryLemmas.{positions_within}
+use Rattle.match_index.proofs.Lists.{each_mapped}
 use Rattle.match_index.proofs.collecting.collect.Goals.{After-of-places}
 use Rattle.match_index.proofs.collecting.collect.Goals.{then-shapes-shape, else-shapes-shape}
 use Rattle.match_index.proofs.collecting.collect.Goals as goal
@@ -23,7 +24,7 @@ pub collect_at-requires-clause-there : goal.collect_at-requires-clause-there
 collect_at-requires-clause-there g c =
     let es : List Entry = c.args.entries.now in
     let k = c.code_for.result in
-    each_place (length es) c.of-places.result.now (subst (Each (λ p. p < length es)) (sym (c.of-places.ensures ∙ c.requires.coded.places_are k)) (positions_within by_code k es))
+    each_mapped (λ p. p < length es) (λ k. k.place) c.of-places.result.now (subst (Each (λ p. p < length es)) (sym (c.of-places.ensures ∙ c.requires.coded.places_are k)) (positions_within by_code k es))
 
 pub collect_at-requires-clause-owned : goal.collect_at-requires-clause-owned
 collect_at-requires-clause-owned g c =

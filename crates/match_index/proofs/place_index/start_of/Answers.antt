@@ -1,24 +1,17 @@
-use Rattle.std.proofs.Common.{rules, ◌≡◌, ◌<◌, ◌≤◌, nat_lt, true, false}
+use Rattle.std.proofs.Common.{rules, ◌<◌, ◌≤◌, nat_lt, take, drop}
+use Rattle.std.specs.List.{AllByRecursion as Each}
 use Rattle.std.proofs.lemmas.List.Sorted.{IsPartitionPoint-from_clause}
-use Rattle.match_index.specs.declared.place_index.KeyedPlace.{KeyedPlace}
-use Rattle.match_index.proofs.PlaceIndexLemmas.{lower_too}
-use Rattle.match_index.proofs.Lists.{partitioned, before_place, behind_place, within_weaker, is_lt, not_lt}
+use Rattle.match_index.proofs.Lists.{parted_by}
 use Rattle.match_index.proofs.place_index.start_of.Goals as goal
+use Rattle.match_index.proofs.place_index.start_of.Goals.{After-partition_point}
+
+sides : (c : After-partition_point) → Each (λ p. p.key < c.args.key) (take c.partition_point.result c.args.places.now) × Each (λ p. c.args.key ≤ p.key) (drop c.partition_point.result c.args.places.now)
+sides c =
+    parted_by (λ p. p.key) c.args.key (λ a b. a.key ≤ b.key) (λ a b le. le) c.args.places.now c.partition_point.result c.requires c.partition_point.ensures.bound
+    (λ by. IsPartitionPoint-from_clause (λ p. nat_lt p.key c.args.key) c.args.places.now c.partition_point.result c.partition_point.ensures.partitioned by (λ a r f k. search rules))
 
 pub returns-clause-before : goal.returns-clause-before
-returns-clause-before c =
-    let entries = c.args.places.now in
-    let number = c.args.key in
-    let place = c.partition_point.result in
-    before_place (λ h. h.key < number) entries place c.partition_point.ensures.bound
-    (within_weaker (λ (h : KeyedPlace). nat_lt h.key number ≡ true) (λ h. h.key < number) (λ h k. is_lt h.key number k) entries 0 place
-    (IsPartitionPoint-from_clause (λ b. nat_lt b.key number) entries place c.partition_point.ensures.partitioned (partitioned (λ a b. a.key ≤ b.key) (λ b. nat_lt b.key number) (lower_too number) entries c.requires) (λ a r f k. search rules)).0)
+returns-clause-before c = (sides c).0
 
 pub returns-clause-behind : goal.returns-clause-behind
-returns-clause-behind c =
-    let entries = c.args.places.now in
-    let number = c.args.key in
-    let place = c.partition_point.result in
-    behind_place (λ h. number ≤ h.key) entries place
-    (within_weaker (λ (h : KeyedPlace). nat_lt h.key number ≡ false) (λ h. number ≤ h.key) (λ h k. not_lt h.key number k) entries place _
-    (IsPartitionPoint-from_clause (λ b. nat_lt b.key number) entries place c.partition_point.ensures.partitioned (partitioned (λ a b. a.key ≤ b.key) (λ b. nat_lt b.key number) (lower_too number) entries c.requires) (λ a r f k. search rules)).1)
+returns-clause-behind c = (sides c).1

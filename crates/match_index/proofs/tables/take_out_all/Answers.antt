@@ -1,7 +1,7 @@
 use Rattle.std.proofs.Common.{◌≡◌, ◌<◌, ◌+◌, ℕ, List, length, get_or, sym, ap, ◌∙◌, arith, subst}
 use Rattle.std.proofs.lemmas.List.{length-map}
+use Rattle.match_rules.specs.OwnedRules.{rules_without}
 use Rattle.match_index.specs.Entries.{by_connection, live, positions}
-use Rattle.match_index.specs.Indexed.{rules_without}
 use Rattle.match_index.specs.Indexes.{AreShaped}
 use Rattle.match_index.specs.declared.entries.Entry.{Entry}
 use Rattle.match_index.specs.declared.place_index.KeyedPlace.{KeyedPlace}

@@ -1,6 +1,6 @@
 use Rattle.std.proofs.Common.{◌≡◌, ◌≤◌, ◌+◌, length, vec_capacity, Bool, List}
+use Rattle.match_rules.specs.OwnedRules.{rules_without}
 use Rattle.match_index.specs.Entries.{by_connection, live, positions}
-use Rattle.match_index.specs.Indexed.{rules_without}
 use Rattle.match_index.specs.Indexes.{AreIndexed, AreShaped}
 use Rattle.match_index.proofs.tables.take_out_all.Given as goal
 

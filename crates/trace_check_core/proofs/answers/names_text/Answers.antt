@@ -9,6 +9,6 @@ use Rattle.trace_check_core.proofs.answers.names_text.Goals as goal
 
 pub returns : goal.returns
 returns c =
-    names_told c.args.registry.now c.connections.ensures.0 c.connections.result.now (map (λ b. owned_name b.value) c.names.result.now) _ _ (string_bytes c.push_names.new.text)
-    c.connections.ensures.1 c.names.ensures (c.in_ok-text.ensures.ok ∙ c.as_str.ensures.value ∙ c.bus.ensures) c.in_ok-push_clients.ensures
+    names_told c.args.registry.now c.connections.result.now (map (λ b. owned_name b.value) c.names.result.now) _ _ (string_bytes c.push_names.new.text)
+    c.connections.ensures c.names.ensures (c.in_ok-text.ensures.ok ∙ c.as_str.ensures.value ∙ c.bus.ensures) c.in_ok-push_clients.ensures
     (c.in_ok-push_names.ensures ∙ ap (λ t. string_bytes c.push_clients.new.text ++ t) (sym (flat_map-map (λ (n : OwnedName). behind_comma n.name) (λ b. owned_name b.value) c.names.result.now)))

@@ -1,6 +1,6 @@
 use Rattle.std.proofs.Common.{Bool, is_some, List, sym, ap, ◌∙◌}
 use Rattle.std.specs.List.{list_any, position}
-use Rattle.match_index.specs.Indexed.{is_rule_of}
+use Rattle.match_rules.specs.OwnedRules.{is_rule_of}
 use Rattle.match_index.specs.Entries.{has_rule}
 use Rattle.match_index.specs.declared.entries.Entry.{Entry}
 use Rattle.match_index.specs.declared.place_index.KeyedPlace.{KeyedPlace}

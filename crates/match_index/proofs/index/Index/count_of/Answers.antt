@@ -1,6 +1,6 @@
 use Rattle.std.proofs.Common.{length, sym, ap, ◌∙◌}
 use Rattle.std.proofs.lemmas.List.{length-map}
-use Rattle.match_index.specs.Indexed.{count_of}
+use Rattle.match_rules.specs.OwnedRules.{count_of}
 use Rattle.match_index.proofs.EntryLemmas.{count_positions}
 use Rattle.match_index.proofs.index.Index.count_of.Goals as goal
 

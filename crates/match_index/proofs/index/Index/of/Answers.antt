@@ -1,7 +1,7 @@
 use Rattle.std.proofs.Common.{ap, ◌∙◌}
 use Rattle.std.specs.List.{flat_map}
+use Rattle.match_rules.specs.OwnedRules.{rules_by}
 use Rattle.match_index.specs.Entries.{rule_at}
-use Rattle.match_index.specs.Indexed.{rules_by}
 use Rattle.match_index.specs.PlaceIndexes.{places_in}
 use Rattle.match_index.proofs.EntryLemmas.{rules_at_positions}
 use Rattle.match_index.proofs.index.Index.of.Goals as goal

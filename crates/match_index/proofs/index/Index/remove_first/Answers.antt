@@ -1,7 +1,7 @@
 use Rattle.std.proofs.Common.{◌≡◌, ◌<◌, ℕ, Bool, Option, Some, None, List, length, get_or, sym, ap, ◌∙◌, arith, subst}
 use Rattle.std.specs.List.{position}
+use Rattle.match_rules.specs.OwnedRules.{is_rule_of, without_first}
 use Rattle.match_index.specs.Entries.{by_connection, has_rule, live, positions}
-use Rattle.match_index.specs.Indexed.{is_rule_of, without_first}
 use Rattle.match_index.specs.Indexes.{AreShaped}
 use Rattle.match_index.specs.declared.entries.Entry.{Entry}
 use Rattle.match_index.specs.declared.place_index.KeyedPlace.{KeyedPlace}

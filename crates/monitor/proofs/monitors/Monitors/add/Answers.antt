@@ -2,7 +2,8 @@ use Rattle.std.proofs.Common.{◌≡◌, ℕ, nat_lt, Bool, Option, List, insert
 use Rattle.std.specs.Prelude.{unwrap_or}
 use Rattle.std.specs.List.{position, position_or_len}
 use Rattle.monitor.specs.Monitors.{Monitor, inserted}
-use Rattle.monitor.proofs.Places.{inserted_above, place_or_end}
+use Rattle.seq_bus_core.proofs.Inserting.{inserted_above}
+use Rattle.monitor.proofs.Places.{place_or_end}
 use Rattle.monitor.proofs.monitors.Monitors.add.Goals as goal
 
 pub returns : goal.returns
@@ -15,4 +16,4 @@ returns c =
     c.unwrap_or-place.ensures ∙ ap (λ (place : Option ℕ). unwrap_or place c.len-end.result) found ∙ ap (unwrap_or (position test items)) (c.len-end.ensures ∙ c.self.inside.monitors.ok.0) ∙ place_or_end test items in
     let rules_are : ◌≡◌ {A = Monitor} (record { conn = c.args.conn; rules = c.as_slice.result.now }) monitor = ap (λ rules. record { conn = c.args.conn; rules = rules }) c.as_slice.ensures.value in
     c.insert.ensures ∙ ap (insert c.args.self.now c.unwrap_or-place.result) rules_are ∙ ap (λ (ms : List Monitor). insert ms c.unwrap_or-place.result monitor) (sym c.self.view_is)
-    ∙ ap (λ n. insert items n monitor) place_is ∙ inserted_above monitor items ∙ ap (inserted monitor) c.self.view_is
+    ∙ ap (λ n. insert items n monitor) place_is ∙ inserted_above (λ (m : Monitor). m.conn.number) monitor items ∙ ap (inserted monitor) c.self.view_is

@@ -1,7 +1,6 @@
 use Rattle.std.proofs.Common.{sym, ap, ◌∙◌, subst}
 use Rattle.seq_bus_core.specs.BusState.{BusState, head_of}
-use Rattle.seq_bus_core.specs.Recipients.{monitors_shown}
-use Rattle.registry_core.specs.Listening.{conns_that, watches_by}
+use Rattle.seq_bus_core.specs.Recipients.{monitors_shown, conns_that, watches_by}
 use Rattle.registry.specs.Pendings.{IsDue, state_after}
 use Rattle.registry.proofs.LeaveLemmas.{left_shown}
 use Rattle.registry.proofs.MonitorLemmas.{client_out, few_with, no_more_than}

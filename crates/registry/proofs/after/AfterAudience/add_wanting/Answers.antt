@@ -1,7 +1,7 @@
 use Rattle.std.proofs.Common.{◌&&◌, sym, ap, ◌∙◌}
 use Rattle.seq_bus_core.specs.BusState.{BusState, head_of}
-use Rattle.seq_bus_core.specs.Recipients.{all_that_want}
-use Rattle.registry_core.specs.Listening.{conns_that, stays, wants_by}
+use Rattle.seq_bus_core.specs.Recipients.{all_that_want, conns_that, wants_by}
+use Rattle.registry_core.specs.Listening.{stays}
 use Rattle.registry.specs.Pendings.{leaver_of}
 use Rattle.registry.proofs.AfterLemmas.{wanting_after}
 use Rattle.registry.proofs.after.AfterAudience.add_wanting.Goals as goal

@@ -1,10 +1,12 @@
 use Rattle.std.proofs.Common.{◌≡◌, ◌≤◌, ◌&&◌, None, true, List, length, map, filter, ap, ◌∙◌, subst, sym}
 use Rattle.std.specs.List.{AllByRecursion}
 use Rattle.std.proofs.lemmas.List.{length-map}
-use Rattle.seq_bus_core.specs.BusState.{BusState, AddedRule, max_connections}
+use Rattle.match_rules.specs.OwnedRules.{OwnedRule}
+use Rattle.seq_bus_core.specs.BusState.{BusState, max_connections}
 use Rattle.seq_bus_core.specs.declared.connection.Conn.{Conn}
+use Rattle.seq_bus_core.specs.Recipients.{wants_by, conns_that}
 use Rattle.registry_core.specs.declared.connection_entry.ConnectionEntry.{ConnectionEntry}
-use Rattle.registry_core.specs.Listening.{Rising, has_number, stays, entry_wants, wants_by, conns_that}
+use Rattle.registry_core.specs.Listening.{Rising, has_number, stays, entry_wants}
 use Rattle.registry_core.specs.ConnectionTables.{entry_of}
 use Rattle.registry.specs.Tables.{state_of}
 use Rattle.registry.proofs.Kept.{entries_rise}
@@ -21,7 +23,7 @@ add_all_that_want-requires-clause-few g c =
 
 pub add_all_that_want-requires-clause-owned : goal.add_all_that_want-requires-clause-owned
 add_all_that_want-requires-clause-owned g c =
-    subst (λ (ms : List ConnectionEntry). AllByRecursion (λ (r : AddedRule). has_number ms r.connection ≡ true) c.self.inside.rules) (sym c.as_slice-entries.ensures)
+    subst (λ (ms : List ConnectionEntry). AllByRecursion (λ (r : OwnedRule). has_number ms r.connection ≡ true) c.self.inside.rules) (sym c.as_slice-entries.ensures)
     (rules_owned (state_of c.self.inside) c.self.invariant.consistent)
 
 pub returns-clause-value : goal.returns-clause-value

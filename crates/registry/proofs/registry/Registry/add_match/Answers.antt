@@ -9,12 +9,12 @@ use Rattle.registry.specs.Tables.{state_of}
 use Rattle.registry.proofs.Kept.{kept}
 use Rattle.registry.proofs.MatchLemmas.{add_made, add_not_made}
 use Rattle.registry.proofs.registry.Registry.add_match.Goals as goal
-use Rattle.registry.proofs.registry.Registry.add_match.Goals.{After-push}
+use Rattle.registry.proofs.registry.Registry.add_match.Goals.{After-add}
 
-next : After-push → Inside
-next c = record c.self.inside { rules = c.push.new.self }
+next : After-add → Inside
+next c = record c.self.inside { rules = c.add.new.self }
 
-after : (c : After-push) → (step (state_of c.self.inside) c.args.seat (AddMatch c.args.connection c.args.rule.now)).0 ≡ state_of (next c)
+after : (c : After-add) → (step (state_of c.self.inside) c.args.seat (AddMatch c.args.connection c.args.rule.now)).0 ≡ state_of (next c)
 unfolding next
 after c =
     let s = state_of c.self.inside in
@@ -22,7 +22,7 @@ after c =
     let rule = c.args.rule.now in
     let seat = c.args.seat in
     let done : reply_to_add s n ≡ Done = ap (λ (t : BusState). reply_to_add t n) c.self.view_is ∙ sym c.reply_to_add.ensures ∙ c.in-Done.is in
-    (add_made s seat n rule done).0 ∙ ap (λ rules. record s { rules = rules }) (sym c.push.ensures)
+    (add_made s seat n rule done).0 ∙ ap (λ rules. record s { rules = rules }) (sym c.add.ensures)
 
 pub invariant_of-self : goal.invariant_of-self
 unfolding next

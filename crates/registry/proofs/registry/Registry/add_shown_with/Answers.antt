@@ -1,9 +1,8 @@
 use Rattle.std.proofs.Common.{length, sym, ap, ◌∙◌, subst, arith}
 use Rattle.seq_bus_core.specs.BusState.{BusState, connection_of}
 use Rattle.seq_bus_core.specs.Consistency.{IsConsistent}
-use Rattle.seq_bus_core.specs.Recipients.{inserted_conn}
+use Rattle.seq_bus_core.specs.Recipients.{inserted_conn, watches_by}
 use Rattle.seq_bus_core.specs.declared.connection.Conn.{Conn}
-use Rattle.registry_core.specs.Listening.{watches_by}
 use Rattle.registry.proofs.MonitorLemmas.{absent_with, client_out, fewer_that, found_at, found_nowhere, shown_but, unwatched, watched_with}
 use Rattle.registry.proofs.registry.Registry.add_shown_with.Goals as goal
 

@@ -1,8 +1,8 @@
 use Rattle.std.proofs.Common.{sym, ap, ◌∙◌}
+use Rattle.seq_bus_core.specs.Recipients.{conns_that, watches_by}
 use Rattle.monitor.specs.Monitors.{conns_shown}
-use Rattle.registry_core.specs.Listening.{conns_that, watches_by}
+use Rattle.monitor.proofs.ShownLaws.{shown_in}
 use Rattle.registry_core.specs.ConnectionTables.{connections_in}
-use Rattle.registry_core.proofs.ConnectionTableLemmas.{shown_in}
 use Rattle.registry_core.proofs.connection_table.ConnectionTable.shown.Goals as goal
 
 pub returns : goal.returns

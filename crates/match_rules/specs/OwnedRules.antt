@@ -1,17 +1,14 @@
 -- Rules of connections, in order of arrival.
-use Rattle.std.specs.Prelude.{ℕ, ◌==◌, ◌&&◌, Bool, not, List, [], ◌∷◌, map, filter, sum_by, if◌then◌else◌}
+use Rattle.std.specs.Prelude.{ℕ, ◌==◌, ◌&&◌, Bool, not, List, [], ◌∷◌, map, filter, count_by, if◌then◌else◌}
 use Rattle.std.specs.List.{list_any}
 use Rattle.match_rules.specs.Facts.{Facts}
 use Rattle.match_rules.specs.Fitting.{Heads, fits}
 use Rattle.match_rules.specs.Rules.{Rule, same_rule}
 
+-- a rule, and the connection that added it
 pub record OwnedRule : Type 0 where
   pub connection : ℕ
   pub rule : Rule
-
--- the most rules that an index has
-abbrev pub max_rules : ℕ
-max_rules = 4096
 
 abbrev pub is_of : ℕ → OwnedRule → Bool
 is_of connection r = r.connection == connection
@@ -21,7 +18,7 @@ abbrev pub rules_by : ℕ → List OwnedRule → List Rule
 rules_by connection rules = map (λ r. r.rule) (filter (is_of connection) rules)
 
 abbrev pub count_of : ℕ → List OwnedRule → ℕ
-count_of connection rules = sum_by (λ r. if is_of connection r then 1 else 0) rules
+count_of connection rules = count_by (is_of connection) rules
 
 -- a rule of the connection that is equal to this one
 abbrev pub is_rule_of : ℕ → Rule → OwnedRule → Bool
