@@ -1,8 +1,8 @@
 -- Lists of calls that wait, numbered in order of arrival.
-use Rattle.std.proofs.Common.{◌≡◌, ℕ, ◌+◌, ◌<◌, ◌≤◌, suc, nat_eq, Bool, true, false, not, Some, List, [], ◌∷◌, ◌++◌, length, map, refl, sym, ap, ◌∙◌, arith}
+use Rattle.std.proofs.Common.{◌≡◌, ℕ, ◌+◌, ◌<◌, ◌≤◌, nat_eq, Bool, true, false, not, Some, List, [], ◌∷◌, ◌++◌, length, map, refl, sym, ap, ◌∙◌, arith}
 use Rattle.std.specs.List.{AllByRecursion as Each, filter, find, list_any}
 use Rattle.std.proofs.lemmas.Bool.{cond_both, true≢false, eq-eqb, ne_eqb, not-true}
-use Rattle.std.proofs.lemmas.List.{map-append}
+use Rattle.std.proofs.lemmas.List.{map-append, length-map}
 use Rattle.std.proofs.lemmas.List.Sums.{sum_by-cons}
 use Rattle.std.proofs.lemmas.List.Elements.{filter-append}
 use Rattle.std.proofs.lemmas.Cmp.{nat_list_eq_equiv}
@@ -14,10 +14,6 @@ use Rattle.seq_bus_core.specs.declared.ticket.Ticket.{Ticket}
 use Rattle.seq_bus_core.proofs.Lists.{each_weaker, each_both, each_map, each_filter, each_passing, each_always, found_having, none_any}
 use Rattle.seq_bus_core.proofs.TextLemmas.{text_eq-true, text_eq-swapped}
 use Rattle.activation.specs.Holdings.{Calls, numbers_for, has_start}
-
-pub length_map : {X Y : Type 0} (f : X → Y) (xs : List X) → length (map f xs) ≡ length xs
-length_map f [] = refl
-length_map f (x ∷ xs) = ap suc (length_map f xs)
 
 -- ## Names
 
@@ -156,7 +152,7 @@ few_calls (r ∷ rs) calls differ tickets started =
     (each_passing (λ w. has_start (r ∷ rs) w.name ≡ true) (λ w. has_start rs w.name ≡ true) (λ w. not (waits_for r.name w))
     (λ w is keeps. later_start w (text_eq-swapped w.name r.name (not-true (waits_for r.name w) keeps)) is) calls started) in
     let own : length (filter (waits_for r.name) calls) ≡ length r.tickets =
-    sym (length_map (λ (w : Waiting Ticket). w.what) (filter (waits_for r.name) calls)) ∙ sym (length_map (λ (t : Ticket). t.number) (waiting_for r.name calls)) ∙ ap length tickets.0 in
+    sym (length-map (filter (waits_for r.name) calls) (λ (w : Waiting Ticket). w.what)) ∙ sym (length-map (waiting_for r.name calls) (λ (t : Ticket). t.number)) ∙ ap length tickets.0 in
     let sum : tickets_in (r ∷ rs) ≡ length r.tickets + tickets_in rs = sum_by-cons (λ (q : RunningStart). length q.tickets) r rs in
     omega (arith, parted_length (waits_for r.name) calls, later, own, sum)
   where

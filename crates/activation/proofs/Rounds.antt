@@ -74,7 +74,3 @@ round_ends T name fate first before held given round = (
   round.held ∙ ap (λ ys. ys ++ waiting_for_others name (take (length first) first)) (drop_all first) ∙ ap (waiting_for_others name) (take_all first),
   round.given ∙ ap (λ ys. before ++ given_as fate (waiting_for name ys)) (take_all first),
 )
-
-pub length_map : {X Y : Type 0} (f : X → Y) (xs : List X) → length (map f xs) ≡ length xs
-length_map f [] = refl
-length_map f (x ∷ xs) = ap suc (length_map f xs)

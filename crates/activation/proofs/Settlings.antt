@@ -3,7 +3,7 @@ use Rattle.std.proofs.Common.{◌≡◌, ◌≢◌, ℕ, ◌+◌, ◌<◌, ◌�
 use Rattle.std.specs.List.{AllByRecursion as Each, filter, find, list_any}
 use Rattle.std.specs.Prelude.{nat_lt, nat_le}
 use Rattle.std.proofs.lemmas.Bool.{cond_both, true≢false, not-true, and_parts, ne_eqb, ltb-true}
-use Rattle.std.proofs.lemmas.List.{map-append}
+use Rattle.std.proofs.lemmas.List.{map-append, length-map}
 use mathlib.Core.List.{append-nil}
 use Rattle.names.specs.Texts.{Text, text_eq}
 use Rattle.activation.specs.Holding.{Waiting, waits_for, waiting_for, waiting_for_others, given_as}
@@ -22,7 +22,7 @@ use Rattle.seq_bus_core.proofs.Lists.{each_weaker, each_both, each_push, each_fi
 use Rattle.seq_bus_core.proofs.TextLemmas.{text_eq-true, text_eq-swapped}
 use Rattle.activation.specs.Holdings.{Calls, IsHolding, numbers_for, has_start}
 use Rattle.activation.specs.Settling.{calls_after, let_go, new_call, once_told, settled_as, told_whole, caller_of}
-use Rattle.activation.proofs.CallLists.{length_map, text_eq-itself, filter_alike, filter_map_before, filter_every, apart_from_found, numbers_apart, numbers_more, unstarted_numbers, IsNumbered, finds_itself, among_its_own, few_calls}
+use Rattle.activation.proofs.CallLists.{text_eq-itself, filter_alike, filter_map_before, filter_every, apart_from_found, numbers_apart, numbers_more, unstarted_numbers, IsNumbered, finds_itself, among_its_own, few_calls}
 
 -- the calls are those of a state, and carry what these tickets do
 pub record Keeps (s : BusState) (waiting : List Ticket) (calls : Calls) : Type 0 where
@@ -111,7 +111,7 @@ settles b change caller calls h fate name goes test named started found r told s
     let its_name : started.name ≡ name = text_eq-true started.name name (named started (find_passes test s.starts started found)) in
     let its_tickets : numbers_for name calls ≡ started.tickets = ap (λ n. numbers_for n calls) (sym its_name) ∙ found_having (λ q. numbers_for q.name calls ≡ q.tickets) test s.starts started found h.tickets in
     let numbers : r.1.tickets ≡ map (λ k. record { fate = fate; number = k }) (numbers_for name calls) = told ∙ ap (map (λ k. record { fate = fate; number = k })) (sym its_tickets) in
-    let count : length r.1.tickets ≡ length started.tickets = ap (λ (ns : List SettledNumber). length ns) told ∙ length_map (λ (k : ℕ). record { fate = fate; number = k }) started.tickets in
+    let count : length r.1.tickets ≡ length started.tickets = ap (λ (ns : List SettledNumber). length ns) told ∙ length-map started.tickets (λ (k : ℕ). record { fate = fate; number = k }) in
     let some : nat_eq (length r.1.tickets) 0 ≡ false = ap (λ n. nat_eq n 0) count ∙ some_of started.tickets (running s h.consistent test started found).waited in
     let others : Calls = waiting_for_others name calls in
     let gone : once_told change r.1.tickets calls ≡ record { held = others; given = given_as fate (waiting_for name calls) } = rw some goes in
@@ -135,7 +135,7 @@ settles b change caller calls h fate name goes test named started found r told s
         given = rw next (each_filter (λ w. w.what.number < s.next_ticket) (λ w. not (waits_for name w)) calls h.given);
       });
       told = (λ i. record { reply = r.1.reply; signals = r.1.signals; tickets = told_all i; start = r.1.start });
-      few = rw (gone, count) (omega (arith, length_map {Y = Given Ticket} (λ (what : Ticket). record { fate = fate; what = what }) (waiting_for name calls), length_map (λ (t : Ticket). t.number) (waiting_for name calls), ap length its_tickets));
+      few = rw (gone, count) (omega (arith, length-map {B = Given Ticket} (waiting_for name calls) (λ (what : Ticket). record { fate = fate; what = what }), length-map (waiting_for name calls) (λ (t : Ticket). t.number), ap length its_tickets));
       fits = λ is n held. absurd (true≢false (sym is ∙ uncalled));
     }
   where

@@ -1,7 +1,7 @@
 -- The heads of names.
 use Rattle.std.proofs.Common.{◌≡◌, ℕ, ◌<◌, ◌^◌, ◌↔◌, ◌==◌, ◌&&◌, ◌||◌, not, Bool, true, false, cond, Option, Some, None, is_some, option_map, List, [], ◌∷◌, refl, sym, ap, ◌∙◌, subst, arith, if◌then◌else◌}
 use Rattle.std.specs.List.{AllByRecursion as Each, find}
-use Rattle.std.specs.Cmp.Lexicographic.{same_text, other_text}
+use Rattle.std.specs.Cmp.Lexicographic.{other_text}
 use Rattle.std.proofs.lemmas.Bool.Decides.{nat_tests}
 use Rattle.names.specs.Texts.{Text, text_eq}
 use Rattle.names.specs.BusName.{bus_text, is_bus, is_unique}
@@ -9,17 +9,15 @@ use Rattle.names.specs.UniqueName.{unique_text}
 use Rattle.owner_queues.specs.Queues.{queue_head}
 use Rattle.seq_bus_core.specs.BusState.{BusState, Connection, is_client, is_monitor, client_named, head_of, queue_of}
 use Rattle.seq_bus_core.specs.Steps.{with_connection}
+use Rattle.seq_bus_core.proofs.TextLemmas.{text_eq-true}
 use Rattle.registry.proofs.Lists.{find_push}
 
 false_of : (b : Bool) → (b ≡ true → ⊥) → b ≡ false
 false_of true h = absurd (h refl)
 false_of false h = refl
 
-pub is_same : (a b : Text) → text_eq a b ≡ true → a ≡ b
-is_same a b h = same_text a b (sym h)
-
 pub is_other : (a b : Text) → (a ≡ b → ⊥) → text_eq a b ≡ false
-is_other a b h = false_of (text_eq a b) (λ same. h (is_same a b same))
+is_other a b h = false_of (text_eq a b) (λ same. h (text_eq-true a b same))
 
 pub is_itself : (a b : Text) → a ≡ b → text_eq a b ≡ true
 is_itself a b same = by_test (text_eq a b) refl

@@ -1,5 +1,5 @@
 -- Lists of names, and how many they have.
-use Rattle.std.proofs.Common.{◌≡◌, suc, ◌+◌, ◌≤◌, Bool, true, false, not, cond, Some, None, List, [], ◌∷◌, ◌++◌, filter, map, flat_map, length, length-append, refl, ap, arith, if◌then◌else◌}
+use Rattle.std.proofs.Common.{◌≡◌, ◌+◌, ◌≤◌, Bool, true, false, not, cond, Some, None, List, [], ◌∷◌, ◌++◌, filter, map, flat_map, length, length-append, refl, ap, arith, if◌then◌else◌}
 use Rattle.std.specs.List.{list_all}
 use Rattle.std.proofs.lemmas.List.{length-map}
 use Rattle.names.specs.Texts.{Text}
@@ -15,20 +15,13 @@ use Rattle.seq_bus_core.proofs.Lists.{each_weaker}
 use Rattle.seq_bus_core.proofs.OwnedLemmas.{queue_of_each}
 use Rattle.registry_core.specs.ConnectionTables.{entry_of}
 use Rattle.registry_core.specs.declared.connection_entry.ConnectionEntry.{ConnectionEntry}
+use Rattle.registry_core.proofs.ConnectionTableLemmas.{few_others}
 use Rattle.registry.specs.NamesListed.{only, names_in}
 use Rattle.registry.specs.declared.listed.NamesOf.{NamesOf}
 use Rattle.registry.specs.declared.listed.NamesOf.TheVariants.{All, Services, Bus, Client, Queued}
 use Rattle.registry.proofs.QueueLemmas.{places}
 
 -- ## How many
-
-few_filter : {X : Type 0} (test : X → Bool) (xs : List X) → length (filter test xs) ≤ length xs
-few_filter test [] = omega arith
-few_filter test (x ∷ xs) = by_test (test x) (few_filter test xs)
-  where
-    by_test : (b : Bool) → length (filter test xs) ≤ length xs → length (cond b (x ∷ filter test xs) (filter test xs)) ≤ suc (length xs)
-    by_test true few = omega (arith, few)
-    by_test false few = omega (arith, few)
 
 few_there : (s : BusState) → IsWithinLimits s → length (bus_text ∷ names_there s) ≤ 2048
 few_there s within =
@@ -38,7 +31,7 @@ few_there s within =
     let whole : length (map unique clients ++ map named s.names) ≡ length (map unique clients) + length (map named s.names) = length-append (map unique clients) (map named s.names) in
     let front : length (map unique clients) ≡ length clients = length-map clients unique in
     let back : length (map named s.names) ≡ length s.names = length-map s.names named in
-    let few : length clients ≤ length s.connections = few_filter (λ (c : Connection). not (is_monitor c)) s.connections in
+    let few : length clients ≤ length s.connections = few_others (λ (c : Connection). not (is_monitor c)) s.connections in
     omega (arith, whole, front, back, few, within.connections, within.names)
 
 -- a queue has no more places than there are connections

@@ -1,8 +1,8 @@
 -- Buses that can be opened as the head of a trace says.
-use Rattle.std.proofs.Common.{◌≡◌, ℕ, ◌<◌, ◌≤◌, Bool, true, false, Option, Some, None, List, [], ◌∷◌, ◌++◌, length, length-append, refl, sym, ap, ◌∙◌, subst, arith, codes}
+use Rattle.std.proofs.Common.{◌≡◌, ℕ, ◌<◌, ◌≤◌, true, false, Option, Some, None, List, [], ◌∷◌, ◌++◌, length, length-append, refl, sym, ap, ◌∙◌, subst, arith, codes}
 use Rattle.std.specs.Prelude.{◌==◌, ◌&&◌, not, is_none, IfSome}
 use Rattle.std.specs.List.{AllByRecursion, IsDistinct}
-use Rattle.std.proofs.lemmas.Bool.{and_parts, cond_both, ne_eqb, true≢false}
+use Rattle.std.proofs.lemmas.Bool.{and_parts, cond_both, ne_eqb, true≢false, not-true}
 use Rattle.std.proofs.lemmas.Map.Keys.{IsDistinct-cons, IsDistinct-head, IsDistinct-tail}
 use Rattle.names.specs.BusName.{is_bus, is_unique}
 use Rattle.names.specs.Elements.{colon, dot, IsElement, is_element_byte, joined}
@@ -12,7 +12,7 @@ use Rattle.names.specs.declared.fault.NameFault.{NameFault}
 use Rattle.names.proofs.Faults.{none_well_known}
 use Rattle.seq_bus_core.specs.Histories.{CanOpen, max_routers, max_services}
 use Rattle.seq_bus_core.specs.Steps.{is_reserved}
-use Rattle.seq_bus_core.proofs.TextLemmas.{text_eq-true, text_lt-itself}
+use Rattle.seq_bus_core.proofs.TextLemmas.{text_lt-differs}
 use Rattle.trace_lines.specs.Heads.{is_service_name, service_from, service_of}
 use Rattle.trace_words.specs.Words.{space, parts}
 use Rattle.trace_check_core.specs.Traces.{is_last}
@@ -34,15 +34,11 @@ well_known_is_not text h = subst (λ t. is_unique t ≡ false) (sym h.1.3) (firs
     first_byte ([] ∷ others) some each = absurd each.0
     first_byte ((b ∷ bytes) ∷ others) some each = not_colon b each.0.0
 
-not_true : (b : Bool) → not b ≡ true → b ≡ false
-not_true true e = absurd (true≢false (sym e))
-not_true false e = refl
-
 service_ownable : (name : Text) → is_service_name name ≡ true → is_reserved name ≡ false
 service_ownable name e =
     let both = and_parts (is_none (well_known_fault name)) (not (is_bus name)) e in
     let plain : is_unique name ≡ false = well_known_is_not name (none_well_known name (no_fault (well_known_fault name) both.0)) in
-    rw (not_true (is_bus name) both.1) plain
+    rw (not-true (is_bus name) both.1) plain
 
 ownable_from : (words : List Text) → IfSome (service_from words) (λ name. is_reserved name ≡ false)
 ownable_from [] = tt
@@ -58,13 +54,6 @@ said_ownable text name e = subst (λ o. IfSome o (λ n. is_reserved n ≡ false)
 
 -- ## One service more
 
-before_is_other : (a b : Text) → text_lt a b ≡ true → text_eq a b ≡ false
-before_is_other a b below = by_test (text_eq a b) refl
-  where
-    by_test : (t : Bool) → text_eq a b ≡ t → t ≡ false
-    by_test true e = absurd (true≢false (sym below ∙ ap (text_lt a) (sym (text_eq-true a b e)) ∙ text_lt-itself a))
-    by_test false e = refl
-
 others_more : (service : Text) (services : List Text) (name : Text) → AllByRecursion (λ y. text_eq service y ≡ false) services → text_eq service name ≡ false → AllByRecursion (λ y. text_eq service y ≡ false) (services ++ name ∷ [])
 others_more service [] name all other = (other, tt)
 others_more service (s ∷ services) name all other = (all.0, others_more service services name all.1 other)
@@ -74,7 +63,7 @@ distinct_more [] name last distinct = IsDistinct-cons text_eq name [] tt distinc
 distinct_more (service ∷ services) name last distinct =
     let both = and_parts (text_lt service name) (is_last services name) last in
     IsDistinct-cons text_eq service (services ++ name ∷ [])
-    (others_more service services name (IsDistinct-head text_eq service services distinct) (before_is_other service name both.0))
+    (others_more service services name (IsDistinct-head text_eq service services distinct) (text_lt-differs service name both.0))
     (distinct_more services name both.1 (IsDistinct-tail text_eq service services distinct))
 
 ownable_more : (services : List Text) (name : Text) → AllByRecursion (λ n. is_reserved n ≡ false) services → is_reserved name ≡ false → AllByRecursion (λ n. is_reserved n ≡ false) (services ++ name ∷ [])

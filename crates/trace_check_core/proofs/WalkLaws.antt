@@ -1,15 +1,17 @@
 -- The walk along the lines of a trace in order of place finds the first line that is wrong.
-use Rattle.std.proofs.Common.{◌≡◌, ◌⊎◌, inl, inr, ℕ, zero, suc, ◌+◌, ◌-◌, ◌<◌, ◌≤◌, Bool, true, false, cond, Option, Some, None, List, [], ◌∷◌, ◌++◌, map, filter, flat_map, refl, sym, ap, ◌∙◌, subst, append-nil, append_assoc, arith}
+use Rattle.std.proofs.Common.{◌≡◌, ◌⊎◌, inl, inr, ℕ, zero, suc, ◌+◌, ◌-◌, ◌<◌, ◌≤◌, Bool, true, false, cond, Option, Some, None, List, [], ◌∷◌, ◌++◌, map, filter, flat_map, refl, sym, ap, ◌∙◌, subst, append-nil, arith}
 use Rattle.std.specs.Prelude.{◌==◌, ◌&&◌, ◌||◌, not, nat_le, find, is_some, if◌then◌else◌}
 use Rattle.std.specs.List.{list_any, range_with_len, AllByRecursion as Each}
 use Rattle.std.specs.Option.{option_to_list}
 use Rattle.std.proofs.Math.Bool.{and-true}
-use Rattle.std.proofs.lemmas.Bool.{and_parts, cond_both, eqb-true, or_from, true≢false}
+use Rattle.std.proofs.lemmas.Bool.{and_parts, cond_both, eqb-true, or_from, true≢false, or_left, or_right}
 use Rattle.std.proofs.lemmas.Bool.Decides.{nat_tests}
 use Rattle.std.proofs.lemmas.List.Folds.{list_any-append}
 use Rattle.seq_bus_core.specs.BusState.{BusState}
 use Rattle.seq_bus_core.specs.Histories.{History, after, opening}
 use Rattle.seq_bus_core.proofs.Extending.{range_more, state_more}
+use Rattle.seq_bus_core.proofs.Lists.{find_passes}
+use Rattle.registry.proofs.Lists.{flat_push}
 use Rattle.trace_lines.specs.Lines.{Line, Subject, Made, Asked, Routed}
 use Rattle.trace_check_core.specs.KeptLines.{IsSeated}
 use Rattle.trace_check_core.specs.Legality.{changes_in, entries_at, entries_if_at, entries_of, history_to, is_change, number_made, places_before, state_at}
@@ -46,14 +48,6 @@ alone changes before line e is =
     let both = and_parts (nat_le line.place changes) (not (is_change line && list_any (is_change_at line.place) before)) e in
     not_both (is_change line) (list_any (is_change_at line.place) before) is both.1
 
-or_first : (a b : Bool) → a ≡ true → (a || b) ≡ true
-or_first true b e = refl
-or_first false b e = absurd (true≢false (sym e))
-
-or_second : (a b : Bool) → b ≡ true → (a || b) ≡ true
-or_second true b e = refl
-or_second false b e = e
-
 none_first : (a b : Bool) → (a || b) ≡ false → a ≡ false
 none_first true b e = absurd (true≢false e)
 none_first false b e = refl
@@ -71,8 +65,8 @@ any_more test (y ∷ xs) x e = by_test (test y) e (any_more test xs x)
     by_test false e more = more e
 
 any_last : {X : Type 0} (test : X → Bool) (xs : List X) (x : X) → test x ≡ true → list_any test (xs ++ x ∷ []) ≡ true
-any_last test [] x e = or_first (test x) false e
-any_last test (y ∷ xs) x e = or_second (test y) (list_any test (xs ++ x ∷ [])) (any_last test xs x e)
+any_last test [] x e = or_left (test x) false e
+any_last test (y ∷ xs) x e = or_right (test y) (list_any test (xs ++ x ∷ [])) (any_last test xs x e)
 
 -- no change stands where an earlier one stands
 no_later : (changes place : ℕ) (before lines : List Line) → AllPass (is_placed changes) before lines → list_any (is_change_at place) before ≡ true → list_any (is_change_at place) lines ≡ false
@@ -129,10 +123,6 @@ found_entries place number (line ∷ lines) one = by_test (is_change_at place li
 
 -- ## The bus at each place
 
-flat_last : {X Y : Type 0} (f : X → List Y) (xs : List X) (x : X) → flat_map f (xs ++ x ∷ []) ≡ flat_map f xs ++ f x
-flat_last f [] x = append-nil (f x)
-flat_last f (y ∷ xs) x = ap (λ rest. f y ++ rest) (flat_last f xs x) ∙ sym (append_assoc (f y) (flat_map f xs) (f x))
-
 none_at_opening : (routers : ℕ) (lines : List Line) → Each (IsSeated routers) lines → list_any (is_change_at 0) lines ≡ false
 none_at_opening routers [] seated = refl
 none_at_opening routers (line ∷ lines) seated = by_test (is_change_at 0 line) refl (none_at_opening routers lines seated.1)
@@ -150,7 +140,7 @@ history_next lines place =
     let one_more : suc place ≡ place + 1 = omega arith in
     let last : 1 + place ≡ suc place = omega arith in
     let more : range_with_len 1 (suc place) ≡ range_with_len 1 place ++ suc place ∷ [] = ap (range_with_len 1) one_more ∙ range_more 1 place 1 ∙ ap (λ (n : ℕ). range_with_len 1 place ++ n ∷ []) last in
-    ap (flat_map (entries_at lines)) more ∙ flat_last (entries_at lines) (range_with_len 1 place) (suc place)
+    ap (flat_map (entries_at lines)) more ∙ flat_push (entries_at lines) (range_with_len 1 place) (suc place)
 
 pub state_next : (t : Trace) (place : ℕ) → Each (IsSeated t.routers) t.lines → state_at t place ≡ after (state_before t place) (entries_at t.lines place)
 state_next t zero seated = ap (after (opening t.profile t.routers t.services)) (sym (no_entries 0 t.lines (none_at_opening t.routers t.lines seated)))
@@ -232,14 +222,6 @@ along_both w (x ∷ xs) ys = along_both (walked w x) xs ys
 least_both : (t : Trace) (least : Option ℕ) (xs ys : List NumberedLine) → least_of t least (xs ++ ys) ≡ least_of t (least_of t least xs) ys
 least_both t least [] ys = refl
 least_both t least (x ∷ xs) ys = least_both t (least_on t least x) xs ys
-
-find_passes : {X : Type 0} (test : X → Bool) (xs : List X) (x : X) → find test xs ≡ Some x → test x ≡ true
-find_passes test [] x e = absurd (cc e)
-find_passes test (y ∷ xs) x e = by_test (test y) refl e (find_passes test xs x)
-  where
-    by_test : (b : Bool) → test y ≡ b → cond b (Some y) (find test xs) ≡ Some x → (find test xs ≡ Some x → test x ≡ true) → test x ≡ true
-    by_test true is e more = let same : y ≡ x = cc e in ap test (sym same) ∙ is
-    by_test false is e more = more e
 
 abbrev ns_of : Trace → List NumberedLine
 ns_of t = numbered (first_line t) t.lines
@@ -486,12 +468,12 @@ found_there t l [] m e = inl e
 found_there t l (x ∷ xs) m e = by_rest (found_there t (least_on t l x) xs m e)
   where
     by_least : (l : Option ℕ) → is_right t x.line ≡ false → Some (lesser l x.number) ≡ Some m → (l ≡ Some m) ⊎ (list_any (is_wrong_at t m) (x ∷ xs) ≡ true)
-    by_least None wrong e = let at : x.number ≡ m = cc e in inr (or_first (is_wrong_at t m x) (list_any (is_wrong_at t m) xs) (wrong_here t x m wrong at))
+    by_least None wrong e = let at : x.number ≡ m = cc e in inr (or_left (is_wrong_at t m x) (list_any (is_wrong_at t m) xs) (wrong_here t x m wrong at))
     by_least (Some k) wrong e = by_order (nat_le k x.number) e
       where
         by_order : (b : Bool) → Some (if b then k else x.number) ≡ Some m → (Some k ≡ Some m) ⊎ (list_any (is_wrong_at t m) (x ∷ xs) ≡ true)
         by_order true e = inl e
-        by_order false e = let at : x.number ≡ m = cc e in inr (or_first (is_wrong_at t m x) (list_any (is_wrong_at t m) xs) (wrong_here t x m wrong at))
+        by_order false e = let at : x.number ≡ m = cc e in inr (or_left (is_wrong_at t m x) (list_any (is_wrong_at t m) xs) (wrong_here t x m wrong at))
 
     by_test : (b : Bool) → is_right t x.line ≡ b → (if b then l else Some (lesser l x.number)) ≡ Some m → (l ≡ Some m) ⊎ (list_any (is_wrong_at t m) (x ∷ xs) ≡ true)
     by_test true is e = inl e
@@ -499,7 +481,7 @@ found_there t l (x ∷ xs) m e = by_rest (found_there t (least_on t l x) xs m e)
 
     by_rest : (least_on t l x ≡ Some m) ⊎ (list_any (is_wrong_at t m) xs ≡ true) → (l ≡ Some m) ⊎ (list_any (is_wrong_at t m) (x ∷ xs) ≡ true)
     by_rest (inl e) = by_test (is_right t x.line) refl e
-    by_rest (inr e) = inr (or_second (is_wrong_at t m x) (list_any (is_wrong_at t m) xs) e)
+    by_rest (inr e) = inr (or_right (is_wrong_at t m x) (list_any (is_wrong_at t m) xs) e)
 
 none_before : (m : ℕ) → None ≡ Some m → ⊥
 none_before m e = cc e
@@ -537,8 +519,8 @@ refused_there t number before (line ∷ lines) m e = by_test (is_right t line) r
     by_test : (b : Bool) → is_right t line ≡ b → cond b (first_refused (by_itself t) (number + 1) (before ++ line ∷ []) lines) (Some number) ≡ Some m →
         (first_refused (by_itself t) (number + 1) (before ++ line ∷ []) lines ≡ Some m → list_any (is_wrong_at t m) (numbered (number + 1) lines) ≡ true) →
         (is_wrong_at t m n || list_any (is_wrong_at t m) (numbered (number + 1) lines)) ≡ true
-    by_test true is e more = or_second (is_wrong_at t m n) (list_any (is_wrong_at t m) (numbered (number + 1) lines)) (more e)
-    by_test false is e more = let at : number ≡ m = cc e in or_first (is_wrong_at t m n) (list_any (is_wrong_at t m) (numbered (number + 1) lines)) (wrong_here t n m is at)
+    by_test true is e more = or_right (is_wrong_at t m n) (list_any (is_wrong_at t m) (numbered (number + 1) lines)) (more e)
+    by_test false is e more = let at : number ≡ m = cc e in or_left (is_wrong_at t m n) (list_any (is_wrong_at t m) (numbered (number + 1) lines)) (wrong_here t n m is at)
 
 refused_low : (t : Trace) (number : ℕ) (before lines : List Line) (k : ℕ) → list_any (is_wrong_at t k) (numbered number lines) ≡ true → (m : ℕ) × (first_refused (by_itself t) number before lines ≡ Some m) × (m ≤ k)
 refused_low t number before [] k e = absurd (true≢false (sym e))
@@ -590,4 +572,4 @@ walked_more w here done n is = ap (λ (v : Walk). walked v n) is ∙ sym (along_
 pub places_more : (w here : Walk) (done : List LinesThere) (there : LinesThere) → here ≡ walked_along w (flat_map in_turn done) → walked_along here (in_turn there) ≡ walked_along w (flat_map in_turn (done ++ there ∷ []))
 places_more w here done there is =
     ap (λ (v : Walk). walked_along v (in_turn there)) is ∙ sym (along_both w (flat_map in_turn done) (in_turn there))
-    ∙ ap (walked_along w) (sym (flat_last in_turn done there))
+    ∙ ap (walked_along w) (sym (flat_push in_turn done there))

@@ -1,8 +1,8 @@
 use Rattle.std.proofs.Common.{◌≡◌, ◌<◌, suc, List, length, map, ap, sym, ◌∙◌, arith, length-append, subst}
-use Rattle.std.proofs.lemmas.List.{map-append}
+use Rattle.std.proofs.lemmas.List.{map-append, length-map}
 use Rattle.activation.specs.Holding.{Waiting}
 use Rattle.activation.specs.declared.holder.Held.{Held}
-use Rattle.activation.proofs.Rounds.{Round, round_goes_on, round_turns, round_ends, length_map}
+use Rattle.activation.proofs.Rounds.{Round, round_goes_on, round_turns, round_ends}
 use Rattle.activation.proofs.holder.Holder.let_go.Goals as goal
 use Rattle.activation.proofs.holder.Holder.let_go.Goals.{then-eq, else-eq}
 
@@ -10,7 +10,7 @@ pub loop-place-preserved : goal.loop-place-preserved
 loop-place-preserved g c =
     let seen : Held g.row.T.Denot → Waiting g.row.T.Denot = λ w. record { name = w.name; what = w.what } in
     let first : List (Waiting g.row.T.Denot) = map seen c.self.inside.held.items in
-    let count : c.loop-place._place < length first = omega (arith, length_map seen c.self.inside.held.items, c.len-place-end.ensures) in
+    let count : c.loop-place._place < length first = omega (arith, length-map c.self.inside.held.items seen, c.len-place-end.ensures) in
     let now = c.loop-place.self-inside in
     let turned = round_turns g.row.T.Denot c.args.name.now c.args.fate first c.self.inside.given.items c.loop-place._place (map seen now.held.items) now.given.items
     c.loop-place.invariant.round count (seen c.in-Some.held) (map seen c.pop_front.new.self.items) (ap (map seen) (c.in-Some.ensures.items)) in
@@ -39,16 +39,16 @@ returns-in_default g c =
     let seen : Held g.row.T.Denot → Waiting g.row.T.Denot = λ w. record { name = w.name; what = w.what } in
     let first : List (Waiting g.row.T.Denot) = map seen c.self.inside.held.items in
     let now = c.loop-place.self-inside in
-    let count : c.loop-place._place < length first = omega (arith, length_map seen c.self.inside.held.items, c.len-place-end.ensures) in
+    let count : c.loop-place._place < length first = omega (arith, length-map c.self.inside.held.items seen, c.len-place-end.ensures) in
     absurd (round_goes_on g.row.T.Denot c.args.name.now c.args.fate first c.self.inside.given.items c.loop-place._place (map seen now.held.items) now.given.items
-    c.loop-place.invariant.round count (omega (arith, length_map seen now.held.items, c.in_default.ensures.cases.0)))
+    c.loop-place.invariant.round count (omega (arith, length-map now.held.items seen, c.in_default.ensures.cases.0)))
 
 pub returns : goal.returns
 returns g c =
     let seen : Held g.row.T.Denot → Waiting g.row.T.Denot = λ w. record { name = w.name; what = w.what } in
     let first : List (Waiting g.row.T.Denot) = map seen c.self.inside.held.items in
     let now = c.loop-place.self-inside in
-    let all : c.loop-place._place ≡ length first = omega (arith, length_map seen c.self.inside.held.items, c.len-place-end.ensures) in
+    let all : c.loop-place._place ≡ length first = omega (arith, length-map c.self.inside.held.items seen, c.len-place-end.ensures) in
     let ends = round_ends g.row.T.Denot c.args.name.now c.args.fate first c.self.inside.given.items (map seen now.held.items) now.given.items
     (subst (λ n. Round g.row.T.Denot c.args.name.now c.args.fate first c.self.inside.given.items n (map seen now.held.items) now.given.items) all c.loop-place.invariant.round) in
     rw (← c.self.view_is) (λ i. record { held = ends.0 i; given = ends.1 i })
