@@ -14,6 +14,7 @@ use names::WellKnown;
 use owner_queues::Profile;
 use registry::Registry;
 use seq_bus_core::{Change, Outcome};
+use settling::prepare_only;
 use std::alloc::{AllocError, Global};
 use std::marker::Model;
 
@@ -62,12 +63,9 @@ impl SteppedBus {
         ensures told { IfOk result (λ outcome.
             outcome ≡ (bus_step self.old seat change.now).1) }
     {
-        let mut prepared = self.registry.prepare(alloc, seat, change)?;
-        let room = HeldCalls::room_for(alloc, change, prepared.outcome())?;
-        let caller = prepared.caller();
-        let told = prepared.take_outcome(alloc);
+        let (prepared, settling) = prepare_only(alloc, &self.registry, seat, change)?;
         self.registry.absorb(&prepared);
-        Ok(self.calls.settle(change, caller, told, room))
+        Ok(settling.settle(&mut self.calls, change))
     }
 
     /// What the bus says to a question.

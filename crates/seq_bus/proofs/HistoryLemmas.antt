@@ -1,34 +1,28 @@
 -- The history of a bus with one seat.
 use Rattle.std.proofs.Common.{◌≡◌, ℕ, ◌+◌, List, [], ◌∷◌, ◌++◌, length, refl, sym, ap, ◌∙◌, subst, suc}
-use Rattle.std.specs.Prelude.{Option, option_map, option_and_then}
 use Rattle.std.specs.List.{AllByRecursion}
 use Rattle.names.specs.Texts.{Text}
 use Rattle.owner_queues.specs.declared.request.Profile.{Profile}
 use Rattle.seq_bus_core.specs.Bounds.{IsBounded}
-use Rattle.seq_bus_core.specs.BusState.{BusState, conn_of, connection_of}
+use Rattle.seq_bus_core.specs.BusState.{BusState}
 use Rattle.seq_bus_core.specs.Batches.{entries_of, outcomes_of}
-use Rattle.seq_bus_core.specs.Changes.{as_seen}
 use Rattle.seq_bus_core.specs.Consistency.{IsConsistent, IsWithinLimits}
 use Rattle.seq_bus_core.specs.Histories.{History, opening, numbers_of}
-use Rattle.seq_bus_core.specs.Steps.{Stepped, step}
+use Rattle.seq_bus_core.specs.Steps.{step}
 use Rattle.seq_bus_core.specs.Tickets.{WholeBus, bus_step, bus_after}
 use Rattle.seq_bus_core.specs.declared.change.Change.{Change}
-use Rattle.seq_bus_core.specs.declared.connection.Conn.{Conn}
 use Rattle.seq_bus_core.specs.declared.entry.Entry.{Entry}
-use Rattle.seq_bus_core.specs.declared.outcome.NumberedOutcome.{NumberedOutcome}
 use Rattle.seq_bus_core.specs.declared.outcome.Outcome.{Outcome}
 use Rattle.seq_bus_core.proofs.ConsistencyLaws.{buses_are_consistent}
-use Rattle.seq_bus_core.proofs.ChangeLaws.{steps_see_no_more}
 use Rattle.seq_bus_core.proofs.Extending.{after_more, legal_more}
 use Rattle.seq_bus_core.proofs.LimitLaws.{steps_keep_limits, buses_are_within_limits}
 use Rattle.activation.proofs.Bounds.{bounded}
 use Rattle.activation.specs.Holdings.{Calls, IsHolding}
-use Rattle.activation.specs.Settling.{IsAtStep, caller_of}
 use Rattle.registry.specs.PreparedChanges.{state_along}
 use Rattle.registry.proofs.Along.{entries_along}
 use Rattle.registry.proofs.Openings.{opened_still}
 use Rattle.settling.specs.Batches.{SettleAlong, bus_along}
-use Rattle.settling.specs.Settlings.{Settling}
+use Rattle.settling.specs.Settlings.{Settling, SettlesAt}
 use Rattle.settling.proofs.Along.{along_entries, bounded_along, limits_along}
 use Rattle.seq_bus.specs.PlainBus.{AreOwnEntries, IsKept, opened_as}
 
@@ -56,28 +50,24 @@ own_more history number changes own next = record {
 
 -- ## A change that was absorbed
 
--- the state after it
-pub absorbed : (s t : BusState) (change : Change) → t ≡ (step s 1 (as_seen change)).0 → t ≡ (step s 1 change).0
-absorbed s t change is = is ∙ ap (λ (r : Stepped). r.0) (steps_see_no_more s 1 change)
-
-pub opened_after : (s t : BusState) (change : Change) → t ≡ (step s 1 (as_seen change)).0 → opened_as t ≡ opened_as s
-opened_after s t change is = ap opened_as is ∙ ap (λ (o : BusState). record { state = o; waiting = [] }) (opened_still s 1 (as_seen change))
+pub opened_after : (s t : BusState) (change : Change) → t ≡ (step s 1 change).0 → opened_as t ≡ opened_as s
+opened_after s t change is = ap opened_as is ∙ ap (λ (o : BusState). record { state = o; waiting = [] }) (opened_still s 1 change)
 
 -- the bus after it
-pub change_made : (s t : BusState) (history : History) (number : ℕ) (change : Change) → t ≡ (step s 1 (as_seen change)).0 →
+pub change_made : (s t : BusState) (history : History) (number : ℕ) (change : Change) → t ≡ (step s 1 change).0 →
     bus_after (opened_as t) (history ++ record { seat = 1; number = number; change = change; left = 0 } ∷ []) ≡ (bus_step (bus_after (opened_as s) history) 1 change).0
 change_made s t history number change is =
     let e : Entry = record { seat = 1; number = number; change = change; left = 0 } in
     ap (λ (w : WholeBus). bus_after w (history ++ e ∷ [])) (opened_after s t change is) ∙ after_more (opened_as s) history (e ∷ [])
 
 -- what is kept of it
-pub kept_more : (s t : BusState) (calls later : Calls) (history : History) (number : ℕ) (change : Change) → IsKept s calls history → t ≡ (step s 1 (as_seen change)).0 → number ≡ length history + 1 →
+pub kept_more : (s t : BusState) (calls later : Calls) (history : History) (number : ℕ) (change : Change) → IsKept s calls history → t ≡ (step s 1 change).0 → number ≡ length history + 1 →
     IsHolding (bus_step (bus_after (opened_as s) history) 1 change).0 later → IsKept t later (history ++ record { seat = 1; number = number; change = change; left = 0 } ∷ [])
 kept_more s t calls later history number change kept is count holding =
     let made = change_made s t history number change is in
     record {
-      now = ap (λ (w : WholeBus). w.state) made ∙ ap (λ (now : BusState). (step now 1 change).0) kept.now ∙ sym (absorbed s t change is);
-      within_limits = subst IsWithinLimits (sym (absorbed s t change is)) (steps_keep_limits s 1 change (subst IsConsistent kept.now kept.holding.consistent) kept.within_limits);
+      now = ap (λ (w : WholeBus). w.state) made ∙ ap (λ (now : BusState). (step now 1 change).0) kept.now ∙ sym is;
+      within_limits = subst IsWithinLimits (sym is) (steps_keep_limits s 1 change (subst IsConsistent kept.now kept.holding.consistent) kept.within_limits);
       holding = rw made holding;
       own = own_more history number (change ∷ []) kept.own count;
     }
@@ -91,14 +81,9 @@ opened_kept s profile routers services is = rw is (record {
   own = record { seats = tt; legal = record { numbered = λ seat. refl; whole = refl } };
 })
 
--- a step at which calls are settled
-pub at_step : (s : BusState) (calls : Calls) (history : History) (change : Change) (caller : Option Conn) (told : NumberedOutcome) → IsKept s calls history → caller ≡ option_map conn_of (option_and_then (connection_of s) (caller_of change)) → told ≡ (step s 1 change).1 →
-    IsAtStep (bus_after (opened_as s) history) 1 change caller told calls
-at_step s calls history change caller told kept called is = record {
-  holding = kept.holding;
-  called = called ∙ ap (λ (now : BusState). option_map conn_of (option_and_then (connection_of now) (caller_of change))) (sym kept.now);
-  stepped = is ∙ ap (λ (now : BusState). (step now 1 change).1) (sym kept.now);
-}
+-- what settles a change on the registry settles it after the history
+pub settles_after : (s : BusState) (calls : Calls) (history : History) (change : Change) (settling : Settling) → IsKept s calls history → SettlesAt s 1 change settling → SettlesAt (bus_after (opened_as s) history).state 1 change settling
+settles_after s calls history change settling kept settles = subst (λ (t : BusState). SettlesAt t 1 change settling) (sym kept.now) settles
 
 -- what it is told is bounded
 pub bounded_at : (s : BusState) (calls : Calls) (history : History) (change : Change) → IsKept s calls history → IsBounded (bus_step (bus_after (opened_as s) history) 1 change).1

@@ -24,7 +24,7 @@ use owner_queues::Profile;
 use registry::Registry;
 use seq_bus_core::limits::MAX_BATCH;
 use seq_bus_core::{Change, Entry, Outcome, Query, Verdict};
-use settling::prepare_all;
+use settling::{prepare_all, prepare_only};
 use std::alloc::{AllocError, Global};
 use std::marker::Model;
 
@@ -95,16 +95,12 @@ impl SeqBus {
         if self.seen.reserve(1).is_err() {
             return Err(without_memory(change));
         }
-        let Ok(mut prepared) = self.registry.prepare(self.alloc, SEAT, &change) else {
+        let prepared = prepare_only(self.alloc, &self.registry, SEAT, &change);
+        let Ok((prepared, settling)) = prepared else {
             return Err(without_memory(change));
         };
-        let Ok(room) = HeldCalls::room_for(self.alloc, &change, prepared.outcome()) else {
-            return Err(without_memory(change));
-        };
-        let caller = prepared.caller();
-        let told = prepared.take_outcome(self.alloc);
         self.registry.absorb(&prepared);
-        let outcome = self.calls.settle(&change, caller, told, room);
+        let outcome = settling.settle(&mut self.calls, &change);
         let number = self.seen.len() as u64 + 1;
         self.seen
             .push(Entry {

@@ -37,4 +37,4 @@ mod batch;
 mod settling;
 
 pub use batch::{Settlings, prepare_all};
-pub use settling::{Settling, prepare};
+pub use settling::{Settling, prepare, prepare_only};

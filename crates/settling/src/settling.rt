@@ -52,6 +52,21 @@ pub fn prepare(
     Ok((prepared, settling))
 }
 
+/// The same, where the change is not made on the registry yet.
+pub fn prepare_only(
+    alloc: Global,
+    registry: &Registry,
+    seat: u8,
+    change: &Change,
+) -> Result<(Prepared, Settling), AllocError>
+    ensures prepared { IfOk result (λ r. IsPreparedFor seat change.now r.0) }
+    ensures settles { IfOk result (λ r. SettlesAt registry.now seat change.now r.1) }
+{
+    let mut prepared = registry.prepare(alloc, seat, change)?;
+    let settling = Settling::take(alloc, change, &mut prepared)?;
+    Ok((prepared, settling))
+}
+
 impl Settling {
     /// Takes out of a prepared change what settles it once it is made, and makes what that needs of
     /// memory. What is left of it is made on a registry as before.
