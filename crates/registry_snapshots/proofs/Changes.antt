@@ -22,7 +22,8 @@ use Rattle.seq_bus_core.proofs.LimitLaws.{buses_are_within_limits, steps_keep_li
 use Rattle.registry.specs.PreparedChanges.{PreparedChange, ArePreparedFor}
 use Rattle.registry_snapshots_core.specs.Copies.{PrefixView, SnapView, IsSnapOf, absorbed, absorbed_all, prefix_of}
 use Rattle.registry_snapshots_core.proofs.Steps.{next_legal, snap_next, snap_next_all}
-use Rattle.registry_snapshots.specs.Seats.{AreChanged, IsChanged}
+use Rattle.bus_view.specs.Views.{having_made}
+use Rattle.registry_snapshots.specs.Seats.{knowledge_of, seat_at, AreSeatChanged, IsSeatChanged}
 use Rattle.registry_snapshots.specs.Settlings.{AreCallsAfter}
 use Rattle.settling.specs.Batches.{SettleAlong, bus_along}
 use Rattle.settling.specs.Settlings.{Settling, SettlesAt}
@@ -44,25 +45,25 @@ shown_next_all book opening s prefix seat first number changes prepared next cop
     (copy_is ∙ next_is ∙ ap (λ (f : PrefixView). prefix_of f.book (f.log ++ entries_of seat first changes)) same ∙ ap (λ (b : Book). prefix_of b (s.prefix.log ++ entries_of seat first changes)) kept.book_is)
 
 -- what the seat has seen after its change
-pub changed : (opening : WholeBus) (known log next : History) (seat made : ℕ) (change : Change) (outcome : Outcome) → Begins known log → IsLegal log → made ≡ length (numbers_of seat log)
-    → outcome ≡ (bus_step (bus_after opening log) seat change).1 → next ≡ log ++ entry_alone seat (made + 1) change ∷ [] → IsChanged opening known seat made change outcome next
-changed opening known log next seat made change outcome begun legal made_is told is = record {
+pub changed : (book : Book) (opening : WholeBus) (known log next : History) (seat made : ℕ) (change : Change) (outcome : Outcome) → Begins known log → IsLegal log → made ≡ length (numbers_of seat log)
+    → outcome ≡ (bus_step (bus_after opening log) seat change).1 → next ≡ log ++ entry_alone seat (made + 1) change ∷ [] → IsSeatChanged book opening seat known made change outcome next
+changed book opening known log next seat made change outcome begun legal made_is told is last held = record {
   point = log;
-  begun = begun;
+  reached = record { begun = begun; same = λ e. absurd (cc e) };
   told = told;
-  added = is;
+  added = ap (having_made (knowledge_of book opening (seat_at seat known made last held)) 1) is;
   legal = subst IsLegal (sym is) (next_legal log (entry_alone seat (made + 1) change) legal refl (ap (λ n. n + 1) made_is));
   own = subst (HasJust seat (made + 1)) (sym is) (just_more seat made log (change ∷ []) (legal.numbered seat ∙ ap (range_with_len 1) (sym made_is)));
 }
 
 -- and after a batch
-pub all_changed : (opening : WholeBus) (known log next : History) (seat made : ℕ) (changes : List Change) (outcomes : List Outcome) → Begins known log → IsLegal log → made ≡ length (numbers_of seat log)
-    → outcomes ≡ outcomes_of (bus_after opening log) seat changes → next ≡ log ++ entries_of seat (made + 1) changes → AreChanged opening known seat made changes outcomes next
-all_changed opening known log next seat made changes outcomes begun legal made_is told is = record {
+pub all_changed : (book : Book) (opening : WholeBus) (known log next : History) (seat made : ℕ) (changes : List Change) (outcomes : List Outcome) → Begins known log → IsLegal log → made ≡ length (numbers_of seat log)
+    → outcomes ≡ outcomes_of (bus_after opening log) seat changes → next ≡ log ++ entries_of seat (made + 1) changes → AreSeatChanged book opening seat known made changes outcomes next
+all_changed book opening known log next seat made changes outcomes begun legal made_is told is last held = record {
   point = log;
-  begun = begun;
+  reached = record { begun = begun; same = λ e. absurd (cc e) };
   told = told;
-  added = is;
+  added = ap (having_made (knowledge_of book opening (seat_at seat known made last held)) (length changes)) is;
   legal = subst IsLegal (sym is) (legal_more log seat (made + 1) changes legal (ap (λ n. n + 1) made_is));
   own = subst (HasJust seat (made + length changes)) (sym is) (just_more seat made log changes (legal.numbered seat ∙ ap (range_with_len 1) (sym made_is)));
 }

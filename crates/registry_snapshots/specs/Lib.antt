@@ -1,4 +1,3 @@
 pub mod Seats
-pub mod Desks
 pub mod Refusals
 pub mod Settlings

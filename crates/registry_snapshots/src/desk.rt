@@ -46,7 +46,7 @@ impl<'a, J: Naming, R: Wait> Desk<'a, J, R> {
 
 impl<'a, J: Naming, R: Wait> BusView for Desk<'a, J, R> {
     ghost use Rattle.std.specs.Prelude.{false};
-    ghost use Rattle.registry_snapshots.specs.Desks.{knowledge_of};
+    ghost use Rattle.registry_snapshots.specs.Seats.{knowledge_of};
 
     type Note = Note<J>;
 
@@ -60,12 +60,10 @@ impl<'a, J: Naming, R: Wait> BusView for Desk<'a, J, R> {
 
     ghost registry_of = { λ _. J.book.number };
 
-    #[tactic(auto, using(crate::proofs::SeatLemmas::changed_here))]
     fn change(&mut self, right: &R, change: Change) -> Result<(Outcome, Note<J>), Refused> {
         self.seat.change(right, self.shared, change)
     }
 
-    #[tactic(auto, using(crate::proofs::SeatLemmas::all_changed_here))]
     fn change_all(
         &mut self,
         right: &R,
@@ -74,7 +72,6 @@ impl<'a, J: Naming, R: Wait> BusView for Desk<'a, J, R> {
         self.seat.change_all(right, self.shared, changes)
     }
 
-    #[tactic(auto, using(crate::proofs::SeatLemmas::read_here, crate::proofs::SeatLemmas::unread_here))]
     fn ask(&mut self, query: &Query, body: &mut Vec<u8>) -> Result<Asked, AskFault> {
         self.seat.ask(query, body)
     }

@@ -9,7 +9,7 @@ ghost use Rattle.seq_bus_core.specs.Histories.{CanOpen, IsLegal, Begins, numbers
 ghost use Rattle.seq_bus_core.specs.Tickets.{opening_bus};
 ghost use Rattle.seq_bus_core.specs.declared.limits.TheConstants.{MAX_BATCH};
 ghost use Rattle.registry_snapshots_core.specs.Copies.{IsSnapOf};
-ghost use Rattle.registry_snapshots.specs.Seats.{AreChanged, IsChanged};
+ghost use Rattle.registry_snapshots.specs.Seats.{AreSeatChanged, IsSeatChanged};
 ghost use Rattle.bus_view.specs.declared.refusal.Cause.{Cause};
 ghost use Rattle.bus_view.specs.declared.refusal.Cause.TheVariants.{ForeignSeat, HistoryFull, Gone};
 
@@ -138,7 +138,7 @@ impl<J: Naming> Registrar<J> {
     ) -> Result<(Outcome, Prefix), Cause>
         requires book { known.now.book ≡ J.book }
         ensures made { IfOk result (λ r.
-            IsChanged J.opening known.now.log seat made change.now r.0 r.1.log) }
+            IsSeatChanged J.book J.opening seat known.now.log made change.now r.0 r.1.log) }
         ensures few { IfOk result (λ r. IsBounded r.0) }
         ensures next { IfOk result (λ r. (r.1.book ≡ J.book) × (made < 2 ^ 63)) }
         ensures published { IfOk result (λ r. (r.1 ≡ self.new.0.prefix) × (self.new.1 ≡ false)) }
@@ -189,7 +189,8 @@ impl<J: Naming> Registrar<J> {
         requires book { known.now.book ≡ J.book }
         requires batch { IsBatch changes.items }
         ensures made { IfOk result (λ r.
-            AreChanged J.opening known.now.log seat made changes.items r.0.items r.1.log) }
+            AreSeatChanged J.book J.opening seat known.now.log made changes.items
+            r.0.items r.1.log) }
         ensures few { IfOk result (λ r. AllByRecursion IsBounded r.0.items) }
         ensures next { IfOk result (λ r. (r.1.book ≡ J.book)
             × (made + length changes.items ≤ 2 ^ 63)) }

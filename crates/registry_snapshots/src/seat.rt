@@ -1,6 +1,6 @@
 //! The seats of a registry, one a router.
 
-ghost use Rattle.std.specs.Prelude.{◌≡◌, ◌⊎◌, ◌+◌, ◌<◌, ◌≤◌, ◌^◌, length, false, [], Some, is_some, OnOk, OnErr, IfOk, IfErr, IfSome, ◌↔◌};
+ghost use Rattle.std.specs.Prelude.{◌≡◌, ◌+◌, ◌<◌, ◌^◌, length, false, [], Some, is_some, OnOk, OnErr, IfOk, IfErr, IfSome, ◌↔◌};
 ghost use Rattle.std.specs.Fn.{FnOnceReturnsAt};
 ghost use Rattle.std.specs.List.{AllByRecursion};
 ghost use Rattle.bus_view.specs.Bodies.{Answers};
@@ -9,30 +9,29 @@ ghost use Rattle.seq_bus_core.specs.Answers.{answer};
 ghost use Rattle.seq_bus_core.specs.Batches.{IsBatch};
 ghost use Rattle.seq_bus_core.specs.Bounds.{IsBounded};
 ghost use Rattle.seq_bus_core.specs.BusState.{connection_of};
-ghost use Rattle.seq_bus_core.specs.Histories.{IsLegal, Begins, longer};
+ghost use Rattle.seq_bus_core.specs.Histories.{HasJust, IsLegal, Begins};
 ghost use Rattle.seq_bus_core.specs.Recipients.{recipients};
 ghost use Rattle.seq_bus_core.specs.Tickets.{bus_after};
 ghost use Rattle.registry_snapshots_core.specs.Copies.{SnapView};
-ghost use Rattle.registry_snapshots.specs.Seats.{fresh, AreChanged, IsChanged, IsRead, IsUnwatched};
+ghost use Rattle.bus_view.specs.Views.{having_made, AreChanged, IsChanged, IsNoted, IsRead, IsUnread};
+ghost use Rattle.registry_snapshots.specs.Seats.{fresh, knowledge_of, IsUnwatched};
 
 use crate::copies::SnapReader;
 use crate::protocol::{CopyKeepsRule, CopyRule};
 use crate::shared::Shared;
 use bus_view::{AskFault, Asked, BatchCause, CheapCopy, Gone, Refused, RefusedAll};
 use left_right::reader::Reading;
-use match_index::Steps;
 use match_rules::Facts;
 use registry_snapshots_core::{Naming, Note, Prefix, Snap};
 use seq_bus_core::{Change, Outcome, Query, Verdict};
-use std::marker::{Brand, Model};
+use std::marker::Model;
 use std::sync::Wait;
-use std::sync::ledger::{Blank, Ledger};
 
 /// What one router reads the bus with, and makes changes.
 ///
 /// Contracts see its number, the beginning of the history that it has `seen`, how many changes it
 /// `made`, the place of the `last` of them in the history, and the longest beginning that a note
-/// tells which it `held`.
+/// tells which it `held`; and by them what it knows as a view of a bus.
 #[derive(Drop)]
 pub struct Seat<J: Naming> {
     number: u8,
@@ -49,21 +48,16 @@ pub struct Seat<J: Naming> {
 impl<J: Naming> Model for Seat<J> {
     ghost use Rattle.std.specs.Prelude.{◌≡◌, false, Some};
     ghost use Rattle.seq_bus_core.specs.Histories.{History, Begins};
-    ghost use Rattle.registry_snapshots.specs.Seats.{SeatView, IsUnwatched};
+    ghost use Rattle.registry_snapshots.specs.Seats.{SeatView, knowledge_of, seat_at, IsUnwatched};
 
     ghost Value = { SeatView };
 
-    ghost view = { λ s. record {
-      number = s.number;
-      seen = s.prefix.log;
-      made = s.made;
-      last = s.last;
-      held = s.held;
-    } };
+    ghost view = { λ s. seat_at s.number s.prefix.log s.made s.last s.held };
 
     ghost invariant = { λ s. (s.prefix.book ≡ J.book)
         × ((held : History) → s.held ≡ Some held → Begins held s.prefix.log)
-        × (s.watched ≡ false → IsUnwatched J.opening s.prefix.log s.number s.made) };
+        × (s.watched ≡ false → IsUnwatched (knowledge_of J.book J.opening
+        (seat_at s.number s.prefix.log s.made s.last s.held))) };
 }
 
 type SnapReading<J> = Reading<Snap, (), CopyRule<J>>;
@@ -76,8 +70,8 @@ fn enter<J: Naming>(
     seen: &Prefix,
 ) -> Result<(SnapReading<J>, Prefix), SnapReader<J>>
     requires { seen.now.book ≡ J.book }
-    ensures prefix { IfOk result (λ r. (r.1.book ≡ J.book)
-        × IsRead seen.now.log number made r.1.log) }
+    ensures prefix { IfOk result (λ r. (r.1.book ≡ J.book) × Begins seen.now.log r.1.log
+        × IsLegal r.1.log × HasJust number made r.1.log) }
     ensures copy { IfOk result (λ r. r.0.part.value.bus ≡ (bus_after J.opening r.1.log).state) }
 {
     let reading = reader.enter_as::<CopyKeepsRule<J>>()?;
@@ -88,22 +82,6 @@ fn enter<J: Naming>(
     }
     let _legal = prefix.len();
     Ok((reading, prefix))
-}
-
-// Where a message goes, with a counter of its own for the rules that are tested.
-fn route_with<L: Ledger>(
-    snap: &Snap,
-    from: u64,
-    facts: &Facts<'_>,
-    found: &mut Verdict,
-    blank: Blank,
-)
-    requires name { blank.name ≡ L.name }
-    requires parts { (blank.parts ≡ L.parts) × (0 < L.parts) }
-    ensures verdict { found.new ≡ recipients snap.now.bus from facts.now }
-{
-    let mut steps = Steps::<L>::new(blank);
-    snap.route_into(from, facts, found, &mut steps);
 }
 
 impl<J: Naming> Seat<J> {
@@ -153,9 +131,9 @@ impl<J: Naming> Seat<J> {
 
     // Enters the published copy.
     fn begin_reading(&mut self) -> Result<(SnapReading<J>, Prefix), Gone>
-        ensures prefix { IfOk result (λ r. (r.1.book ≡ J.book)
-            × IsRead self.old.seen self.old.number self.old.made r.1.log) }
-        ensures begun { IfOk result (λ r. Begins self.new.seen r.1.log) }
+        ensures book { IfOk result (λ r. r.1.book ≡ J.book) }
+        ensures read { IfOk result (λ r. IsRead false (knowledge_of J.book J.opening self.old)
+            (knowledge_of J.book J.opening (record self.old { seen = r.1.log }))) }
         ensures copy { IfOk result (λ r. r.0.part.value.bus ≡ (bus_after J.opening r.1.log).state) }
         ensures same { self.new ≡ self.old }
     {
@@ -174,11 +152,10 @@ impl<J: Naming> Seat<J> {
     // Leaves the copy, which stood for this prefix.
     fn end_reading(&mut self, reading: SnapReading<J>, prefix: Prefix)
         requires book { prefix.book ≡ J.book }
-        requires read { IsRead self.old.seen self.old.number self.old.made prefix.log }
+        requires read { IsRead false (knowledge_of J.book J.opening self.old)
+            (knowledge_of J.book J.opening (record self.old { seen = prefix.log })) }
         requires copy { reading.part.value.bus ≡ (bus_after J.opening prefix.log).state }
-        ensures seen { self.new.seen ≡ prefix.log }
-        ensures kept { (self.new.number ≡ self.old.number) × (self.new.made ≡ self.old.made)
-            × (self.new.last ≡ self.old.last) × (self.new.held ≡ self.old.held) }
+        ensures { self.new ≡ record self.old { seen = prefix.log } }
     {
         self.watched = reading.get().has_monitors();
         self.reader = Some(reading.leave());
@@ -195,11 +172,9 @@ impl<J: Naming> Seat<J> {
         ensures answer { IfOk result (λ r. (copy : SnapView)
             × (copy.bus ≡ (bus_after J.opening self.new.seen).state)
             × FnOnceReturnsAt F.FnOnce f copy r) }
-        ensures read { OnOk result
-            (IsRead self.old.seen self.old.number self.old.made self.new.seen) }
-        ensures kept { (self.new.number ≡ self.old.number) × (self.new.made ≡ self.old.made)
-            × (self.new.last ≡ self.old.last) × (self.new.held ≡ self.old.held) }
-        ensures gone { OnErr result (self.new.seen ≡ self.old.seen) }
+        ensures read { OnOk result (IsRead false (knowledge_of J.book J.opening self.old)
+            (knowledge_of J.book J.opening self.new)) }
+        ensures gone { OnErr result (self.new ≡ self.old) }
     {
         let (reading, prefix) = self.begin_reading()?;
         let answer = f(reading.get());
@@ -213,11 +188,9 @@ impl<J: Naming> Seat<J> {
     pub fn route(&mut self, from: u64, facts: &Facts<'_>) -> Result<Verdict, Gone>
         ensures verdict { IfOk result (λ verdict.
             verdict ≡ recipients (bus_after J.opening self.new.seen).state from facts.now) }
-        ensures read { OnOk result
-            (IsRead self.old.seen self.old.number self.old.made self.new.seen) }
-        ensures kept { (self.new.number ≡ self.old.number) × (self.new.made ≡ self.old.made)
-            × (self.new.last ≡ self.old.last) × (self.new.held ≡ self.old.held) }
-        ensures gone { OnErr result (self.new.seen ≡ self.old.seen) }
+        ensures read { OnOk result (IsRead false (knowledge_of J.book J.opening self.old)
+            (knowledge_of J.book J.opening self.new)) }
+        ensures gone { OnErr result (self.new ≡ self.old) }
     {
         let mut verdict = Verdict::new();
         self.route_into(from, facts, &mut verdict)?;
@@ -234,15 +207,13 @@ impl<J: Naming> Seat<J> {
     ) -> Result<(), Gone>
         ensures verdict { OnOk result
             (found.new ≡ recipients (bus_after J.opening self.new.seen).state from facts.now) }
-        ensures read { OnOk result
-            (IsRead self.old.seen self.old.number self.old.made self.new.seen) }
-        ensures kept { (self.new.number ≡ self.old.number) × (self.new.made ≡ self.old.made)
-            × (self.new.last ≡ self.old.last) × (self.new.held ≡ self.old.held) }
-        ensures gone { OnErr result (self.new.seen ≡ self.old.seen) }
+        ensures read { OnOk result (IsRead false (knowledge_of J.book J.opening self.old)
+            (knowledge_of J.book J.opening self.new)) }
+        ensures gone { OnErr result (self.new ≡ self.old) }
         ensures untold { OnErr result (found.new ≡ found.old) }
     {
         let (reading, prefix) = self.begin_reading()?;
-        route_with::<Brand>(reading.get(), from, facts, found, Blank::new(1));
+        reading.get().tell_route(from, facts, found);
         self.end_reading(reading, prefix);
         Ok(())
     }
@@ -256,15 +227,14 @@ impl<J: Naming> Seat<J> {
         ensures answered { IfOk result (λ asked.
             Answers asked (answer (bus_after J.opening self.new.seen).state query.now)
             body.old.items body.new.items) }
-        ensures read { OnOk result
-            (IsRead self.old.seen self.old.number self.old.made self.new.seen) }
+        ensures read { OnOk result (IsRead false (knowledge_of J.book J.opening self.old)
+            (knowledge_of J.book J.opening self.new)) }
         ensures unanswered { OnErr result (body.new.items ≡ body.old.items) }
-        ensures unread { OnErr result ((self.new ≡ self.old)
-            ⊎ IsRead self.old.seen self.old.number self.old.made self.new.seen) }
+        ensures unread { OnErr result (IsUnread false (knowledge_of J.book J.opening self.old)
+            (knowledge_of J.book J.opening self.new)) }
         ensures memory { IfErr result (λ fault. fault ≡ AskNoMemory →
-            IsRead self.old.seen self.old.number self.old.made self.new.seen) }
-        ensures kept { (self.new.number ≡ self.old.number) × (self.new.made ≡ self.old.made)
-            × (self.new.last ≡ self.old.last) × (self.new.held ≡ self.old.held) }
+            IsRead false (knowledge_of J.book J.opening self.old)
+            (knowledge_of J.book J.opening self.new)) }
         ensures gone { IfErr result (λ fault. fault ≡ AskGone → self.new ≡ self.old) }
     {
         let Ok((reading, prefix)) = self.begin_reading() else {
@@ -281,11 +251,9 @@ impl<J: Naming> Seat<J> {
     pub fn present(&mut self, number: u64) -> Result<bool, Gone>
         ensures present { IfOk result (λ present.
             present ≡ is_some (connection_of (bus_after J.opening self.new.seen).state number)) }
-        ensures read { OnOk result
-            (IsRead self.old.seen self.old.number self.old.made self.new.seen) }
-        ensures kept { (self.new.number ≡ self.old.number) × (self.new.made ≡ self.old.made)
-            × (self.new.last ≡ self.old.last) × (self.new.held ≡ self.old.held) }
-        ensures gone { OnErr result (self.new.seen ≡ self.old.seen) }
+        ensures read { OnOk result (IsRead false (knowledge_of J.book J.opening self.old)
+            (knowledge_of J.book J.opening self.new)) }
+        ensures gone { OnErr result (self.new ≡ self.old) }
     {
         self.open(|snap| snap.present(number))
     }
@@ -294,8 +262,7 @@ impl<J: Naming> Seat<J> {
     /// none when it read the bus last, which was at the end of what it has seen. It reads nothing,
     /// and takes no memory.
     pub fn is_watched(&self) -> bool
-        ensures { result ≡ false →
-            IsUnwatched J.opening self.now.seen self.now.number self.now.made }
+        ensures { result ≡ false → IsUnwatched (knowledge_of J.book J.opening self.now) }
     {
         self.watched
     }
@@ -311,15 +278,10 @@ impl<J: Naming> Seat<J> {
         shared: &Shared<J>,
         change: Change,
     ) -> Result<(Outcome, Note<J>), Refused>
-        ensures changed { IfOk result (λ r.
-            IsChanged J.opening self.old.seen self.old.number self.old.made
-            change r.0 self.new.seen) }
+        ensures changed { IfOk result (λ r. IsChanged false (knowledge_of J.book J.opening self.old)
+            change r.0 (knowledge_of J.book J.opening self.new)) }
         ensures few { IfOk result (λ r. IsBounded r.0) }
-        ensures note { IfOk result (λ r. (r.1 ≡ self.new.seen)
-            × (self.new.held ≡ Some self.new.seen)) }
-        ensures made { OnOk result (self.new.made ≡ self.old.made + 1) }
-        ensures last { OnOk result (self.new.last ≡ length self.new.seen) }
-        ensures number { self.new.number ≡ self.old.number }
+        ensures note { IfOk result (λ r. r.1 ≡ self.new.seen) }
         ensures refused { IfErr result (λ e. e.change ≡ change) }
         ensures unchanged { OnErr result (self.new ≡ self.old) }
     {
@@ -344,14 +306,10 @@ impl<J: Naming> Seat<J> {
         changes: Vec<Change>,
     ) -> Result<(Vec<Outcome>, Note<J>), RefusedAll>
         ensures changed { IfOk result (λ r.
-            AreChanged J.opening self.old.seen self.old.number self.old.made
-            changes.items r.0.items self.new.seen) }
+            AreChanged false (knowledge_of J.book J.opening self.old) changes.items r.0.items
+            (knowledge_of J.book J.opening self.new)) }
         ensures few { IfOk result (λ r. AllByRecursion IsBounded r.0.items) }
-        ensures note { IfOk result (λ r. (r.1 ≡ self.new.seen)
-            × (self.new.held ≡ Some self.new.seen)) }
-        ensures made { OnOk result (self.new.made ≡ self.old.made + length changes.items) }
-        ensures last { OnOk result (self.new.last ≡ length self.new.seen) }
-        ensures number { self.new.number ≡ self.old.number }
+        ensures note { IfOk result (λ r. r.1 ≡ self.new.seen) }
         ensures batch { OnOk result (IsBatch changes.items) }
         ensures refused { IfErr result (λ e. e.changes ≡ changes) }
         ensures cause { IfErr result (λ e. (e.cause ≡ BatchCause.Batch) ↔ ¬ IsBatch changes.items) }
@@ -374,12 +332,8 @@ impl<J: Naming> Seat<J> {
         requires book { prefix.book ≡ J.book }
         requires room { self.old.made + count < 2 ^ 64 }
         ensures note { result ≡ prefix.log }
-        ensures seen { self.new ≡ record self.old {
-          seen = prefix.log;
-          made = self.old.made + count;
-          last = length prefix.log;
-          held = Some prefix.log;
-        } }
+        ensures seen { knowledge_of J.book J.opening self.new
+            ≡ having_made (knowledge_of J.book J.opening self.old) count prefix.log }
     {
         let note = Note::of(&prefix);
         self.made += count;
@@ -393,13 +347,8 @@ impl<J: Naming> Seat<J> {
     /// Takes in what a seat of this registry told: from now on this one sees no less. It takes no
     /// memory.
     pub fn take_note(&mut self, note: &Note<J>)
-        ensures seen { Begins self.old.seen self.new.seen }
-        ensures told { Begins note.now self.new.seen }
-        ensures one { (self.new.seen ≡ self.old.seen) ⊎ (self.new.seen ≡ note.now) }
-        ensures legal { IsLegal self.new.seen }
-        ensures held { self.new.held ≡ Some (longer self.old.held note.now) }
-        ensures kept { (self.new.number ≡ self.old.number) × (self.new.made ≡ self.old.made)
-            × (self.new.last ≡ self.old.last) }
+        ensures { IsNoted false (knowledge_of J.book J.opening self.old) note.now
+            (knowledge_of J.book J.opening self.new) }
     {
         let held = match &self.held {
             Some(held) => held.or_longer(note),

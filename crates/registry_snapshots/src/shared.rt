@@ -7,7 +7,7 @@ ghost use Rattle.seq_bus_core.specs.Batches.{IsBatch};
 ghost use Rattle.seq_bus_core.specs.Bounds.{IsBounded};
 ghost use Rattle.seq_bus_core.specs.Histories.{CanOpen, max_routers};
 ghost use Rattle.seq_bus_core.specs.Tickets.{opening_bus};
-ghost use Rattle.registry_snapshots.specs.Seats.{fresh, fresh_to, AreChanged, IsChanged};
+ghost use Rattle.registry_snapshots.specs.Seats.{fresh, fresh_to, AreSeatChanged, IsSeatChanged};
 ghost use Rattle.registry_snapshots.specs.declared.refusal.StartFault.TheVariants.{Routers, Services};
 
 use crate::refusal::StartFault;
@@ -153,7 +153,7 @@ impl<J: Naming> Shared<J> {
     ) -> Result<(Outcome, Prefix), Cause>
         requires book { known.now.book ≡ J.book }
         ensures made { IfOk result (λ r.
-            IsChanged J.opening known.now.log seat made change.now r.0 r.1.log) }
+            IsSeatChanged J.book J.opening seat known.now.log made change.now r.0 r.1.log) }
         ensures few { IfOk result (λ r. IsBounded r.0) }
         ensures next { IfOk result (λ r. (r.1.book ≡ J.book) × (made < 2 ^ 63)) }
     {
@@ -174,7 +174,8 @@ impl<J: Naming> Shared<J> {
     ) -> Result<(Vec<Outcome>, Prefix), RefusedAll>
         requires book { known.now.book ≡ J.book }
         ensures made { IfOk result (λ r.
-            AreChanged J.opening known.now.log seat made changes.items r.0.items r.1.log) }
+            AreSeatChanged J.book J.opening seat known.now.log made changes.items
+            r.0.items r.1.log) }
         ensures few { IfOk result (λ r. AllByRecursion IsBounded r.0.items) }
         ensures next { IfOk result (λ r. (r.1.book ≡ J.book)
             × (made + length changes.items ≤ 2 ^ 63)) }

@@ -46,9 +46,15 @@ impl Snap {
     }
 
     /// The same as `route`, put where there is room for it: a verdict is large, and is not moved.
-    ///
-    /// Each rule that is tested is a step. Only rules are tested whose type, interface, member and
-    /// first argument are the message's, and whose sender may be its own.
+    pub fn tell_route(&self, from: u64, facts: &Facts<'_>, found: &mut Verdict)
+        ensures { found.new ≡ recipients self.now.bus from facts.now }
+    {
+        self.registry().tell_route(from, facts, found);
+    }
+
+    /// The same as `tell_route`, where each rule that is tested is a step. Only rules are tested
+    /// whose type, interface, member and first argument are the message's, and whose sender may be
+    /// its own.
     pub fn route_into<L: Ledger>(
         &self,
         from: u64,

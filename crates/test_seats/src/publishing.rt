@@ -1,8 +1,9 @@
 //! Changes that are made in threads of their own.
 
-ghost use Rattle.std.specs.Prelude.{◌≡◌, IfOk, IfErr, OnOk, OnErr};
+ghost use Rattle.std.specs.Prelude.{◌≡◌, false, IfOk, IfErr, OnOk, OnErr};
 ghost use Rattle.seq_bus_core.specs.Histories.{Begins};
-ghost use Rattle.registry_snapshots.specs.Seats.{IsChanged};
+ghost use Rattle.bus_view.specs.Views.{IsChanged};
+ghost use Rattle.registry_snapshots.specs.Seats.{knowledge_of};
 
 use bus_view::Refused;
 use registry_snapshots::{Naming, Note, Seat, Shared};
@@ -19,8 +20,8 @@ fn make<J: Naming, R: Wait>(
     mut seat: Seat<J>,
     change: Change,
 ) -> Made<J>
-    ensures changed { IfOk result.1 (λ r.
-        IsChanged J.opening seat.seen seat.number seat.made change r.0 result.0.seen) }
+    ensures changed { IfOk result.1 (λ r. IsChanged false (knowledge_of J.book J.opening seat)
+        change r.0 (knowledge_of J.book J.opening result.0)) }
     ensures told { IfOk result.1 (λ r. r.1 ≡ result.0.seen) }
     ensures refused { IfErr result.1 (λ e. e.change ≡ change) }
     ensures unchanged { OnErr result.1 (result.0 ≡ seat) }
@@ -38,8 +39,8 @@ pub(crate) fn publish<J: Naming + Send + Sync, R: Threads + Wait + Sync>(
     seat: Seat<J>,
     change: Change,
 ) -> (Seat<J>, Result<(Outcome, Note<J>), Refused>)
-    ensures changed { IfOk result.1 (λ r.
-        IsChanged J.opening seat.seen seat.number seat.made change r.0 result.0.seen) }
+    ensures changed { IfOk result.1 (λ r. IsChanged false (knowledge_of J.book J.opening seat)
+        change r.0 (knowledge_of J.book J.opening result.0)) }
     ensures told { IfOk result.1 (λ r. r.1 ≡ result.0.seen) }
     ensures refused { IfErr result.1 (λ e. e.change ≡ change) }
     ensures unchanged { OnErr result.1 (result.0 ≡ seat) }
@@ -58,7 +59,8 @@ pub(crate) fn publish_to<J: Naming + Send + Sync, R: Threads + Wait + Sync>(
     change: Change,
 ) -> (Seat<J>, Result<Outcome, Refused>)
     ensures changed { IfOk result.1 (λ outcome.
-        IsChanged J.opening seat.seen seat.number seat.made change outcome result.0.seen) }
+        IsChanged false (knowledge_of J.book J.opening seat) change outcome
+        (knowledge_of J.book J.opening result.0)) }
     ensures told { OnOk result.1 (Begins result.0.seen reader.new.seen
         × Begins reader.old.seen reader.new.seen) }
     ensures kept { (reader.new.number ≡ reader.old.number) × (reader.new.made ≡ reader.old.made) }

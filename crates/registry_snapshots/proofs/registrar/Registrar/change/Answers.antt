@@ -44,7 +44,7 @@ returns-clause-made g c =
     let settled = c.settle-outcome.ensures b seat c.self.invariant.waiting.holding settles in
     let same = c.in_ok-prefix.ensures.prefix.0 ∙ ap (λ (t : SnapView). t.prefix) c.published-shown.ensures.value in
     let told = settled.1 ∙ ap (λ (f : PrefixView). (bus_step (bus_after g.J.Naming.opening f.log) seat change).1) (sym same) in
-    changed g.J.Naming.opening c.args.known.now.log c.in_ok-prefix.prefix.log c.in-Ok-publish.next.log seat c.args.made change c.settle-outcome.result
+    changed g.J.Naming.book g.J.Naming.opening c.args.known.now.log c.in_ok-prefix.prefix.log c.in-Ok-publish.next.log seat c.args.made change c.settle-outcome.result
     c.in_ok-prefix.ensures.known c.in_ok-prefix.ensures.prefix.1 c.in_ok-prefix.ensures.made.0 told (ap (λ (f : PrefixView). f.log) c.in-Ok-publish.ensures.next)
 
 pub returns-clause-few : goal.returns-clause-few

@@ -57,7 +57,7 @@ returns-clause-made g c =
     let settled = (rw c.deref-2.ensures.value at c.settle-outcomes.ensures) b seat c.self.invariant.waiting.holding along in
     let same = c.in-Ok.ensures.prefix.0 ∙ ap (λ (t : SnapView). t.prefix) c.published-shown.ensures.value in
     let told = settled.1 ∙ ap (λ (f : PrefixView). outcomes_of (bus_after g.J.Naming.opening f.log) seat changes) (sym same) in
-    all_changed g.J.Naming.opening c.args.known.now.log c.in-Ok.prefix.log c.in-Ok-publish_all.next.log seat c.args.made changes c.settle-outcomes.result.items
+    all_changed g.J.Naming.book g.J.Naming.opening c.args.known.now.log c.in-Ok.prefix.log c.in-Ok-publish_all.next.log seat c.args.made changes c.settle-outcomes.result.items
     c.in-Ok.ensures.known c.in-Ok.ensures.prefix.1 c.in-Ok.ensures.made.0 told (ap (λ (f : PrefixView). f.log) c.in-Ok-publish_all.ensures.next)
 
 pub returns-clause-few : goal.returns-clause-few
