@@ -5,6 +5,7 @@ ghost use Rattle.routers.specs.Posts.{places_of};
 
 use crate::fault::Fault;
 use crate::telling::Telling;
+use crossbeam_utils::CachePadded;
 use seq_bus_core::limits::MAX_CONNECTIONS;
 use std::alloc::{AllocError, Global};
 use std::marker::Model;
@@ -119,8 +120,9 @@ fn lower(flag: &AtomicBool) -> bool {
 #[derive(Drop)]
 pub struct Coordinator<W: Wake + Drop> {
     states: Vec<RouterState<W>>,
-    /// By routers, and behind them of the main thread: what they have told of their changes.
-    tellings: Vec<Telling>,
+    /// By routers, and behind them of the main thread: what they have told of their changes. Each
+    /// writes its own at every event, so no two share a line of the cache.
+    tellings: Vec<CachePadded<Telling>>,
     /// There are so many changes, as far as any of them has told.
     latest: AtomicU64,
     /// By slots: there is mail from another router.
@@ -148,10 +150,10 @@ fn states_of<W: Wake + Drop>(
 }
 
 /// What each of so many threads has told.
-fn tellings_of(alloc: Global, threads: usize) -> Result<Vec<Telling>, AllocError> {
+fn tellings_of(alloc: Global, threads: usize) -> Result<Vec<CachePadded<Telling>>, AllocError> {
     let mut tellings = Vec::with_capacity(alloc, threads)?;
     for _thread in 0..threads {
-        tellings.push(Telling::new())?;
+        tellings.push(CachePadded::new(Telling::new()))?;
     }
     Ok(tellings)
 }
@@ -302,7 +304,7 @@ impl<W: Wake + Drop> Coordinator<W> {
     }
 
     /// What a thread has told.
-    fn telling(&self, thread: usize) -> Option<&Telling> {
+    fn telling(&self, thread: usize) -> Option<&CachePadded<Telling>> {
         self.tellings.get(self.telling_index(thread))
     }
 
