@@ -5,9 +5,8 @@ use Rattle.std.proofs.KnownBytes.{Consumes-nil, Consumes-trans, Appends-trans}
 use Rattle.seq_bus_core.specs.Histories.{History}
 use Rattle.router_core.specs.declared.event.Event.{Event}
 use Rattle.router_core.specs.declared.event.Event.TheVariants.{Opened, Closed}
-use Rattle.router_core.specs.Acts.{State}
+use Rattle.router_core.specs.Acts.{IsNextKey, State}
 use Rattle.router_core.specs.Deeds.{GatedCall}
-use Rattle.router_core.specs.Events.{IsFree}
 use Rattle.router.specs.Upcoming.{HasNoNext}
 use Rattle.busd_core.specs.declared.run_fault.RunFault.{RunFault}
 use Rattle.busd_core.specs.declared.run_fault.RunFault.TheVariants as fault
@@ -62,14 +61,14 @@ module _ {N G : Type 0} (told : N → History) (passes : G → GatedCall → G �
     pub under_way : IsUnderWay told passes alone seat key a b read written
 
   -- all turns are over
-  pub rests : (a b : State G) (r q w v : Option (List ℕ)) → IsFree a.standing key → HasServed a r q w v b → Runs told passes alone seat a b r q w v (Err fault.Memory)
+  pub rests : (a b : State G) (r q w v : Option (List ℕ)) → IsNextKey a key → HasServed a r q w v b → Runs told passes alone seat a b r q w v (Err fault.Memory)
   rests a b r q w v free h = (key, h.read, h.written, free, h.consumed, h.appended, inl (Opened key None ∷ h.under_way.later, h.read, [], h.under_way.serves, sym (append-nil h.read)))
 
   pub begins : (a b : State G) (r w v : Option (List ℕ)) → IsCarriedOut told passes alone seat key a (Opened key None) w v b (Ok tt) → HasServed a r r w v b
   begins a b r w v h =
       record { read = []; written = h.0; consumed = Consumes-nil r; appended = h.1; under_way = comes_first told passes alone seat key a b h.0 h.2 }
 
-  pub begins_not : (a b : State G) (r w v : Option (List ℕ)) (e : RunFault) → IsFree a.standing key → IsCarriedOut told passes alone seat key a (Opened key None) w v b (Err e) →
+  pub begins_not : (a b : State G) (r w v : Option (List ℕ)) (e : RunFault) → IsNextKey a key → IsCarriedOut told passes alone seat key a (Opened key None) w v b (Err e) →
       Runs told passes alone seat a b r r w v (Err e)
   begins_not a b r w v e free h =
       let none : Serves told passes alone seat key a [] [] [] a = serves_so told passes alone seat key a [] [] [] a tt (refl, refl) refl in
@@ -86,7 +85,7 @@ module _ {N G : Type 0} (told : N → History) (passes : G → GatedCall → G �
         under_way = goes_on told passes alone seat key a b c event h.read h.written so.0 h.under_way is so.2;
       }
 
-  pub stops : (a b c : State G) (r q p w v u : Option (List ℕ)) (event : Event N) (e : RunFault) → IsFree a.standing key → HasServed a r q w v b → IsOf key event → Consumes q p (piece_of event) →
+  pub stops : (a b c : State G) (r q p w v u : Option (List ℕ)) (event : Event N) (e : RunFault) → IsNextKey a key → HasServed a r q w v b → IsOf key event → Consumes q p (piece_of event) →
       IsCarriedOut told passes alone seat key b event v u c (Err e) → Runs told passes alone seat a c r p w u (Err e)
   stops a b c r q p w v u event e free h is consumed so = (
     key,
@@ -98,7 +97,7 @@ module _ {N G : Type 0} (told : N → History) (passes : G → GatedCall → G �
     ends_at a b c (Opened key None ∷ h.under_way.later) event h.read h.written so.0 e h.under_way.serves is so.2,
   )
 
-  pub is_gone : (a b c : State G) (r q p w v u : Option (List ℕ)) (result : Result (Unit {0}) RunFault) → IsFree a.standing key → HasServed a r q w v b → HasNoNext b.standing key → Consumes q p [] →
+  pub is_gone : (a b c : State G) (r q p w v u : Option (List ℕ)) (result : Result (Unit {0}) RunFault) → IsNextKey a key → HasServed a r q w v b → HasNoNext b.standing key → Consumes q p [] →
       IsCarriedOut told passes alone seat key b (Closed key) v u c result → Runs told passes alone seat a c r p w u result
   is_gone a b c r q p w v u result free h quiet consumed so = (
     key,
@@ -110,7 +109,7 @@ module _ {N G : Type 0} (told : N → History) (passes : G → GatedCall → G �
     goes a b c h.under_way.later h.read h.written so.0 result h.under_way.serves quiet so.2,
   )
 
-  pub loses : (a b : State G) (r q p w v : Option (List ℕ)) (e : RunFault) → IsFree a.standing key → HasServed a r q w v b → HasNoNext b.standing key → LosesPiece q p e →
+  pub loses : (a b : State G) (r q p w v : Option (List ℕ)) (e : RunFault) → IsNextKey a key → HasServed a r q w v b → HasNoNext b.standing key → LosesPiece q p e →
       Runs told passes alone seat a b r p w v (Err e)
   loses a b r q p w v fault.Input free h quiet nothing =
       let all : Consumes r p h.read = subst (Consumes r p) (append-nil h.read) (Consumes-trans r q p h.read [] h.consumed nothing) in
@@ -121,5 +120,5 @@ module _ {N G : Type 0} (told : N → History) (passes : G → GatedCall → G �
   loses a b r q p w v (fault.Closed cause) free h quiet lost = absurd lost
 
   -- it is not over after so many events
-  pub gives_up : (a b : State G) (r q w v : Option (List ℕ)) → IsFree a.standing key → HasServed a r q w v b → Runs told passes alone seat a b r q w v (Err fault.Memory)
+  pub gives_up : (a b : State G) (r q w v : Option (List ℕ)) → IsNextKey a key → HasServed a r q w v b → Runs told passes alone seat a b r q w v (Err fault.Memory)
   gives_up a b r q w v free h = (key, h.read, h.written, free, h.consumed, h.appended, inl (Opened key None ∷ h.under_way.later, h.read, [], h.under_way.serves, sym (append-nil h.read)))

@@ -7,9 +7,8 @@ use Rattle.bus_view.specs.declared.view.BusView.{Ghosts as BusView}
 use Rattle.router_core.specs.declared.event.Event.{Event}
 use Rattle.router_core.specs.declared.event.Event.TheVariants.{Opened, Bytes, Next, Closed}
 use Rattle.router_core.specs.declared.gate.Gate.{Ghosts as Gate}
-use Rattle.router_core.specs.Acts.{Exchange, IsGranted, State}
+use Rattle.router_core.specs.Acts.{Exchange, IsGranted, IsNextKey, State}
 use Rattle.router_core.specs.Deeds.{GatedCall}
-use Rattle.router_core.specs.Events.{IsFree}
 use Rattle.router.specs.OneEvent.{rest_in}
 use Rattle.router.specs.Upcoming.{HasNoNext}
 use Rattle.busd_core.specs.declared.run_fault.RunFault.{RunFault}
@@ -94,7 +93,7 @@ module _ {N G : Type 0} (told : N → History) (passes : G → GatedCall → G �
 abbrev pub Runs : {N G : Type 0} → (N → History) → (G → GatedCall → G → Type 0) → Bool → (seat : ℕ) → (before after : State G)
     → (read_old read_new wrote_old wrote_new : Option (List ℕ)) → Result (Unit {0}) RunFault → Type 0
 Runs told passes alone seat before after read_old read_new wrote_old wrote_new result =
-    (key : ℕ) × (read written : List ℕ) × IsFree before.standing key
+    (key : ℕ) × (read written : List ℕ) × IsNextKey before key
     × Consumes read_old read_new read × Appends wrote_old wrote_new written × Ends told passes alone seat key before after read written result
 
 -- the same by a view and a gate

@@ -1,7 +1,7 @@
 //! Events that are served, and what they write.
 
 ghost use Rattle.std.specs.Prelude.{IfOk, IfErr};
-ghost use Rattle.router_core.specs.Events.{CanHappen};
+ghost use Rattle.router_core.specs.Acts.{CanHappen};
 ghost use Rattle.busd_core.specs.Parts.{IsBroughtBy, IsCutShortBy};
 
 use crate::actions::write_out;
@@ -26,7 +26,7 @@ pub fn dispatch<V: BusView, G: Gate, W: Write>(
     event: Event<V::Note>,
     writer: &mut W,
 ) -> Result<Vec<Action<V::Note>>, RunFault>
-    requires { CanHappen V.registry_of engine.old.view.registry engine.old.standing event }
+    requires { CanHappen V.registry_of engine.old event }
     ensures ok { IfOk result
         (λ actions. IsBroughtBy V.BusView G.Gate key engine.old event actions.items
         (W.contents writer.old) (W.contents writer.new) engine.new) }

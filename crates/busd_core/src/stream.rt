@@ -2,7 +2,7 @@
 
 ghost use Rattle.std.specs.Prelude.{◌≡◌, ◌<◌, [], length, IfOk, IfErr, IfSome, IfNone, OnOk};
 ghost use Rattle.std.specs.Io.KnownBytes.{Consumes, IsAtEnd};
-ghost use Rattle.router_core.specs.Events.{CanHappen};
+ghost use Rattle.router_core.specs.Acts.{CanHappen};
 ghost use Rattle.busd_core.specs.Parts.{LosesPiece, IsCarriedOutBy};
 ghost use Rattle.busd_core.specs.Sessions.{RunsBy};
 
@@ -58,7 +58,7 @@ fn carry_out<V: BusView, G: Gate, W: Write>(
     event: Event<V::Note>,
     writer: &mut W,
 ) -> Result<(), RunFault>
-    requires { CanHappen V.registry_of engine.old.view.registry engine.old.standing event }
+    requires { CanHappen V.registry_of engine.old event }
     ensures { IsCarriedOutBy V.BusView G.Gate endpoint.seat endpoint.key engine.old event
         (W.contents writer.old) (W.contents writer.new) engine.new result }
 {
@@ -75,7 +75,7 @@ fn carry_out<V: BusView, G: Gate, W: Write>(
 /// connection needs no authentication, and counts as the bus's own user ("Message Bus Messages" of
 /// the D-Bus Specification).
 ///
-/// The connection comes, with a key that is free. Its bytes come as they are read, and each whole
+/// The connection comes, with the key that is next. Its bytes come as they are read, and each whole
 /// message is served before more is read. What the actions of an event write to the connection is
 /// written at once; what they put to connections of this router comes back as mail, in order,
 /// without a note, as the router that made it has nothing to learn from it. At the end of the input

@@ -11,7 +11,7 @@ use Rattle.router_core.specs.Standing.{Standing}
 use Rattle.router.specs.Tables.{Table}
 
 abbrev pub state_of : {N G : Type 0} → Table N G → State G
-state_of t = record { standing = t.standing; view = t.work.world.view; gate = t.work.world.gate }
+state_of t = record { standing = t.standing; next_key = t.keys.next; view = t.work.world.view; gate = t.work.world.gate }
 
 module _ {N G : Type 0} (told : N → History) (registry_of : N → ℕ) (passes : G → GatedCall → G → Type 0) (alone : Bool) (event : Event N) (s t u : Table N G) (actions : List (Action N)) where
   pub brings : (now : State G) → state_of s ≡ now → s.work.world.actions ≡ [] →

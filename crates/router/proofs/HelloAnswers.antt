@@ -8,7 +8,7 @@ use Rattle.seq_bus_core.specs.declared.outcome.Reply.TheVariants.{Welcome}
 use Rattle.message_core.specs.Messages.{Message}
 use Rattle.router_core.specs.declared.cause.CloseCause.TheVariants as cause
 use Rattle.router_core.specs.Deeds.{GatedCall}
-use Rattle.router_core.specs.Events.{OfPeer, closing, for_entry, for_peer, closing_if_found, closing_former, greeting, dismissal, after_hello_by}
+use Rattle.router_core.specs.Events.{closing, for_entry, for_peer, closing_if_found, closing_former, greeting, dismissal, after_hello_by}
 use Rattle.router_core.specs.Scripts.{Gives, World, Comes, and_then}
 use Rattle.router_core.specs.Standing.{Stage, Authenticating, Unnamed, Named, Closing, Peer, Standing, SpeaksDBus, peer_at, with_peer, has_slot}
 use Rattle.router_steps.proofs.Sequels.{comes_then}
@@ -27,6 +27,10 @@ pub nameless_peer : (o : Option Peer) → IsNameless o → (p : Peer) × (o ≡ 
 nameless_peer None nameless = absurd nameless
 nameless_peer (Some p) nameless = (p, refl)
 
+-- it has begun its messages
+pub nameless_speaks : (p : Peer) → IsNameless (Some p) → SpeaksDBus p.stage
+nameless_speaks p nameless = speaks p.stage nameless
+
 -- it has no slot
 pub nameless_slot : (slot : ℕ) (o : Option Peer) → IsNameless o → has_slot slot o ≡ false
 nameless_slot slot None nameless = refl
@@ -39,13 +43,6 @@ nameless_slot slot (Some p) nameless = by_stage p.stage nameless
     by_stage (Closing conn) unnamed = absurd unnamed
 
 module _ {N G : Type 0} (told : N → History) (registry_of : N → ℕ) (passes : G → GatedCall → G → Type 0) (alone : Bool) where
-  -- what is done for a connection at its place
-  pub at_place : (s : Standing) (key : ℕ) (old new : Option Peer) (work : Peer → OfPeer) (w n : World N G) → old ≡ peer_at s key → Comes told registry_of passes alone (for_entry old work) w new n →
-      Comes told registry_of passes alone (for_peer s key (peer_at s key) work) w (with_peer s key new) n
-  at_place s key old new work w n there done =
-      comes_then told registry_of passes alone (λ (o : Option Peer). Gives (with_peer s key o)) new n (with_peer s key new) n (refl, refl) (for_entry (peer_at s key) work) w
-      (subst (λ (o : Option Peer). Comes told registry_of passes alone (for_entry o work) w new n) there done)
-
   -- whoever had the slot is closed
   pub closes_former : (s : Standing) (conn : Conn) (key : ℕ) (q : Option Peer) (w n : World N G) → position (has_slot conn.slot) s.peers ≡ Some key →
       Comes told registry_of passes alone (for_entry (peer_at s key) (λ (p : Peer). closing key cause.Left p)) w q n → Comes told registry_of passes alone (closing_former s conn) w (with_peer s key q) n

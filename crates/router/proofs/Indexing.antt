@@ -1,14 +1,26 @@
 -- The index of slots: what is found in it, and what keeps it true.
-use Rattle.std.proofs.Common.{◌≡◌, ◌≢◌, ◌⊎◌, ℕ, zero, suc, ◌<◌, ◌≤◌, Bool, true, false, ◌==◌, nat_lt, cond, Option, Some, None, Result, Ok, Err, OnOk, OnErr, List, [], ◌∷◌, ◌++◌, length, get_or, set, position, refl, sym, ap, ◌∙◌, inl, inr, arith, subst}
+use Rattle.std.proofs.Common.{◌≡◌, ◌≢◌, ◌⊎◌, ℕ, zero, suc, ◌<◌, ◌≤◌, Bool, true, false, ◌==◌, cond, Option, Some, None, Result, Ok, Err, OnOk, OnErr, IfOk, List, [], ◌∷◌, length, get_or, set, position, refl, sym, ap, ◌∙◌, inl, inr, arith, subst}
 use Rattle.std.specs.List.{position_or_len}
-use Rattle.std.proofs.lemmas.Bool.{false≢true, false_from_ne_true, eqb-true, lt-ltb, le-ltb, cases_eq, cases_lt, and_parts}
+use Rattle.std.proofs.lemmas.Bool.{false≢true, false_from_ne_true, eqb-true, lt-ltb, cases_eq, cases_lt, and_parts}
 use Rattle.std.proofs.lemmas.List.{get_or-set_same, get_or-set_other, get_or_past, set_past}
-use Rattle.std.proofs.lemmas.List.Sums.{position_or_len_is, fails_before_first}
+use Rattle.std.proofs.lemmas.List.Sums.{fails_before_first}
 use Rattle.seq_bus_core.specs.declared.connection.Conn.{Conn}
-use Rattle.router_core.specs.Standing.{Peer, Stage, Authenticating, Unnamed, Named, Closing, has_slot, is_conn}
+use Rattle.slab.specs.Slab.{Slab, Updates}
+use Rattle.router_core.specs.Standing.{Peer, Stage, Authenticating, Unnamed, Named, Closing, has_slot, is_conn, trimmed}
+use Rattle.router_core.proofs.Trimmed.{get-trimmed}
 use Rattle.router.specs.Indexed.{slot_count, IsIndexed, IsVacant, IsUnnamed}
+use Rattle.router.proofs.Slabs.{first_of_all, none_at_all}
 
 -- ---- what is found
+
+-- who has a slot is there
+pub slot_there : (slot : ℕ) (o : Option Peer) → has_slot slot o ≡ true → (p : Peer) × (o ≡ Some p)
+slot_there slot None has = absurd (false≢true has)
+slot_there slot (Some p) has = (p, refl)
+
+pub conn_there : (slot number : ℕ) (o : Option Peer) → is_conn slot number o ≡ true → (p : Peer) × (o ≡ Some p)
+conn_there slot number None is = absurd (false≢true is)
+conn_there slot number (Some p) is = (p, refl)
 
 -- a connection of a slot and a number has the slot
 pub slot_of_conn : (slot number : ℕ) (o : Option Peer) → is_conn slot number o ≡ true → has_slot slot o ≡ true
@@ -21,24 +33,36 @@ slot_of_conn slot number (Some p) is = in_stage p.stage is
     in_stage (Unnamed privileged) is = is
     in_stage (Closing conn) is = is
 
-module _ (test : Option Peer → Bool) (slot : ℕ) (of_slot : (o : Option Peer) → test o ≡ true → has_slot slot o ≡ true) (peers : List (Option Peer)) (key_of_slot : List ℕ) (indexed : IsIndexed peers key_of_slot) (below : slot < slot_count) where
-  only : (k : ℕ) → (get_or key_of_slot slot 0 ≡ k → ⊥) → test (get_or peers k None) ≡ false
-  only k other = false_from_ne_true (test (get_or peers k None)) (λ is. other (indexed k slot below (of_slot (get_or peers k None) is)))
+module _ (test : Option Peer → Bool) (none : test None ≡ false) (slot : ℕ) (of_slot : (o : Option Peer) → test o ≡ true → has_slot slot o ≡ true) (slots : List (Option Peer)) (key_of_slot : List ℕ) (indexed : IsIndexed slots key_of_slot) (below : slot < slot_count) where
+  only : (k : ℕ) → (get_or key_of_slot slot 0 ≡ k → ⊥) → test (get_or slots k None) ≡ false
+  only k other = false_from_ne_true (test (get_or slots k None)) (λ is. other (indexed k slot below (of_slot (get_or slots k None) is)))
 
-  pub found_here : (key : ℕ) → key < length peers → get_or key_of_slot slot 0 ≡ key → test (get_or peers key None) ≡ true → position test peers ≡ Some key
-  found_here key inside kept is =
-      let first = position_or_len_is test peers key None (omega arith) (λ k before. only k (λ e. omega (arith, before, e, kept))) (λ _. is) in
-      ap (λ n. cond (nat_lt n (length peers)) (Some n) None) first ∙ ap (λ b. cond b (Some key) None) (lt-ltb key (length peers) inside)
+  pub found_here : (key : ℕ) → get_or key_of_slot slot 0 ≡ key → test (get_or slots key None) ≡ true → position test (trimmed slots) ≡ Some key
+  found_here key kept is = first_of_all test none slots key (λ k before. only k (λ e. omega (arith, before, e, kept))) is
 
-  pub found_nowhere : (key : ℕ) → get_or key_of_slot slot 0 ≡ key → test (get_or peers key None) ≡ false → position test peers ≡ None
-  found_nowhere key kept isnt =
-      let none : (k : ℕ) → test (get_or peers k None) ≡ false = λ k.
-      elim (cases_eq key k) [
-        | inl e ↦ subst (λ n. test (get_or peers n None) ≡ false) e isnt
-        | inr ne ↦ only k (λ e. ne (sym kept ∙ e))
-      ] in
-      let past = position_or_len_is test peers (length peers) None (omega arith) (λ k before. none k) (λ inside. absurd (omega (arith, inside))) in
-      ap (λ n. cond (nat_lt n (length peers)) (Some n) None) past ∙ ap (λ b. cond b (Some (length peers)) None) (le-ltb (length peers) (length peers) (omega arith))
+  pub found_nowhere : (key : ℕ) → get_or key_of_slot slot 0 ≡ key → test (get_or slots key None) ≡ false → position test (trimmed slots) ≡ None
+  found_nowhere key kept isnt = none_at_all test none slots at
+    where
+      at : (k : ℕ) → test (get_or slots k None) ≡ false
+      at k =
+          elim (cases_eq key k) [
+            | inl e ↦ subst (λ n. test (get_or slots n None) ≡ false) e isnt
+            | inr ne ↦ only k (λ e. ne (sym kept ∙ e))
+          ]
+
+-- ---- vacant places behind the connections make no difference
+
+pub index_trimmed : (slots : List (Option Peer)) (key_of_slot : List ℕ) → IsIndexed slots key_of_slot → IsIndexed (trimmed slots) key_of_slot
+index_trimmed slots key_of_slot indexed = λ key slot below has. indexed key slot below (subst (λ (o : Option Peer). has_slot slot o ≡ true) (get-trimmed slots key) has)
+
+pub index_untrimmed : (slots : List (Option Peer)) (key_of_slot : List ℕ) → IsIndexed (trimmed slots) key_of_slot → IsIndexed slots key_of_slot
+index_untrimmed slots key_of_slot indexed = λ key slot below has. indexed key slot below (subst (λ (o : Option Peer). has_slot slot o ≡ true) (sym (get-trimmed slots key)) has)
+
+pub vacant_trimmed : (slot : ℕ) (slots : List (Option Peer)) → IsVacant slot slots → IsVacant slot (trimmed slots)
+vacant_trimmed slot slots vacant = λ key below has. vacant key below (subst (λ (o : Option Peer). has_slot slot o ≡ true) (get-trimmed slots key) has)
+
+pub vacant_untrimmed : (slot : ℕ) (slots : List (Option Peer)) → IsVacant slot (trimmed slots) → IsVacant slot slots
+vacant_untrimmed slot slots vacant = λ key below has. vacant key below (subst (λ (o : Option Peer). has_slot slot o ≡ true) (sym (get-trimmed slots key)) has)
 
 -- ---- what keeps it true
 
@@ -59,11 +83,13 @@ set_keeps (x ∷ xs) zero new keeps (suc k) = λ slot has. has
 set_keeps (x ∷ xs) (suc key) new keeps zero = λ slot has. has
 set_keeps (x ∷ xs) (suc key) new keeps (suc k) = set_keeps xs key new keeps k
 
-pub push_keeps : (peers : List (Option Peer)) (new : Option Peer) → Keeps None new → KeepsAll peers (peers ++ new ∷ [])
-push_keeps [] new keeps zero = keeps
-push_keeps [] new keeps (suc k) = λ slot has. has
-push_keeps (x ∷ xs) new keeps zero = λ slot has. has
-push_keeps (x ∷ xs) new keeps (suc k) = push_keeps xs new keeps k
+-- one place of a slab was written
+pub updates_keep : (old new : Slab Peer) (key : ℕ) (slot : Option Peer) → Updates old new key slot → Keeps (get_or old.slots key None) slot → KeepsAll old.slots new.slots
+updates_keep old new key slot updates keeps k =
+    elim (cases_eq k key) [
+      | inl same ↦ subst (λ n. Keeps (get_or old.slots n None) (get_or new.slots n None)) (sym same) (λ s has. keeps s (subst (λ (o : Option Peer). has_slot s o ≡ true) updates.changed has))
+      | inr other ↦ λ s has. subst (λ (o : Option Peer). has_slot s o ≡ true) (updates.others k other) has
+    ]
 
 pub same_keeps : (old new : Option Peer) → new ≡ old → Keeps old new
 same_keeps old new same = λ slot has. subst (λ o. has_slot slot o ≡ true) same has
@@ -77,6 +103,10 @@ index_at peers key_of_slot key old new there keeps indexed =
 pub index_without : (peers : List (Option Peer)) (key_of_slot : List ℕ) (key : ℕ) (new : Option Peer) → Keeps None new → IsIndexed peers key_of_slot → IsIndexed (set peers key new) key_of_slot
 index_without peers key_of_slot key new without indexed =
     index_kept peers (set peers key new) key_of_slot (set_keeps peers key new (λ slot has. absurd (false≢true (without slot has)))) indexed
+
+pub if_ok_or_err : {T E Q R : Type 0} {P : T → Type 0} (r : Result T E) → IfOk r P → OnErr r Q → ((x : T) → P x → R) → (Q → R) → R
+if_ok_or_err (Ok x) p q f g = f x p
+if_ok_or_err (Err e) p q f g = g q
 
 pub either_way : {T E P Q R : Type 0} (r : Result T E) → OnOk r P → OnErr r Q → (P → R) → (Q → R) → R
 either_way (Ok x) p q f g = f p

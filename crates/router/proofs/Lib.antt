@@ -1,4 +1,4 @@
-pub mod Slots
+pub mod Slabs
 pub mod Ticks
 pub mod FoundMail
 pub mod HelloAnswers

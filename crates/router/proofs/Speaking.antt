@@ -1,7 +1,7 @@
 -- A connection that has begun its messages never says again who it is.
-use Rattle.std.proofs.Common.{◌≡◌, ◌⊎◌, ℕ, zero, suc, Bool, true, Option, Some, None, position, List, [], ◌∷◌, get_or, set, ◌++◌, ◌==◌, false, length, refl, sym, subst, inl, inr, arith, if◌then◌else◌}
+use Rattle.std.proofs.Common.{◌≡◌, ◌⊎◌, ℕ, zero, suc, Bool, true, Option, Some, None, position, List, [], ◌∷◌, get_or, set, false, refl, sym, subst, inl, inr}
 use Rattle.std.specs.Prelude.{IfSome}
-use Rattle.std.proofs.lemmas.Bool.{cases_eq, eqb-true}
+use Rattle.std.proofs.lemmas.Bool.{cases_eq}
 use Rattle.std.proofs.lemmas.List.{get_or-set_other}
 use Rattle.seq_bus_core.specs.declared.connection.Conn.{Conn}
 use Rattle.seq_bus_core.specs.declared.error_kind.ErrorKind.TheVariants.{LimitsExceeded}
@@ -25,6 +25,7 @@ use Rattle.router_core.proofs.Alone.{Readers, Course, alone, effect}
 use Rattle.router_core.specs.Scripts.{Script, Gives, Changing, ChangingAll, Asking, Routing, AskingPresence, Noting, Framing, Calling, Gating, Wanting, Requiring, Doing, Announcing, and_then}
 use Rattle.router_core.specs.Serving.{replying, serving}
 use Rattle.router_core.specs.Standing.{Stage, Authenticating, Unnamed, Named, Closing, Peer, Standing, SpeaksDBus, first_stage, newcomer, with_newcomer, peer_at, with_peer, is_conn}
+use Rattle.router_core.proofs.Trimmed.{get-placed}
 use Rattle.router.proofs.Endings.{AllGive, then_give, all_give, weaker_give, if_give}
 use Rattle.router.proofs.Feeding.{more_if, peer_with_more, rest_more}
 use Rattle.router.proofs.Keeping.{IsLike, refusing}
@@ -189,26 +190,8 @@ more_speaks piece key r speaks = subst (λ (o : Option Peer). IfSome o Speaks) (
 
 -- A connection that nobody challenges speaks D-Bus from its first byte on.
 pub comes_speaking : (s : Standing) (key : ℕ) → SpeaksAt key (with_newcomer s key None)
-comes_speaking s key = by_test (key == length s.peers) refl
+comes_speaking s key = subst (λ (o : Option Peer). IfSome o Speaks) (sym (get-placed s.peers key (newcomer (first_stage s.login None)))) (unasked s.login)
   where
-    new : Option Peer
-    new = Some (newcomer (first_stage s.login None))
-
     unasked : (login : Option Login) → SpeaksDBus (first_stage login None)
     unasked None = tt
     unasked (Some login) = tt
-
-    in_place : (xs : List (Option Peer)) (k : ℕ) → IfSome (get_or (set xs k new) k None) Speaks
-    in_place [] k = tt
-    in_place (x ∷ xs) zero = unasked s.login
-    in_place (x ∷ xs) (suc k) = in_place xs k
-
-    at_end : (xs : List (Option Peer)) (k : ℕ) → k ≡ length xs → IfSome (get_or (xs ++ new ∷ []) k None) Speaks
-    at_end [] zero is = unasked s.login
-    at_end [] (suc k) is = tt
-    at_end (x ∷ xs) zero is = absurd (omega (arith, is))
-    at_end (x ∷ xs) (suc k) is = at_end xs k (omega (arith, is))
-
-    by_test : (b : Bool) → (key == length s.peers) ≡ b → IfSome (peer_at (if b then record s { peers = s.peers ++ new ∷ [] } else with_peer s key new) key) Speaks
-    by_test true is = at_end s.peers key (eqb-true key (length s.peers) is)
-    by_test false is = in_place s.peers key

@@ -1,8 +1,8 @@
 -- Several messages, one after the other.
-use Rattle.std.proofs.Common.{◌≡◌, ◌≢◌, ℕ, ◌+◌, ◌<◌, ◌≤◌, Bool, true, false, ◌||◌, Option, Some, None, Result, Ok, Err, OnOk, OnErr, List, [], ◌∷◌, length, map, get_or, drop, refl, sym, ap, ◌∙◌, subst, if◌then◌else◌, arith, length-drop, inl, inr}
+use Rattle.std.proofs.Common.{◌≡◌, ◌≢◌, ℕ, ◌+◌, ◌<◌, ◌≤◌, Bool, true, false, ◌||◌, Option, Some, None, Result, Ok, Err, OnOk, OnErr, List, [], ◌∷◌, length, map, get_or, drop, refl, sym, ap, ◌∙◌, subst, if◌then◌else◌, arith, length-drop}
 use Rattle.std.specs.List.{AllByRecursion}
-use Rattle.std.proofs.lemmas.Bool.{false≢true, cases_lt}
-use Rattle.std.proofs.lemmas.List.{drop_more, get_or_past}
+use Rattle.std.proofs.lemmas.Bool.{false≢true}
+use Rattle.std.proofs.lemmas.List.{drop_more}
 use Rattle.seq_bus_core.specs.Batches.{outcomes_of}
 use Rattle.seq_bus_core.specs.Histories.{History}
 use Rattle.seq_bus_core.specs.Tickets.{WholeBus}
@@ -33,7 +33,7 @@ use Rattle.router_steps.proofs.Sequels.{comes_then}
 use Rattle.router.specs.Joinings.{RepliesAlone}
 use Rattle.router.proofs.Rules.{rules_bring_none}
 use Rattle.router.specs.Dues.{IsApart}
-use Rattle.router.specs.Named.{is_named, IsSettled}
+use Rattle.router.specs.Named.{is_named}
 use Rattle.router.proofs.Endings.{AllGive, given}
 use Rattle.router.proofs.Indexing.{Keeps}
 
@@ -208,41 +208,32 @@ pub replies_alone : (b : WholeBus) (seat : ℕ) (joints : List Joint) (changes :
 replies_alone b seat joints changes outcomes are told =
     subst (AllByRecursion RepliesAlone) (sym (told ∙ ap (outcomes_of b seat) are)) (rules_bring_none b seat joints)
 
--- whoever has a name is within the table
-pub named_within : (peers : List (Option Peer)) (key : ℕ) → is_named (get_or peers key None) ≡ true → key < length peers
-named_within peers key is =
-    elim (cases_lt key (length peers)) [
-      | inl inside ↦ inside
-      | inr past ↦
-          let never : false ≡ true = ap is_named (sym (get_or_past peers key None past)) ∙ is in
-          absurd (false≢true never)
-    ]
+-- whoever has a name is there
+pub named_peer : (o : Option Peer) → is_named o ≡ true → (p : Peer) × (o ≡ Some p)
+named_peer None is = absurd (false≢true is)
+named_peer (Some p) is = (p, refl)
 
 module _ {V N R G : Type 0} (view : BusView V N R) (gate : Gate G) where
   -- what is done for one that has a name
-  pub settles : (s : Standing) (key : ℕ) (work : OfFate) (becomes : PeerFate) (old new : Option Peer) (w m v : World N G) → is_named old ≡ true → peer_at s key ≡ old → Comes view.told view.registry_of gate.passes view.alone work w becomes m →
-      IsSettled view gate key becomes old m new v → Comes view.told view.registry_of gate.passes view.alone (work_for s key work) w (with_peer s key new) v
-  settles s key work becomes None new w m v named there served settled = absurd settled
-  settles s key work becomes (Some p) new w m v named there served settled =
-      subst (λ (o : Option Peer). Comes view.told view.registry_of gate.passes view.alone (work_at s key o work) w (with_peer s key new) v) (sym there)
-      (subst (λ (o : Option Peer). Comes view.told view.registry_of gate.passes view.alone (work_in s key p p.stage work) w (with_peer s key o) v) (sym settled.1) (in_stage p.stage named))
+  pub settles : (s : Standing) (key : ℕ) (work : OfFate) (becomes : PeerFate) (old new : Peer) (w m v : World N G) → is_named (Some old) ≡ true → peer_at s key ≡ Some old → Comes view.told view.registry_of gate.passes view.alone work w becomes m →
+      Comes view.told view.registry_of gate.passes view.alone (after_serving key becomes old) m new v → Comes view.told view.registry_of gate.passes view.alone (work_for s key work) w (with_peer s key (Some new)) v
+  settles s key work becomes old new w m v named there served settled =
+      subst (λ (o : Option Peer). Comes view.told view.registry_of gate.passes view.alone (work_at s key o work) w (with_peer s key (Some new)) v) (sym there) (in_stage old.stage named)
     where
-      done : Comes view.told view.registry_of gate.passes view.alone (and_then work (λ (f : PeerFate). after_serving key f p)) w settled.0 v
-      done = comes_then view.told view.registry_of gate.passes view.alone (λ (f : PeerFate). after_serving key f p) becomes m settled.0 v settled.2 work w served
+      done : Comes view.told view.registry_of gate.passes view.alone (and_then work (λ (f : PeerFate). after_serving key f old)) w new v
+      done = comes_then view.told view.registry_of gate.passes view.alone (λ (f : PeerFate). after_serving key f old) becomes m new v settled work w served
 
-      in_stage : (stage : Stage) → is_named (Some (record p { stage = stage })) ≡ true → Comes view.told view.registry_of gate.passes view.alone (work_in s key p stage work) w (with_peer s key (Some settled.0)) v
-      in_stage (Named conn) is = for_some view.told view.registry_of gate.passes view.alone s key p settled.0 (λ (x : Peer). and_then work (λ (f : PeerFate). after_serving key f x)) w v done
+      in_stage : (stage : Stage) → is_named (Some (record old { stage = stage })) ≡ true → Comes view.told view.registry_of gate.passes view.alone (work_in s key old stage work) w (with_peer s key (Some new)) v
+      in_stage (Named conn) is = for_some view.told view.registry_of gate.passes view.alone s key old new (λ (x : Peer). and_then work (λ (f : PeerFate). after_serving key f x)) w v done
       in_stage (Authenticating setting state) is = absurd (false≢true is)
       in_stage (Unnamed privileged) is = absurd (false≢true is)
       in_stage (Closing conn) is = absurd (false≢true is)
 
   -- it gets no slot by that
-  pub settled_keeps : (key : ℕ) (becomes : PeerFate) (old new : Option Peer) (w v : World N G) → IsSettled view gate key becomes old w new v → Keeps old new
-  settled_keeps key becomes None new w v settled = absurd settled
-  settled_keeps key becomes (Some p) new w v settled =
-      subst (λ (o : Option Peer). Keeps (Some p) o) (sym settled.1) (given view.told view.registry_of gate.passes view.alone (λ (q : Peer). Keeps (Some p) (Some q)) settled.0 v (after_serving key becomes p) w (by_fate becomes) settled.2)
+  pub settled_keeps : (key : ℕ) (becomes : PeerFate) (old new : Peer) (w v : World N G) → Comes view.told view.registry_of gate.passes view.alone (after_serving key becomes old) w new v → Keeps (Some old) (Some new)
+  settled_keeps key becomes old new w v settled = given view.told view.registry_of gate.passes view.alone (λ (q : Peer). Keeps (Some old) (Some q)) new v (after_serving key becomes old) w (by_fate becomes) settled
     where
-      by_fate : (f : PeerFate) → AllGive (λ (q : Peer). Keeps (Some p) (Some q)) (after_serving key f p)
+      by_fate : (f : PeerFate) → AllGive (λ (q : Peer). Keeps (Some old) (Some q)) (after_serving key f old)
       by_fate fate.Stays = λ slot has. has
       by_fate fate.Watches = λ slot has. has
       by_fate (fate.Closes why) = λ slot has. absurd (false≢true has)

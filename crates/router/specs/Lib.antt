@@ -2,6 +2,7 @@ pub mod Tables
 pub mod Welcomes
 pub mod Upcoming
 pub mod Indexed
+pub mod NextKeys
 pub mod Numbers
 pub mod OneEvent
 pub mod Dues

@@ -1,12 +1,12 @@
 //! The engine: what serves the events of a router.
 
-ghost use Rattle.std.specs.Prelude.{◌≡◌, ◌≢◌, ◌↔◌, [], IsTrue, true, false, is_some, OnErr, IfOk, position, count_by};
+ghost use Rattle.std.specs.Prelude.{◌≡◌, ◌≢◌, ◌↔◌, [], IsTrue, true, false, is_some, OnOk, OnErr, IfOk, position, count_by};
 ghost use Rattle.std.specs.List.{AllByRecursion};
-ghost use Rattle.router_core.specs.Acts.{BringsBy};
+ghost use Rattle.router_core.specs.Acts.{BringsBy, CanHappen, IsNextKey};
 ghost use Rattle.router_core.specs.Deeds.{CarriesOwn};
-ghost use Rattle.router_core.specs.Events.{CanHappen, IsFree};
-ghost use Rattle.router_core.specs.Standing.{fresh, has_slot, is_unnamed};
+ghost use Rattle.router_core.specs.Standing.{fresh, has_slot, is_unnamed, peer_at};
 ghost use Rattle.router_core.specs.declared.event.Event.TheVariants.{Opened, Bytes, Next, Turn, Mail, Closed, Full, Tick};
+ghost use Rattle.router.specs.NextKeys.{HasNextKey, key_after};
 ghost use Rattle.router.specs.Numbers.{number_at};
 ghost use Rattle.router.specs.OneEvent.{IsServedWellBy};
 ghost use Rattle.router.specs.Upcoming.{HasNoNext};
@@ -34,6 +34,7 @@ impl<V: BusView, G: Gate> Model for Engine<V, G> {
 
     ghost view = { λ e. record {
       standing = e.peers.standing;
+      next_key = e.peers.keys.next;
       view = e.peers.work.world.view;
       gate =
           e.peers.work.world.gate;
@@ -54,6 +55,7 @@ impl<V: BusView + Drop, G: Gate + Drop> Engine<V, G> {
         ensures { IfOk result
             (λ engine. engine ≡ record {
               standing = fresh login;
+              next_key = 0;
               view = V.knows view;
               gate = gate;
             }) }
@@ -72,10 +74,10 @@ impl<V: BusView, G: Gate> Engine<V, G> {
         self.peers.view()
     }
 
-    /// The key of the next connection: the least that none has. A connection that is gone has given
-    /// its key up, so keys stay below the most connections that were there at once.
+    /// The key of the next connection, which none has: that of the one that was gone last, unless
+    /// another came since.
     pub fn free_key(&self) -> usize
-        ensures { IsFree self.now.standing result }
+        ensures { IsNextKey self.now result }
     {
         self.peers.free_key()
     }
@@ -87,20 +89,14 @@ impl<V: BusView, G: Gate> Engine<V, G> {
         self.peers.has_login()
     }
 
-    /// A connection came, and has this key.
-    fn opened(
-        &mut self,
-        key: usize,
-        challenge: Option<[u8; 16]>,
-    ) -> Result<Vec<Action<V::Note>>, AllocError>
-        requires { CanHappen V.registry_of self.old.view.registry self.old.standing
-            (Opened key challenge) }
+    /// A connection came, and has the key that was next.
+    fn opened(&mut self, challenge: Option<[u8; 16]>) -> Result<Vec<Action<V::Note>>, AllocError>
         ensures brings { IfOk result
-            (λ actions. BringsBy V.BusView G.Gate self.old (Opened key challenge)
+            (λ actions. BringsBy V.BusView G.Gate self.old (Opened self.old.next_key challenge)
             actions.items self.new) }
         ensures err { OnErr result (self.new ≡ self.old) }
     {
-        self.peers.open(key, challenge)?;
+        self.peers.open(challenge)?;
         Ok(self.peers.take_actions())
     }
 
@@ -109,6 +105,7 @@ impl<V: BusView, G: Gate> Engine<V, G> {
         ensures brings { IfOk result
             (λ actions. BringsBy V.BusView G.Gate self.old (Bytes key piece.old)
             actions.items self.new) }
+        ensures key { OnOk result (self.new.next_key ≡ self.old.next_key) }
         ensures err { OnErr result (self.new ≡ self.old) }
         ensures kept { OnErr result (piece.new ≡ piece.old) }
     {
@@ -167,6 +164,7 @@ impl<V: BusView, G: Gate> Engine<V, G> {
         ensures brings { IfOk result
             (λ actions. BringsBy V.BusView G.Gate self.old (Next key)
             actions.items self.new) }
+        ensures key { OnOk result (self.new.next_key ≡ self.old.next_key) }
         ensures err { OnErr result (self.new ≡ self.old) }
     {
         self.peers.next(right, key)?;
@@ -180,11 +178,11 @@ impl<V: BusView, G: Gate> Engine<V, G> {
         right: &V::Right,
         keys: &Vec<usize>,
     ) -> Result<Vec<Action<V::Note>>, AllocError>
-        requires { CanHappen V.registry_of self.old.view.registry self.old.standing
-            (Turn keys.now) }
+        requires { CanHappen V.registry_of self.old (Turn keys.now) }
         ensures brings { IfOk result
             (λ actions. BringsBy V.BusView G.Gate self.old (Turn keys.now)
             actions.items self.new) }
+        ensures key { OnOk result (self.new.next_key ≡ self.old.next_key) }
         ensures err { OnErr result (self.new ≡ self.old) }
     {
         self.peers.turn(right, keys)?;
@@ -197,11 +195,11 @@ impl<V: BusView, G: Gate> Engine<V, G> {
         slot: u16,
         envelope: &Envelope<V::Note>,
     ) -> Result<Vec<Action<V::Note>>, AllocError>
-        requires { CanHappen V.registry_of self.old.view.registry self.old.standing
-            (Mail slot envelope.now) }
+        requires { CanHappen V.registry_of self.old (Mail slot envelope.now) }
         ensures brings { IfOk result
             (λ actions. BringsBy V.BusView G.Gate self.old
             (Mail slot envelope.now) actions.items self.new) }
+        ensures key { OnOk result (self.new.next_key ≡ self.old.next_key) }
         ensures err { OnErr result (self.new ≡ self.old) }
     {
         self.peers.mail(slot, envelope)?;
@@ -213,6 +211,8 @@ impl<V: BusView, G: Gate> Engine<V, G> {
         ensures brings { IfOk result
             (λ actions. BringsBy V.BusView G.Gate self.old (Closed key)
             actions.items self.new) }
+        ensures key { OnOk result (self.new.next_key
+            ≡ key_after self.old.next_key key (peer_at self.old.standing key)) }
         ensures err { OnErr result (self.new ≡ self.old) }
     {
         self.peers.close(right, key)?;
@@ -224,6 +224,7 @@ impl<V: BusView, G: Gate> Engine<V, G> {
         ensures brings { IfOk result
             (λ actions. BringsBy V.BusView G.Gate self.old (Full number)
             actions.items self.new) }
+        ensures key { OnOk result (self.new.next_key ≡ self.old.next_key) }
         ensures err { OnErr result (self.new ≡ self.old) }
     {
         self.peers.leave(right, number)?;
@@ -235,6 +236,7 @@ impl<V: BusView, G: Gate> Engine<V, G> {
         ensures brings { IfOk result
             (λ actions. BringsBy V.BusView G.Gate self.old Tick actions.items
             self.new) }
+        ensures key { OnOk result (self.new.next_key ≡ self.old.next_key) }
         ensures err { OnErr result (self.new ≡ self.old) }
     {
         self.peers.tick(right)?;
@@ -247,15 +249,16 @@ impl<V: BusView, G: Gate> Engine<V, G> {
         right: &V::Right,
         event: &mut Event<V::Note>,
     ) -> Result<Vec<Action<V::Note>>, AllocError>
-        requires { CanHappen V.registry_of self.old.view.registry self.old.standing event.old }
+        requires { CanHappen V.registry_of self.old event.old }
         ensures brings { IfOk result
             (λ actions. BringsBy V.BusView G.Gate self.old event.old
             actions.items self.new) }
+        ensures key { OnOk result (HasNextKey self.old event.old self.new) }
         ensures err { OnErr result (self.new ≡ self.old) }
         ensures kept { OnErr result (event.new ≡ event.old) }
     {
         match event {
-            Event::Opened { key, challenge } => self.opened(*key, *challenge),
+            Event::Opened { key: _, challenge } => self.opened(*challenge),
             Event::Bytes { key, piece } => self.bytes(*key, piece),
             Event::Next { key } => self.next(right, *key),
             Event::Turn { keys } => self.turn(right, keys),
@@ -284,7 +287,7 @@ impl<V: BusView, G: Gate> Engine<V, G> {
         right: &V::Right,
         event: &mut Event<V::Note>,
     ) -> Result<Vec<Action<V::Note>>, AllocError>
-        requires { CanHappen V.registry_of self.old.view.registry self.old.standing event.old }
+        requires { CanHappen V.registry_of self.old event.old }
         ensures brings { IfOk result
             (λ actions. BringsBy V.BusView G.Gate self.old event.old
             actions.items self.new) }
@@ -295,6 +298,7 @@ impl<V: BusView, G: Gate> Engine<V, G> {
             (λ actions. AllByRecursion (CarriesOwn V.registry_of self.old.view.registry)
             actions.items) }
         ensures registry { self.new.view.registry ≡ self.old.view.registry }
+        ensures key { OnOk result (HasNextKey self.old event.old self.new) }
         ensures err { OnErr result (self.new ≡ self.old) }
         ensures handed_back { OnErr result (event.new ≡ event.old) }
     {

@@ -7,7 +7,7 @@ ghost use Rattle.seq_bus_core.specs.declared.limits.TheConstants.{MAX_SIGNALS};
 ghost use Rattle.router_core.specs.Answers.{error_for, refusal_of};
 ghost use Rattle.router_core.specs.Events.{refusing_hello, dismissal, for_peer, closing_former, greeting, after_hello, after_hello_by, serving_hello};
 ghost use Rattle.router_core.specs.Scripts.{RunsTo};
-ghost use Rattle.router_core.specs.Standing.{Peer as Standing_peer, Named, has_slot, next_serial, peer_at};
+ghost use Rattle.router_core.specs.Standing.{Peer as Standing_peer, has_slot, next_serial, peer_at, trimmed};
 ghost use Rattle.router_steps.specs.Hearing.{heard_change};
 ghost use Rattle.router_steps.specs.Refusing.{IsRefusal, AreRefusals};
 ghost use Rattle.router.specs.Indexed.{slot_count, IsIndexed, IsNameless, IsVacant};
@@ -17,9 +17,10 @@ use crate::peers::{Peers, SLOT_COUNT};
 use bus_view::{BusView, Cause};
 use driver::{Call, ReplyBody};
 use message_core::Message;
-use router_core::{Gate, WrittenBytes};
+use router_core::{CloseCause, Gate, WrittenBytes};
 use router_steps::{HelloErrors, Peer, Stage};
 use seq_bus_core::{Change, Conn, ErrorKind, Outcome, Reply};
+use slab::Slab;
 
 /// The connection that is welcome.
 fn welcomed(reply: Reply) -> Option<Conn>
@@ -32,12 +33,9 @@ fn welcomed(reply: Reply) -> Option<Conn>
 }
 
 /// Whether the connection has a name, and this slot.
-fn has_slot(peer: &Option<Peer>, slot: u16) -> bool
-    ensures { result ≡ has_slot slot peer.now }
+fn has_slot(peer: &Peer, slot: u16) -> bool
+    ensures { result ≡ has_slot slot (Some peer.now) }
 {
-    let Some(peer) = peer else {
-        return false;
-    };
     match peer.stage() {
         Stage::Named(conn) => conn.slot == slot,
         Stage::Authenticating(_) => false,
@@ -46,20 +44,35 @@ fn has_slot(peer: &Option<Peer>, slot: u16) -> bool
     }
 }
 
+/// The key of the connection that has a name, and this slot, by a walk.
+fn search_slot(peers: &Slab<Peer>, slot: u16) -> Option<usize>
+    ensures { result ≡ position (has_slot slot) (trimmed peers.now.slots) }
+{
+    for key in 0..peers.capacity() {
+        let Some(peer) = peers.get(key) else {
+            continue;
+        };
+        if has_slot(peer, slot) {
+            return Some(key);
+        }
+    }
+    None
+}
+
 /// The key of the connection that has a name, and this slot.
-fn find_slot(peers: &[Option<Peer>], key_of_slot: &[usize; SLOT_COUNT], slot: u16) -> Option<usize>
-    requires { IsIndexed peers.now key_of_slot.now }
-    ensures { result ≡ position (has_slot slot) peers.now }
+fn find_slot(peers: &Slab<Peer>, key_of_slot: &[usize; SLOT_COUNT], slot: u16) -> Option<usize>
+    requires { IsIndexed peers.now.slots key_of_slot.now }
+    ensures { result ≡ position (has_slot slot) (trimmed peers.now.slots) }
 {
     let at = usize::from(slot);
     if at >= SLOT_COUNT {
-        return peers.iter().position(|peer| has_slot(peer, slot));
+        return search_slot(peers, slot);
     }
     let key = key_of_slot[at];
-    if key >= peers.len() {
+    let Some(peer) = peers.get(key) else {
         return None;
-    }
-    if has_slot(&peers[key], slot) {
+    };
+    if has_slot(peer, slot) {
         return Some(key);
     }
     None
@@ -73,18 +86,6 @@ fn keep_key(key_of_slot: &mut [usize; SLOT_COUNT], slot: u16, key: usize)
     let at = usize::from(slot);
     if at < SLOT_COUNT {
         key_of_slot[at] = key;
-    }
-}
-
-/// Gives a connection in a place of the table its name.
-fn name_in(entry: &mut Option<Peer>, conn: Conn)
-    requires { IsNameless entry.old }
-    ensures { (p : Standing_peer) → entry.old ≡ Some p →
-        entry.new ≡ Some (record p { stage = Named conn }) }
-{
-    match entry {
-        Some(peer) => peer.welcome(conn),
-        None => unreachable!(),
     }
 }
 
@@ -103,14 +104,14 @@ impl<V: BusView, G: Gate> Peers<V, G> {
             self.old.work.world self.new.standing self.new.work.world }
         ensures room { self.old.work.room ≤ self.new.work.room + 1 }
         ensures spare_verdicts { self.new.work.spare_verdicts ≡ self.old.work.spare_verdicts }
-        ensures keys { length self.new.standing.peers ≡ length self.old.standing.peers }
+        ensures keys { self.new.keys ≡ self.old.keys }
         ensures vacant { IsVacant conn.slot self.new.standing.peers }
         ensures others { (key : ℕ) → has_slot conn.slot (peer_at self.old.standing key) ≡ false →
             peer_at self.new.standing key ≡ peer_at self.old.standing key }
     {
-        match find_slot(&self.peers, &self.key_of_slot, conn.slot) {
-            Some(key) => self.context.close_left(key, &mut self.peers[key]),
-            None => {}
+        if let Some(key) = find_slot(&self.peers, &self.key_of_slot, conn.slot) {
+            self.context
+                .close_peer(key, &mut self.peers[key], CloseCause::Left);
         }
     }
 
@@ -119,17 +120,17 @@ impl<V: BusView, G: Gate> Peers<V, G> {
         requires room { length outcome.signals < self.old.work.room }
         requires spare_verdicts { 0 < self.old.work.spare_verdicts }
         requires nameless { IsNameless (peer_at self.old.standing key) }
-        requires key { key < length self.old.standing.peers }
         requires vacant { IsVacant conn.slot self.old.standing.peers }
-        ensures { (p : Standing_peer) → peer_at self.old.standing key ≡ Some p →
+        ensures comes { (p : Standing_peer) → peer_at self.old.standing key ≡ Some p →
             RunsTo V.BusView G.Gate
             (greeting key (said hello.now) p outcome conn self.old.standing)
             self.old.work.world self.new.standing self.new.work.world }
+        ensures keys { self.new.keys ≡ self.old.keys }
     {
         self.context
             .reply_with(hello, conn, ReplyBody::UniqueName(conn.number));
         self.context.announce(outcome.signals);
-        name_in(&mut self.peers[key], conn);
+        self.peers[key].welcome(conn);
         keep_key(&mut self.key_of_slot, conn.slot, key);
     }
 
@@ -137,32 +138,34 @@ impl<V: BusView, G: Gate> Peers<V, G> {
     fn refuse_at(&mut self, key: usize, hello: &Message, why: Cause, errors: HelloErrors)
         requires room { 1 < self.old.work.room }
         requires spare_verdicts { 0 < self.old.work.spare_verdicts }
-        requires key { key < length self.old.standing.peers }
+        requires nameless { IsNameless (peer_at self.old.standing key) }
         requires written { IfSome (peer_at self.old.standing key)
             (λ p. AreRefusals (said hello.now) (next_serial p.serial) errors) }
-        ensures { RunsTo V.BusView G.Gate
+        ensures comes { RunsTo V.BusView G.Gate
             (for_peer self.old.standing key (peer_at self.old.standing key)
             (refusing_hello key (said hello.now) (error_for (refusal_of why))))
             self.old.work.world self.new.standing self.new.work.world }
+        ensures keys { self.new.keys ≡ self.old.keys }
     {
         self.context
-            .refuse_in(key, hello, &mut self.peers[key], why, errors);
+            .refuse_for(key, hello, &mut self.peers[key], why, errors);
     }
 
     /// The Hello would exceed a limit of the bus: the connection is closed.
     fn turn_away_at(&mut self, key: usize, hello: &Message, bytes: WrittenBytes)
         requires room { 2 < self.old.work.room }
         requires spare_verdicts { 0 < self.old.work.spare_verdicts }
-        requires key { key < length self.old.standing.peers }
+        requires nameless { IsNameless (peer_at self.old.standing key) }
         requires written { IfSome (peer_at self.old.standing key) (λ p. IsRefusal
             (said hello.now) ErrorKind.LimitsExceeded (next_serial p.serial) bytes) }
-        ensures { RunsTo V.BusView G.Gate
+        ensures comes { RunsTo V.BusView G.Gate
             (for_peer self.old.standing key (peer_at self.old.standing key)
             (dismissal key (said hello.now)))
             self.old.work.world self.new.standing self.new.work.world }
+        ensures keys { self.new.keys ≡ self.old.keys }
     {
         self.context
-            .turn_away_in(key, hello, &mut self.peers[key], bytes);
+            .turn_away(key, hello, &mut self.peers[key], bytes);
     }
 
     /// The bus made the Hello: the connection is welcome, or too many are there.
@@ -170,13 +173,13 @@ impl<V: BusView, G: Gate> Peers<V, G> {
         requires room { length outcome.signals + 2 < self.old.work.room }
         requires spare_verdicts { 0 < self.old.work.spare_verdicts }
         requires nameless { IsNameless (peer_at self.old.standing key) }
-        requires key { key < length self.old.standing.peers }
         requires written { IfSome (peer_at self.old.standing key)
             (λ p. AreRefusals (said hello.now) (next_serial p.serial) errors) }
-        ensures { (p : Standing_peer) → peer_at self.old.standing key ≡ Some p →
+        ensures comes { (p : Standing_peer) → peer_at self.old.standing key ≡ Some p →
             RunsTo V.BusView G.Gate
             (after_hello_by self.old.standing key (said hello.now) p outcome outcome.reply)
             self.old.work.world self.new.standing self.new.work.world }
+        ensures keys { self.new.keys ≡ self.old.keys }
     {
         match welcomed(outcome.reply) {
             Some(conn) => {
@@ -199,13 +202,13 @@ impl<V: BusView, G: Gate> Peers<V, G> {
         requires few { IfOk heard IsBounded }
         requires spare_verdicts { 0 < self.old.work.spare_verdicts }
         requires nameless { IsNameless (peer_at self.old.standing key) }
-        requires key { key < length self.old.standing.peers }
         requires written { IfSome (peer_at self.old.standing key)
             (λ p. AreRefusals (said hello.now) (next_serial p.serial) errors) }
-        ensures { (p : Standing_peer) → peer_at self.old.standing key ≡ Some p →
+        ensures comes { (p : Standing_peer) → peer_at self.old.standing key ≡ Some p →
             RunsTo V.BusView G.Gate
             (after_hello self.old.standing key (said hello.now) p (heard_change heard))
             self.old.work.world self.new.standing self.new.work.world }
+        ensures keys { self.new.keys ≡ self.old.keys }
     {
         match heard {
             Ok(outcome) => self.answer_hello(key, hello, outcome, errors),
@@ -230,13 +233,13 @@ impl<V: BusView, G: Gate> Peers<V, G> {
         requires room { MAX_SIGNALS + 2 < self.old.work.room }
         requires spare_verdicts { 0 < self.old.work.spare_verdicts }
         requires nameless { IsNameless (peer_at self.old.standing key) }
-        requires key { key < length self.old.standing.peers }
         requires written { IfSome (peer_at self.old.standing key)
             (λ p. AreRefusals (said hello.now) (next_serial p.serial) errors) }
-        ensures { (p : Standing_peer) → peer_at self.old.standing key ≡ Some p →
+        ensures comes { (p : Standing_peer) → peer_at self.old.standing key ≡ Some p →
             RunsTo V.BusView G.Gate
             (serving_hello self.old.standing key (said hello.now) p privileged)
             self.old.work.world self.new.standing self.new.work.world }
+        ensures keys { self.new.keys ≡ self.old.keys }
     {
         self.context.show_gate(&Call::Hello);
         let heard = self.context.change(right, Change::Hello { privileged });

@@ -1,43 +1,34 @@
 //! Connections that are gone.
 
-ghost use Rattle.std.specs.Prelude.{◌≡◌, ◌≢◌, ◌↔◌, [], IsTrue, None, slice_index_or, slice_set, OnOk, OnErr};
+ghost use Rattle.std.specs.Prelude.{◌≡◌, ◌≢◌, ◌↔◌, [], IsTrue, OnOk, OnErr};
 ghost use Rattle.router_core.specs.Events.{removing, leaving};
 ghost use Rattle.router_core.specs.Scripts.{RunsTo};
 ghost use Rattle.router_core.specs.Standing.{peer_at};
+ghost use Rattle.router.specs.NextKeys.{key_after};
 
 use crate::peers::Peers;
 use bus_view::BusView;
 use router_core::Gate;
-use router_steps::Peer;
 use seq_bus_core::limits::MAX_SIGNALS;
 use std::alloc::AllocError;
-
-/// The connection of a key, which is free from then on.
-#[tactic(auto, using(crate::proofs::Slots::set_beyond, crate::proofs::Slots::set_same, crate::proofs::Slots::none_beyond))]
-fn take_peer(peers: &mut Vec<Option<Peer>>, key: usize) -> Option<Peer>
-    ensures taken { result ≡ slice_index_or peers.old.items key None }
-    ensures rest { peers.new.items ≡ slice_set peers.old.items key None }
-{
-    if key >= peers.len() {
-        return None;
-    }
-    peers[key].take()
-}
 
 impl<V: BusView, G: Gate> Peers<V, G> {
     /// A connection is gone: its key is free, and the Leave of its number is made. A Leave that is
     /// refused is kept, and made at a [`tick`](Peers::tick). Without memory nothing changes.
-    #[tactic(auto, using(crate::proofs::Slots::set_same))]
     pub fn close(&mut self, right: &V::Right, key: usize) -> Result<(), AllocError>
         ensures comes { OnOk result (RunsTo V.BusView G.Gate
             (removing self.old.standing key (peer_at self.old.standing key))
             self.old.work.world self.new.standing self.new.work.world) }
+        ensures keys { OnOk result (self.new.keys ≡ record self.old.keys {
+          next = key_after self.old.keys.next key (peer_at self.old.standing key);
+        }) }
         ensures err { OnErr result (self.new.standing ≡ self.old.standing) }
+        ensures err_keys { OnErr result (self.new.keys ≡ self.old.keys) }
         ensures world { OnErr result (self.new.work.world ≡ self.old.work.world) }
     {
         self.context.reserve(MAX_SIGNALS)?;
         self.due_leaves.reserve(1)?;
-        let Some(peer) = take_peer(&mut self.peers, key) else {
+        let Some(peer) = self.peers.try_remove(key) else {
             return Ok(());
         };
         self.context
@@ -52,6 +43,7 @@ impl<V: BusView, G: Gate> Peers<V, G> {
             self.old.work.world self.new.standing self.new.work.world) }
         ensures err { OnErr result (self.new.standing ≡ self.old.standing) }
         ensures world { OnErr result (self.new.work.world ≡ self.old.work.world) }
+        ensures keys { self.new.keys ≡ self.old.keys }
     {
         self.context.reserve(MAX_SIGNALS)?;
         self.due_leaves.reserve(1)?;

@@ -1,11 +1,11 @@
 //! Mail from other routers.
 
-ghost use Rattle.std.specs.Prelude.{◌≡◌, option_map, position, OnOk, OnErr};
+ghost use Rattle.std.specs.Prelude.{◌≡◌, Some, option_map, position, OnOk, OnErr};
 ghost use Rattle.outbox_core.specs.Contents.{said_of};
 ghost use Rattle.router_core.specs.Deeds.{IsOwnNote};
 ghost use Rattle.router_core.specs.Events.{mail_delivery, after_note};
 ghost use Rattle.router_core.specs.Scripts.{RunsTo};
-ghost use Rattle.router_core.specs.Standing.{is_conn};
+ghost use Rattle.router_core.specs.Standing.{is_conn, trimmed};
 ghost use Rattle.router.specs.Indexed.{IsIndexed};
 
 use crate::peers::{Peers, SLOT_COUNT};
@@ -13,15 +13,13 @@ use bus_view::BusView;
 use outbox_core::Envelope;
 use router_core::Gate;
 use router_steps::{Peer, Stage};
+use slab::Slab;
 use std::alloc::AllocError;
 
 /// Whether this is the connection of this slot and this number. One that was closed is not.
-fn is_addressed(peer: &Option<Peer>, slot: u16, number: u64) -> bool
-    ensures { result ≡ is_conn slot number peer.now }
+fn is_addressed(peer: &Peer, slot: u16, number: u64) -> bool
+    ensures { result ≡ is_conn slot number (Some peer.now) }
 {
-    let Some(peer) = peer else {
-        return false;
-    };
     match peer.stage() {
         Stage::Named(conn) => conn.slot == slot && conn.number == number,
         Stage::Authenticating(_) => false,
@@ -30,27 +28,40 @@ fn is_addressed(peer: &Option<Peer>, slot: u16, number: u64) -> bool
     }
 }
 
+/// The key of the connection of this slot and this number, by a walk.
+fn search_addressed(peers: &Slab<Peer>, slot: u16, number: u64) -> Option<usize>
+    ensures { result ≡ position (is_conn slot number) (trimmed peers.now.slots) }
+{
+    for key in 0..peers.capacity() {
+        let Some(peer) = peers.get(key) else {
+            continue;
+        };
+        if is_addressed(peer, slot, number) {
+            return Some(key);
+        }
+    }
+    None
+}
+
 /// The key of the connection of this slot and this number.
 fn find_addressed(
-    peers: &[Option<Peer>],
+    peers: &Slab<Peer>,
     key_of_slot: &[usize; SLOT_COUNT],
     slot: u16,
     number: u64,
 ) -> Option<usize>
-    requires { IsIndexed peers.now key_of_slot.now }
-    ensures { result ≡ position (is_conn slot number) peers.now }
+    requires { IsIndexed peers.now.slots key_of_slot.now }
+    ensures { result ≡ position (is_conn slot number) (trimmed peers.now.slots) }
 {
     let at = usize::from(slot);
     if at >= SLOT_COUNT {
-        return peers
-            .iter()
-            .position(|peer| is_addressed(peer, slot, number));
+        return search_addressed(peers, slot, number);
     }
     let key = key_of_slot[at];
-    if key >= peers.len() {
+    let Some(peer) = peers.get(key) else {
         return None;
-    }
-    if is_addressed(&peers[key], slot, number) {
+    };
+    if is_addressed(peer, slot, number) {
         return Some(key);
     }
     None
@@ -70,6 +81,7 @@ impl<V: BusView, G: Gate> Peers<V, G> {
             self.old.work.world self.new.standing self.new.work.world) }
         ensures err { OnErr result (self.new.standing ≡ self.old.standing) }
         ensures world { OnErr result (self.new.work.world ≡ self.old.work.world) }
+        ensures keys { self.new.keys ≡ self.old.keys }
     {
         self.context.reserve(1)?;
         match find_addressed(&self.peers, &self.key_of_slot, slot, envelope.number) {
@@ -79,7 +91,7 @@ impl<V: BusView, G: Gate> Peers<V, G> {
             }
             Some(key) => {
                 self.context
-                    .deliver_to(self.alloc, key, &mut self.peers[key], envelope)
+                    .deliver(self.alloc, key, &mut self.peers[key], envelope)
             }
         }
     }

@@ -49,7 +49,7 @@ fn serve_next<V: BusView, G: Gate>(
     Ok(())
 }
 
-/// Serves the next whole message of the connection of a key, if it is there. The call of Hello is
+/// Serves the next whole message of the connection of a key, if there is one. The call of Hello is
 /// handed out, as the bus has to give its connection a name; it leaves the room as it was. Without
 /// memory nothing changes.
 pub(crate) fn next_in<V: BusView, G: Gate>(
@@ -57,21 +57,18 @@ pub(crate) fn next_in<V: BusView, G: Gate>(
     context: &mut Context<V, G>,
     right: &V::Right,
     key: usize,
-    entry: &mut Option<Peer>,
+    peer: &mut Peer,
 ) -> Result<Option<HelloCall>, AllocError>
     requires room { MAX_EFFECTS + 2 < context.old.room }
     requires spare_verdicts { 1 < context.old.spare_verdicts }
-    ensures next { IfOk result (λ call. ComesOfNext V.BusView G.Gate key call entry.old entry.new
-        context.old.world context.new.world) }
+    ensures next { IfOk result (λ call. ComesOfNext V.BusView G.Gate key call (Some peer.old)
+        (Some peer.new) context.old.world context.new.world) }
     ensures kept { IfOk result
         (λ call. IfSome call (λ _. (context.new.room ≡ context.old.room) ×
         (context.new.spare_verdicts ≡ context.old.spare_verdicts))) }
-    ensures err { OnErr result (entry.new ≡ entry.old) }
+    ensures err { OnErr result (peer.new ≡ peer.old) }
     ensures world { OnErr result (context.new.world ≡ context.old.world) }
 {
-    let Some(peer) = entry else {
-        return Ok(None);
-    };
     match peer.stage() {
         Stage::Authenticating(_) | Stage::Closing(_) => Ok(None),
         Stage::Unnamed { privileged } => {

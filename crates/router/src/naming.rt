@@ -1,6 +1,6 @@
 //! Which connections have a name, and which number.
 
-ghost use Rattle.std.specs.Prelude.{◌≡◌, count_by};
+ghost use Rattle.std.specs.Prelude.{◌≡◌, Some, count_by};
 ghost use Rattle.router_core.specs.Standing.{is_unnamed};
 ghost use Rattle.router.specs.Numbers.{number_in, number_at};
 
@@ -8,14 +8,12 @@ use crate::peers::Peers;
 use bus_view::BusView;
 use router_core::Gate;
 use router_steps::{Peer, Stage};
+use slab::Slab;
 
-/// Whether a connection is there, and has no name yet.
-fn is_unnamed(peer: &Option<Peer>) -> bool
-    ensures { result ≡ is_unnamed peer.now }
+/// Whether a connection has no name yet.
+fn is_unnamed(peer: &Peer) -> bool
+    ensures { result ≡ is_unnamed (Some peer.now) }
 {
-    let Some(peer) = peer else {
-        return false;
-    };
     match peer.stage() {
         Stage::Authenticating(_) => true,
         Stage::Unnamed { privileged: _ } => true,
@@ -24,19 +22,25 @@ fn is_unnamed(peer: &Option<Peer>) -> bool
 }
 
 /// How many connections have no name yet.
-fn count_unnamed(peers: &[Option<Peer>]) -> usize
-    ensures { result ≡ count_by is_unnamed peers.now }
+fn count_unnamed(peers: &Slab<Peer>) -> usize
+    ensures { result ≡ count_by is_unnamed peers.now.slots }
 {
-    peers.iter().filter(|peer| is_unnamed(peer)).count()
+    let mut count = 0;
+    for key in 0..peers.capacity() {
+        let Some(peer) = peers.get(key) else {
+            continue;
+        };
+        if is_unnamed(peer) {
+            count += 1;
+        }
+    }
+    count
 }
 
-/// The number of a connection, if it is there and its Hello gave it one.
-fn number_in(peer: &Option<Peer>) -> Option<u64>
-    ensures { result ≡ number_in peer.now }
+/// The number of a connection, if its Hello gave it one.
+fn number_in(peer: &Peer) -> Option<u64>
+    ensures { result ≡ number_in (Some peer.now) }
 {
-    let Some(peer) = peer else {
-        return None;
-    };
     match peer.stage().conn() {
         Some(conn) => Some(conn.number),
         None => None,
@@ -53,13 +57,12 @@ impl<V: BusView, G: Gate> Peers<V, G> {
 
     /// The number of the connection of a key, once its Hello gave it one. A closed one keeps it
     /// until it is gone.
-    #[tactic(auto, using(crate::proofs::Slots::none_beyond))]
     pub fn number_of(&self, key: usize) -> Option<u64>
         ensures { result ≡ number_at self.now.standing key }
     {
-        if key >= self.peers.len() {
-            return None;
+        match self.peers.get(key) {
+            None => None,
+            Some(peer) => number_in(peer),
         }
-        number_in(&self.peers[key])
     }
 }

@@ -1,10 +1,9 @@
 //! The connections with what serves them, while an event is served.
 
-ghost use Rattle.std.specs.Prelude.{◌≡◌, [], is_some, is_none, position, IfOk, OnOk, OnErr};
-ghost use Rattle.std.specs.List.{position_or_len};
-ghost use Rattle.router_core.specs.Events.{hearing, for_peer, free_key, IsFree};
+ghost use Rattle.std.specs.Prelude.{◌≡◌, ◌<◌, [], is_some, count_by, IfOk, OnOk, OnErr};
+ghost use Rattle.router_core.specs.Events.{hearing, for_peer};
 ghost use Rattle.router_core.specs.Scripts.{RunsTo};
-ghost use Rattle.router_core.specs.Standing.{first_stage, fresh, with_newcomer, peer_at};
+ghost use Rattle.router_core.specs.Standing.{IsFree, first_stage, fresh, with_newcomer, peer_at};
 ghost use Rattle.router_steps.specs.Stages.{stage_of, IsFirst};
 
 use crate::login::Login;
@@ -13,6 +12,7 @@ use router_core::{Action, Gate};
 use router_steps::{Context, Peer, Stage};
 use sasl::Server;
 use seq_bus_core::limits::MAX_CONNECTIONS;
+use slab::Slab;
 use std::alloc::{AllocError, Global};
 use std::marker::Model;
 
@@ -25,7 +25,7 @@ pub(crate) const SLOT_COUNT: usize = MAX_CONNECTIONS;
 pub struct Peers<V: BusView, G: Gate> {
     pub(crate) alloc: Global,
     pub(crate) context: Context<V, G>,
-    pub(crate) peers: Vec<Option<Peer>>,
+    pub(crate) peers: Slab<Peer>,
     /// The key of the connection that has a slot, if there is one.
     pub(crate) key_of_slot: [usize; SLOT_COUNT],
     pub(crate) due_leaves: Vec<u64>,
@@ -36,33 +36,21 @@ pub struct Peers<V: BusView, G: Gate> {
 impl<V: BusView, G: Gate> Model for Peers<V, G> {
     ghost use Rattle.router.specs.Indexed.{IsIndexed};
     ghost use Rattle.router.specs.Tables.{Table};
+    ghost use Rattle.router_core.specs.Standing.{trimmed};
 
     ghost Value = { Table V.Note G };
 
     ghost view = { λ s. record {
-      standing = record { peers = s.peers.items; due_leaves = s.due_leaves.items; login = s.login };
+      standing = record {
+        peers = trimmed s.peers.slots;
+        due_leaves = s.due_leaves.items;
+        login = s.login;
+      };
+      keys = record { next = s.peers.vacant_key; capacity = s.peers.capacity };
       work = s.context;
     } };
 
-    ghost invariant = { λ s. IsIndexed s.peers.items s.key_of_slot };
-}
-
-/// The least key that a connection had and that none has now.
-fn first_vacant(peers: &[Option<Peer>]) -> Option<usize>
-    ensures { result ≡ position is_none peers.now }
-{
-    peers.iter().position(|peer| peer.is_none())
-}
-
-/// The least key that no connection has.
-#[tactic(auto, using(crate::proofs::Slots::found_first, crate::proofs::Slots::found_none, crate::proofs::Slots::free_within))]
-fn least_free(peers: &[Option<Peer>]) -> usize
-    ensures { result ≡ position_or_len is_none peers.now }
-{
-    match first_vacant(peers) {
-        Some(key) => key,
-        None => peers.len(),
-    }
+    ghost invariant = { λ s. IsIndexed s.peers.slots s.key_of_slot };
 }
 
 impl<V: BusView + Drop, G: Gate + Drop> Peers<V, G> {
@@ -74,6 +62,7 @@ impl<V: BusView + Drop, G: Gate + Drop> Peers<V, G> {
         login: Option<Login>,
     ) -> Result<Peers<V, G>, AllocError>
         ensures standing { IfOk result (λ peers. peers.standing ≡ fresh login) }
+        ensures first_key { IfOk result (λ peers. peers.keys.next ≡ 0) }
         ensures world { IfOk result
             (λ peers. peers.work.world ≡ record {
               view = V.knows view;
@@ -84,7 +73,7 @@ impl<V: BusView + Drop, G: Gate + Drop> Peers<V, G> {
         Ok(Peers {
             alloc,
             context: Context::new(alloc, view, gate)?,
-            peers: Vec::new(alloc),
+            peers: Slab::new(alloc),
             key_of_slot: [0; SLOT_COUNT],
             due_leaves: Vec::new(alloc),
             login,
@@ -96,6 +85,7 @@ impl<V: BusView, G: Gate> Peers<V, G> {
     /// Hands out the actions.
     pub fn take_actions(&mut self) -> Vec<Action<V::Note>>
         ensures standing { self.new.standing ≡ self.old.standing }
+        ensures keys { self.new.keys ≡ self.old.keys }
         ensures actions { result.items ≡ self.old.work.world.actions }
         ensures world { self.new.work.world ≡ record self.old.work.world { actions = [] } }
     {
@@ -105,6 +95,7 @@ impl<V: BusView, G: Gate> Peers<V, G> {
     /// Takes back the actions that it handed out, once they are done.
     pub fn give_back(&mut self, actions: Vec<Action<V::Note>>)
         ensures standing { self.new.standing ≡ self.old.standing }
+        ensures keys { self.new.keys ≡ self.old.keys }
         ensures world { self.new.work.world ≡ self.old.work.world }
     {
         self.context.give_back(actions);
@@ -117,11 +108,12 @@ impl<V: BusView, G: Gate> Peers<V, G> {
         self.context.view()
     }
 
-    /// The key of the next connection: the least that none has.
+    /// The key of the next connection, which none has.
     pub fn free_key(&self) -> usize
-        ensures { result ≡ free_key self.now.standing }
+        ensures next { result ≡ self.now.keys.next }
+        ensures free { IsFree self.now.standing result }
     {
-        least_free(&self.peers)
+        self.peers.vacant_key()
     }
 
     /// Whether connections can be asked who they are.
@@ -158,26 +150,26 @@ impl<V: BusView, G: Gate> Peers<V, G> {
         }
     }
 
-    /// A connection came, and has this key. Without memory nothing changes.
-    #[tactic(auto, using(crate::proofs::Slots::free_within))]
-    pub fn open(&mut self, key: usize, challenge: Option<[u8; 16]>) -> Result<(), AllocError>
-        requires { IsFree self.old.standing key }
+    /// A connection came, and has the key that was next. Without memory nothing changes. The table
+    /// grows only where it is full.
+    pub fn open(&mut self, challenge: Option<[u8; 16]>) -> Result<(), AllocError>
         ensures ok { OnOk result (self.new.standing
-            ≡ with_newcomer self.old.standing key challenge) }
+            ≡ with_newcomer self.old.standing self.old.keys.next challenge) }
+        ensures below { OnOk result (self.old.keys.next < self.new.keys.capacity) }
         ensures err { OnErr result (self.new.standing ≡ self.old.standing) }
+        ensures next { OnErr result (self.new.keys.next ≡ self.old.keys.next) }
+        ensures growth { count_by is_some self.old.standing.peers < self.old.keys.capacity →
+            self.new.keys.capacity ≡ self.old.keys.capacity }
         ensures work { self.new.work ≡ self.old.work }
     {
         let peer = Peer::new(self.alloc, self.first_stage(challenge)?);
-        if key == self.peers.len() {
-            self.peers.push(Some(peer))?;
-            return Ok(());
-        }
-        self.peers[key] = Some(peer);
+        let Ok(_) = self.peers.insert(peer) else {
+            return Err(AllocError);
+        };
         Ok(())
     }
 
     /// Bytes of a connection came. Without memory nothing changes, and they stay where they were.
-    #[tactic(auto, using(crate::proofs::Slots::set_beyond, crate::proofs::Slots::set_same, crate::proofs::Slots::none_beyond))]
     pub fn feed(&mut self, key: usize, piece: &mut Vec<u8>) -> Result<(), AllocError>
         ensures comes { OnOk result (RunsTo V.BusView G.Gate
             (for_peer self.old.standing key (peer_at self.old.standing key)
@@ -186,11 +178,12 @@ impl<V: BusView, G: Gate> Peers<V, G> {
         ensures err { OnErr result (self.new.standing ≡ self.old.standing) }
         ensures world { OnErr result (self.new.work.world ≡ self.old.work.world) }
         ensures kept { OnErr result (piece.new ≡ piece.old) }
+        ensures keys { self.new.keys ≡ self.old.keys }
     {
-        if key >= self.peers.len() {
+        let Some(peer) = self.peers.get_mut(key) else {
             return Ok(());
-        }
+        };
         self.context.reserve(2)?;
-        self.context.hear_entry(key, &mut self.peers[key], piece)
+        self.context.hear(key, peer, piece)
     }
 }

@@ -20,6 +20,7 @@ impl<V: BusView, G: Gate> Peers<V, G> {
             self.old.work.world self.new.standing self.new.work.world) }
         ensures err { OnErr result (self.new.standing ≡ self.old.standing) }
         ensures world { OnErr result (self.new.work.world ≡ self.old.work.world) }
+        ensures keys { self.new.keys ≡ self.old.keys }
     {
         self.context.reserve(MAX_EFFECTS)?;
         self.context.end_start(right, ended)?;

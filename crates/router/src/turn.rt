@@ -12,8 +12,8 @@ ghost use Rattle.router_core.specs.Standing.{peer_at};
 ghost use Rattle.router_core.specs.Together.{change_of_joint, joining, rule_call};
 ghost use Rattle.router_core.specs.declared.joint.RuleCall.{RuleCall as Rule_call};
 ghost use Rattle.router.specs.Joinings.{RepliesAlone, parting_of};
-ghost use Rattle.router.specs.Dues.{IsDue};
-ghost use Rattle.router.specs.Named.{IsSettled, is_named};
+ghost use Rattle.router.specs.Dues.{IsDue, IsDueAt};
+ghost use Rattle.router.specs.Named.{is_named};
 
 use crate::joining::{Joining, Parting, answer, change_of, join, make, part, rule_call_of};
 use crate::peers::Peers;
@@ -22,7 +22,7 @@ use driver::Call;
 use message_core::Message;
 use router_core::limits::MAX_EFFECTS;
 use router_core::{Gate, Joint, PeerFate};
-use router_steps::{Context, Peer, Stage, Upcoming};
+use router_steps::{Peer, Stage, Upcoming};
 use seq_bus_core::{Change, Conn, Outcome};
 use std::alloc::{AllocError, Global};
 
@@ -49,49 +49,15 @@ fn push_reserved(joints: &mut Vec<Joint>, joint: Joint)
     let _ = joints.push(joint);
 }
 
-/// Whether the connection in a place of the table has a name, if there is one.
-fn is_named(entry: &Option<Peer>) -> bool
-    ensures { result ≡ is_named entry.now }
+/// Whether the connection has a name.
+fn is_named(peer: &Peer) -> bool
+    ensures { result ≡ is_named (Some peer.now) }
 {
-    let Some(peer) = entry else {
-        return false;
-    };
     match peer.stage() {
         Stage::Named(_) => true,
         Stage::Authenticating(_) => false,
         Stage::Unnamed { privileged: _ } => false,
         Stage::Closing(_) => false,
-    }
-}
-
-/// Does to a connection that has a name what is to become of it.
-fn settle<V: BusView, G: Gate>(
-    context: &mut Context<V, G>,
-    key: usize,
-    entry: &mut Option<Peer>,
-    fate: PeerFate,
-)
-    requires named { is_named entry.old ≡ true }
-    requires room { 0 < context.old.room }
-    ensures settled { IsSettled V.BusView G.Gate key fate entry.old context.old.world entry.new
-        context.new.world }
-    ensures room { context.old.room ≤ context.new.room + 1 }
-    ensures spare_verdicts { context.new.spare_verdicts ≡ context.old.spare_verdicts }
-{
-    match entry {
-        Some(peer) => context.settle(key, peer, fate),
-        None => unreachable!(),
-    }
-}
-
-/// Takes one more message of the connection in a place of the table off its bytes. It stays as it
-/// was.
-fn read_in(entry: &mut Option<Peer>) -> Result<(), AllocError>
-    ensures { entry.new ≡ entry.old }
-{
-    match entry {
-        None => Ok(()),
-        Some(peer) => peer.read_ahead(),
     }
 }
 
@@ -107,15 +73,11 @@ enum Due {
     Rule(Conn, Message, Call),
 }
 
-/// What is next of the connection in a place of the table. Without memory to read it nothing
-/// changes.
-fn due_in(entry: &mut Option<Peer>) -> Result<Due, AllocError>
-    ensures due { IfOk result (λ due. IsDue due entry.old entry.new) }
-    ensures err { OnErr result (entry.new ≡ entry.old) }
+/// What is next of a connection. Without memory to read it nothing changes.
+fn due_of(peer: &mut Peer) -> Result<Due, AllocError>
+    ensures due { IfOk result (λ due. IsDue due peer.old peer.new) }
+    ensures err { OnErr result (peer.new ≡ peer.old) }
 {
-    let Some(peer) = entry else {
-        return Ok(Due::Nothing);
-    };
     match peer.stage() {
         Stage::Authenticating(_) | Stage::Closing(_) => Ok(Due::Nothing),
         Stage::Unnamed { privileged: _ } => {
@@ -142,6 +104,7 @@ impl<V: BusView, G: Gate> Peers<V, G> {
     fn read_ahead(&mut self, keys: &[usize]) -> Result<(), AllocError>
         ensures standing { self.new.standing ≡ self.old.standing }
         ensures work { self.new.work ≡ self.old.work }
+        ensures keys { self.new.keys ≡ self.old.keys }
     {
         for key in keys {
             self.read_of(*key)?;
@@ -153,22 +116,22 @@ impl<V: BusView, G: Gate> Peers<V, G> {
     fn read_of(&mut self, key: usize) -> Result<(), AllocError>
         ensures standing { self.new.standing ≡ self.old.standing }
         ensures work { self.new.work ≡ self.old.work }
+        ensures keys { self.new.keys ≡ self.old.keys }
     {
-        if key >= self.peers.len() {
-            return Ok(());
+        match self.peers.get_mut(key) {
+            None => Ok(()),
+            Some(peer) => peer.read_ahead(),
         }
-        read_in(&mut self.peers[key])
     }
 
     /// Whether the connection of a key has a name, if there is one.
-    #[tactic(auto, using(crate::proofs::Slots::none_beyond))]
     fn has_name(&self, key: usize) -> bool
         ensures { result ≡ is_named (peer_at self.now.standing key) }
     {
-        if key >= self.peers.len() {
-            return false;
+        match self.peers.get(key) {
+            None => false,
+            Some(peer) => is_named(peer),
         }
-        is_named(&self.peers[key])
     }
 
     /// Does to the connection of a key, which has a name, what is to become of it.
@@ -181,8 +144,9 @@ impl<V: BusView, G: Gate> Peers<V, G> {
             w self.new.standing self.new.work.world }
         ensures room { self.old.work.room ≤ self.new.work.room + 1 }
         ensures spare_verdicts { self.new.work.spare_verdicts ≡ self.old.work.spare_verdicts }
+        ensures keys { self.new.keys ≡ self.old.keys }
     {
-        settle(&mut self.context, key, &mut self.peers[key], fate);
+        self.context.settle(key, &mut self.peers[key], fate);
     }
 
     /// Makes the change of a call by itself, unless its connection was closed in the meantime.
@@ -196,6 +160,7 @@ impl<V: BusView, G: Gate> Peers<V, G> {
             self.old.work.world self.new.standing self.new.work.world }
         ensures room { self.old.work.room ≤ self.new.work.room + 2 }
         ensures spare_verdicts { self.old.work.spare_verdicts ≤ self.new.work.spare_verdicts + 1 }
+        ensures keys { self.new.keys ≡ self.old.keys }
     {
         if !self.has_name(joint.key) {
             return;
@@ -215,6 +180,7 @@ impl<V: BusView, G: Gate> Peers<V, G> {
             self.old.work.world self.new.standing self.new.work.world }
         ensures room { self.old.work.room ≤ self.new.work.room + 2 }
         ensures spare_verdicts { self.old.work.spare_verdicts ≤ self.new.work.spare_verdicts + 1 }
+        ensures keys { self.new.keys ≡ self.old.keys }
     {
         if !self.has_name(joint.key) {
             return;
@@ -232,6 +198,7 @@ impl<V: BusView, G: Gate> Peers<V, G> {
         ensures room { self.old.work.room ≤ self.new.work.room + 2 * length joints.now }
         ensures spare_verdicts { self.old.work.spare_verdicts
             ≤ self.new.work.spare_verdicts + length joints.now }
+        ensures keys { self.new.keys ≡ self.old.keys }
     {
         for joint in joints {
             self.make_one(right, joint);
@@ -249,6 +216,7 @@ impl<V: BusView, G: Gate> Peers<V, G> {
         ensures room { self.old.work.room ≤ self.new.work.room + 2 * length joints.now }
         ensures spare_verdicts { self.old.work.spare_verdicts
             ≤ self.new.work.spare_verdicts + length joints.now }
+        ensures keys { self.new.keys ≡ self.old.keys }
     {
         let mut place = 0;
         for outcome in outcomes {
@@ -270,6 +238,7 @@ impl<V: BusView, G: Gate> Peers<V, G> {
         ensures room { self.old.work.room ≤ self.new.work.room + 2 * length joints.now }
         ensures spare_verdicts { self.old.work.spare_verdicts
             ≤ self.new.work.spare_verdicts + length joints.now }
+        ensures keys { self.new.keys ≡ self.old.keys }
     {
         match self.context.change_all(right, changes) {
             Ok(outcomes) => self.answer_each(joints, outcomes),
@@ -287,6 +256,7 @@ impl<V: BusView, G: Gate> Peers<V, G> {
         ensures room { self.old.work.room ≤ self.new.work.room + 2 * length joints.now }
         ensures spare_verdicts { self.old.work.spare_verdicts
             ≤ self.new.work.spare_verdicts + length joints.now }
+        ensures keys { self.new.keys ≡ self.old.keys }
     {
         if joints.len() < 2 {
             self.make_each(right, joints);
@@ -311,6 +281,7 @@ impl<V: BusView, G: Gate> Peers<V, G> {
         ensures room { self.old.work.room ≤ self.new.work.room + 2 * length joints.old.items }
         ensures spare_verdicts { self.old.work.spare_verdicts
             ≤ self.new.work.spare_verdicts + length joints.old.items }
+        ensures keys { self.new.keys ≡ self.old.keys }
     {
         self.make_joined(right, joints);
         joints.clear();
@@ -331,6 +302,7 @@ impl<V: BusView, G: Gate> Peers<V, G> {
         ensures comes { RunsTo V.BusView G.Gate
             (work_for self.old.standing key (parting_of (said message.now) caller parting))
             self.old.work.world self.new.standing self.new.work.world }
+        ensures keys { self.new.keys ≡ self.old.keys }
     {
         if !self.has_name(key) {
             return;
@@ -369,6 +341,7 @@ impl<V: BusView, G: Gate> Peers<V, G> {
             self.old.work.world self.new.standing self.new.work.world) }
         ensures none { joints.new.items ≡ [] }
         ensures capacity { vec_capacity joints.old ≤ vec_capacity joints.new }
+        ensures keys { self.new.keys ≡ self.old.keys }
     {
         self.make_all(right, joints);
         self.next(right, key)
@@ -402,6 +375,7 @@ impl<V: BusView, G: Gate> Peers<V, G> {
         ensures capacity { vec_capacity joints.old ≤ vec_capacity joints.new }
         ensures room { 2 * length joints.new.items ≤ self.new.work.room }
         ensures spare_verdicts { length joints.new.items ≤ self.new.work.spare_verdicts }
+        ensures keys { self.new.keys ≡ self.old.keys }
     {
         match join(&mut self.context, &message, conn, &call) {
             Joining::Joins => {
@@ -420,6 +394,19 @@ impl<V: BusView, G: Gate> Peers<V, G> {
         }
     }
 
+    /// What is next of the connection of a key. Without memory to read it nothing changes.
+    fn due_at(&mut self, key: usize) -> Result<Due, AllocError>
+        ensures due { IfOk result (λ due. IsDueAt due key self.old.standing self.new.standing) }
+        ensures err { OnErr result (self.new.standing ≡ self.old.standing) }
+        ensures work { self.new.work ≡ self.old.work }
+        ensures keys { self.new.keys ≡ self.old.keys }
+    {
+        let Some(peer) = self.peers.get_mut(key) else {
+            return Ok(Due::Nothing);
+        };
+        due_of(peer)
+    }
+
     /// Makes room for so many actions, and for so many of them to have several recipients. Without
     /// memory there is room as before.
     fn make_room(&mut self, actions: usize, spare_verdicts: usize) -> Result<(), AllocError>
@@ -430,6 +417,7 @@ impl<V: BusView, G: Gate> Peers<V, G> {
             (self.new.work.room ≡ self.old.work.room ⊎ actions ≤ self.new.work.room) }
         ensures spare_verdicts { OnOk result (spare_verdicts ≤ self.new.work.spare_verdicts) }
         ensures spare_kept { self.old.work.spare_verdicts ≤ self.new.work.spare_verdicts }
+        ensures keys { self.new.keys ≡ self.old.keys }
     {
         self.context.reserve(actions)?;
         self.context.reserve_verdicts(spare_verdicts)
@@ -468,8 +456,9 @@ impl<V: BusView, G: Gate> Peers<V, G> {
         ensures capacity { vec_capacity joints.old ≤ vec_capacity joints.new }
         ensures room { 2 * length joints.new.items ≤ self.new.work.room }
         ensures spare_verdicts { length joints.new.items ≤ self.new.work.spare_verdicts }
+        ensures keys { self.new.keys ≡ self.old.keys }
     {
-        if key >= self.peers.len() {
+        if !self.peers.contains(key) {
             return Ok(false);
         }
         // The answers to the calls that were gathered and to this one, what is shown to monitors,
@@ -479,7 +468,7 @@ impl<V: BusView, G: Gate> Peers<V, G> {
             self.make_all(right, joints);
             return Err(AllocError);
         };
-        match due_in(&mut self.peers[key]) {
+        match self.due_at(key) {
             Err(refused) => {
                 self.make_all(right, joints);
                 Err(refused)
@@ -508,6 +497,7 @@ impl<V: BusView, G: Gate> Peers<V, G> {
             self.old.work.world self.new.standing self.new.work.world) }
         ensures err { OnErr result (self.new.standing ≡ self.old.standing) }
         ensures world { OnErr result (self.new.work.world ≡ self.old.work.world) }
+        ensures keys { self.new.keys ≡ self.old.keys }
     {
         self.read_ahead(keys)?;
         let mut joints = Vec::with_capacity(self.alloc, keys.len())?;

@@ -1,28 +1,44 @@
 -- Keys of connections.
-use Rattle.std.proofs.Common.{◌≡◌, ◌<◌, ◌==◌, Bool, true, false, Option, None, Some, is_none, is_some, List, [], ◌∷◌, ◌++◌, length, count_by, cond, if◌then◌else◌, refl, sym, ◌∙◌, arith}
-use Rattle.std.specs.List.{position_or_len}
-use Rattle.std.proofs.lemmas.Bool.{eqb-true}
-use Rattle.std.proofs.lemmas.List.{length-set}
-use Rattle.std.proofs.lemmas.List.Sums.{sum_by-cons}
-use Rattle.router_core.specs.Laws.{OnlyFullTablesGrow}
-use Rattle.router_core.specs.Standing.{Peer, Standing, with_peer, newcomer, first_stage}
+use Rattle.std.proofs.Common.{◌≡◌, ◌≢◌, ℕ, Option, None, Some, List, get_or, refl, sym, ap, ◌∙◌}
+use Rattle.seq_bus_core.specs.declared.connection.Conn.{Conn}
+use Rattle.seq_bus_core.specs.declared.outcome.Outcome.{Outcome}
+use Rattle.bus_view.specs.declared.view.BusView.{Ghosts as BusView}
+use Rattle.router_core.specs.declared.gate.Gate.{Ghosts as Gate}
+use Rattle.router_core.specs.Answers.{Heard, Says, Refuses}
+use Rattle.router_core.specs.Events.{after_leave, leaving_of, removing}
+use Rattle.router_core.specs.Laws.{ComersHaveTheirKeys, GoneKeysAreFree}
+use Rattle.router_core.specs.Scripts.{World, RunsTo}
+use Rattle.router_core.specs.Standing.{Peer, Standing, IsFree, peer_at, without_peer, vacated, newcomer, first_stage, conn_of}
+use Rattle.router_core.proofs.Trimmed.{get-placed, get-placed_other, get-vacated, get-vacated_other}
 
--- one more where none is left out
-all_there : {A : Type 0} (xs : List (Option A)) (y : A) → position_or_len is_none xs ≡ length xs → count_by is_some (xs ++ Some y ∷ []) ≡ length (xs ++ Some y ∷ [])
-all_there [] y full = refl
-all_there (None ∷ xs) y full = absurd (omega (arith, full))
-all_there (Some x ∷ xs) y full =
-    omega (arith, sum_by-cons (λ o. cond (is_some o) 1 0) (Some x) (xs ++ Some y ∷ []), all_there xs y (omega (arith, full)))
+pub comers_have_their_keys : ComersHaveTheirKeys
+comers_have_their_keys s key challenge =
+    let new = newcomer (first_stage s.login challenge) in
+    (get-placed s.peers key new, λ other differs. get-placed_other s.peers key other new differs)
 
-pub only_full_tables_grow : OnlyFullTablesGrow
-only_full_tables_grow s key challenge free grows = by_key (key == length s.peers) refl grows
-  where
-    new : Peer
-    new = newcomer (first_stage s.login challenge)
+module _ {V N R G : Type 0} (view : BusView V N R) (gate : Gate G) (s t : Standing) (key : ℕ) (v : World N G) where
+  abbrev IsGone : Type 0
+  IsGone = IsFree t key × ((other : ℕ) → other ≢ key → peer_at t other ≡ peer_at s other)
 
-    grown : Bool → Standing
-    grown b = if b then record s { peers = s.peers ++ Some new ∷ [] } else with_peer s key (Some new)
+  gone_by : t.peers ≡ vacated s.peers key → IsGone
+  gone_by is = (
+    ap (λ (os : List (Option Peer)). get_or os key None) is ∙ get-vacated s.peers key,
+    λ other differs. ap (λ (os : List (Option Peer)). get_or os other None) is ∙ get-vacated_other s.peers key other differs,
+  )
 
-    by_key : (b : Bool) → (key == length s.peers) ≡ b → length s.peers < length (grown b).peers → count_by is_some (grown b).peers ≡ length (grown b).peers
-    by_key true is more = all_there s.peers new (sym free ∙ eqb-true key (length s.peers) is)
-    by_key false is more = absurd (omega (arith, more, length-set s.peers key (Some new)))
+  gone_heard : (number : ℕ) (w : World N G) (heard : Heard Outcome) → RunsTo view gate (after_leave (without_peer s key) number heard) w t v → IsGone
+  gone_heard number w (Says o) comes = gone_by (ap (λ (x : Standing). x.peers) comes.2.0)
+  gone_heard number w (Refuses refusal) comes = gone_by (ap (λ (x : Standing). x.peers) comes.0)
+
+  gone_of : (w : World N G) (conn : Option Conn) → RunsTo view gate (leaving_of (without_peer s key) conn) w t v → IsGone
+  gone_of w None comes = gone_by (ap (λ (x : Standing). x.peers) comes.0)
+  gone_of w (Some conn) comes = gone_heard conn.number comes.1 comes.0 comes.3
+
+  gone_from : (w : World N G) (peer : Option Peer) → peer_at s key ≡ peer → RunsTo view gate (removing s key peer) w t v → IsGone
+  gone_from w None none comes =
+      let same : t.peers ≡ s.peers = ap (λ (x : Standing). x.peers) comes.0 in
+      (ap (λ (os : List (Option Peer)). get_or os key None) same ∙ none, λ other differs. ap (λ (os : List (Option Peer)). get_or os other None) same)
+  gone_from w (Some p) there comes = gone_of w (conn_of p.stage) comes
+
+pub gone_keys_are_free : {V N R G : Type 0} (view : BusView V N R) (gate : Gate G) → GoneKeysAreFree view gate
+gone_keys_are_free view gate s t key w v comes = gone_from view gate s t key v w (peer_at s key) refl comes

@@ -10,4 +10,5 @@ pub mod Alone
 pub mod Readers
 pub mod Functions
 pub mod FirstMessages
+pub mod Trimmed
 pub mod Keys

@@ -14,13 +14,14 @@ use Rattle.bus_view.specs.Views.{Knowledge, IsNoted}
 use Rattle.bus_view.specs.declared.view.BusView.{Ghosts as BusView}
 use Rattle.router_core.specs.declared.action.Action.{Action}
 use Rattle.router_core.specs.declared.event.Event.{Event}
+use Rattle.router_core.specs.declared.event.Event.TheVariants as event
 use Rattle.router_core.specs.declared.gate.Gate.{Ghosts as Gate}
 use Rattle.router_core.specs.Answers.{Heard, Refuses, HearsChange, HearsChanges, HearsAnswer, HearsVerdict, HearsPresent}
-use Rattle.router_core.specs.Deeds.{Deed, GatedCall, PassesAll, puts_of_signals, AreDoneBy}
-use Rattle.router_core.specs.Events.{Occasion, occasion_of, script}
+use Rattle.router_core.specs.Deeds.{Deed, GatedCall, PassesAll, puts_of_signals, AreDoneBy, IsOwnNote}
+use Rattle.router_core.specs.Events.{Occasion, CanBeAsked, IsTurnOf, occasion_of, script}
 use Rattle.router_core.specs.Incoming.{Incoming, IsIncoming}
 use Rattle.router_core.specs.Scripts.{Script, Gives, Changing, ChangingAll, Asking, Routing, AskingPresence, Noting, Framing, Calling, Gating, Wanting, Requiring, Doing, Announcing, World, Comes}
-use Rattle.router_core.specs.Standing.{Standing}
+use Rattle.router_core.specs.Standing.{Standing, IsFree}
 
 -- ## What was asked and answered
 
@@ -86,11 +87,22 @@ IsGranted (other ∷ later) = IsGranted later
 
 -- ## Events
 
--- an engine between events: its connections, what its view knows, and its gate
+-- an engine between events: its connections, the key that it has for the next one, what its view knows, and its gate
 pub record State (G : Type 0) : Type 0 where
   pub standing : Standing
+  pub next_key : ℕ
   pub view : Knowledge
   pub gate : G
+
+-- The next connection gets this key, which none has.
+abbrev pub IsNextKey : {G : Type 0} → State G → ℕ → Type 0
+IsNextKey s key = (key ≡ s.next_key) × IsFree s.standing key
+
+abbrev pub CanHappen : {N G : Type 0} → (N → ℕ) → State G → Event N → Type 0
+CanHappen registry_of s (event.Opened key challenge) = IsNextKey s key × CanBeAsked s.standing.login challenge
+CanHappen registry_of s (event.Turn keys) = IsTurnOf keys.items
+CanHappen registry_of s (event.Mail slot envelope) = IsOwnNote registry_of s.view.registry envelope.note
+CanHappen registry_of s other = Unit {0}
 
 -- at the beginning of an event nothing was done yet
 abbrev pub world_of : {N G : Type 0} → State G → World N G

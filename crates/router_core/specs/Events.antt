@@ -1,6 +1,5 @@
 -- What is done at an event. (D-Bus Specification: "Message Bus Messages", "org.freedesktop.DBus.Hello")
-use Rattle.std.specs.Prelude.{◌≡◌, ◌≤◌, ℕ, Bool, true, false, Option, Some, None, is_some, is_none, option_map, List, [], ◌∷◌, ◌++◌, length, map, ◌==◌, position, if◌then◌else◌}
-use Rattle.std.specs.List.{position_or_len}
+use Rattle.std.specs.Prelude.{◌≡◌, ◌≤◌, ℕ, Bool, true, false, Option, Some, None, is_some, option_map, List, [], ◌∷◌, ◌++◌, length, map, ◌==◌, position, if◌then◌else◌}
 use Rattle.seq_bus_core.specs.Batches.{max_batch}
 use Rattle.seq_bus_core.specs.Histories.{History}
 use Rattle.names.specs.Texts.{Text}
@@ -40,12 +39,12 @@ use Rattle.router_core.specs.declared.start_end.StartEnd.{StartEnd}
 use Rattle.router_core.specs.declared.start_end.HowEnded.{HowEnded}
 use Rattle.router_core.specs.declared.start_end.HowEnded.TheVariants as how
 use Rattle.router_core.specs.Answers.{Heard, Says, Refuses, error_for, is_final}
-use Rattle.router_core.specs.Deeds.{Writes, Sends, Closes, IsOwnNote}
+use Rattle.router_core.specs.Deeds.{Writes, Sends, Closes}
 use Rattle.router_core.specs.Incoming.{Incoming, Waits, Whole, Faulty}
 use Rattle.router_core.specs.Scripts.{Script, Gives, Changing, ChangingAll, Routing, AskingPresence, Noting, Framing, Calling, Gating, Wanting, Requiring, Doing, Announcing, and_then, putting}
 use Rattle.router_core.specs.Serving.{Work, OfFate, nothing, monitors_in, replying, after_change, failing_all, serving}
 use Rattle.router_core.specs.Together.{Joining, Joins, Parts, change_of_joint, joining, may_join, rule_call}
-use Rattle.router_core.specs.Standing.{Stage, Authenticating, Unnamed, Named, Closing, Peer, Standing, peer_at, with_peer, with_newcomer, conn_of, next_serial, closing_peer, has_slot, is_conn}
+use Rattle.router_core.specs.Standing.{Stage, Authenticating, Unnamed, Named, Closing, Peer, Standing, peer_at, with_peer, without_peer, with_newcomer, conn_of, next_serial, closing_peer, has_slot, is_conn}
 
 -- what happens, in the terms of the definitions; a note is there by the history that it tells
 pub data Occasion : Type 0 where
@@ -363,7 +362,7 @@ leaving_of s (Some conn) = leaving s conn.number
 
 abbrev pub removing : Standing → ℕ → Option Peer → Stands
 removing s key None = Gives s
-removing s key (Some p) = leaving_of (with_peer s key None) (conn_of p.stage)
+removing s key (Some p) = leaving_of (without_peer s key) (conn_of p.stage)
 
 -- ## Time
 
@@ -480,13 +479,6 @@ occasion_of told event.Tick = Tick
 
 -- ## What can happen
 
--- The key of the next connection is the least that none has: that of one that is gone, before one behind all.
-abbrev pub free_key : Standing → ℕ
-free_key s = position_or_len is_none s.peers
-
-abbrev pub IsFree : Standing → ℕ → Type 0
-IsFree s key = key ≡ free_key s
-
 -- Whoever is challenged can log in.
 abbrev pub CanBeAsked : Option Login → (challenge : Option (List ℕ)) → Type 0
 CanBeAsked login None = Unit {0}
@@ -495,9 +487,3 @@ CanBeAsked login (Some challenge) = is_some login ≡ true
 -- some keys, and not more than calls whose changes can be made together
 abbrev pub IsTurnOf : List ℕ → Type 0
 IsTurnOf keys = (1 ≤ length keys) × (length keys ≤ max_batch)
-
-abbrev pub CanHappen : {N : Type 0} → (N → ℕ) → ℕ → Standing → Event N → Type 0
-CanHappen registry_of registry s (event.Opened key challenge) = IsFree s key × CanBeAsked s.login challenge
-CanHappen registry_of registry s (event.Turn keys) = IsTurnOf keys.items
-CanHappen registry_of registry s (event.Mail slot envelope) = IsOwnNote registry_of registry envelope.note
-CanHappen registry_of registry s other = Unit {0}

@@ -1,5 +1,5 @@
 -- Laws of what a router does.
-use Rattle.std.specs.Prelude.{◌≡◌, ℕ, ◌<◌, Bool, true, false, Option, Some, is_some, List, [], ◌∷◌, ◌++◌, length, count_by}
+use Rattle.std.specs.Prelude.{◌≡◌, ◌≢◌, ℕ, Bool, true, false, Option, Some, List, [], ◌∷◌, ◌++◌}
 use Rattle.std.specs.List.{AllByRecursion}
 use Rattle.match_rules.specs.Kinds.{kind_of}
 use Rattle.seq_bus_core.specs.declared.connection.Conn.{Conn}
@@ -17,11 +17,11 @@ use Rattle.router_core.specs.declared.event.Event.{Event}
 use Rattle.router_core.specs.declared.gate.Gate.{Ghosts as Gate}
 use Rattle.router_core.specs.Acts.{State, BringsBy, IsServed}
 use Rattle.router_core.specs.Deeds.{Deed, Closes, IsDoneBy, CarriesOwn}
-use Rattle.router_core.specs.Events.{Occasion, Bytes, Next, Turn, IsFree, hearing, is_user, script, serving_at}
+use Rattle.router_core.specs.Events.{Occasion, Bytes, Next, Turn, Closed, hearing, is_user, script, serving_at}
 use Rattle.router_core.specs.OneThread.{Rest, IsEffect, IsRun}
 use Rattle.router_core.specs.Scripts.{Gives, World, having_done, RunsTo}
 use Rattle.router_core.specs.Serving.{serving, is_unknown, staying_open}
-use Rattle.router_core.specs.Standing.{Authenticating, Unnamed, Named, Closing, Peer, Standing, peer_at, with_peer, with_newcomer, closing_peer, is_conn}
+use Rattle.router_core.specs.Standing.{Authenticating, Unnamed, Named, Closing, Peer, Standing, IsFree, peer_at, with_peer, with_newcomer, first_stage, newcomer, closing_peer, is_conn}
 
 -- the bus closed the connection of this key, and it is not gone yet
 abbrev pub IsClosing : Standing → ℕ → Peer → Type 0
@@ -79,10 +79,16 @@ MonitorsSendNothing {N = N} {G = G} view gate = (s t : Standing) (key : ℕ) (m 
     p.watches ≡ true → RunsTo view gate (serving_at s key m p (Named conn)) w t v →
     (t ≡ with_peer s key (Some (closing_peer p))) × ((action : Action N) × IsDoneBy action (Closes key MonitorSent) × (v ≡ having_done w (action ∷ [])))
 
--- The table of connections grows only where each of its keys has its connection, and then each has.
-abbrev pub OnlyFullTablesGrow : Type 0
-OnlyFullTablesGrow = (s : Standing) (key : ℕ) (challenge : Option (List ℕ)) → IsFree s key → length s.peers < length (with_newcomer s key challenge).peers →
-    count_by is_some (with_newcomer s key challenge).peers ≡ length (with_newcomer s key challenge).peers
+-- Who comes has its key, and all others have theirs still.
+abbrev pub ComersHaveTheirKeys : Type 0
+ComersHaveTheirKeys = (s : Standing) (key : ℕ) (challenge : Option (List ℕ)) →
+    (peer_at (with_newcomer s key challenge) key ≡ Some (newcomer (first_stage s.login challenge)))
+    × ((other : ℕ) → other ≢ key → peer_at (with_newcomer s key challenge) other ≡ peer_at s other)
+
+-- The key of a connection that is gone is free at once, and all others have theirs still.
+abbrev pub GoneKeysAreFree : {V N R G : Type 0} → BusView V N R → Gate G → Type 0
+GoneKeysAreFree {N = N} {G = G} view gate = (s t : Standing) (key : ℕ) (w v : World N G) → RunsTo view gate (script s (Closed key)) w t v →
+    IsFree t key × ((other : ℕ) → other ≢ key → peer_at t other ≡ peer_at s other)
 
 -- What an event brings it brings for some answers that the bus may give, one after the other, and the gate is shown the calls among
 -- them, each once.

@@ -1,5 +1,5 @@
 -- What a router keeps between events.
-use Rattle.std.specs.Prelude.{ℕ, ◌+◌, Bool, true, false, ◌==◌, ◌&&◌, Option, Some, None, List, [], ◌∷◌, ◌++◌, length, slice_index_or, slice_set, if◌then◌else◌}
+use Rattle.std.specs.Prelude.{◌≡◌, ℕ, zero, suc, ◌+◌, Bool, true, false, ◌==◌, ◌&&◌, Option, Some, None, List, [], ◌∷◌, slice_index_or, slice_set, if◌then◌else◌}
 use Rattle.seq_bus_core.specs.declared.connection.Conn.{Conn}
 use Rattle.sasl.specs.Settings.{Login, Setting}
 use Rattle.sasl.specs.Conversations.{State as AuthState, opening as auth_opening}
@@ -22,6 +22,33 @@ pub record Peer : Type 0 where
   pub serial : ℕ
   pub watches : Bool
 
+-- ## Places that may be vacant
+
+module _ {A : Type 0} where
+  -- before others
+  abbrev pub before_all : Option A → List (Option A) → List (Option A)
+  before_all None [] = []
+  before_all None (o ∷ os) = None ∷ o ∷ os
+  before_all (Some x) os = Some x ∷ os
+
+  -- without the vacant ones behind the last that is not
+  abbrev pub trimmed : List (Option A) → List (Option A)
+  trimmed [] = []
+  trimmed (o ∷ os) = before_all o (trimmed os)
+
+  -- One is taken; it may stand beyond the others.
+  abbrev pub placed : List (Option A) → ℕ → A → List (Option A)
+  placed [] zero x = Some x ∷ []
+  placed [] (suc key) x = None ∷ placed [] key x
+  placed (o ∷ os) zero x = Some x ∷ os
+  placed (o ∷ os) (suc key) x = o ∷ placed os key x
+
+  -- One is vacant from now on.
+  abbrev pub vacated : List (Option A) → ℕ → List (Option A)
+  vacated os key = trimmed (slice_set os key None)
+
+-- ## What a router keeps
+
 -- The connections by their keys; the numbers of those that left, whose Leave is not made yet; and who may log in, if anyone may.
 pub record Standing : Type 0 where
   pub peers : List (Option Peer)
@@ -37,6 +64,14 @@ peer_at s key = slice_index_or s.peers key None
 abbrev pub with_peer : Standing → ℕ → Option Peer → Standing
 with_peer s key peer = record s { peers = slice_set s.peers key peer }
 
+-- no connection has the key
+abbrev pub IsFree : Standing → ℕ → Type 0
+IsFree s key = peer_at s key ≡ None
+
+-- The connection is gone, and its key is free.
+abbrev pub without_peer : Standing → ℕ → Standing
+without_peer s key = record s { peers = vacated s.peers key }
+
 -- Whoever is challenged says who it is first. Nobody asks another: it counts as the bus's own user's. No one can answer a challenge where no
 -- one may log in.
 abbrev pub first_stage : Option Login → (challenge : Option (List ℕ)) → Stage
@@ -49,9 +84,7 @@ abbrev pub newcomer : Stage → Peer
 newcomer stage = record { stage = stage; unread = []; serial = 0; watches = false }
 
 abbrev pub with_newcomer : Standing → ℕ → (challenge : Option (List ℕ)) → Standing
-with_newcomer s key challenge =
-    let new : Option Peer = Some (newcomer (first_stage s.login challenge)) in
-    if key == length s.peers then record s { peers = s.peers ++ new ∷ [] } else with_peer s key new
+with_newcomer s key challenge = record s { peers = placed s.peers key (newcomer (first_stage s.login challenge)) }
 
 -- the number and the slot that its Hello gave it
 abbrev pub conn_of : Stage → Option Conn

@@ -6,9 +6,9 @@ use outbox_core::Envelope;
 /// What happens to a router. A key is the place of a connection among those of the router.
 #[derive(Drop)]
 pub enum Event<N: Drop> {
-    /// A connection came, and has this key, which was free. With a challenge, sixteen bytes that
-    /// nobody can guess, it is to say who it is before its first message; without one it counts as
-    /// the bus's own user's.
+    /// A connection came, and has this key, which was that of the next one. With a challenge,
+    /// sixteen bytes that nobody can guess, it is to say who it is before its first message;
+    /// without one it counts as the bus's own user's.
     Opened {
         key: usize,
         challenge: Option<[u8; 16]>,

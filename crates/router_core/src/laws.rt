@@ -1,7 +1,7 @@
 //! Laws of the definitions.
 
 ghost use Rattle.std.specs.Prelude.{◌≡◌};
-ghost use Rattle.router_core.specs.Laws.{ClosedAreNotServed, ClosedHaveNoTurn, ClosedTakeNothing, ClosedGetNoMail, NobodySpeaksBeforeBegin, NobodyHasATurnBeforeBegin, OnlyBeginBegins, UnknownTypesBringNothing, OnlyHelloIsServed, MonitorsSendNothing, OnlyFullTablesGrow, AnswersAreLawful, NotesAreOwn, OneThreadIsAFunction, BytesAreAFunction};
+ghost use Rattle.router_core.specs.Laws.{ClosedAreNotServed, ClosedHaveNoTurn, ClosedTakeNothing, ClosedGetNoMail, NobodySpeaksBeforeBegin, NobodyHasATurnBeforeBegin, OnlyBeginBegins, UnknownTypesBringNothing, OnlyHelloIsServed, MonitorsSendNothing, ComersHaveTheirKeys, GoneKeysAreFree, AnswersAreLawful, NotesAreOwn, OneThreadIsAFunction, BytesAreAFunction};
 ghost use Rattle.router_core.specs.Standing.{next_serial};
 
 use crate::gate::Gate;
@@ -55,11 +55,11 @@ pub fn monitors_send_nothing<V: BusView, G: Gate>()
     ensures { MonitorsSendNothing V.BusView G.Gate }
 {}
 
-/// A connection gets the least key that none has. So the table of connections is never longer than
-/// the most that were there at once, and a key is free as soon as its connection is gone.
-#[tactic(auto, using(crate::proofs::Keys::only_full_tables_grow))]
-pub fn only_full_tables_grow()
-    ensures { OnlyFullTablesGrow }
+/// Who comes has its key, and a key is free as soon as its connection is gone. All others keep
+/// theirs.
+pub fn keys_are_given_back<V: BusView, G: Gate>()
+    ensures come { ComersHaveTheirKeys }
+    ensures gone { GoneKeysAreFree V.BusView G.Gate }
 {}
 
 /// What an event brings is what it brings for some answers that the bus may give.

@@ -114,7 +114,7 @@ impl<V: BusView, G: Gate, P: Post<V>, S: Socket> Host<V, G, P, S> {
         &self.carrier.post
     }
 
-    /// A connection came, and has the key that was free. With a challenge, sixteen bytes that
+    /// A connection came, and has the key that was next. With a challenge, sixteen bytes that
     /// nobody can guess, it is to say who it is.
     ///
     /// # Errors

@@ -3,7 +3,7 @@
 ghost use Rattle.std.specs.Prelude.{◌≡◌, IfOk, OnErr};
 ghost use Rattle.std.specs.List.{AllByRecursion};
 ghost use Rattle.router_core.specs.Deeds.{CarriesOwn};
-ghost use Rattle.router_core.specs.Events.{IsFree};
+ghost use Rattle.router_core.specs.Acts.{IsNextKey};
 ghost use Rattle.router_core.specs.declared.event.Event.TheVariants as event;
 ghost use Rattle.router.specs.OneEvent.{IsServedWellBy};
 
@@ -30,7 +30,7 @@ pub enum OpenFault {
     NoMemory,
 }
 
-/// A connection that came. Its engine knows it from now on, by a key that was free.
+/// A connection that came. Its engine knows it from now on, by the key that was next.
 pub(crate) struct Opened<N: Drop> {
     pub(crate) key: usize,
     pub(crate) actions: Vec<Action<N>>,
@@ -44,7 +44,7 @@ pub(crate) fn open<V: BusView, G: Gate>(
 ) -> Result<Opened<V::Note>, OpenFault>
     ensures notes { IfOk result (λ opened.
         AllByRecursion (CarriesOwn V.registry_of engine.old.view.registry) opened.actions.items) }
-    ensures key { IfOk result (λ opened. IsFree engine.old.standing opened.key) }
+    ensures key { IfOk result (λ opened. IsNextKey engine.old opened.key) }
     ensures served { IfOk result (λ opened. IsServedWellBy V.BusView G.Gate engine.old
         (event.Opened opened.key challenge) opened.actions.items engine.new) }
     ensures registry { engine.new.view.registry ≡ engine.old.view.registry }

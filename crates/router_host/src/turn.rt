@@ -3,7 +3,7 @@
 ghost use Rattle.std.specs.Prelude.{◌≡◌, [], None, false, OnOk, OnErr};
 ghost use Rattle.std.specs.List.{AllByRecursion};
 ghost use Rattle.router_core.specs.Deeds.{CarriesOwn};
-ghost use Rattle.router_core.specs.Events.{CanHappen};
+ghost use Rattle.router_core.specs.Acts.{CanHappen};
 ghost use Rattle.router_core.specs.declared.event.Event.TheVariants.{Full, Tick};
 ghost use Rattle.router_host_core.specs.Carrying.{GoesOn};
 ghost use Rattle.router_host.specs.Doing.{DoesBy, IsBroughtBy};
@@ -214,8 +214,7 @@ impl<V: BusView, G: Gate, P: Post<V>, S: Socket> Host<V, G, P, S> {
         right: &V::Right,
         event: &mut Event<V::Note>,
     ) -> Result<(), AllocError>
-        requires { CanHappen V.registry_of self.old.engine.view.registry
-            self.old.engine.standing event.old }
+        requires { CanHappen V.registry_of self.old.engine event.old }
         ensures happens { OnOk result
             (HappensBy V.BusView G.Gate P.Post self.old event.old self.new) }
         ensures err { OnErr result (CatchesUp P.puts P.starts self.old self.new) }

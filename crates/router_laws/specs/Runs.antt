@@ -1,5 +1,5 @@
 -- The run of a list of events over a plain bus.
-use Rattle.std.specs.Prelude.{◌≡◌, ℕ, true, Some, List, [], length, map, take, slice_get, Option}
+use Rattle.std.specs.Prelude.{◌≡◌, ◌≢◌, ℕ, true, Some, List, [], length, map, take, slice_get, Option}
 use Rattle.std.specs.List.{range_with_len}
 use Rattle.sasl.specs.Settings.{Login}
 use Rattle.seq_bus.specs.PlainBus.{PlainBus}
@@ -8,9 +8,9 @@ use Rattle.router_core.specs.declared.event.Event.{Event}
 use Rattle.router_core.specs.declared.event.Event.TheVariants as event
 use Rattle.router_core.specs.Acts.{gated_calls}
 use Rattle.router_core.specs.Deeds.{GatedCall, PassesAll}
-use Rattle.router_core.specs.Events.{Occasion, CanBeAsked, IsFree, occasion_of, IsTurnOf}
+use Rattle.router_core.specs.Events.{Occasion, CanBeAsked, occasion_of, IsTurnOf}
 use Rattle.router_core.specs.OneThread.{Rest}
-use Rattle.router_core.specs.Standing.{Standing, fresh}
+use Rattle.router_core.specs.Standing.{Standing, IsFree, fresh}
 use Rattle.router_laws.specs.declared.fault.EventFault.{EventFault}
 use Rattle.router_laws.specs.declared.fault.EventFault.TheVariants.{WrongKey, NoLogin, NoTurn, NoMemory}
 use Rattle.router_laws.specs.Turns.{AreServedBy, Turn, exchanges_of, keys_of, run_bytes}
@@ -39,9 +39,9 @@ pub record IsRunOf {G : Type 0} (passes : G → GatedCall → G → Type 0) (gat
   pub shown : PassesAll passes gate (gated_calls before.view.seat (exchanges_of turns)) left
   pub written : bytes ≡ for_each occasions (λ opening. run_bytes opening [] occasions turns)
 
--- A connection comes, and its key is not the least that none has.
+-- A connection comes, and the next one's key is another, which no connection has.
 abbrev pub LacksKey : Standing → Event (Unit {0}) → Type 0
-LacksKey s (event.Opened key challenge) = IsFree s key → ⊥
+LacksKey s (event.Opened key challenge) = (next : ℕ) × IsFree s next × (key ≢ next)
 LacksKey s other = ⊥
 
 -- A connection comes that is to say who it is, and no one may log in.

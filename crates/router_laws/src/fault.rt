@@ -7,8 +7,9 @@ use thiserror::Error;
 /// Why a run ends before its events do.
 #[derive(Clone, Copy, Debug, PartialEq, Eq, Error)]
 pub enum EventFault {
-    /// A connection comes at the event of this index, and its key is not the least that none has.
-    #[error("event {0}: the key is not the least that is free")]
+    /// A connection comes at the event of this index, and its key is not the one that the engine
+    /// has for the next.
+    #[error("event {0}: the key is not the next")]
     WrongKey(usize),
     /// A connection that is to say who it is comes at the event of this index, and no one may log
     /// in.

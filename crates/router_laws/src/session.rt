@@ -2,7 +2,8 @@
 
 ghost use Rattle.std.specs.Prelude.{◌≡◌, map, OnOk, IfOk, IfErr};
 ghost use Rattle.seq_bus.specs.PlainViews.{knowledge_of};
-ghost use Rattle.router_core.specs.Events.{CanBeAsked, CanHappen, IsFree, IsTurnOf};
+ghost use Rattle.router_core.specs.Acts.{CanHappen, IsNextKey};
+ghost use Rattle.router_core.specs.Events.{CanBeAsked, IsTurnOf};
 ghost use Rattle.router_core.specs.Standing.{fresh};
 ghost use Rattle.router_core.specs.declared.event.Event.TheVariants.{Opened};
 ghost use Rattle.router_laws.specs.declared.fault.EventFault.TheVariants.{NoTurn};
@@ -35,6 +36,7 @@ impl<G: Gate + Drop> Session<G> {
         ensures engine { IfOk result
             (λ session. session.engine ≡ record {
               standing = fresh login;
+              next_key = 0;
               view = knowledge_of bus;
               gate = gate;
             }) }
@@ -46,12 +48,12 @@ impl<G: Gate + Drop> Session<G> {
         })
     }
 
-    /// Whether the event of this index can happen: a connection comes only where its key is free,
-    /// and is asked who it is only where someone may log in; a turn has 1 to 64 keys.
+    /// Whether the event of this index can happen: a connection comes only where its key is the
+    /// next, and is asked who it is only where someone may log in; a turn has 1 to 64 keys.
     fn admit(&self, index: usize, event: &Event<()>) -> Result<(), EventFault>
         requires { self.now.engine.view.registry ≡ 0 }
         ensures happens { OnOk result
-            (CanHappen (λ _. 0) self.now.engine.view.registry self.now.engine.standing event.now) }
+            (CanHappen (λ _. 0) self.now.engine event.now) }
         ensures fault { IfErr result (λ fault. IsRefused self.now.engine index event.now fault) }
     {
         match event {
@@ -69,7 +71,7 @@ impl<G: Gate + Drop> Session<G> {
         challenge: Option<[u8; 16]>,
     ) -> Result<(), EventFault>
         requires { self.now.engine.view.registry ≡ 0 }
-        ensures happens { OnOk result (IsFree self.now.engine.standing key
+        ensures happens { OnOk result (IsNextKey self.now.engine key
             × CanBeAsked self.now.engine.standing.login challenge) }
         ensures fault { IfErr result (λ fault.
             IsRefused self.now.engine index (Opened key challenge) fault) }
@@ -117,8 +119,8 @@ fn admit_turn(index: usize, keys: &[usize]) -> Result<(), EventFault>
 /// are, by the login.
 ///
 /// What goes to them is what the actions of the events write. It ends early where a connection
-/// comes whose key is not the least that none has, or that is to say who it is where no one may log
-/// in; at a turn of no keys or of more than 64; and without memory.
+/// comes whose key is not the one that the engine has for the next, or that is to say who it is
+/// where no one may log in; at a turn of no keys or of more than 64; and without memory.
 pub fn run<G: Gate + Drop>(
     alloc: Global,
     bus: SeqBus,

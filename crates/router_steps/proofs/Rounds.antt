@@ -1,15 +1,15 @@
 -- One turn of what is done for each of several.
-use Rattle.std.proofs.Common.{◌≡◌, ℕ, ◌+◌, ◌<◌, ◌≤◌, Bool, Option, None, List, [], ◌∷◌, ◌++◌, length, get_or, set, take, drop, sym, subst, arith}
-use Rattle.std.proofs.lemmas.List.{drop_more, length-take-le, take_more_set, drop-set-lt}
+use Rattle.std.proofs.Common.{◌≡◌, ℕ, ◌+◌, ◌<◌, Bool, List, ◌∷◌, length, get_or, drop, sym, subst}
+use Rattle.std.proofs.lemmas.List.{drop_more}
 use Rattle.seq_bus_core.specs.Histories.{History}
 use Rattle.seq_bus_core.specs.declared.connection.Conn.{Conn}
 use Rattle.seq_bus_core.specs.declared.error_kind.ErrorKind.{ErrorKind}
 use Rattle.seq_bus_core.specs.declared.ticket.SettledTicket.{SettledTicket}
 use Rattle.router_core.specs.Deeds.{GatedCall}
-use Rattle.router_core.specs.Events.{leaving, leaving_each, for_entry, checking_presence, checking_each}
+use Rattle.router_core.specs.Events.{leaving, leaving_each}
 use Rattle.router_core.specs.Scripts.{World, Comes}
 use Rattle.router_core.specs.Serving.{failing, failing_all, releasing, releasing_all}
-use Rattle.router_core.specs.Standing.{Peer, Standing}
+use Rattle.router_core.specs.Standing.{Standing}
 use Rattle.router_steps.proofs.Sequels.{comes_then}
 
 module _ {N G : Type 0} (told : N → History) (registry_of : N → ℕ) (passes : G → GatedCall → G → Type 0) (alone : Bool) (w m v : World N G) where
@@ -36,17 +36,3 @@ module _ {N G : Type 0} (told : N → History) (registry_of : N → ℕ) (passes
   fails_more error t rest tickets is this later =
       subst (λ ts. Comes told registry_of passes alone (failing_all error ts) w tt v) (sym is)
       (comes_then told registry_of passes alone (λ done. failing_all error rest) tt m tt v later (failing error t.ticket) w this)
-
-  -- the next connection is asked for, then the rest
-  pub checks_more : (xs : List (Option Peer)) (k : ℕ) → k < length xs → (q : Option Peer) (ys : List (Option Peer)) →
-      Comes told registry_of passes alone (for_entry (get_or xs k None) (λ p. checking_presence k p p.stage)) w q m →
-      Comes told registry_of passes alone (checking_each (take (k + 1) (set xs k q)) (drop (k + 1) (set xs k q))) m ys v →
-      Comes told registry_of passes alone (checking_each (take k xs) (drop k xs)) w ys v
-  checks_more xs k inside q ys this later =
-      let within : k ≤ length xs = omega arith in
-      let next : k < k + 1 = omega arith in
-      let here = subst (λ n. Comes told registry_of passes alone (for_entry (get_or xs k None) (λ p. checking_presence n p p.stage)) w q m) (sym (length-take-le k xs within)) this in
-      let done = subst (λ ds. Comes told registry_of passes alone (checking_each ds (drop (k + 1) (set xs k q))) m ys v) (take_more_set xs k q inside) later in
-      let rest = subst (λ ds. Comes told registry_of passes alone (checking_each (take k xs ++ q ∷ []) ds) m ys v) (drop-set-lt (k + 1) xs k q next) done in
-      subst (λ ds. Comes told registry_of passes alone (checking_each (take k xs) ds) w ys v) (sym (drop_more xs k None inside))
-      (comes_then told registry_of passes alone (λ o. checking_each (take k xs ++ o ∷ []) (drop (k + 1) xs)) q m ys v rest (for_entry (get_or xs k None) (λ p. checking_presence (length (take k xs)) p p.stage)) w here)

@@ -96,7 +96,7 @@ impl<V: BusView, G: Gate> Context<V, G> {
     /// Takes a piece of the bytes of a connection. While it says who it is, each line that is whole
     /// by them is answered. Without memory for messages nothing changes, and the piece stays where
     /// it was; without memory for lines the connection is closed.
-    pub(crate) fn hear(
+    pub fn hear(
         &mut self,
         key: usize,
         peer: &mut Peer,

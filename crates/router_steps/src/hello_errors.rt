@@ -130,13 +130,7 @@ impl<V: BusView, G: Gate> Context<V, G> {
     }
 
     /// Answers a Hello that would exceed a limit of the bus, and closes its connection.
-    pub(crate) fn turn_away(
-        &mut self,
-        key: usize,
-        hello: &Message,
-        peer: &mut Peer,
-        bytes: WrittenBytes,
-    )
+    pub fn turn_away(&mut self, key: usize, hello: &Message, peer: &mut Peer, bytes: WrittenBytes)
         requires room { 2 < self.old.room }
         requires spare_verdicts { 0 < self.old.spare_verdicts }
         requires written { IsRefusal (said hello.now) ErrorKind.LimitsExceeded
@@ -149,7 +143,7 @@ impl<V: BusView, G: Gate> Context<V, G> {
     }
 
     /// Answers a Hello that the bus refused.
-    pub(crate) fn refuse_for(
+    pub fn refuse_for(
         &mut self,
         key: usize,
         hello: &Message,

@@ -31,7 +31,6 @@
 mod closing;
 mod context;
 mod conversing;
-mod entry;
 mod failing;
 mod first;
 mod hello_errors;

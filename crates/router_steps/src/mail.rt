@@ -78,7 +78,7 @@ impl<V: BusView, G: Gate> Context<V, G> {
 
     /// Takes the note of an envelope, and writes to its connection what it brings. Without memory
     /// nothing changes.
-    pub(crate) fn deliver(
+    pub fn deliver(
         &mut self,
         alloc: Global,
         key: usize,

@@ -236,7 +236,7 @@ impl<V: BusView, G: Gate> Context<V, G> {
     }
 
     /// Closes a connection that has left.
-    pub(crate) fn check_presence(&mut self, key: usize, peer: &mut Peer)
+    pub fn check_presence(&mut self, key: usize, peer: &mut Peer)
         requires { 0 < self.old.room }
         ensures comes { RunsTo V.BusView G.Gate (checking_presence key peer.old peer.old.stage)
             self.old.world peer.new self.new.world }

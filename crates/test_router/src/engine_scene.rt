@@ -26,7 +26,7 @@
 //! where it is the bus's own.
 
 ghost use Rattle.std.specs.Prelude.{IsTrue};
-ghost use Rattle.router_core.specs.Events.{CanHappen};
+ghost use Rattle.router_core.specs.Acts.{CanHappen};
 
 use crate::happening::{event_of, mail};
 use crate::journal::Journal;
@@ -76,7 +76,7 @@ fn bus(alloc: Global, services: &[WellKnown]) -> Result<SeqBus> {
 /// brings no note here.
 fn can_happen(engine: &Plain, event: &Event<()>) -> bool
     ensures { IsTrue result
-        → CanHappen (λ _. 0) engine.now.view.registry engine.now.standing event.now }
+        → CanHappen (λ _. 0) engine.now event.now }
 {
     match event {
         Event::Opened {

@@ -1,6 +1,6 @@
 //! An engine of a plain bus with one service, and what its one client sends.
 
-ghost use Rattle.router_core.specs.Events.{CanHappen};
+ghost use Rattle.router_core.specs.Acts.{CanHappen};
 
 use crate::authentication::GUID;
 use crate::{leaving, logins, mail, turns, waiting};
@@ -101,7 +101,7 @@ pub fn login(alloc: Global) -> Result<Login, AllocError> {
 
 /// What an event brings, which comes once more where there is no memory for it.
 pub fn brought(engine: &mut Plain, mut event: Event<()>) -> Option<Vec<Action<()>>>
-    requires { CanHappen (λ _. 0) engine.old.view.registry engine.old.standing event }
+    requires { CanHappen (λ _. 0) engine.old event }
 {
     let actions = match engine.event(&(), &mut event) {
         Ok(actions) => Some(actions),

@@ -17,18 +17,18 @@ use Rattle.router_laws.proofs.session.run.Goals as goal
 
 pub loop-index-init : goal.loop-index-init
 loop-index-init g c =
-    let start : State g.row.G.Denot = record { standing = fresh c.args.login; view = knowledge_of c.args.bus; gate = c.args.gate } in
+    let start : State g.row.G.Denot = record { standing = fresh c.args.login; next_key = 0; view = knowledge_of c.args.bus; gate = c.args.gate } in
     subst (λ (sent : Output). IsCourse g.G.Gate.passes start [] c.in_ok-session.session.engine sent) (sym c.in_ok-session.ensures.outlets)
     (subst (λ (now : State g.row.G.Denot). IsCourse g.G.Gate.passes start [] now no_output) (sym c.in_ok-session.ensures.engine) (course_begins g.G.Gate.passes start))
 
 pub serve-requires : goal.serve-requires
 serve-requires g c =
-    let start : State g.row.G.Denot = record { standing = fresh c.args.login; view = knowledge_of c.args.bus; gate = c.args.gate } in
+    let start : State g.row.G.Denot = record { standing = fresh c.args.login; next_key = 0; view = knowledge_of c.args.bus; gate = c.args.gate } in
     course_registry g.G.Gate.passes start c.loop-index.session.engine (map (λ turn. turn.1) c.loop-index.yielded) c.loop-index.session.outlets c.loop-index.invariant
 
 pub loop-index-preserved : goal.loop-index-preserved
 loop-index-preserved g c =
-    let start : State g.row.G.Denot = record { standing = fresh c.args.login; view = knowledge_of c.args.bus; gate = c.args.gate } in
+    let start : State g.row.G.Denot = record { standing = fresh c.args.login; next_key = 0; view = knowledge_of c.args.bus; gate = c.args.gate } in
     let before : List (Event (Unit {0})) = map (λ turn. turn.1) c.loop-index.yielded in
     subst (λ (events : List (Event (Unit {0}))). IsCourse g.G.Gate.passes start events c.serve.new.self.engine c.serve.new.self.outlets)
     (sym (map-append (λ turn. turn.1) c.loop-index.yielded ((c.in-Some.index, c.in-Some.event) ∷ [])))
@@ -36,7 +36,7 @@ loop-index-preserved g c =
 
 pub returns-in_err-serve-clause-fault : goal.returns-in_err-serve-clause-fault
 returns-in_err-serve-clause-fault g c =
-    let start : State g.row.G.Denot = record { standing = fresh c.args.login; view = knowledge_of c.args.bus; gate = c.args.gate } in
+    let start : State g.row.G.Denot = record { standing = fresh c.args.login; next_key = 0; view = knowledge_of c.args.bus; gate = c.args.gate } in
     let events : List (Event (Unit {0})) = c.args.events.items in
     let there = c.into_iter-index-iterator.ensures.into_iter_gives in
     let source = ap (λ s. enumerate_source s) there ∙ c.enumerate-index-items.ensures.source in
@@ -52,7 +52,7 @@ returns-in_err-serve-clause-fault g c =
 
 pub returns-clause-run : goal.returns-clause-run
 returns-clause-run g c =
-    let start : State g.row.G.Denot = record { standing = fresh c.args.login; view = knowledge_of c.args.bus; gate = c.args.gate } in
+    let start : State g.row.G.Denot = record { standing = fresh c.args.login; next_key = 0; view = knowledge_of c.args.bus; gate = c.args.gate } in
     let events : List (Event (Unit {0})) = c.args.events.items in
     let there = c.into_iter-index-iterator.ensures.into_iter_gives in
     let source = ap (λ s. enumerate_source s) there ∙ c.enumerate-index-items.ensures.source in

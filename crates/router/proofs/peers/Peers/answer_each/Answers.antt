@@ -22,6 +22,7 @@ loop-outcome-preserved-then-place-joints g c =
       room = omega arith;
       spare_verdicts = omega arith;
       alone = left.1;
+      keys = c.answer_one.ensures.keys ∙ at.invariant.keys;
       comes = λ end v later.
           at.invariant.comes end v
           (answers_more g.V.BusView.told g.V.BusView.registry_of g.G.Gate.passes g.V.BusView.alone joints at.place c.index-joints-place.result (into_iter_items at.outcome-iterator) rest c.in-Some.outcome inside c.index-joints-place.is steps at.self.standing c.answer_one.new.self.standing end at.self.work.world c.answer_one.new.self.work.world v c.answer_one.ensures.comes later);

@@ -16,8 +16,8 @@ welcome-requires-clause-nameless g c =
     let same = c.close_former.ensures.others key (nameless_slot c.in-Some.conn.slot old c.requires.nameless) in
     subst (λ (o : Option Peer). IsNameless o) (sym same) c.requires.nameless
 
-pub returns-in-Some : goal.returns-in-Some
-returns-in-Some g c p is =
+pub returns-in-Some-clause-comes : goal.returns-in-Some-clause-comes
+returns-in-Some-clause-comes g c p is =
     let key = c.args.key in
     let m = said c.args.hello.now in
     let o = c.args.outcome in
@@ -28,10 +28,10 @@ returns-in-Some g c p is =
     let v = c.welcome.new.self.work.world in
     let same = c.close_former.ensures.others key (nameless_slot conn.slot (peer_at s key) c.requires.nameless) in
     is_welcome g.V.BusView.told g.V.BusView.registry_of g.G.Gate.passes g.V.BusView.alone s key m p o w t v o.reply conn (sym c.in-Some.ensures)
-    (comes_then g.V.BusView.told g.V.BusView.registry_of g.G.Gate.passes g.V.BusView.alone (λ (u : Standing). greeting key m p o conn u) c.close_former.new.self.standing c.close_former.new.self.work.world t v (c.welcome.ensures p (same ∙ is)) (closing_former s conn) w c.close_former.ensures.comes)
+    (comes_then g.V.BusView.told g.V.BusView.registry_of g.G.Gate.passes g.V.BusView.alone (λ (u : Standing). greeting key m p o conn u) c.close_former.new.self.standing c.close_former.new.self.work.world t v (c.welcome.ensures.comes p (same ∙ is)) (closing_former s conn) w c.close_former.ensures.comes)
 
-pub returns-in-None : goal.returns-in-None
-returns-in-None g c p is =
+pub returns-in-None-clause-comes : goal.returns-in-None-clause-comes
+returns-in-None-clause-comes g c p is =
     let key = c.args.key in
     let m = said c.args.hello.now in
     let o = c.args.outcome in
@@ -40,4 +40,4 @@ returns-in-None g c p is =
     let t = c.turn_away_at.new.self.standing in
     let v = c.turn_away_at.new.self.work.world in
     is_turned_away g.V.BusView.told g.V.BusView.registry_of g.G.Gate.passes g.V.BusView.alone s key m p o w t v o.reply (sym c.in-None.ensures)
-    (subst (λ (q : Option Peer). RunsTo g.V.BusView g.G.Gate (for_peer s key q (dismissal key m)) w t v) is c.turn_away_at.ensures)
+    (subst (λ (q : Option Peer). RunsTo g.V.BusView g.G.Gate (for_peer s key q (dismissal key m)) w t v) is c.turn_away_at.ensures.comes)

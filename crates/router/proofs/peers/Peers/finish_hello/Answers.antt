@@ -10,13 +10,13 @@ use Rattle.router_core.specs.Standing.{Peer}
 use Rattle.router_steps.specs.Hearing.{heard_change}
 use Rattle.router.proofs.peers.Peers.finish_hello.Goals as goal
 
-pub returns-in-Err : goal.returns-in-Err
-returns-in-Err g c p is =
+pub returns-in-Err-clause-comes : goal.returns-in-Err-clause-comes
+returns-in-Err-clause-comes g c p is =
     let key = c.args.key in
     let m = said c.args.hello.now in
     let s = c.args.self.now.standing in
     let w = c.args.self.now.work.world in
     let t = c.refuse_at.new.self.standing in
     let v = c.refuse_at.new.self.work.world in
-    let done = subst (λ (q : Option Peer). RunsTo g.V.BusView g.G.Gate (for_peer s key q (refusing_hello key m (error_for (refusal_of c.in-Err.why)))) w t v) is c.refuse_at.ensures in
+    let done = subst (λ (q : Option Peer). RunsTo g.V.BusView g.G.Gate (for_peer s key q (refusing_hello key m (error_for (refusal_of c.in-Err.why)))) w t v) is c.refuse_at.ensures.comes in
     subst (λ (heard : Result Outcome Cause). RunsTo g.V.BusView g.G.Gate (after_hello s key m p (heard_change heard)) w t v) (sym c.in-Err.is) done

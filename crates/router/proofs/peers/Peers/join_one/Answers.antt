@@ -4,7 +4,7 @@ use Rattle.router_core.specs.declared.joint.Joint.{Joint}
 use Rattle.router_core.specs.declared.joint.RuleCall.{RuleCall}
 use Rattle.router_core.specs.Events.{Gathered, work_for, after_joining}
 use Rattle.router_core.specs.Scripts.{Comes, and_then}
-use Rattle.router_core.specs.Standing.{Standing}
+use Rattle.router_core.specs.Standing.{Standing, trimmed}
 use Rattle.router_core.specs.Together.{Joins, Parts, joining}
 use Rattle.router_steps.proofs.Sequels.{comes_then}
 use Rattle.router.specs.Joinings.{joining_of, parting_of}
@@ -26,7 +26,7 @@ returns-in-Joins-clause-comes g c call is =
     let m = said c.args.message in
     let conn = c.args.conn in
     let joints = c.args.joints.now.items in
-    let s : Standing = record { peers = c.self.inside.peers.items; due_leaves = c.self.inside.due_leaves.items; login = c.self.inside.login } in
+    let s : Standing = record { peers = trimmed c.self.inside.peers.slots; due_leaves = c.self.inside.due_leaves.items; login = c.self.inside.login } in
     let w = c.self.inside.context.world in
     let v = c.join.new.context.world in
     let joint = λ (r : RuleCall). let j : Joint = record { key = key; message = c.args.message; caller = conn; call = r } in j in
@@ -50,7 +50,7 @@ returns-in-Parts-clause-comes g c call is =
     let m = said c.args.message in
     let conn = c.args.conn in
     let joints = c.args.joints.now.items in
-    let s : Standing = record { peers = c.self.inside.peers.items; due_leaves = c.self.inside.due_leaves.items; login = c.self.inside.login } in
+    let s : Standing = record { peers = trimmed c.self.inside.peers.slots; due_leaves = c.self.inside.due_leaves.items; login = c.self.inside.login } in
     let t = c.make_all.new.self.standing in
     let u = c.part_one.new.self.standing in
     let w = c.self.inside.context.world in

@@ -1,17 +1,27 @@
-use Rattle.std.proofs.Common.{◌≡◌, Some, None, option_map, position, refl, sym, ap, ◌∙◌, subst, slice_set}
-use Rattle.std.proofs.lemmas.List.{get_or_read}
+use Rattle.std.proofs.Common.{◌≡◌, Some, None, option_map, position, set, refl, sym, ap, subst}
 use Rattle.std.proofs.lemmas.List.Quantifiers.{position-Some}
 use Rattle.std.proofs.lemmas.Result.{on_ok_weaker}
+use Rattle.slab.specs.Slab.{get}
 use Rattle.outbox_core.specs.Contents.{said_of}
 use Rattle.router_core.specs.Events.{writing, for_entry, mail_delivery, after_note}
 use Rattle.router_core.specs.Scripts.{Comes}
-use Rattle.router_core.specs.Standing.{Standing, is_conn, peer_at}
+use Rattle.router_core.specs.Standing.{Peer, Standing, is_conn, peer_at}
 use Rattle.router_steps.specs.Noting.{after_noting, IsNoteTaken}
 use Rattle.router.specs.Tables.{Table}
 use Rattle.router.proofs.FoundMail.{dropped, delivered}
-use Rattle.router.proofs.Indexing.{index_at, same_keeps, either_way}
+use Rattle.router.proofs.Indexing.{index_at, same_keeps, either_way, conn_there}
 use Rattle.router.proofs.Keeping.{brought_keeps}
+use Rattle.router.proofs.Slabs.{for_one_noted, is_there, standing_of, stands, stood, written}
 use Rattle.router.proofs.peers.Peers.mail.Goals as goal
+
+pub index_mut-requires : goal.index_mut-requires
+index_mut-requires g c =
+    let test = is_conn c.args.slot c.args.envelope.now.number in
+    let slab = c.self.inside.peers in
+    let s = standing_of slab c.self.inside.due_leaves.items c.self.inside.login in
+    let some : position test s.peers ≡ Some c.in-Some.key = sym c.in-Some.ensures in
+    let found = conn_there c.args.slot c.args.envelope.now.number (peer_at s c.in-Some.key) (position-Some test s.peers c.in-Some.key None some).1 in
+    is_there (get slab c.in-Some.key) found.0 (stood slab c.self.inside.due_leaves.items c.self.inside.login c.in-Some.key (Some found.0) found.1)
 
 pub returns-in-None-clause-comes : goal.returns-in-None-clause-comes
 returns-in-None-clause-comes g c =
@@ -22,9 +32,9 @@ returns-in-None-clause-comes g c =
     let held = option_map told c.args.envelope.now.note in
     let said = said_of c.args.envelope.now.content in
     let test = is_conn c.args.slot c.args.envelope.now.number in
-    let s : Standing = record { peers = c.self.inside.peers.items; due_leaves = c.self.inside.due_leaves.items; login = c.self.inside.login } in
+    let s = standing_of c.self.inside.peers c.self.inside.due_leaves.items c.self.inside.login in
     let m = c.take_note_of.new.self.world in
-    let none : position test s.peers ≡ None = sym (c.in-None.ensures ∙ ap (position test) c.deref.ensures.value) in
+    let none : position test s.peers ≡ None = sym c.in-None.ensures in
     let takes_note = subst (λ k. IsNoteTaken alone held k m) c.reserve.ensures.world c.take_note_of.ensures.takes_note in
     subst (λ (k : Table g.row.V-Note.Denot g.row.G.Denot). Comes told registry_of passes alone (after_note held (mail_delivery k.standing said (position test k.standing.peers))) k.work.world s m) c.self.view_is
     (dropped told registry_of passes alone held c.self.inside.context.world m s s said (position test s.peers) none refl takes_note)
@@ -39,34 +49,42 @@ returns-in-Some-clause-comes g c =
     let said = said_of c.args.envelope.now.content in
     let test = is_conn c.args.slot c.args.envelope.now.number in
     let key = c.in-Some.key in
-    let s : Standing = record { peers = c.self.inside.peers.items; due_leaves = c.self.inside.due_leaves.items; login = c.self.inside.login } in
+    let slab = c.self.inside.peers in
+    let due = c.self.inside.due_leaves.items in
+    let login = c.self.inside.login in
+    let s = standing_of slab due login in
     let w = c.self.inside.context.world in
-    let v = c.deliver_to.new.self.world in
-    let q = c.deliver_to.new.entry in
-    let t : Standing = record s { peers = slice_set s.peers key q } in
-    let some : position test s.peers ≡ Some key = sym (c.in-Some.ensures ∙ ap (position test) c.deref.ensures.value) in
-    let there : c.index_mut.result.now ≡ peer_at s key = get_or_read s.peers key c.index_mut.result.now (position-Some test s.peers key None some).0 c.index_mut.ensures.value None in
-    on_ok_weaker c.deliver_to.result
+    let v = c.deliver.new.self.world in
+    let p = c.index_mut.result.now in
+    let q = c.deliver.new.peer in
+    let t = standing_of (record slab { slots = set slab.slots key (Some q) }) due login in
+    let some : position test s.peers ≡ Some key = sym c.in-Some.ensures in
+    let there : get slab key ≡ Some p = c.index_mut.ensures.value in
+    on_ok_weaker c.deliver.result
     (λ brought.
-    let here = subst (λ k. Comes told registry_of passes alone (after_noting held (for_entry c.index_mut.result.now (writing key said))) k q v) c.reserve.ensures.world brought in
-    let found = subst (λ o. Comes told registry_of passes alone (after_noting held (for_entry o (writing key said))) w q v) there here in
-    subst (λ (k : Table g.row.V-Note.Denot g.row.G.Denot). Comes told registry_of passes alone (after_note held (mail_delivery k.standing said (position test k.standing.peers))) k.work.world t v) c.self.view_is
-    (delivered told registry_of passes alone w v held s said (position test s.peers) key q some found))
-    c.deliver_to.ensures.comes
+    let here = subst (λ k. Comes told registry_of passes alone (after_noting held (writing key said p)) k q v) c.reserve.ensures.world brought in
+    let of_entry = for_one_noted told registry_of passes alone w v held p q (writing key said) here in
+    let found = subst (λ o. Comes told registry_of passes alone (after_noting held (for_entry o (writing key said))) w (Some q) v) (sym (stands slab due login key (Some p) there)) of_entry in
+    let done = delivered told registry_of passes alone w v held s said (position test s.peers) key (Some q) some found in
+    let is = subst (λ (x : Standing). Comes told registry_of passes alone (after_note held (mail_delivery s said (position test s.peers))) w x v) (written slab due login key p q there) done in
+    subst (λ (k : Table g.row.V-Note.Denot g.row.G.Denot). Comes told registry_of passes alone (after_note held (mail_delivery k.standing said (position test k.standing.peers))) k.work.world t v) c.self.view_is is)
+    c.deliver.ensures.comes
 
 pub invariant_of-self-in-Some : goal.invariant_of-self-in-Some
 invariant_of-self-in-Some g c =
+    let told = g.V.BusView.told in
+    let registry_of = g.V.BusView.registry_of in
+    let passes = g.G.Gate.passes in
+    let alone = g.V.BusView.alone in
     let key = c.in-Some.key in
-    let peers = c.self.inside.peers.items in
-    let test = is_conn c.args.slot c.args.envelope.now.number in
-    let old = c.index_mut.result.now in
-    let new = c.deliver_to.new.entry in
-    let some : position test peers ≡ Some key = sym (c.in-Some.ensures ∙ ap (position test) c.deref.ensures.value) in
-    let there = get_or_read peers key old (position-Some test peers key None some).0 c.index_mut.ensures.value None in
-    let held = option_map g.V.BusView.told c.args.envelope.now.note in
+    let p = c.index_mut.result.now in
+    let q = c.deliver.new.peer in
+    let held = option_map told c.args.envelope.now.note in
     let said = said_of c.args.envelope.now.content in
+    let w = c.reserve.new.self.world in
+    let v = c.deliver.new.self.world in
     let keeps =
-    either_way c.deliver_to.result c.deliver_to.ensures.comes c.deliver_to.ensures.err
-    (λ came. brought_keeps g.V.BusView.told g.V.BusView.registry_of g.G.Gate.passes g.V.BusView.alone c.reserve.new.self.world c.deliver_to.new.self.world held key said old new came) (λ same. same_keeps old new same)
+    either_way c.deliver.result c.deliver.ensures.comes c.deliver.ensures.err
+    (λ came. brought_keeps told registry_of passes alone w v held key said (Some p) (Some q) (for_one_noted told registry_of passes alone w v held p q (writing key said) came)) (λ same. same_keeps (Some p) (Some q) (ap (λ (x : Peer). Some x) same))
     in
-    index_at peers c.self.inside.key_of_slot key old new there keeps c.self.invariant
+    index_at c.self.inside.peers.slots c.self.inside.key_of_slot key (Some p) (Some q) (sym c.index_mut.ensures.value) keeps c.self.invariant

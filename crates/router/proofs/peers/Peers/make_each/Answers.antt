@@ -1,4 +1,4 @@
-use Rattle.std.proofs.Common.{◌<◌, length, arith}
+use Rattle.std.proofs.Common.{◌<◌, length, ◌∙◌, arith}
 use Rattle.router.proofs.Turnings.{makes_more}
 use Rattle.router.proofs.peers.Peers.make_each.Goals as goal
 
@@ -10,6 +10,7 @@ loop-joint-preserved g c =
     record {
       room = omega arith;
       spare_verdicts = omega arith;
+      keys = c.make_one.ensures.keys ∙ at.invariant.keys;
       comes = λ end v later.
           at.invariant.comes end v
           (makes_more g.V.BusView.told g.V.BusView.registry_of g.G.Gate.passes g.V.BusView.alone joints at.joint-index c.joint-item.result inside c.joint-item.is at.self.standing c.make_one.new.self.standing end at.self.work.world c.make_one.new.self.work.world v c.make_one.ensures.comes later);

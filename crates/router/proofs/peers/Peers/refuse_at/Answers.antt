@@ -1,37 +1,64 @@
-use Rattle.std.proofs.Common.{◌≡◌, ◌<◌, None, length, subst, sym}
-use Rattle.std.proofs.lemmas.List.{get_or_read}
+use Rattle.std.proofs.Common.{Option, Some, IfSome, set, sym, subst}
+use Rattle.slab.specs.Slab.{get}
 use Rattle.message_core.specs.Said.{said}
 use Rattle.router_core.specs.Answers.{error_for, refusal_of}
 use Rattle.router_core.specs.Events.{for_peer, refusing_hello}
 use Rattle.router_core.specs.Scripts.{RunsTo}
-use Rattle.router_core.specs.Standing.{Standing, peer_at, with_peer}
+use Rattle.router_core.specs.Standing.{Peer, next_serial, peer_at}
+use Rattle.router_steps.specs.Refusing.{AreRefusals}
+use Rattle.router.specs.Indexed.{IsNameless}
 use Rattle.router.specs.Tables.{Table}
-use Rattle.router.proofs.HelloAnswers.{at_place}
+use Rattle.router.proofs.HelloAnswers.{nameless_peer}
 use Rattle.router.proofs.Indexing.{index_at}
 use Rattle.router.proofs.Keeping.{refused_keeps}
+use Rattle.router.proofs.Slabs.{for_one, for_there, is_there, standing_of, stands, stood}
 use Rattle.router.proofs.peers.Peers.refuse_at.Goals as goal
 
-pub returns : goal.returns
-returns g c =
+pub index_mut-requires : goal.index_mut-requires
+index_mut-requires g c =
     let key = c.args.key in
-    let old = c.index_mut.result.now in
-    let new = c.refuse_in.new.entry in
-    let s : Standing = record { peers = c.self.inside.peers.items; due_leaves = c.self.inside.due_leaves.items; login = c.self.inside.login } in
+    let slab = c.self.inside.peers in
+    let due = c.self.inside.due_leaves.items in
+    let login = c.self.inside.login in
+    let nameless = subst (λ (k : Table g.row.V-Note.Denot g.row.G.Denot). IsNameless (peer_at k.standing key)) (sym c.self.view_is) c.requires.nameless in
+    let found = nameless_peer (peer_at (standing_of slab due login) key) nameless in
+    is_there (get slab key) found.0 (stood slab due login key (Some found.0) found.1)
+
+pub refuse_for-requires-clause-written : goal.refuse_for-requires-clause-written
+refuse_for-requires-clause-written g c =
+    let key = c.args.key in
+    let slab = c.self.inside.peers in
+    let Are = λ (o : Option Peer). IfSome o (λ (x : Peer). AreRefusals (said c.args.hello.now) (next_serial x.serial) c.args.errors) in
+    let all = subst (λ (k : Table g.row.V-Note.Denot g.row.G.Denot). Are (peer_at k.standing key)) (sym c.self.view_is) c.requires.written in
+    subst Are (stands slab c.self.inside.due_leaves.items c.self.inside.login key (Some c.index_mut.result.now) c.index_mut.ensures.value) all
+
+pub returns-clause-comes : goal.returns-clause-comes
+returns-clause-comes g c =
+    let key = c.args.key in
+    let slab = c.self.inside.peers in
+    let due = c.self.inside.due_leaves.items in
+    let login = c.self.inside.login in
+    let p = c.index_mut.result.now in
+    let q = c.refuse_for.new.peer in
     let w = c.self.inside.context.world in
-    let v = c.refuse_in.new.self.world in
+    let v = c.refuse_for.new.self.world in
+    let t = standing_of (record slab { slots = set slab.slots key (Some q) }) due login in
     let work = refusing_hello key (said c.args.hello.now) (error_for (refusal_of c.args.why)) in
-    let within : key < length s.peers = subst (λ (k : Table g.row.V-Note.Denot g.row.G.Denot). key < length k.standing.peers) (sym c.self.view_is) c.requires.key in
-    let there : old ≡ peer_at s key = get_or_read s.peers key old within c.index_mut.ensures.value None in
-    subst (λ (k : Table g.row.V-Note.Denot g.row.G.Denot). RunsTo g.V.BusView g.G.Gate (for_peer k.standing key (peer_at k.standing key) work) k.work.world (with_peer s key new) v) c.self.view_is
-    (at_place g.V.BusView.told g.V.BusView.registry_of g.G.Gate.passes g.V.BusView.alone s key old new work w v there c.refuse_in.ensures)
+    subst (λ (k : Table g.row.V-Note.Denot g.row.G.Denot). RunsTo g.V.BusView g.G.Gate (for_peer k.standing key (peer_at k.standing key) work) k.work.world t v) c.self.view_is
+    (for_there slab due login key g.V.BusView.told g.V.BusView.registry_of g.G.Gate.passes g.V.BusView.alone p q c.index_mut.ensures.value work w v c.refuse_for.ensures)
 
 pub invariant_of-self : goal.invariant_of-self
 invariant_of-self g c =
+    let told = g.V.BusView.told in
+    let registry_of = g.V.BusView.registry_of in
+    let passes = g.G.Gate.passes in
+    let alone = g.V.BusView.alone in
     let key = c.args.key in
-    let peers = c.self.inside.peers.items in
-    let old = c.index_mut.result.now in
-    let new = c.refuse_in.new.entry in
-    let within : key < length peers = subst (λ (k : Table g.row.V-Note.Denot g.row.G.Denot). key < length k.standing.peers) (sym c.self.view_is) c.requires.key in
-    let there = get_or_read peers key old within c.index_mut.ensures.value None in
-    let keeps = refused_keeps g.V.BusView.told g.V.BusView.registry_of g.G.Gate.passes g.V.BusView.alone c.self.inside.context.world c.refuse_in.new.self.world key (said c.args.hello.now) (error_for (refusal_of c.args.why)) old new c.refuse_in.ensures in
-    index_at peers c.self.inside.key_of_slot key old new there keeps c.self.invariant
+    let m = said c.args.hello.now in
+    let error = error_for (refusal_of c.args.why) in
+    let p = c.index_mut.result.now in
+    let q = c.refuse_for.new.peer in
+    let w = c.self.inside.context.world in
+    let v = c.refuse_for.new.self.world in
+    let keeps = refused_keeps told registry_of passes alone w v key m error (Some p) (Some q) (for_one told registry_of passes alone p q (refusing_hello key m error) w v c.refuse_for.ensures) in
+    index_at c.self.inside.peers.slots c.self.inside.key_of_slot key (Some p) (Some q) (sym c.index_mut.ensures.value) keeps c.self.invariant

@@ -33,6 +33,7 @@ loop-key-preserved g c =
       joints = λ none. c.in-Ok.ensures.joints (neither at.begun served (sym both ∙ none)).1 ∙ at.invariant.joints (neither at.begun served (sym both ∙ none)).0;
       standing = λ none. c.in-Ok.ensures.standing (neither at.begun served (sym both ∙ none)).1 ∙ at.invariant.standing (neither at.begun served (sym both ∙ none)).0;
       world = λ none. c.in-Ok.ensures.world (neither at.begun served (sym both ∙ none)).1 ∙ at.invariant.world (neither at.begun served (sym both ∙ none)).0;
+      keys = c.gather.ensures.keys ∙ at.invariant.keys;
       comes = λ end v later.
           at.invariant.comes end v
           (turns_more told registry_of passes alone keys at.key-index inside at.begun at.joints.items at.self.standing end after at.self.work.world m v c.in-Ok.ensures.comes

@@ -13,6 +13,7 @@ invariant-loop-key g l = record {
   joints : l.begun ≡ false → l.joints.items ≡ [];
   standing : l.begun ≡ false → l.self.standing ≡ l.initial.self.standing;
   world : l.begun ≡ false → l.self.work.world ≡ l.initial.self.work.world;
+  keys : l.self.keys ≡ l.initial.self.keys;
   comes : (end : Standing) (v : World g.row.V-Note.Denot g.row.G.Denot) →
       Comes g.V.BusView.told g.V.BusView.registry_of g.G.Gate.passes g.V.BusView.alone (turning l.joints.items (drop l.key-index l.keys) l.begun l.self.standing) l.self.work.world end v →
       Comes g.V.BusView.told g.V.BusView.registry_of g.G.Gate.passes g.V.BusView.alone (turning [] l.keys false l.initial.self.standing) l.initial.self.work.world end v;
