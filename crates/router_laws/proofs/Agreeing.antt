@@ -1,7 +1,7 @@
 -- Runs of the same events in which nothing is refused are alike.
-use Rattle.std.proofs.Common.{◌≡◌, ℕ, true, List, [], ◌∷◌, ◌++◌, length, map, refl, sym, ap, ◌∙◌, subst}
+use Rattle.std.proofs.Common.{◌≡◌, ℕ, true, List, [], ◌∷◌, length, map, refl, sym, ap, ◌∙◌, subst}
 use Rattle.std.specs.List.{range_with_len}
-use Rattle.router_core.specs.Acts.{Exchange, IsGranted}
+use Rattle.router_core.specs.Acts.{IsGranted}
 use Rattle.router_core.specs.Deeds.{Deed, GatedCall}
 use Rattle.router_core.specs.Events.{Occasion}
 use Rattle.router_core.specs.OneThread.{Rest}

@@ -1,10 +1,13 @@
 -- One event more.
-use Rattle.std.proofs.Common.{◌≡◌, ℕ, Bool, List, [], ◌∷◌, ◌++◌, refl, sym, ap, ◌∙◌, subst, append_assoc}
+use Rattle.std.proofs.Common.{◌≡◌, ℕ, Bool, true, List, [], ◌∷◌, ◌++◌, refl, sym, ap, ◌∙◌, subst, append_assoc}
 use mathlib.Core.List.{append-nil}
 use Rattle.router_core.specs.Acts.{Exchange, Changed, ChangedAll, Asked, Routed, AskedPresence, Noted, Framed, Called, Gated, Wanted, IsServedBy, gated_calls}
 use Rattle.router_core.specs.Deeds.{GatedCall, PassesAll}
 use Rattle.router_core.specs.Events.{Occasion}
 use Rattle.router_core.specs.OneThread.{Rest, keys_after, bytes_to}
+use Rattle.router.specs.NextKeys.{HasNextKey}
+use Rattle.router_core.specs.declared.event.Event.{Event}
+use Rattle.router_laws.specs.Runs.{IsLead, Ungated, happening}
 use Rattle.router_laws.specs.Turns.{AreServedBy, Turn, exchanges_of, keys_of, run_bytes}
 
 pub served_more : (alone : Bool) (before now after : Rest) (occasions : List Occasion) (turns : List Turn) (occasion : Occasion) (turn : Turn) →
@@ -15,6 +18,19 @@ served_more alone before now after [] [] occasion turn h served =
 served_more alone before now after [] (t ∷ turns) occasion turn h served = absurd h
 served_more alone before now after (o ∷ occasions) [] occasion turn h served = absurd h
 served_more alone before now after (o ∷ occasions) (t ∷ turns) occasion turn h served = (h.0, h.1, served_more alone h.0 now after occasions turns occasion turn h.2 served)
+
+pub led_more : (before now after : Ungated) (events : List (Event (Unit {0}))) (turns : List Turn) (event : Event (Unit {0})) (turn : Turn) → IsLead before events turns now →
+    IsServedBy true now.standing now.view (happening event) turn.asked turn.deeds after.standing after.view → HasNextKey now event after →
+    IsLead before (events ++ event ∷ []) (turns ++ turn ∷ []) after
+led_more before now after [] [] event turn h served key = (
+  after,
+  subst (λ (s : Ungated). IsServedBy true s.standing s.view (happening event) turn.asked turn.deeds after.standing after.view) h served,
+  subst (λ (s : Ungated). HasNextKey s event after) h key,
+  refl,
+)
+led_more before now after [] (t ∷ turns) event turn h served key = absurd h
+led_more before now after (e ∷ events) [] event turn h served key = absurd h
+led_more before now after (e ∷ events) (t ∷ turns) event turn h served key = (h.0, h.1, h.2, led_more h.0 now after events turns event turn h.3 served key)
 
 pub keys_more : (occasions : List Occasion) (occasion : Occasion) (keys : List ℕ) → keys_of (occasions ++ occasion ∷ []) keys ≡ keys_after occasion (keys_of occasions keys)
 keys_more [] occasion keys = refl

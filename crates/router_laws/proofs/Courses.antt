@@ -4,20 +4,21 @@ use Rattle.std.specs.Prelude.{slice_get}
 use Rattle.std.proofs.lemmas.List.{length-append, map-append, take_more}
 use Rattle.router_core.specs.declared.action.Action.{Action}
 use Rattle.router_core.specs.declared.event.Event.{Event}
+use Rattle.router_core.specs.declared.event.Event.TheVariants as event
 use Rattle.router_core.specs.Acts.{State, Brings}
 use Rattle.router_core.specs.Deeds.{GatedCall}
 use Rattle.router_core.specs.Events.{Occasion, Opened, Bytes, Next, Turn, Mail, Closed, Full, Child, Tick}
 use Rattle.router_core.specs.OneThread.{keys_after, bytes_to}
-use Rattle.router_core.specs.Standing.{Standing}
 use Rattle.router_core.proofs.Asked.{answers_are_lawful}
 use Rattle.router.proofs.OneEvent.{gate_of, view_of}
 use Rattle.router_laws.specs.declared.fault.EventFault.{EventFault}
 use Rattle.router_laws.specs.declared.fault.EventFault.TheVariants.{WrongKey, NoLogin, NoTurn, NoMemory}
+use Rattle.router.specs.NextKeys.{HasNextKey}
 use Rattle.router.specs.OneEvent.{rest_in}
 use Rattle.router_laws.specs.Turns.{AreServedBy, keys_of, run_bytes}
-use Rattle.router_laws.specs.Runs.{IsFaultOf, IsRunOf, IsStopped, LacksKey, LacksLogin, LacksTurn, happening, occasions_of}
+use Rattle.router_laws.specs.Runs.{IsFaultOf, IsRunOf, IsStopped, LacksKey, LacksLogin, LacksTurn, Ungated, happening, occasions_of, ungated}
 use Rattle.router_laws.specs.Outputs.{Adds, IsCourse, IsRefused, IsTurn, Output, bytes_by, bytes_by_all, output_at, no_output}
-use Rattle.router_laws.proofs.Appending.{served_more, keys_more, written_more, shown_more}
+use Rattle.router_laws.proofs.Appending.{led_more, served_more, keys_more, written_more, shown_more}
 use Rattle.router_laws.proofs.Keeping.{turns_keep}
 use Rattle.router_laws.proofs.Places.{all_places, nothing_yet}
 use Rattle.router_laws.proofs.Writes.{actions_are, bytes_more}
@@ -82,24 +83,38 @@ met_count Tick out h = h
 
 -- ## Courses
 
+-- The gate has no part in what key comes next.
+key_ungated : {G : Type 0} (before after : State G) (event : Event (Unit {0})) → HasNextKey before event after → HasNextKey (ungated before) event (ungated after)
+key_ungated before after (event.Opened key challenge) h = h
+key_ungated before after (event.Bytes key piece) h = h
+key_ungated before after (event.Next key) h = h
+key_ungated before after (event.Turn keys) h = h
+key_ungated before after (event.Mail slot envelope) h = h
+key_ungated before after (event.Closed key) h = h
+key_ungated before after (event.Full number) h = h
+key_ungated before after (event.Child ended) h = h
+key_ungated before after event.Tick h = h
+
 module _ {G : Type 0} (passes : G → GatedCall → G → Type 0) where
   pub turn_of : (before after : State G) (sent sends : Output) (event : Event (Unit {0})) (actions : List (Action (Unit {0}))) →
       Brings (λ _. []) (λ _. 0) passes true before event actions after →
+      HasNextKey before event after →
       Adds (output_at (happening event) sent) (λ opening. bytes_by_all opening (output_at (happening event) sent).keys actions) sends →
       IsTurn passes before sent event after sends
-  turn_of before after sent sends event actions brings added =
+  turn_of before after sent sends event actions brings key added =
       let h = answers_are_lawful (view_of (λ (note : Unit {0}). []) (λ _. 0) true) (gate_of passes) before after event actions brings in
       let out : Output = output_at (happening event) sent in
       record {
         turn = record { asked = h.asked; deeds = h.deeds };
         served = h.served;
         shown = h.shown;
+        key = key;
         added = adds_same out sends (λ opening. bytes_by_all opening out.keys actions) (λ opening. bytes_to opening out.keys h.deeds)
             (λ opening. sym (actions_are opening out.keys actions h.deeds h.done)) added;
       }
 
   pub course_begins : (before : State G) → IsCourse passes before [] before no_output
-  course_begins before = record { turns = []; served = refl; shown = refl; keys = refl; count = refl; each = λ k. refl }
+  course_begins before = record { turns = []; served = refl; led = refl; shown = refl; keys = refl; count = refl; each = λ k. refl }
 
   pub course_more : (before now after : State G) (events : List (Event (Unit {0}))) (event : Event (Unit {0})) (sent sends : Output) →
       IsCourse passes before events now sent → IsTurn passes now sent event after sends → IsCourse passes before (events ++ event ∷ []) after sends
@@ -113,6 +128,7 @@ module _ {G : Type 0} (passes : G → GatedCall → G → Type 0) where
         turns = c.turns ++ t.turn ∷ [];
         served = subst (λ (os : List Occasion). AreServedBy true (rest_in before) os (c.turns ++ t.turn ∷ []) (rest_in after)) (sym all)
             (served_more true (rest_in before) (rest_in now) (rest_in after) old c.turns new t.turn c.served t.served);
+        led = led_more (ungated before) (ungated now) (ungated after) events c.turns event t.turn c.led t.served (key_ungated now after event t.key);
         shown = shown_more passes before.gate now.gate after.gate before.view.seat now.view.seat c.turns t.turn
             (turns_keep true (rest_in before) (rest_in now) old c.turns c.served).seat c.shown t.shown;
         keys = t.added.keys ∙ names ∙ sym (keys_more old new []) ∙ ap (λ (os : List Occasion). keys_of os []) (sym all);
@@ -139,20 +155,20 @@ module _ {G : Type 0} (passes : G → GatedCall → G → Type 0) where
         written = all_places sent.written (length (keys_of occasions [])) (λ opening. run_bytes opening [] occasions c.turns) count c.each;
       }
 
-  pub course_stops : (lacks : Standing → Event (Unit {0}) → Type 0) (before now : State G) (events : List (Event (Unit {0}))) (index : ℕ) (event : Event (Unit {0})) (sent : Output) →
-      IsCourse passes before (take index events) now sent → slice_get events index ≡ Some event → lacks now.standing event → IsStopped lacks (rest_in before) events index
+  pub course_stops : (lacks : Ungated → Event (Unit {0}) → Type 0) (before now : State G) (events : List (Event (Unit {0}))) (index : ℕ) (event : Event (Unit {0})) (sent : Output) →
+      IsCourse passes before (take index events) now sent → slice_get events index ≡ Some event → lacks (ungated now) event → IsStopped lacks (ungated before) events index
   course_stops lacks before now events index event sent c reached impossible =
-      record { turns = c.turns; now = rest_in now; served = c.served; event = event; reached = reached; impossible = impossible }
+      record { turns = c.turns; now = ungated now; led = c.led; event = event; reached = reached; impossible = impossible }
 
   -- why an event is not served is why the run ends
   pub course_faults : (before now : State G) (events : List (Event (Unit {0}))) (index : ℕ) (event : Event (Unit {0})) (sent : Output) (fault : EventFault) →
-      IsCourse passes before (take index events) now sent → slice_get events index ≡ Some event → IsRefused now index event fault → IsFaultOf (rest_in before) events fault
+      IsCourse passes before (take index events) now sent → slice_get events index ≡ Some event → IsRefused now index event fault → IsFaultOf (ungated before) events fault
   course_faults before now events index event sent (WrongKey at) c reached refused =
-      subst (λ (n : ℕ). IsStopped LacksKey (rest_in before) events n) (sym refused.0) (course_stops LacksKey before now events index event sent c reached refused.1)
+      subst (λ (n : ℕ). IsStopped LacksKey (ungated before) events n) (sym refused.0) (course_stops LacksKey before now events index event sent c reached refused.1)
   course_faults before now events index event sent (NoLogin at) c reached refused =
-      subst (λ (n : ℕ). IsStopped LacksLogin (rest_in before) events n) (sym refused.0) (course_stops LacksLogin before now events index event sent c reached refused.1)
+      subst (λ (n : ℕ). IsStopped LacksLogin (ungated before) events n) (sym refused.0) (course_stops LacksLogin before now events index event sent c reached refused.1)
   course_faults before now events index event sent (NoTurn at) c reached refused =
-      subst (λ (n : ℕ). IsStopped LacksTurn (rest_in before) events n) (sym refused.0) (course_stops LacksTurn before now events index event sent c reached refused.1)
+      subst (λ (n : ℕ). IsStopped LacksTurn (ungated before) events n) (sym refused.0) (course_stops LacksTurn before now events index event sent c reached refused.1)
   course_faults before now events index event sent NoMemory c reached refused = tt
 
   pub course_registry : (before now : State G) (events : List (Event (Unit {0}))) (sent : Output) → IsCourse passes before events now sent → now.view.registry ≡ before.view.registry

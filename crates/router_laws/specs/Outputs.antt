@@ -9,7 +9,8 @@ use Rattle.router_core.specs.Events.{Occasion, Opened}
 use Rattle.router_core.specs.OneThread.{bytes_if, opening_of, bytes_to}
 use Rattle.router_laws.specs.declared.fault.EventFault.{EventFault}
 use Rattle.router_laws.specs.declared.fault.EventFault.TheVariants.{WrongKey, NoLogin, NoTurn, NoMemory}
-use Rattle.router_laws.specs.Runs.{LacksKey, LacksLogin, LacksTurn, happening, occasions_of}
+use Rattle.router_laws.specs.Runs.{IsLead, LacksKey, LacksLogin, LacksTurn, happening, occasions_of, ungated}
+use Rattle.router.specs.NextKeys.{HasNextKey}
 use Rattle.router.specs.OneEvent.{rest_in}
 use Rattle.router_laws.specs.Turns.{AreServedBy, Turn, exchanges_of, keys_of, run_bytes}
 
@@ -46,12 +47,14 @@ pub record IsTurn {G : Type 0} (passes : G → GatedCall → G → Type 0) (befo
   pub turn : Turn
   pub served : IsServedBy true before.standing before.view (happening event) turn.asked turn.deeds after.standing after.view
   pub shown : PassesAll passes before.gate (gated_calls before.view.seat turn.asked) after.gate
+  pub key : HasNextKey before event after
   pub added : Adds (output_at (happening event) sent) (λ opening. bytes_to opening (output_at (happening event) sent).keys turn.deeds) sends
 
 -- Events are served from the beginning on.
 pub record IsCourse {G : Type 0} (passes : G → GatedCall → G → Type 0) (before : State G) (events : List (Event (Unit {0}))) (after : State G) (sent : Output) : Type 0 where
   pub turns : List Turn
   pub served : AreServedBy true (rest_in before) (occasions_of events) turns (rest_in after)
+  pub led : IsLead (ungated before) events turns (ungated after)
   pub shown : PassesAll passes before.gate (gated_calls before.view.seat (exchanges_of turns)) after.gate
   pub keys : sent.keys ≡ keys_of (occasions_of events) []
   pub count : length sent.written ≡ length sent.keys
@@ -59,7 +62,7 @@ pub record IsCourse {G : Type 0} (passes : G → GatedCall → G → Type 0) (be
 
 -- why the event of this index is not served
 abbrev pub IsRefused : {G : Type 0} → State G → ℕ → Event (Unit {0}) → EventFault → Type 0
-IsRefused now index event (WrongKey at) = (at ≡ index) × LacksKey now.standing event
-IsRefused now index event (NoLogin at) = (at ≡ index) × LacksLogin now.standing event
-IsRefused now index event (NoTurn at) = (at ≡ index) × LacksTurn now.standing event
+IsRefused now index event (WrongKey at) = (at ≡ index) × LacksKey (ungated now) event
+IsRefused now index event (NoLogin at) = (at ≡ index) × LacksLogin (ungated now) event
+IsRefused now index event (NoTurn at) = (at ≡ index) × LacksTurn (ungated now) event
 IsRefused now index event NoMemory = Unit {0}
