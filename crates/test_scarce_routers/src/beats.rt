@@ -1,5 +1,6 @@
 //! A client of a router, and what the router hears of it.
 
+use crate::relays::{ADD_FIRST, CALL};
 use router_host::{EndCause, Ended, OpenFault, Socket};
 use routers::{Fault, Source, SourceEvent, Timeout};
 use std::alloc::{AllocError, Global};
@@ -8,12 +9,37 @@ use std::io;
 use std::io::{ErrorKind, IoSlice};
 use std::rc::Rc;
 use std::sync::Wait;
+use test_support::messages::HELLO;
 
 /// How many bytes a client takes at most.
 const ROOM: usize = 2048;
 
 /// How many turns a router takes in one go, more than a client has pieces.
 const TURNS: u32 = 8;
+
+/// What the client of the first router sends.
+const FIRST: &[&[u8]] = &[HELLO];
+
+/// What the client of the second router sends: it listens to what becomes of the other, and calls
+/// it.
+const SECOND: &[&[u8]] = &[HELLO, ADD_FIRST, CALL];
+
+/// The client of a router.
+#[derive(Clone, Copy)]
+pub enum Client {
+    First,
+    Second,
+}
+
+impl Client {
+    /// What it sends, one piece a read.
+    fn pieces(self) -> &'static [&'static [u8]] {
+        match self {
+            Client::First => FIRST,
+            Client::Second => SECOND,
+        }
+    }
+}
 
 /// What became of a client.
 #[derive(Drop)]
@@ -24,10 +50,10 @@ pub struct Fate {
     pub end: Option<EndCause>,
 }
 
-/// A client that sends these pieces, one a read, and takes what it is written without memory.
+/// The socket of a client, which takes what it is written without memory.
 #[derive(Drop)]
 pub struct Wire {
-    pieces: &'static [&'static [u8]],
+    client: Client,
     next: usize,
     fate: Rc<RefCell<Fate>>,
 }
@@ -52,7 +78,7 @@ impl outgoing::Sink for Wire {
 
 impl Socket for Wire {
     fn read(&mut self, room: &mut [u8]) -> io::Result<usize> {
-        let Some(piece) = self.pieces.get(self.next) else {
+        let Some(piece) = self.client.pieces().get(self.next) else {
             return Err(io::Error::from(ErrorKind::WouldBlock));
         };
         self.next = self.next.saturating_add(1);
@@ -74,17 +100,14 @@ pub struct Beats {
 
 impl Beats {
     /// A client that is to come, and what becomes of it.
-    pub fn new(
-        alloc: Global,
-        pieces: &'static [&'static [u8]],
-    ) -> Result<(Beats, Rc<RefCell<Fate>>), AllocError> {
+    pub fn new(alloc: Global, client: Client) -> Result<(Beats, Rc<RefCell<Fate>>), AllocError> {
         let fate = Fate {
             taken: Vec::with_capacity(alloc, ROOM)?,
             end: None,
         };
         let fate = Rc::new(alloc, RefCell::new(fate))?;
         let wire = Wire {
-            pieces,
+            client,
             next: 0,
             fate: Rc::clone(&fate)?,
         };

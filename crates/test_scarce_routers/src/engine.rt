@@ -1,10 +1,11 @@
 //! An engine of a plain bus with one service, and what its one client sends.
 
+ghost use Rattle.std.specs.Prelude.{◌≡◌, IfOk};
 ghost use Rattle.router_core.specs.Acts.{CanHappen};
 
 use crate::authentication::GUID;
 use crate::{leaving, logins, mail, turns, waiting};
-use bus_view::can_open;
+use bus_view::{BusView, can_open};
 use names::WellKnown;
 use owner_queues::Profile;
 use router::{Engine, Login};
@@ -56,8 +57,8 @@ pub fn say_hello(engine: &mut Plain, alloc: Global) -> Option<()> {
         key: 0,
         challenge: None,
     };
-    brought(engine, opened)?;
-    send(engine, alloc, HELLO)?;
+    happens(engine, opened)?;
+    sends(engine, alloc, HELLO)?;
     has_name(engine, alloc, 1)?;
     Some(())
 }
@@ -66,7 +67,7 @@ pub fn say_hello(engine: &mut Plain, alloc: Global) -> Option<()> {
 /// memory for it.
 pub fn has_name(engine: &mut Plain, alloc: Global, number: u64) -> Option<bool> {
     if engine.number_of(0).is_none() {
-        send(engine, alloc, HELLO)?;
+        sends(engine, alloc, HELLO)?;
     }
     Some(engine.number_of(0) == Some(number))
 }
@@ -80,13 +81,26 @@ fn opened(alloc: Global) -> Option<Plain> {
 }
 
 fn open(alloc: Global) -> Option<Plain> {
+    engine_over(alloc, bus(alloc)?).ok()
+}
+
+/// A plain bus with one service.
+fn bus(alloc: Global) -> Option<SeqBus> {
     let services = [WellKnown::parse("com.example.Clock").ok()?];
     if !can_open(&services, 1) {
         return None;
     }
-    let bus = SeqBus::new(alloc, &services, 1, Profile::Two).ok()?;
-    let login = login(alloc).ok()?;
-    Engine::new(alloc, bus, OpenGate, Some(login)).ok()
+    SeqBus::new(alloc, &services, 1, Profile::Two).ok()
+}
+
+/// An engine over a view, which asks who logs in.
+pub fn engine_over<V: BusView + Drop>(
+    alloc: Global,
+    view: V,
+) -> Result<Engine<V, OpenGate>, AllocError>
+    ensures { IfOk result (λ engine. engine.view ≡ V.knows view) }
+{
+    Engine::new(alloc, view, OpenGate, Some(login(alloc)?))
 }
 
 /// Who may log in.
@@ -111,6 +125,33 @@ pub fn brought(engine: &mut Plain, mut event: Event<()>) -> Option<Vec<Action<()
     actions
 }
 
+/// What an event brings that comes once.
+pub fn tried(engine: &mut Plain, mut event: Event<()>) -> Result<Vec<Action<()>>, AllocError>
+    requires { CanHappen (λ _. 0) engine.old event }
+{
+    let actions = engine.event(&(), &mut event);
+    drop(event);
+    actions
+}
+
+/// An event happens, whatever it brings.
+pub fn happens(engine: &mut Plain, event: Event<()>) -> Option<()>
+    requires { CanHappen (λ _. 0) engine.old event }
+{
+    let actions = brought(engine, event);
+    let has_happened = actions.is_some();
+    drop(actions);
+    has_happened.then_some(())
+}
+
+/// A message comes and is served, whatever is done for it.
+pub fn sends(engine: &mut Plain, alloc: Global, sent: &[u8]) -> Option<()> {
+    let actions = send(engine, alloc, sent);
+    let is_served = actions.is_some();
+    drop(actions);
+    is_served.then_some(())
+}
+
 /// What bytes bring that come.
 pub fn feed(engine: &mut Plain, alloc: Global, sent: &[u8]) -> Option<Vec<Action<()>>> {
     let piece = match Vec::from_slice(alloc, sent) {
@@ -120,8 +161,16 @@ pub fn feed(engine: &mut Plain, alloc: Global, sent: &[u8]) -> Option<Vec<Action
     brought(engine, Event::Bytes { key: 0, piece })
 }
 
+/// Bytes come, whatever they bring.
+pub fn feeds(engine: &mut Plain, alloc: Global, sent: &[u8]) -> Option<()> {
+    let actions = feed(engine, alloc, sent);
+    let have_come = actions.is_some();
+    drop(actions);
+    have_come.then_some(())
+}
+
 /// What is done for a message, which comes and is served.
 pub fn send(engine: &mut Plain, alloc: Global, sent: &[u8]) -> Option<Vec<Action<()>>> {
-    feed(engine, alloc, sent)?;
+    feeds(engine, alloc, sent)?;
     brought(engine, Event::Next { key: 0 })
 }

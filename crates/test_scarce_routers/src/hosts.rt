@@ -1,13 +1,14 @@
 //! A host, and connections to it whose other sides follow a script.
 
+ghost use Rattle.std.specs.Prelude.{◌≡◌, IfOk};
+
 use crate::authentication::{CHALLENGE, CONVERSATION, SENT};
-use crate::engine::login;
+use crate::engine::engine_over;
 use crate::relays::are_all;
-use bus_view::can_open;
+use bus_view::{BusView, can_open};
 use owner_queues::Profile;
-use router::Engine;
 use router_core::OpenGate;
-use router_host::{Host, OpenFault, Socket};
+use router_host::{Host, OpenFault, Post, Socket};
 use seq_bus::SeqBus;
 use std::alloc::{AllocError, Global};
 use std::io;
@@ -88,9 +89,20 @@ pub fn open_host(alloc: Global) -> Result<ScriptedHost, AllocError> {
     if !can_open(&[], 1) {
         return Err(AllocError);
     }
-    let post = LocalPost::new(alloc)?;
-    let bus = SeqBus::new(alloc, &[], 1, Profile::Two)?;
-    let engine = Engine::new(alloc, bus, OpenGate, Some(login(alloc)?))?;
+    let bus = SeqBus::new(alloc, &[], 1, Profile::Two);
+    host_over(alloc, LocalPost::new(alloc), bus)
+}
+
+/// A host of a view, which asks who logs in.
+fn host_over<V: BusView + Drop, P: Post<V>>(
+    alloc: Global,
+    post: Result<P, AllocError>,
+    view: Result<V, AllocError>,
+) -> Result<Host<V, OpenGate, P, Script>, AllocError>
+    requires { IfOk post (λ post. IfOk view (λ view. P.registry post ≡ (V.knows view).registry)) }
+{
+    let post = post?;
+    let engine = engine_over(alloc, view?)?;
     Host::new(alloc, engine, post, 0, 256)
 }
 

@@ -1,6 +1,6 @@
 //! Connections that are put out or gone, where there may be no memory for their Leaves.
 
-use crate::engine::{Plain, brought, say_hello};
+use crate::engine::{Plain, brought, happens, say_hello, tried};
 use router_core::{Action, CloseCause, Event};
 use seq_bus_core::limits::MAX_CONNECTIONS;
 use std::alloc::Global;
@@ -9,7 +9,7 @@ use std::alloc::Global;
 /// that there is no memory for is made at the next tick. Where nothing is due, a tick takes no
 /// memory.
 pub fn are_gone(engine: &mut Plain, alloc: Global) -> Option<bool> {
-    brought(engine, Event::Full { number: 1 })?;
+    happens(engine, Event::Full { number: 1 })?;
     let is_put_out = is_put_out(engine)?;
     let is_still = is_still(engine);
     let first_is_gone = is_gone(engine)?;
@@ -56,7 +56,7 @@ fn is_close(action: &Action<()>) -> bool {
 
 /// Whether a tick brings nothing, at the first try.
 fn is_still(engine: &mut Plain) -> bool {
-    match engine.event(&(), &mut Event::Tick) {
+    match tried(engine, Event::Tick) {
         Ok(actions) => {
             let is_still = actions.is_empty();
             engine.give_back(actions);
@@ -68,7 +68,7 @@ fn is_still(engine: &mut Plain) -> bool {
 
 /// Whether the key of a client is free once it is gone, and nothing due after the next tick.
 fn is_gone(engine: &mut Plain) -> Option<bool> {
-    brought(engine, Event::Closed { key: 0 })?;
-    brought(engine, Event::Tick)?;
+    happens(engine, Event::Closed { key: 0 })?;
+    happens(engine, Event::Tick)?;
     Some(engine.free_key() == 0 && !engine.ticks())
 }

@@ -15,10 +15,17 @@ pub fn is_written(engine: &mut Plain, alloc: Global) -> Option<bool> {
         content: answer(engine, alloc)?,
     };
     let actions = brought(engine, Event::Mail { slot: 0, envelope })?;
-    Some(match actions.as_slice() {
+    let is_written = writes_owner(&actions);
+    drop(actions);
+    Some(is_written)
+}
+
+/// Whether the one action writes the reply to the client.
+fn writes_owner(actions: &[Action<()>]) -> bool {
+    match actions {
         [Action::Write { key: 0, bytes }] => is_owner(bytes.as_slice()),
         _ => false,
-    })
+    }
 }
 
 /// Whether this is the reply to GetNameOwner, whatever its serial: a Hello that there was no memory
@@ -42,8 +49,11 @@ fn answer(engine: &mut Plain, alloc: Global) -> Option<Content> {
 
 /// What is put for it.
 fn called(engine: &mut Plain, alloc: Global) -> Option<Content> {
-    match send(engine, alloc, GET_NAME_OWNER)?.pop()? {
-        Action::Put { content, .. } => Some(content),
+    let mut actions = send(engine, alloc, GET_NAME_OWNER)?;
+    let action = actions.pop();
+    drop(actions);
+    match action {
+        Some(Action::Put { content, .. }) => Some(content),
         _ => None,
     }
 }

@@ -1,6 +1,6 @@
 //! Several messages of a connection, which an engine serves in one turn.
 
-use crate::engine::{Plain, brought, feed};
+use crate::engine::{Plain, brought, feeds};
 use outbox_core::{BusMessage, Content};
 use router_core::{Action, Event};
 use seq_bus_core::ErrorKind;
@@ -16,14 +16,22 @@ const CALLS: &[u8] =
 /// calls only where memory ran out in the first, behind its first message. A turn that there is no
 /// memory for is handed back, and taken again.
 pub fn are_served(engine: &mut Plain, alloc: Global) -> Option<bool> {
-    feed(engine, alloc, CALLS)?;
+    feeds(engine, alloc, CALLS)?;
     let mut serial = 2;
     for _turn in 0..2 {
         if engine.has_next(0) {
-            serial = behind(&turn(engine, alloc)?, serial)?;
+            serial = serve(engine, alloc, serial)?;
         }
     }
     Some(serial == 6 && !engine.has_next(0))
+}
+
+/// Takes a turn: tells the serial behind those of the calls that are answered.
+fn serve(engine: &mut Plain, alloc: Global, first: u32) -> Option<u32> {
+    let actions = turn(engine, alloc)?;
+    let serial = behind(&actions, first);
+    drop(actions);
+    serial
 }
 
 /// What a turn of four messages brings.

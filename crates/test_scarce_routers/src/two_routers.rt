@@ -6,10 +6,10 @@
 
 ghost use Rattle.std.specs.Prelude.{◌≡◌};
 
-use crate::beats::{Beats, Fate, Wire};
+use crate::beats::{Beats, Client, Fate, Wire};
 use crate::relays::{
-    ADD_FIRST, CALL, FIRST_LEFT, Found, SECOND_ACQUIRED, SECOND_LISTENS, SECOND_WELCOME, are_all,
-    tells_of_memory, together,
+    FIRST_LEFT, Found, SECOND_ACQUIRED, SECOND_LISTENS, SECOND_WELCOME, are_all, tells_of_memory,
+    together,
 };
 use bus_view::BusView;
 use outbox::{EnvelopeOf, Lane, Outboxes, Tap, open_queue};
@@ -24,7 +24,7 @@ use std::alloc::{AllocError, Global};
 use std::cell::RefCell;
 use std::rc::Rc;
 use std::sync::{Arc, Wait};
-use test_support::messages::{ACQUIRED, HELLO, WELCOME};
+use test_support::messages::{ACQUIRED, WELCOME};
 
 /// How many places for connections each of two routers has.
 const PLACES: usize = 128;
@@ -38,15 +38,10 @@ const NOBODY: u64 = 99;
 /// How often each router goes on, more than it takes.
 const ROUNDS: u32 = 3;
 
-/// What the client of the first router sends, and what it is written.
-const FIRST: &[&[u8]] = &[HELLO];
-
+/// What the client of the first router is written.
 const TO_FIRST: [&[u8]; 2] = [WELCOME, ACQUIRED];
 
-/// What the client of the second router sends: it listens to what becomes of the other, and calls
-/// it.
-const SECOND: &[&[u8]] = &[HELLO, ADD_FIRST, CALL];
-
+/// What the client of the second router is written.
 const TO_SECOND: [&[u8]; 4] = [SECOND_WELCOME, SECOND_ACQUIRED, SECOND_LISTENS, FIRST_LEFT];
 
 /// Wakes nobody: there is one thread.
@@ -101,24 +96,33 @@ impl<'a, J: Naming, R: Wait> Fill for MainLane<'a, J, R> {
     }
 }
 
-/// What a router is made of: a view of the bus, and a way to the other router.
+/// What a router is made of: a view of the bus, a way to the other router, and its client.
 #[derive(Drop)]
 struct Side<V, P> {
     view: V,
     post: P,
+    source: Beats,
 }
 
-/// A router of the coordinator, whose client this is.
+/// The same, where there is a way to the other router.
+fn beside<V: Drop, P: Drop>(view: V, post: Option<P>, source: Beats) -> Option<Side<V, P>> {
+    Some(Side {
+        view,
+        post: post?,
+        source,
+    })
+}
+
+/// A router of the coordinator.
 fn router_of<'c, V: BusView + Drop, P: Post<V> + Drop, W: Wake + Drop>(
     alloc: Global,
     me: usize,
     coordinator: &'c Coordinator<W>,
     side: Side<V, P>,
-    source: Beats,
 ) -> Result<Router<'c, V, OpenGate, P, Wire, Beats, W>, AllocError>
     requires { P.registry side.post ≡ (V.knows side.view).registry }
 {
-    let Side { view, post } = side;
+    let Side { view, post, source } = side;
     let engine = Engine::new(alloc, view, OpenGate, None)?;
     let first = u16::try_from(me.saturating_mul(PLACES)).unwrap_or(u16::MAX);
     let host = Host::new(alloc, engine, post, first, PLACES as u16)?;
@@ -176,7 +180,7 @@ fn is_for_memory(end: Option<EndCause>) -> bool {
     end == Some(EndCause::NoMemory)
 }
 
-/// Serves by two routers, and tells what came of their clients.
+/// Serves by two routers.
 fn serve_both<
     V: BusView + Drop,
     P: Post<V> + Drop,
@@ -193,13 +197,11 @@ fn serve_both<
     second: Side<V, P>,
     trace_writer: &mut T,
     filler: &mut F,
-) -> Result<Found, AllocError>
+) -> Result<(), AllocError>
     requires { (P.registry first.post ≡ (V.knows first.view).registry)
         × (P.registry second.post ≡ (V.knows second.view).registry) }
 {
-    let (first_beats, first_fate) = Beats::new(alloc, FIRST)?;
-    let (second_beats, second_fate) = Beats::new(alloc, SECOND)?;
-    let mut first = router_of(alloc, 0, coordinator, first, first_beats)?;
+    let mut first = router_of(alloc, 0, coordinator, first)?;
     let served = serve_beside(
         rt,
         right,
@@ -207,19 +209,14 @@ fn serve_both<
         coordinator,
         &mut first,
         second,
-        second_beats,
         trace_writer,
         filler,
     );
     drop(first);
-    served?;
-    let left = Some(EndCause::Closed(CloseCause::Left));
-    let at_first = seen(&first_fate, &TO_FIRST, left);
-    let at_second = seen(&second_fate, &TO_SECOND, None);
-    Ok(together(at_first, at_second))
+    served
 }
 
-/// Serves by a second router, whose client this is, beside the first.
+/// Serves by a second router beside the first.
 fn serve_beside<
     'c,
     V: BusView + Drop,
@@ -235,23 +232,27 @@ fn serve_beside<
     coordinator: &'c Coordinator<W>,
     first: &mut Router<'c, V, OpenGate, P, Wire, Beats, W>,
     second: Side<V, P>,
-    source: Beats,
     trace_writer: &mut T,
     filler: &mut F,
 ) -> Result<(), AllocError>
     requires { P.registry second.post ≡ (V.knows second.view).registry }
 {
-    let mut second = router_of(alloc, 1, coordinator, second, source)?;
+    let mut second = router_of(alloc, 1, coordinator, second)?;
     let served = go_on(rt, right, first, &mut second, trace_writer, filler);
     drop(second);
     served
 }
 
-/// The registry that both are over.
+/// The registry that both are over, and what else they serve with.
 #[derive(Drop)]
 struct Pair<'a, R> {
     rt: &'a R,
     alloc: Global,
+    coordinator: Coordinator<NoWaker>,
+    /// What the queue of the first client is filled with.
+    bytes: SharedBytes,
+    first: Beats,
+    second: Beats,
 }
 
 impl<'a, R: Wait> Serve for Pair<'a, R> {
@@ -259,116 +260,151 @@ impl<'a, R: Wait> Serve for Pair<'a, R> {
     ghost use Rattle.owner_queues.specs.declared.request.Profile.TheVariants.{Two};
     ghost use Rattle.seq_bus_core.specs.Tickets.{opening_bus};
 
-    type Out = Option<Found>;
+    /// Whether both served.
+    type Out = bool;
 
     ghost bus = { λ s. opening_bus Two 2 [] };
 
-    fn serve<J: Naming + Send + Sync>(
-        self,
-        shared: Shared<J>,
-        seats: Vec<Seat<J>>,
-    ) -> Option<Found> {
-        let found = serve_over(self.rt, self.alloc, &shared, seats);
-        shared.end(self.rt);
-        found
+    fn serve<J: Naming + Send + Sync>(self, shared: Shared<J>, seats: Vec<Seat<J>>) -> bool {
+        let rt = self.rt;
+        let served = serve_over(self, &shared, seats);
+        shared.end(rt);
+        served.is_some()
     }
 }
 
-/// What a router serves with.
+/// What a router serves with: a seat, a lane, the taps of its places, and a lane for starts.
 #[derive(Drop)]
-struct Ends<J: Naming> {
-    seat: Seat<J>,
-    lane: Lane<EnvelopeOf<J>>,
-    taps: Vec<Tap<EnvelopeOf<J>>>,
-    starts: Lane<StartRequest>,
+struct Ends<S, L, T, Q> {
+    seat: S,
+    lane: L,
+    taps: T,
+    starts: Q,
 }
+
+/// The ends of a router of a registry.
+type EndsOf<J> = Ends<Seat<J>, Lane<EnvelopeOf<J>>, Vec<Tap<EnvelopeOf<J>>>, Lane<StartRequest>>;
 
 /// What all serve with, the second router's last.
 #[derive(Drop)]
-struct Ways<J: Naming> {
-    seats: Vec<Seat<J>>,
-    lanes: Vec<Lane<EnvelopeOf<J>>>,
-    taps: Vec<Vec<Tap<EnvelopeOf<J>>>>,
-    starts: Vec<Lane<StartRequest>>,
+struct Ways<S, L, T, Q> {
+    seats: Vec<S>,
+    lanes: Vec<L>,
+    taps: Vec<T>,
+    starts: Vec<Q>,
 }
 
-impl<J: Naming> Ways<J> {
+impl<S: Drop, L: Drop, T: Drop, Q: Drop> Ways<S, L, T, Q> {
     /// What the last router serves with.
-    fn pop(&mut self) -> Option<Ends<J>> {
-        let seat = self.seats.pop()?;
-        let lane = self.lanes.pop()?;
-        let taps = self.taps.pop()?;
-        let starts = self.starts.pop()?;
+    fn pop(&mut self) -> Option<Ends<S, L, T, Q>> {
         Some(Ends {
-            seat,
-            lane,
-            taps,
-            starts,
+            seat: self.seats.pop()?,
+            lane: self.lanes.pop()?,
+            taps: self.taps.pop()?,
+            starts: self.starts.pop()?,
         })
     }
 }
 
-/// Makes what the routers put and take with, and serves.
-fn serve_over<J: Naming, R: Wait>(
-    rt: &R,
-    alloc: Global,
-    shared: &Shared<J>,
-    seats: Vec<Seat<J>>,
-) -> Option<Found> {
-    let (lanes, taps) = Outboxes::new(alloc, shared).ok()?;
-    let (starts, _requests) = open_queue(alloc, 3).ok()?;
+/// What the first router serves with, the second, and the thread that is none.
+fn part<S: Drop, L: Drop, T: Drop, Q: Drop>(
+    seats: Vec<S>,
+    outboxes: Option<(Vec<L>, Vec<T>)>,
+    starts: Option<Vec<Q>>,
+) -> Option<(Ends<S, L, T, Q>, Ends<S, L, T, Q>, L)> {
+    let (lanes, taps) = outboxes?;
     let mut ways = Ways {
         seats,
         lanes,
         taps,
-        starts,
+        starts: starts?,
     };
     let second = ways.pop()?;
     let first = ways.pop()?;
-    let mut filler = MainLane {
-        rt,
-        lane: ways.lanes.pop()?,
-        bytes: SharedBytes::new(Arc::new(alloc, Vec::new(alloc)).ok()?),
-    };
-    let found = serve_ends(rt, alloc, shared, first, second, &mut filler);
-    drop(filler);
-    found
+    Some((first, second, ways.lanes.pop()?))
+}
+
+/// The lanes of a queue that nobody takes from.
+fn lanes<L: Drop, T: Drop>(queue: Result<(Vec<L>, T), AllocError>) -> Option<Vec<L>> {
+    let (lanes, _tap) = queue.ok()?;
+    Some(lanes)
+}
+
+/// Makes what the routers put and take with, and serves.
+fn serve_over<J: Naming, R: Wait>(
+    pair: Pair<'_, R>,
+    shared: &Shared<J>,
+    seats: Vec<Seat<J>>,
+) -> Option<()> {
+    let alloc = pair.alloc;
+    let outboxes = Outboxes::new(alloc, shared).ok();
+    // Nobody runs programs.
+    let starts = lanes(open_queue(alloc, 3));
+    let (first, second, lane) = part(seats, outboxes, starts)?;
+    serve_ends(pair, shared, first, second, lane)
 }
 
 /// Serves with what the two routers have.
-fn serve_ends<J: Naming, F: Fill, R: Wait>(
+fn serve_ends<J: Naming, R: Wait>(
+    pair: Pair<'_, R>,
+    shared: &Shared<J>,
+    first: EndsOf<J>,
+    second: EndsOf<J>,
+    lane: Lane<EnvelopeOf<J>>,
+) -> Option<()> {
+    let Pair {
+        rt,
+        alloc,
+        coordinator,
+        bytes,
+        first: first_beats,
+        second: second_beats,
+    } = pair;
+    let first = side_of(alloc, 0, first, first_beats, shared, &coordinator);
+    let second = side_of(alloc, 1, second, second_beats, shared, &coordinator);
+    let mut filler = MainLane { rt, lane, bytes };
+    let served = serve_sides(rt, alloc, &coordinator, both(first, second), &mut filler);
+    drop(filler);
+    served
+}
+
+/// A router of a registry.
+type SideOf<'b, J, R> = Side<Traced<Desk<'b, J, R>>, LanePost<'b, J, NoWaker>>;
+
+/// What a router is made of, if there is memory for it.
+fn side_of<'b, J: Naming, R: Wait>(
+    alloc: Global,
+    me: usize,
+    ends: EndsOf<J>,
+    source: Beats,
+    shared: &'b Shared<J>,
+    coordinator: &'b Coordinator<NoWaker>,
+) -> Option<SideOf<'b, J, R>> {
+    let Ends {
+        seat,
+        lane,
+        taps,
+        starts,
+    } = ends;
+    let post = LanePost::new(alloc, me, lane, taps, starts, coordinator).ok();
+    let desk: Desk<'b, J, R> = Desk::new(seat, shared);
+    beside(Traced::silent(alloc, desk), post, source)
+}
+
+/// Serves by two routers, if both are there.
+fn serve_sides<'b, J: Naming, F: Fill, R: Wait>(
     rt: &R,
     alloc: Global,
-    shared: &Shared<J>,
-    first: Ends<J>,
-    second: Ends<J>,
+    coordinator: &'b Coordinator<NoWaker>,
+    sides: Option<(SideOf<'b, J, R>, SideOf<'b, J, R>)>,
     filler: &mut F,
-) -> Option<Found> {
-    let wakers = vec![in alloc; NoWaker, NoWaker].ok()?;
-    let coordinator = Coordinator::new(alloc, wakers, NoWaker).ok()?;
-    let desk: Desk<'_, J, R> = Desk::new(first.seat, shared);
-    let first = Side {
-        view: Traced::silent(alloc, desk),
-        post: LanePost::new(alloc, 0, first.lane, first.taps, first.starts, &coordinator).ok()?,
-    };
-    let desk: Desk<'_, J, R> = Desk::new(second.seat, shared);
-    let second = Side {
-        view: Traced::silent(alloc, desk),
-        post: LanePost::new(
-            alloc,
-            1,
-            second.lane,
-            second.taps,
-            second.starts,
-            &coordinator,
-        )
-        .ok()?,
-    };
+) -> Option<()> {
+    let (first, second) = sides?;
     serve_both(
         rt,
         rt,
         alloc,
-        &coordinator,
+        coordinator,
         first,
         second,
         &mut NoTrace,
@@ -377,9 +413,43 @@ fn serve_ends<J: Naming, F: Fill, R: Wait>(
     .ok()
 }
 
-/// What comes of a registry that is opened for it.
+/// Both, if both are there.
+fn both<A: Drop, B: Drop>(a: Option<A>, b: Option<B>) -> Option<(A, B)> {
+    Some((a?, b?))
+}
+
+/// What two routers tell one another by.
+fn coordinator(alloc: Global) -> Option<Coordinator<NoWaker>> {
+    let wakers = vec![in alloc; NoWaker, NoWaker].ok()?;
+    Coordinator::new(alloc, wakers, NoWaker).ok()
+}
+
+/// No bytes.
+fn no_bytes(alloc: Global) -> Option<SharedBytes> {
+    Some(SharedBytes::new(Arc::new(alloc, Vec::new(alloc)).ok()?))
+}
+
+/// What comes of a registry that is opened for two clients.
 fn served<R: Wait>(rt: &R, alloc: Global) -> Option<Found> {
-    start(rt, alloc, &[], 2, Pair { rt, alloc }).ok()?
+    let clients = both(
+        Beats::new(alloc, Client::First).ok(),
+        Beats::new(alloc, Client::Second).ok(),
+    );
+    let ways = both(coordinator(alloc), no_bytes(alloc));
+    let (((first, first_fate), (second, second_fate)), (coordinator, bytes)) = both(clients, ways)?;
+    let pair = Pair {
+        rt,
+        alloc,
+        coordinator,
+        bytes,
+        first,
+        second,
+    };
+    let is_served = start(rt, alloc, &[], 2, pair).unwrap_or(false);
+    let left = Some(EndCause::Closed(CloseCause::Left));
+    let at_first = seen(&first_fate, &TO_FIRST, left);
+    let at_second = seen(&second_fate, &TO_SECOND, None);
+    is_served.then_some(together(at_first, at_second))
 }
 
 /// Whether the first router closes its client, and the client of the second is told that it left.
