@@ -21,46 +21,46 @@ use router_core::OpenGate;
 use router_host::StartRequest;
 use routers::{Coordinator, RouterSetup, SeatSetup};
 use starter::{MainSeat, Programs};
-use std::alloc::{AllocError, Global};
+use std::alloc::AllocError;
 use std::io::{Read, Write};
 use std::marker::Brand;
 use std::net::Net;
 use std::rt::Clock;
 use std::sync::Wait;
 use std::thread::Threads;
-use std::vec;
 
-/// What the threads begin with.
+/// What the threads of the seats begin with, that of the last router last. What stands by seats has
+/// that of the main thread first.
 #[derive(Drop)]
 struct Parts<J: Naming, F> {
-    /// That of the main thread first.
-    seats: Vec<SeatSetup<J, TraceFile<F>>>,
+    /// By seats.
+    seats: Vec<Seat<J>>,
+    /// By seats.
+    lanes: Vec<Lane<EnvelopeOf<J>>>,
+    /// By seats: lanes to the main thread.
+    starts: Vec<Lane<StartRequest>>,
+    /// By seats.
+    traces: Vec<TraceFile<F>>,
     /// By routers.
     taps: Vec<Vec<Tap<EnvelopeOf<J>>>>,
     /// By routers.
     polls: Vec<Poll>,
 }
 
-/// What the thread of each seat begins with, that of the main thread first.
-fn seat_setups<J: Naming, F: Drop>(
-    alloc: Global,
-    seats: Vec<Seat<J>>,
-    lanes: Vec<Lane<EnvelopeOf<J>>>,
-    starts: Vec<Lane<StartRequest>>,
-    traces: Vec<TraceFile<F>>,
-) -> Result<Vec<SeatSetup<J, TraceFile<F>>>, AllocError> {
-    let mut setups = Vec::with_capacity(alloc, seats.len())?;
-    let lanes = lanes.into_iter().zip(starts);
-    for ((seat, (lane, starts)), trace) in seats.into_iter().zip(lanes).zip(traces) {
-        let setup = SeatSetup {
+impl<J: Naming, F: Drop> Parts<J, F> {
+    /// Takes what the thread of the last seat begins with that is not taken yet.
+    fn take_seat(&mut self) -> Result<SeatSetup<J, TraceFile<F>>, AllocError> {
+        let trace = self.traces.pop().ok_or(AllocError)?;
+        let lane = self.lanes.pop().ok_or(AllocError)?;
+        let starts = self.starts.pop().ok_or(AllocError)?;
+        let seat = self.seats.pop().ok_or(AllocError)?;
+        Ok(SeatSetup {
             seat,
             lane,
             starts,
             trace,
-        };
-        push(&mut setups, setup)?;
+        })
     }
-    Ok(setups)
 }
 
 /// Serves the clients of a bus over a registry of its own.
@@ -97,48 +97,37 @@ type Setup<'a, J, F, R> = RouterSetup<J, Sockets<'a, EndLogger<'a, R>, R>, OpenG
 /// What its routers begin with.
 type Setups<'a, J, F, R> = Vec<Setup<'a, J, F, R>>;
 
-/// What each router begins with.
+/// What each router begins with. The seat of the main thread is left.
 fn router_setups<'a, J: Naming, F: Drop, R: Net + Eprint + Clock + AllocGlobal>(
     rt: &'a R,
     bus: &'a Bus<'_>,
-    seats: vec::IntoIter<SeatSetup<J, TraceFile<F>>>,
-    taps: Vec<Vec<Tap<EnvelopeOf<J>>>>,
-    polls: Vec<Poll>,
+    parts: &mut Parts<J, F>,
 ) -> Result<Setups<'a, J, F, R>, ServeFault> {
-    let mut setups = Vec::with_capacity(rt.alloc(), polls.len())?;
-    let sources = polls.into_iter().zip(&bus.new_connections);
-    for ((seat, taps), (poll, new_connections)) in seats.zip(taps).zip(sources) {
-        let source = sockets_of(rt, bus, poll, new_connections)?;
-        push(
-            &mut setups,
-            router_setup(rt.alloc(), bus, seat, taps, source)?,
-        )?;
+    let mut setups = Vec::with_capacity(rt.alloc(), bus.new_connections.len())?;
+    for new_connections in bus.new_connections.iter().rev() {
+        let setup = last_router(rt, bus, new_connections, parts)?;
+        push(&mut setups, setup)?;
     }
+    setups.reverse();
     Ok(setups)
 }
 
-/// Where a router hears of its sockets, and of the connections that come to it.
-fn sockets_of<'a, R: Net + Eprint + Clock + AllocGlobal>(
+/// What the last router begins with that is not taken yet: its seat, its ways to the others, and
+/// the connections that come to it.
+fn last_router<'a, J: Naming, F: Drop, R: Net + Eprint + Clock + AllocGlobal>(
     rt: &'a R,
-    bus: &Bus<'_>,
-    poll: Poll,
+    bus: &'a Bus<'_>,
     new_connections: &'a NewConnections,
-) -> Result<Sockets<'a, EndLogger<'a, R>, R>, AllocError> {
-    let log = EndLogger::new(rt, bus.options.is_verbose);
-    Sockets::new(rt, rt.alloc(), poll, new_connections, log)
-}
-
-/// What a router begins with.
-fn router_setup<'a, J: Naming, F: Drop, R: Eprint + Clock>(
-    alloc: Global,
-    bus: &Bus<'_>,
-    seat: SeatSetup<J, TraceFile<F>>,
-    taps: Vec<Tap<EnvelopeOf<J>>>,
-    source: Sockets<'a, EndLogger<'a, R>, R>,
+    parts: &mut Parts<J, F>,
 ) -> Result<Setup<'a, J, F, R>, ServeFault> {
+    let alloc = rt.alloc();
     let login = bus.login.login(alloc)?;
+    let poll = parts.polls.pop().ok_or(AllocError)?;
+    let log = EndLogger::new(rt, bus.options.is_verbose);
+    let source = Sockets::new(rt, alloc, poll, new_connections, log)?;
+    let taps = parts.taps.pop().ok_or(AllocError)?;
     Ok(RouterSetup {
-        seat,
+        seat: parts.take_seat()?,
         taps,
         source,
         gate: OpenGate,
@@ -186,13 +175,18 @@ fn serve_over_outboxes<
         waker,
         router_polls,
     } = listening;
-    let parts = Parts {
-        seats: seat_setups(alloc, seats, lanes, starts, traces)?,
+    let mut parts = Parts {
+        seats,
+        lanes,
+        starts,
+        traces,
         taps,
         polls: router_polls,
     };
     let programs = start_launcher(rt, alloc, bus, services, requests, waker)?;
-    set_up_and_run(rt, shared, parts, bus, entrance, programs)
+    let served = set_up_and_run(rt, shared, &mut parts, bus, entrance, programs);
+    drop(parts);
+    served
 }
 
 /// Makes what each thread begins with, and runs them.
@@ -205,18 +199,14 @@ fn set_up_and_run<
 >(
     rt: &'a R,
     shared: &'a Shared<J>,
-    parts: Parts<J, F>,
+    parts: &mut Parts<J, F>,
     bus: &'a Bus<'_>,
     entrance: Entrance<F>,
     programs: Q,
 ) -> Result<(), ServeFault> {
-    let Parts { seats, taps, polls } = parts;
-    let mut seats = seats.into_iter();
-    let Some(main) = seats.next() else {
-        return Err(ServeFault::Memory);
-    };
-    let setups = router_setups(rt, bus, seats, taps, polls)?;
-    let main = main_seat(rt, shared, &bus.coordinator, main, programs)?;
+    let setups = router_setups(rt, bus, parts)?;
+    let seat = parts.take_seat()?;
+    let main = main_seat(rt, shared, &bus.coordinator, seat, programs)?;
     run_threads(rt, shared, bus, setups, entrance, main)
 }
 
