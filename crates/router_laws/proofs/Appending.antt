@@ -1,7 +1,7 @@
 -- One event more.
 use Rattle.std.proofs.Common.{◌≡◌, ℕ, Bool, true, List, [], ◌∷◌, ◌++◌, refl, sym, ap, ◌∙◌, subst, append_assoc}
 use mathlib.Core.List.{append-nil}
-use Rattle.router_core.specs.Acts.{Exchange, Changed, ChangedAll, Asked, Routed, AskedPresence, Noted, Framed, Called, Gated, Wanted, IsServedBy, gated_calls}
+use Rattle.router_core.specs.Acts.{CanHappen, Exchange, Changed, ChangedAll, Asked, Routed, AskedPresence, Noted, Framed, Called, Gated, Wanted, IsServedBy, gated_calls}
 use Rattle.router_core.specs.Deeds.{GatedCall, PassesAll}
 use Rattle.router_core.specs.Events.{Occasion}
 use Rattle.router_core.specs.OneThread.{Rest, keys_after, bytes_to}
@@ -20,17 +20,19 @@ served_more alone before now after (o ∷ occasions) [] occasion turn h served =
 served_more alone before now after (o ∷ occasions) (t ∷ turns) occasion turn h served = (h.0, h.1, served_more alone h.0 now after occasions turns occasion turn h.2 served)
 
 pub led_more : (before now after : Ungated) (events : List (Event (Unit {0}))) (turns : List Turn) (event : Event (Unit {0})) (turn : Turn) → IsLead before events turns now →
-    IsServedBy true now.standing now.view (happening event) turn.asked turn.deeds after.standing after.view → HasNextKey now event after →
+    CanHappen (λ _. 0) now event → IsServedBy true now.standing now.view (happening event) turn.asked turn.deeds after.standing after.view → HasNextKey now event after →
     IsLead before (events ++ event ∷ []) (turns ++ turn ∷ []) after
-led_more before now after [] [] event turn h served key = (
+led_more before now after [] [] event turn h happens served key = (
   after,
+  subst (λ (s : Ungated). CanHappen (λ _. 0) s event) h happens,
   subst (λ (s : Ungated). IsServedBy true s.standing s.view (happening event) turn.asked turn.deeds after.standing after.view) h served,
   subst (λ (s : Ungated). HasNextKey s event after) h key,
   refl,
 )
-led_more before now after [] (t ∷ turns) event turn h served key = absurd h
-led_more before now after (e ∷ events) [] event turn h served key = absurd h
-led_more before now after (e ∷ events) (t ∷ turns) event turn h served key = (h.0, h.1, h.2, led_more h.0 now after events turns event turn h.3 served key)
+led_more before now after [] (t ∷ turns) event turn h happens served key = absurd h
+led_more before now after (e ∷ events) [] event turn h happens served key = absurd h
+led_more before now after (e ∷ events) (t ∷ turns) event turn h happens served key =
+    (h.0, h.1, h.2, h.3, led_more h.0 now after events turns event turn h.4 happens served key)
 
 pub keys_more : (occasions : List Occasion) (occasion : Occasion) (keys : List ℕ) → keys_of (occasions ++ occasion ∷ []) keys ≡ keys_after occasion (keys_of occasions keys)
 keys_more [] occasion keys = refl

@@ -5,7 +5,7 @@ use Rattle.std.proofs.lemmas.List.{length-append, map-append, take_more}
 use Rattle.router_core.specs.declared.action.Action.{Action}
 use Rattle.router_core.specs.declared.event.Event.{Event}
 use Rattle.router_core.specs.declared.event.Event.TheVariants as event
-use Rattle.router_core.specs.Acts.{State, Brings}
+use Rattle.router_core.specs.Acts.{State, Brings, CanHappen}
 use Rattle.router_core.specs.Deeds.{GatedCall}
 use Rattle.router_core.specs.Events.{Occasion, Opened, Bytes, Next, Turn, Mail, Closed, Full, Child, Tick}
 use Rattle.router_core.specs.OneThread.{keys_after, bytes_to}
@@ -16,7 +16,7 @@ use Rattle.router_laws.specs.declared.fault.EventFault.TheVariants.{WrongKey, No
 use Rattle.router.specs.NextKeys.{HasNextKey}
 use Rattle.router.specs.OneEvent.{rest_in}
 use Rattle.router_laws.specs.Turns.{AreServedBy, keys_of, run_bytes}
-use Rattle.router_laws.specs.Runs.{IsFaultOf, IsRunOf, IsStopped, LacksKey, LacksLogin, LacksTurn, Ungated, happening, occasions_of, ungated}
+use Rattle.router_laws.specs.Runs.{CanCome, IsFaultOf, IsRunOf, IsStopped, LacksKey, LacksLogin, LacksTurn, Ungated, happening, occasions_of, ungated}
 use Rattle.router_laws.specs.Outputs.{Adds, IsCourse, IsRefused, IsTurn, Output, bytes_by, bytes_by_all, output_at, no_output}
 use Rattle.router_laws.proofs.Appending.{led_more, served_more, keys_more, written_more, shown_more}
 use Rattle.router_laws.proofs.Keeping.{turns_keep}
@@ -95,19 +95,32 @@ key_ungated before after (event.Full number) h = h
 key_ungated before after (event.Child ended) h = h
 key_ungated before after event.Tick h = h
 
+-- Nor in whether an event can happen.
+can_ungated : {G : Type 0} (s : State G) (event : Event (Unit {0})) → CanHappen (λ _. 0) s event → CanHappen (λ _. 0) (ungated s) event
+can_ungated s (event.Opened key challenge) h = h
+can_ungated s (event.Bytes key piece) h = h
+can_ungated s (event.Next key) h = h
+can_ungated s (event.Turn keys) h = h
+can_ungated s (event.Mail slot envelope) h = h
+can_ungated s (event.Closed key) h = h
+can_ungated s (event.Full number) h = h
+can_ungated s (event.Child ended) h = h
+can_ungated s event.Tick h = h
+
 module _ {G : Type 0} (passes : G → GatedCall → G → Type 0) where
   pub turn_of : (before after : State G) (sent sends : Output) (event : Event (Unit {0})) (actions : List (Action (Unit {0}))) →
       Brings (λ _. []) (λ _. 0) passes true before event actions after →
-      HasNextKey before event after →
+      CanHappen (λ _. 0) before event → HasNextKey before event after →
       Adds (output_at (happening event) sent) (λ opening. bytes_by_all opening (output_at (happening event) sent).keys actions) sends →
       IsTurn passes before sent event after sends
-  turn_of before after sent sends event actions brings key added =
+  turn_of before after sent sends event actions brings happens key added =
       let h = answers_are_lawful (view_of (λ (note : Unit {0}). []) (λ _. 0) true) (gate_of passes) before after event actions brings in
       let out : Output = output_at (happening event) sent in
       record {
         turn = record { asked = h.asked; deeds = h.deeds };
         served = h.served;
         shown = h.shown;
+        happens = happens;
         key = key;
         added = adds_same out sends (λ opening. bytes_by_all opening out.keys actions) (λ opening. bytes_to opening out.keys h.deeds)
             (λ opening. sym (actions_are opening out.keys actions h.deeds h.done)) added;
@@ -128,7 +141,7 @@ module _ {G : Type 0} (passes : G → GatedCall → G → Type 0) where
         turns = c.turns ++ t.turn ∷ [];
         served = subst (λ (os : List Occasion). AreServedBy true (rest_in before) os (c.turns ++ t.turn ∷ []) (rest_in after)) (sym all)
             (served_more true (rest_in before) (rest_in now) (rest_in after) old c.turns new t.turn c.served t.served);
-        led = led_more (ungated before) (ungated now) (ungated after) events c.turns event t.turn c.led t.served (key_ungated now after event t.key);
+        led = led_more (ungated before) (ungated now) (ungated after) events c.turns event t.turn c.led (can_ungated now event t.happens) t.served (key_ungated now after event t.key);
         shown = shown_more passes before.gate now.gate after.gate before.view.seat now.view.seat c.turns t.turn
             (turns_keep true (rest_in before) (rest_in now) old c.turns c.served).seat c.shown t.shown;
         keys = t.added.keys ∙ names ∙ sym (keys_more old new []) ∙ ap (λ (os : List Occasion). keys_of os []) (sym all);
@@ -154,6 +167,9 @@ module _ {G : Type 0} (passes : G → GatedCall → G → Type 0) where
         shown = c.shown;
         written = all_places sent.written (length (keys_of occasions [])) (λ opening. run_bytes opening [] occasions c.turns) count c.each;
       }
+
+  pub course_leads : (before after : State G) (events : List (Event (Unit {0}))) (sent : Output) → IsCourse passes before events after sent → CanCome (ungated before) events
+  course_leads before after events sent c = (c.turns, ungated after, c.led)
 
   pub course_stops : (lacks : Ungated → Event (Unit {0}) → Type 0) (before now : State G) (events : List (Event (Unit {0}))) (index : ℕ) (event : Event (Unit {0})) (sent : Output) →
       IsCourse passes before (take index events) now sent → slice_get events index ≡ Some event → lacks (ungated now) event → IsStopped lacks (ungated before) events index

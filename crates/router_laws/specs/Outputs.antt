@@ -3,7 +3,7 @@ use Rattle.std.specs.Prelude.{◌≡◌, ℕ, ◌+◌, true, List, [], ◌∷◌
 use Rattle.router_core.specs.declared.action.Action.{Action}
 use Rattle.router_core.specs.declared.action.Action.TheVariants.{Write}
 use Rattle.router_core.specs.declared.event.Event.{Event}
-use Rattle.router_core.specs.Acts.{IsServedBy, State, gated_calls}
+use Rattle.router_core.specs.Acts.{CanHappen, IsServedBy, State, gated_calls}
 use Rattle.router_core.specs.Deeds.{GatedCall, PassesAll}
 use Rattle.router_core.specs.Events.{Occasion, Opened}
 use Rattle.router_core.specs.OneThread.{bytes_if, opening_of, bytes_to}
@@ -47,6 +47,7 @@ pub record IsTurn {G : Type 0} (passes : G → GatedCall → G → Type 0) (befo
   pub turn : Turn
   pub served : IsServedBy true before.standing before.view (happening event) turn.asked turn.deeds after.standing after.view
   pub shown : PassesAll passes before.gate (gated_calls before.view.seat turn.asked) after.gate
+  pub happens : CanHappen (λ _. 0) before event
   pub key : HasNextKey before event after
   pub added : Adds (output_at (happening event) sent) (λ opening. bytes_to opening (output_at (happening event) sent).keys turn.deeds) sends
 

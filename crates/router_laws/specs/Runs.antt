@@ -7,7 +7,8 @@ use Rattle.seq_bus.specs.PlainViews.{knowledge_of}
 use Rattle.router_core.specs.declared.event.Event.{Event}
 use Rattle.router_core.specs.declared.event.Event.TheVariants as event
 use Rattle.router.specs.NextKeys.{HasNextKey}
-use Rattle.router_core.specs.Acts.{IsServedBy, State, gated_calls}
+use Rattle.router.specs.OneEvent.{rest_in}
+use Rattle.router_core.specs.Acts.{CanHappen, IsServedBy, State, gated_calls}
 use Rattle.router_core.specs.Deeds.{GatedCall, PassesAll}
 use Rattle.router_core.specs.Events.{Occasion, CanBeAsked, occasion_of, IsTurnOf}
 use Rattle.router_core.specs.OneThread.{Rest}
@@ -16,9 +17,20 @@ use Rattle.router_laws.specs.declared.fault.EventFault.{EventFault}
 use Rattle.router_laws.specs.declared.fault.EventFault.TheVariants.{WrongKey, NoLogin, NoTurn, NoMemory}
 use Rattle.router_laws.specs.Turns.{AreServedBy, Turn, exchanges_of, keys_of, run_bytes}
 
--- no connection, over a plain bus
+-- an engine without its gate: its connections, the key that it has for the next one, and what its view knows
+abbrev pub Ungated : Type 0
+Ungated = State (Unit {0})
+
+abbrev pub ungated : {G : Type 0} → State G → Ungated
+ungated s = record { standing = s.standing; next_key = s.next_key; view = s.view; gate = tt }
+
+-- no connection, over a plain bus; the first one gets the key 0
+abbrev pub first_over : Option Login → PlainBus → Ungated
+first_over login bus = record { standing = fresh login; next_key = 0; view = knowledge_of bus; gate = tt }
+
+-- the same without the key
 abbrev pub fresh_over : Option Login → PlainBus → Rest
-fresh_over login bus = record { standing = fresh login; view = knowledge_of bus }
+fresh_over login bus = rest_in (first_over login bus)
 
 -- a note over a plain bus tells nothing
 abbrev pub happening : Event (Unit {0}) → Occasion
@@ -42,26 +54,22 @@ pub record IsRunOf {G : Type 0} (passes : G → GatedCall → G → Type 0) (gat
 
 -- ## Why a run ends early
 
--- an engine without its gate: its connections, the key that it has for the next one, and what its view knows
-abbrev pub Ungated : Type 0
-Ungated = State (Unit {0})
-
-abbrev pub ungated : {G : Type 0} → State G → Ungated
-ungated s = record { standing = s.standing; next_key = s.next_key; view = s.view; gate = tt }
-
--- no connection, over a plain bus; the first one gets the key 0
-abbrev pub first_over : Option Login → PlainBus → Ungated
-first_over login bus = record { standing = fresh login; next_key = 0; view = knowledge_of bus; gate = tt }
-
--- The events come one after the other, each is served so, and each leaves a key for the next connection.
+-- The events come one after the other, each can happen, and each is served so. Each leaves a key for the next connection, by which that can come:
+-- behind a connection that came it is one that none has.
 abbrev pub IsLead : Ungated → List (Event (Unit {0})) → List Turn → Ungated → Type 0
 IsLead before [] [] after = after ≡ before
 IsLead before (event ∷ events) (turn ∷ turns) after =
-    (between : Ungated) × IsServedBy true before.standing before.view (happening event) turn.asked turn.deeds between.standing between.view ×
+    (between : Ungated) × CanHappen (λ _. 0) before event ×
+    IsServedBy true before.standing before.view (happening event) turn.asked turn.deeds between.standing between.view ×
     HasNextKey before event between × IsLead between events turns after
 IsLead before events turns after = ⊥
 
--- A connection comes with another key than that of the next one, which no connection has.
+-- All of the events can happen, where those before have come.
+abbrev pub CanCome : Ungated → List (Event (Unit {0})) → Type 0
+CanCome before events = (turns : List Turn) × (now : Ungated) × IsLead before events turns now
+
+-- A connection comes with another key than that of the next one, which no connection has. Where the event before brought a connection, the lead
+-- does not tell which that is.
 abbrev pub LacksKey : Ungated → Event (Unit {0}) → Type 0
 LacksKey s (event.Opened key challenge) = IsFree s.standing s.next_key × (key ≢ s.next_key)
 LacksKey s other = ⊥

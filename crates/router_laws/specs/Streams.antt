@@ -21,7 +21,7 @@ module _ {N G : Type 0} (told : N → History) (passes : G → GatedCall → G �
   exchanges_until_gone goes = asked_in told passes alone seat key goes.serves ++ exchanges_at goes.goes
 
 -- Two streams of a connection that end with the same input, whatever gates are shown the calls. Where nobody else makes changes of the bus
--- and nothing is refused, the same is written for them, and the engines are left the same.
+-- and nothing is refused, the same is written for them, and the same connections and what the views know are left.
 abbrev pub StreamsAgree : {V N R G H : Type 0} → BusView V N R → Gate G → Gate H → Type 0
 StreamsAgree {G = G} {H = H} view gate others = (seat key : ℕ) (before after : State G) (start end : State H) (read written wrote : List ℕ)
     (one : Goes view.told gate.passes view.alone seat key before read written after) (other : Goes view.told others.passes view.alone seat key start read wrote end) →

@@ -5,7 +5,7 @@ ghost use Rattle.router_laws.specs.GrantedRuns.{RunsAgree, RunsAreOne};
 use router_core::Gate;
 
 /// Where nothing is refused, the same events bring the same: the same is written, put and closed,
-/// for the same cause, and the engine is left the same.
+/// for the same cause, and the same connections and what the view knows are left.
 pub fn runs_are_one()
     ensures { RunsAreOne }
 {}

@@ -8,7 +8,7 @@ ghost use Rattle.router_core.specs.Standing.{fresh};
 ghost use Rattle.router_core.specs.declared.event.Event.TheVariants.{Opened};
 ghost use Rattle.router_laws.specs.declared.fault.EventFault.TheVariants.{NoTurn};
 ghost use Rattle.router_laws.specs.Outputs.{IsRefused, IsTurn, no_output};
-ghost use Rattle.router_laws.specs.Runs.{IsFaultOf, IsRunOf, first_over, fresh_over, occasions_of};
+ghost use Rattle.router_laws.specs.Runs.{CanCome, IsFaultOf, IsRunOf, first_over, fresh_over, occasions_of};
 
 use crate::fault::EventFault;
 use crate::outlets::Outlets;
@@ -131,6 +131,7 @@ pub fn run<G: Gate + Drop>(
     ensures run { IfOk result
         (λ all. IsRunOf G.passes gate (fresh_over login bus) (occasions_of events.items)
         (map (λ bytes. bytes.items) all.items)) }
+    ensures keys { IfOk result (λ _. CanCome (first_over login bus) events.items) }
     ensures fault { IfErr result (λ fault. IsFaultOf (first_over login bus) events.items fault) }
 {
     let mut session = Session::new(alloc, bus, gate, login)?;

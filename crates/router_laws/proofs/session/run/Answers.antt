@@ -10,9 +10,9 @@ use Rattle.router_core.specs.declared.event.Event.{Event}
 use Rattle.router_core.specs.Acts.{State}
 use Rattle.router_core.specs.Standing.{fresh}
 use Rattle.router_laws.specs.Outputs.{IsCourse, Output, no_output}
-use Rattle.router_laws.specs.Runs.{IsRunOf, fresh_over, occasions_of}
+use Rattle.router_laws.specs.Runs.{CanCome, IsRunOf, fresh_over, occasions_of, ungated}
 use Rattle.router_laws.proofs.Counting.{counted_turn, counted_all}
-use Rattle.router_laws.proofs.Courses.{course_begins, course_more, course_ends, course_faults, course_registry}
+use Rattle.router_laws.proofs.Courses.{course_begins, course_more, course_ends, course_faults, course_leads, course_registry}
 use Rattle.router_laws.proofs.session.run.Goals as goal
 
 pub loop-index-init : goal.loop-index-init
@@ -65,6 +65,20 @@ returns-clause-run g c =
     let ended = course_ends g.G.Gate.passes start c.loop-index.session.engine done c.loop-index.session.outlets c.loop-index.invariant in
     subst (λ (bytes : List (List ℕ)). IsRunOf g.G.Gate.passes c.args.gate (fresh_over c.args.login c.args.bus) (occasions_of events) bytes) (sym c.in_ok-into_bytes.ensures)
     (subst (λ (es : List (Event (Unit {0}))). IsRunOf g.G.Gate.passes c.args.gate (fresh_over c.args.login c.args.bus) (occasions_of es) c.loop-index.session.outlets.written) all ended)
+
+pub returns-clause-keys : goal.returns-clause-keys
+returns-clause-keys g c =
+    let start : State g.row.G.Denot = record { standing = fresh c.args.login; next_key = 0; view = knowledge_of c.args.bus; gate = c.args.gate } in
+    let events : List (Event (Unit {0})) = c.args.events.items in
+    let there = c.into_iter-index-iterator.ensures.into_iter_gives in
+    let source = ap (λ s. enumerate_source s) there ∙ c.enumerate-index-items.ensures.source in
+    let road = YieldsList-from_enumerate {s = c.into_iter-index-iterator.result}
+    (YieldsList-from_vec events (ap (λ s. into_iter_items s) source ∙ c.into_iter.ensures.rest) (search rules))
+    (ap (λ s. enumerate_count s) there ∙ c.enumerate-index-items.ensures.count) in
+    let end = YieldsList-end road c.loop-index.yielded _ c.loop-index.yielded_by c.next.result c.next.new.self c.in-None.is c.next.ensures.steps in
+    let all = counted_all events c.loop-index.yielded end.0 in
+    let done : List (Event (Unit {0})) = map (λ turn. turn.1) c.loop-index.yielded in
+    subst (λ (es : List (Event (Unit {0}))). CanCome (ungated start) es) all (course_leads g.G.Gate.passes start c.loop-index.session.engine done c.loop-index.session.outlets c.loop-index.invariant)
 
 pub returns-in_err-into_bytes-clause-fault : goal.returns-in_err-into_bytes-clause-fault
 returns-in_err-into_bytes-clause-fault g c =
