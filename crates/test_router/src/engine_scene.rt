@@ -72,8 +72,8 @@ fn bus(alloc: Global, services: &[WellKnown]) -> Result<SeqBus> {
     Ok(SeqBus::new(alloc, services, 1, Profile::Two)?)
 }
 
-/// Whether an event can happen to an engine: a connection comes with a key that is free. Mail
-/// brings no note here.
+/// Whether an event can happen to an engine: a connection comes with the key that is the next.
+/// Mail brings no note here.
 fn can_happen(engine: &Plain, event: &Event<()>) -> bool
     ensures { IsTrue result
         → CanHappen (λ _. 0) engine.now event.now }

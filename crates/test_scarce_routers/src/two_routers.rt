@@ -306,7 +306,7 @@ impl<S: Drop, L: Drop, T: Drop, Q: Drop> Ways<S, L, T, Q> {
     }
 }
 
-/// What the first router serves with, the second, and the thread that is none.
+/// What the first router serves with, the second, and the lane of the thread that is no router.
 fn part<S: Drop, L: Drop, T: Drop, Q: Drop>(
     seats: Vec<S>,
     outboxes: Option<(Vec<L>, Vec<T>)>,
