@@ -10,7 +10,6 @@ use Rattle.router_core.specs.declared.event.Event.{Event}
 use Rattle.router_core.specs.declared.event.Event.TheVariants.{Opened}
 use Rattle.router_core.specs.Acts.{State}
 use Rattle.router_core.specs.Deeds.{GatedCall}
-use Rattle.router.proofs.OneEvent.{served_well}
 use Rattle.busd_core.specs.declared.run_fault.RunFault.{RunFault}
 use Rattle.busd_core.specs.declared.run_fault.RunFault.TheVariants as fault
 use Rattle.busd_core.specs.Happenings.{written_to, mails_of, closed_by, Happens, AllHappen}
@@ -25,11 +24,11 @@ module _ {N G : Type 0} (told : N → History) (passes : G → GatedCall → G �
       IsBrought told registry_of passes alone key a event actions o p b → closed_by key actions ≡ None → AreMailedSo told passes alone seat key b (mails_of seat actions) later c result →
       HappensSo told passes alone seat key a event (written_to key actions ++ later) c result
   carried_so registry_of a b c event actions o p later (Ok u) first unclosed rest =
-      record { actions = actions; between = b; later = later; serves = served_well told registry_of passes alone a b event actions first.brings; is_open = unclosed; mailed = rest; writes = refl }
+      record { actions = actions; between = b; later = later; serves = first.serves; is_open = unclosed; mailed = rest; writes = refl }
   carried_so registry_of a b c event actions o p later (Err fault.Output) first unclosed rest =
-      (rest.0, record { actions = actions; between = b; come = rest.1.0; left = rest.1.1; later = later ++ rest.0; serves = served_well told registry_of passes alone a b event actions first.brings; put = rest.1.2; mailed = rest.1.3; writes = append_assoc (written_to key actions) later rest.0 })
+      (rest.0, record { actions = actions; between = b; come = rest.1.0; left = rest.1.1; later = later ++ rest.0; serves = first.serves; put = rest.1.2; mailed = rest.1.3; writes = append_assoc (written_to key actions) later rest.0 })
   carried_so registry_of a b c event actions o p later (Err fault.Memory) first unclosed rest =
-      inr (record { actions = actions; between = b; come = rest.0; left = rest.1; later = later ++ []; serves = served_well told registry_of passes alone a b event actions first.brings; put = rest.2; mailed = rest.3; writes = append_assoc (written_to key actions) later [] })
+      inr (record { actions = actions; between = b; come = rest.0; left = rest.1; later = later ++ []; serves = first.serves; put = rest.2; mailed = rest.3; writes = append_assoc (written_to key actions) later [] })
   carried_so registry_of a b c event actions o p later (Err fault.Input) first unclosed rest = absurd rest
   carried_so registry_of a b c event actions o p later (Err (fault.Closed cause)) first unclosed rest = absurd rest
 
@@ -41,12 +40,12 @@ module _ {N G : Type 0} (told : N → History) (passes : G → GatedCall → G �
   pub closes : (registry_of : N → ℕ) (a b : State G) (event : Event N) (actions : List (Action N)) (cause : CloseCause) (o p : Option (List ℕ)) → IsBrought told registry_of passes alone key a event actions o p b →
       closed_by key actions ≡ Some cause → IsCarriedOut told passes alone seat key a event o p b (Err (fault.Closed cause))
   closes registry_of a b event actions cause o p first is =
-      (written_to key actions, first.appends, record { actions = actions; serves = served_well told registry_of passes alone a b event actions first.brings; closes = is; writes = refl })
+      (written_to key actions, first.appends, record { actions = actions; serves = first.serves; closes = is; writes = refl })
 
   pub cut_short : (registry_of : N → ℕ) (a b : State G) (event : Event N) (o p : Option (List ℕ)) (e : RunFault) → IsCutShort told registry_of passes alone key a event o p b e → IsCarriedOut told passes alone seat key a event o p b (Err e)
   cut_short registry_of a b event o p fault.Memory h = ([], h.1, inl (h.0, refl))
   cut_short registry_of a b event o p fault.Output h =
-      (h.1, h.5, (h.2, record { actions = h.0; between = b; come = []; left = mails_of seat h.0; later = []; serves = served_well told registry_of passes alone a b event h.0 h.3; put = refl; mailed = (refl, refl); writes = sym h.4 ∙ sym (append-nil (written_to key h.0)) }))
+      (h.1, h.6, (h.2, record { actions = h.0; between = b; come = []; left = mails_of seat h.0; later = []; serves = h.4; put = refl; mailed = (refl, refl); writes = sym h.5 ∙ sym (append-nil (written_to key h.0)) }))
   cut_short registry_of a b event o p fault.Input h = absurd h
   cut_short registry_of a b event o p (fault.Closed cause) h = absurd h
 

@@ -10,7 +10,7 @@ use Rattle.router_core.specs.declared.action.Action.{Action}
 use Rattle.router_core.specs.declared.event.Event.TheVariants.{Mail}
 use Rattle.router_core.specs.Acts.{State, Brings}
 use Rattle.router_core.specs.Deeds.{GatedCall}
-use Rattle.router.proofs.OneEvent.{served_well}
+use Rattle.router.specs.OneEvent.{IsServedWell}
 use Rattle.busd_core.specs.declared.run_fault.RunFault.{RunFault}
 use Rattle.busd_core.specs.declared.run_fault.RunFault.TheVariants as fault
 use Rattle.busd_core.specs.Happenings.{written_to, Delivery, mail_to, Carries, IsMailed, AreMailed}
@@ -36,23 +36,23 @@ module _ {N G : Type 0} (told : N → History) (passes : G → GatedCall → G �
   not_sent a o ds = ([], Appends-nil o, ([], ds, refl, (refl, refl)))
 
   module _ (registry_of : N → ℕ) (a b : State G) (o p : Option (List ℕ)) (said : Said) (conn : Conn) (envelope : Envelope N) (carries : Carries envelope (for_conn said conn)) where
-    mailed : (actions : List (Action N)) (written : List ℕ) → Brings told registry_of passes alone a (Mail conn.slot envelope) actions b → written ≡ written_to key actions →
-        AreMailed told passes alone seat key a (for_conn said conn ∷ []) written b
-    mailed actions written brings is =
+    mailed : (actions : List (Action N)) (written : List ℕ) → Brings told registry_of passes alone a (Mail conn.slot envelope) actions b →
+        IsServedWell told passes alone a (Mail conn.slot envelope) actions b → written ≡ written_to key actions → AreMailed told passes alone seat key a (for_conn said conn ∷ []) written b
+    mailed actions written brings serves is =
         let quiet = mail_is_quiet told registry_of passes alone seat key a b conn.slot envelope actions carries.note brings in
         let one : IsMailed told passes alone seat key a (for_conn said conn) written b =
-        record { envelope = envelope; actions = actions; carries = carries; serves = served_well told registry_of passes alone a b (Mail conn.slot envelope) actions brings; nothing = quiet.0; is_open = quiet.1; writes = is } in
+        record { envelope = envelope; actions = actions; carries = carries; serves = serves; nothing = quiet.0; is_open = quiet.1; writes = is } in
         (b, written, [], one, (refl, refl), sym (append-nil written))
 
     pub sent : conn.router ≡ seat → (actions : List (Action N)) → IsBrought told registry_of passes alone key a (Mail conn.slot envelope) actions o p b → Delivers told passes alone seat key a (mail_to seat said conn) o p b (Ok tt)
     sent same actions brought =
         subst (λ (ds : List Delivery). Delivers told passes alone seat key a ds o p b (Ok tt)) (sym (here seat said conn same))
-        (written_to key actions, brought.appends, mailed actions (written_to key actions) brought.brings refl)
+        (written_to key actions, brought.appends, mailed actions (written_to key actions) brought.brings brought.serves refl)
 
     pub sent_in_part : conn.router ≡ seat → (e : RunFault) → IsCutShort told registry_of passes alone key a (Mail conn.slot envelope) o p b e → Delivers told passes alone seat key a (mail_to seat said conn) o p b (Err e)
     sent_in_part same fault.Memory h = ([], h.1, ([], mail_to seat said conn, refl, (h.0, refl)))
     sent_in_part same fault.Output h =
         subst (λ (ds : List Delivery). Delivers told passes alone seat key a ds o p b (Err fault.Output)) (sym (here seat said conn same))
-        (h.1, h.5, (h.2, (for_conn said conn ∷ [], [], refl, mailed h.0 (h.1 ++ h.2) h.3 (sym h.4))))
+        (h.1, h.6, (h.2, (for_conn said conn ∷ [], [], refl, mailed h.0 (h.1 ++ h.2) h.3 h.4 (sym h.5))))
     sent_in_part same fault.Input h = absurd h
     sent_in_part same (fault.Closed cause) h = absurd h

@@ -8,6 +8,7 @@ use Rattle.router_core.specs.declared.event.Event.{Event}
 use Rattle.router_core.specs.declared.gate.Gate.{Ghosts as Gate}
 use Rattle.router_core.specs.Acts.{State, Brings}
 use Rattle.router_core.specs.Deeds.{GatedCall}
+use Rattle.router.specs.OneEvent.{IsServedWell}
 use Rattle.busd_core.specs.declared.run_fault.RunFault.{RunFault}
 use Rattle.busd_core.specs.declared.run_fault.RunFault.TheVariants as fault
 use Rattle.busd_core.specs.Happenings.{written_to, Delivery, AreMailed, Happens, Closes, Breaks}
@@ -22,6 +23,7 @@ module _ {N G : Type 0} (told : N → History) (registry_of : N → ℕ) (passes
   -- The event brought these actions, and what they write was written.
   pub record IsBrought (before : State G) (event : Event N) (actions : List (Action N)) (wrote_old wrote_new : Option (List ℕ)) (after : State G) : Type 0 where
     pub brings : Brings told registry_of passes alone before event actions after
+    pub serves : IsServedWell told passes alone before event actions after
     pub appends : Appends wrote_old wrote_new (written_to key actions)
 
   -- There was no memory for the event, and nothing was done; or of what its actions write a front was written.
@@ -29,7 +31,8 @@ module _ {N G : Type 0} (told : N → History) (registry_of : N → ℕ) (passes
   IsCutShort before event wrote_old wrote_new after fault.Memory = (after ≡ before) × Appends wrote_old wrote_new []
   IsCutShort before event wrote_old wrote_new after fault.Output =
       (actions : List (Action N)) × (front missing : List ℕ)
-      × Brings told registry_of passes alone before event actions after × (written_to key actions ≡ front ++ missing) × Appends wrote_old wrote_new front
+      × Brings told registry_of passes alone before event actions after × IsServedWell told passes alone before event actions after
+      × (written_to key actions ≡ front ++ missing) × Appends wrote_old wrote_new front
   IsCutShort before event wrote_old wrote_new after other = ⊥
 
 module _ {N G : Type 0} (told : N → History) (passes : G → GatedCall → G → Type 0) (alone : Bool) (seat key : ℕ) where

@@ -1,5 +1,5 @@
 -- One event over a bus of one thread.
-use Rattle.std.proofs.Common.{◌≡◌, ℕ, Bool, true, List, Result, Ok, Err, IfOk, OnErr, ap, subst}
+use Rattle.std.proofs.Common.{◌≡◌, ℕ, Bool, true, List, Result, Ok, Err, IfOk, OnOk, OnErr, ap, subst}
 use Rattle.seq_bus_core.specs.Histories.{History}
 use Rattle.bus_view.specs.declared.view.BusView.{Ghosts as BusView}
 use Rattle.bus_view.specs.Views.{Knowledge}
@@ -14,6 +14,7 @@ use Rattle.router_core.proofs.Alone.{AreReadBy, Readers, effect}
 use Rattle.router_core.proofs.Asked.{answers_are_lawful}
 use Rattle.router_core.proofs.Functions.{effect_is, one_thread_is_a_function}
 use Rattle.router_core.proofs.Registries.{notes_are_own}
+use Rattle.router.specs.NextKeys.{HasNextKey}
 use Rattle.router.specs.OneEvent.{IsServedWell, rest_in}
 
 -- a view and a gate of these relations
@@ -46,12 +47,18 @@ pub brought_so : {N G : Type 0} (told : N → History) (passes : G → GatedCall
 brought_so told passes alone before after event actions h is granted readers read =
     effect_is readers (rest_in before) (rest_in after) (occasion_of told event) h.asked h.deeds (served_alone told passes alone before after event actions h is) granted read
 
+-- what a result that is Ok promises, by two of its promises
+pub both : {T E : Type 0} (r : Result T E) {P Q : T → Type 0} {K : Type 0} → ((x : T) → P x → K → Q x) → IfOk r P → OnOk r K → IfOk r Q
+both (Ok x) f p k = f x p k
+both (Err e) f p k = tt
+
 pub served_well : {N G : Type 0} (told : N → History) (registry_of : N → ℕ) (passes : G → GatedCall → G → Type 0) (alone : Bool) (before after : State G) (event : Event N) (actions : List (Action N)) →
-    Brings told registry_of passes alone before event actions after → IsServedWell told passes alone before event actions after
-served_well told registry_of passes alone before after event actions brings =
+    Brings told registry_of passes alone before event actions after → HasNextKey before event after → IsServedWell told passes alone before event actions after
+served_well told registry_of passes alone before after event actions brings key =
     let h = answers_are_lawful (view_of told registry_of alone) (gate_of passes) before after event actions brings in
     record {
       served = h;
+      key = key;
       one_thread = λ is granted deeds end other.
           one_thread_is_a_function (rest_in before) (rest_in after) end (occasion_of told event) h.deeds deeds (effect_of told passes alone before after event actions h is granted) other;
     }

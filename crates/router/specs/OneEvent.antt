@@ -9,15 +9,17 @@ use Rattle.router_core.specs.Acts.{IsGranted, IsServed, State}
 use Rattle.router_core.specs.Deeds.{Deed, GatedCall}
 use Rattle.router_core.specs.Events.{occasion_of}
 use Rattle.router_core.specs.OneThread.{IsEffect, Rest}
+use Rattle.router.specs.NextKeys.{HasNextKey}
 
--- what an engine keeps between events, but for its gate
+-- what an engine keeps between events, but for its gate and the key of the next connection
 abbrev pub rest_in : {G : Type 0} → State G → Rest
 rest_in s = record { standing = s.standing; view = s.view }
 
--- The event is served for some answers that the bus may give. Where nobody else makes changes of the bus and nothing is refused, what it
--- brings is a function of it: over the bus of one thread it brings nothing else.
+-- The event is served for some answers that the bus may give, and leaves the next key. Where nobody else makes changes of the bus and nothing
+-- is refused, what it brings is a function of it, but for that key: over the bus of one thread it brings nothing else.
 pub record IsServedWell {N G : Type 0} (told : N → History) (passes : G → GatedCall → G → Type 0) (alone : Bool) (before : State G) (event : Event N) (actions : List (Action N)) (after : State G) : Type 0 where
   pub served : IsServed told passes alone before event actions after
+  pub key : HasNextKey before event after
   pub one_thread : alone ≡ true → IsGranted served.asked → (deeds : List Deed) (end : Rest) → IsEffect (rest_in before) (occasion_of told event) deeds end →
       (served.deeds ≡ deeds) × (rest_in after ≡ end)
 

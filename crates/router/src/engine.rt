@@ -4,7 +4,7 @@ ghost use Rattle.std.specs.Prelude.{◌≡◌, ◌≢◌, ◌↔◌, [], IsTrue,
 ghost use Rattle.std.specs.List.{AllByRecursion};
 ghost use Rattle.router_core.specs.Acts.{BringsBy, CanHappen, IsNextKey};
 ghost use Rattle.router_core.specs.Deeds.{CarriesOwn};
-ghost use Rattle.router_core.specs.Standing.{fresh, has_slot, is_unnamed, peer_at};
+ghost use Rattle.router_core.specs.Standing.{IsFree, fresh, has_slot, is_unnamed, peer_at};
 ghost use Rattle.router_core.specs.declared.event.Event.TheVariants.{Opened, Bytes, Next, Turn, Mail, Closed, Full, Tick};
 ghost use Rattle.router.specs.NextKeys.{HasNextKey, key_after};
 ghost use Rattle.router.specs.Numbers.{number_at};
@@ -94,6 +94,7 @@ impl<V: BusView, G: Gate> Engine<V, G> {
         ensures brings { IfOk result
             (λ actions. BringsBy V.BusView G.Gate self.old (Opened self.old.next_key challenge)
             actions.items self.new) }
+        ensures key { OnOk result (IsFree self.new.standing self.new.next_key) }
         ensures err { OnErr result (self.new ≡ self.old) }
     {
         self.peers.open(challenge)?;
@@ -298,7 +299,6 @@ impl<V: BusView, G: Gate> Engine<V, G> {
             (λ actions. AllByRecursion (CarriesOwn V.registry_of self.old.view.registry)
             actions.items) }
         ensures registry { self.new.view.registry ≡ self.old.view.registry }
-        ensures key { OnOk result (HasNextKey self.old event.old self.new) }
         ensures err { OnErr result (self.new ≡ self.old) }
         ensures handed_back { OnErr result (event.new ≡ event.old) }
     {

@@ -150,11 +150,12 @@ impl<V: BusView, G: Gate> Peers<V, G> {
         }
     }
 
-    /// A connection came, and has the key that was next. Without memory nothing changes. The table
-    /// grows only where it is full.
+    /// A connection came, and has the key that was next. Without memory nothing changes, but perhaps
+    /// how many fit. The table grows only where it is full.
     pub fn open(&mut self, challenge: Option<[u8; 16]>) -> Result<(), AllocError>
         ensures ok { OnOk result (self.new.standing
             ≡ with_newcomer self.old.standing self.old.keys.next challenge) }
+        ensures free { OnOk result (IsFree self.new.standing self.new.keys.next) }
         ensures below { OnOk result (self.old.keys.next < self.new.keys.capacity) }
         ensures err { OnErr result (self.new.standing ≡ self.old.standing) }
         ensures next { OnErr result (self.new.keys.next ≡ self.old.keys.next) }
@@ -166,6 +167,8 @@ impl<V: BusView, G: Gate> Peers<V, G> {
         let Ok(_) = self.peers.insert(peer) else {
             return Err(AllocError);
         };
+        // Contracts see that no connection has it.
+        let _next = self.peers.vacant_key();
         Ok(())
     }
 

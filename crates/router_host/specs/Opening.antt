@@ -7,6 +7,7 @@ use Rattle.outbox_core.specs.declared.envelope.Envelope.{Envelope}
 use Rattle.router_core.specs.declared.action.Action.{Action}
 use Rattle.router_core.specs.declared.event.Event.TheVariants.{Opened}
 use Rattle.router_core.specs.declared.gate.Gate.{Ghosts as Gate}
+use Rattle.router_core.specs.Acts.{IsNextKey}
 use Rattle.router_core.specs.Deeds.{GatedCall}
 use Rattle.router.specs.OneEvent.{IsServedWell}
 use Rattle.router_host_core.specs.declared.post.Post.{Ghosts as Post}
@@ -26,7 +27,7 @@ module _ {P N G : Type 0} (puts : P → Conn → Envelope N → P → Type 0)
     pub places : ℕ
     pub is : after ≡ with_lines between (between.carried.lines ++ replicate places None)
 
--- Once all that events before brought is carried out and there is a place for it, a connection stands at its key that came just now, the
+-- Once all that events before brought is carried out and there is a place for it, a connection stands at the key that was next, the
 -- engine is told, and the actions that this brings are carried out, up to a start that there is no room for now. Nothing else is done.
 pub record Opens {P N G : Type 0} (told : N → History) (passes : G → GatedCall → G → Type 0)
     (alone : Bool) (puts : P → Conn → Envelope N → P → Type 0)
@@ -35,6 +36,7 @@ pub record Opens {P N G : Type 0} (told : N → History) (passes : G → GatedCa
   pub between : Hosted P G N
   pub makes_room : MakesRoom puts starts before between
   pub none_left : between.undone ≡ []
+  pub next : IsNextKey between.engine key
   pub has_place : key < length between.carried.lines
   pub actions : List (Action N)
   pub serves : IsServedWell told passes alone between.engine (Opened key challenge) actions after.engine

@@ -1,6 +1,7 @@
 //! The host of an engine.
 
 ghost use Rattle.std.specs.Prelude.{◌≡◌, IfOk, OnOk, OnErr};
+ghost use Rattle.router_core.specs.Acts.{IsNextKey};
 ghost use Rattle.router_host_core.specs.Carrying.{line_at};
 ghost use Rattle.router_host_core.specs.Sockets.{unblocked_at};
 ghost use Rattle.router_core.specs.declared.event.Event.TheVariants.{Child};
@@ -98,7 +99,9 @@ impl<V: BusView + Drop, G: Gate + Drop, P: Post<V>, S: Socket> Host<V, G, P, S> 
 
 impl<V: BusView, G: Gate, P: Post<V>, S: Socket> Host<V, G, P, S> {
     /// The key that the next connection will have.
-    pub fn free_key(&self) -> usize {
+    pub fn free_key(&self) -> usize
+        ensures { IsNextKey self.now.engine result }
+    {
         self.engine.free_key()
     }
 

@@ -1,7 +1,7 @@
 use Rattle.std.proofs.Common.{◌≡◌, ◌<◌, Some, is_some, count_by, refl, sym, ap, ◌∙◌, subst, arith}
 use Rattle.slab.specs.Slab.{Updates}
-use Rattle.router_core.specs.Standing.{Peer, Standing, newcomer, placed, trimmed}
-use Rattle.router_core.proofs.Trimmed.{count-trimmed}
+use Rattle.router_core.specs.Standing.{Peer, Standing, IsFree, newcomer, placed, trimmed}
+use Rattle.router_core.proofs.Trimmed.{count-trimmed, get-trimmed}
 use Rattle.router_steps.specs.Stages.{stage_of}
 use Rattle.router.specs.Tables.{Table}
 use Rattle.router.proofs.Indexing.{Keeps, index_kept, updates_keep}
@@ -22,6 +22,12 @@ returns-clause-ok g c =
     let is : t ≡ record s { peers = placed s.peers slab.vacant_key p } = λ i. record s { peers = opened i } in
     subst (λ (k : Table g.row.V-Note.Denot g.row.G.Denot). t ≡ record k.standing { peers = placed k.standing.peers k.keys.next p }) c.self.view_is is
     ∙ ap (λ (x : Peer). let u : Standing = record now.standing { peers = placed now.standing.peers now.keys.next x } in u) came
+
+pub returns-clause-free : goal.returns-clause-free
+returns-clause-free g c =
+    let after = c.insert.new.self in
+    subst (λ k. IsFree (standing_of after c.self.inside.due_leaves.items c.self.inside.login) k) c.vacant_key-next.ensures.value
+    (get-trimmed after.slots c.vacant_key-next.result ∙ c.vacant_key-next.ensures.vacant)
 
 pub invariant_of-self-2 : goal.invariant_of-self-2
 invariant_of-self-2 g c =

@@ -32,6 +32,7 @@ returns-in-Ok-open-clause-opens g c = record {
     is = ap (with_lines c.catch_up.new.self) (rw (← c.self.view_is, ← c.self-inside.view_is) c.make_room.ensures.places.1);
   };
   none_left = c.in-Ok.ensures.ok;
+  next = rw (← c.self.view_is, ← c.self-inside.view_is) c.in-Ok-open.ensures.key;
   has_place = subst (λ key. key < length c.make_room.new.self) (c.free_key-key.ensures.0 ∙ sym c.in-Ok-open.ensures.key.0) c.in-Ok-make_room.ensures.ok;
   actions = c.in-Ok-open.field-0.actions.items;
   serves = rw (c.carry_out.ensures.engine, ← c.self.view_is, ← c.self-inside.view_is) c.in-Ok-open.ensures.served;
