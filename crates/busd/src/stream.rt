@@ -4,7 +4,6 @@ ghost use Rattle.std.specs.Prelude.{◌≡◌, []};
 ghost use Rattle.owner_queues.specs.declared.request.Profile.TheVariants.{Two};
 ghost use Rattle.seq_bus_core.specs.Tickets.{opening_bus};
 
-use bus_view::BusView;
 use busd_core::{RunFault, run};
 use registry_snapshots::{Desk, Naming, NewHistory, Seat, Shared};
 use router::Engine;
@@ -20,7 +19,6 @@ fn run_at_seat<J: Naming, R: Input + Print + AllocGlobal + Wait>(
     seat: Seat<J>,
 ) -> Result<(), RunFault> {
     let desk = Desk::new(seat, shared);
-    let number = desk.seat();
     let Ok(mut engine) = Engine::new(rt.alloc(), desk, OpenGate, None) else {
         return Err(RunFault::Memory);
     };
@@ -28,7 +26,6 @@ fn run_at_seat<J: Naming, R: Input + Print + AllocGlobal + Wait>(
         rt.alloc(),
         &mut engine,
         rt,
-        number,
         &mut rt.reader(),
         &mut io::writer(rt),
     )

@@ -23,7 +23,7 @@
 //!     };
 //!     let mut reader = messages;
 //!     let mut written = Vec::new(alloc);
-//!     run(alloc, &mut engine, right, 1, &mut reader, &mut written)?;
+//!     run(alloc, &mut engine, right, &mut reader, &mut written)?;
 //!     Ok(written)
 //! }
 //! ```

@@ -89,6 +89,23 @@ pub fn run<V: BusView, G: Gate, R: Read, W: Write>(
     alloc: Global,
     engine: &mut Engine<V, G>,
     right: &V::Right,
+    reader: &mut R,
+    writer: &mut W,
+) -> Result<(), RunFault>
+    ensures runs { RunsBy V.BusView G.Gate engine.old.view.seat engine.old engine.new
+        (R.remaining reader.old) (R.remaining reader.new) (W.contents writer.old)
+        (W.contents writer.new) result }
+    ensures whole { OnOk result (IsAtEnd (R.remaining reader.new)) }
+{
+    let seat = engine.view().seat();
+    run_at(alloc, engine, right, seat, reader, writer)
+}
+
+/// The same, where the seat of the engine's router is known.
+fn run_at<V: BusView, G: Gate, R: Read, W: Write>(
+    alloc: Global,
+    engine: &mut Engine<V, G>,
+    right: &V::Right,
     seat: u8,
     reader: &mut R,
     writer: &mut W,

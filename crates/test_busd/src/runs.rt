@@ -21,11 +21,10 @@ pub(crate) fn run<R: Read, W: Write>(
     let Ok(bus) = SeqBus::new(alloc, &[], 1, Profile::Two) else {
         return Err(RunFault::Memory);
     };
-    let seat = bus.seat();
     let Ok(mut engine) = Engine::new(alloc, bus, OpenGate, None) else {
         return Err(RunFault::Memory);
     };
-    run_by(alloc, &mut engine, &(), seat, reader, writer)
+    run_by(alloc, &mut engine, &(), reader, writer)
 }
 
 pub(crate) fn joined(alloc: Global, parts: &[&[u8]]) -> Result<Vec<u8>, AllocError> {

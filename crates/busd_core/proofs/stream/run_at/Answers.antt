@@ -3,7 +3,7 @@ use Rattle.std.proofs.KnownBytes.{Consumes-nil}
 use Rattle.std.proofs.lemmas.Result.{err_from_is_err_and}
 use Rattle.router_core.specs.declared.event.Event.TheVariants.{Bytes, Next}
 use Rattle.busd_core.proofs.Endings.{begins, begins_not, rests, serves_on, stops, is_gone, loses}
-use Rattle.busd_core.proofs.stream.run.Goals as goal
+use Rattle.busd_core.proofs.stream.run_at.Goals as goal
 
 pub returns-in_err-carry_out-clause-runs : goal.returns-in_err-carry_out-clause-runs
 returns-in_err-carry_out-clause-runs g c =

@@ -1,7 +1,7 @@
 -- What was read is served, and what that brings is written.
 use Rattle.std.proofs.Common.{◌≡◌, length}
 use Rattle.busd_core.proofs.Endings.{HasServed}
-use Rattle.busd_core.proofs.stream.run.Given as goal
+use Rattle.busd_core.proofs.stream.run_at.Given as goal
 
 abbrev pub invariant-loop : goal.invariant-loop
 invariant-loop g l =
