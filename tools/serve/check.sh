@@ -353,7 +353,7 @@ told_to() {
 # Clients are let in who know the cookie, and nobody else. Whoever is closed for a fault, or is one too many without a
 # name, is told of where that is wanted.
 logins() {
-    local bus_name=org.freedesktop.DBus notice="busd: closed: 31: it didn't say who it is"
+    local bus_name=org.freedesktop.DBus notice="busd: closed: 31: the first byte is not zero"
     begin routers=1 --verbose
     COOKIE=1000:c0ffee told_to "$bus_name :1.1" ask ListNames
     COOKIE=1000:decaf told_to "it isn't let in" ask ListNames

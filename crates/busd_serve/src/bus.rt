@@ -96,12 +96,13 @@ fn prepare<R: Files + AllocGlobal + Clone + Drop>(
     })
 }
 
-/// The size of a block that is let go of before any message is.
+/// Above glibc's default mmap threshold, so that the block is mapped.
 const LARGE: usize = 4_194_304;
 
-/// Has the process keep what messages leave free. The system's allocator gives back what lies free
-/// behind all blocks in use, once it is more than twice the largest block that was let go of: a
-/// turn with large messages leaves megabytes, and the next would be given them anew, page by page.
+/// Has the process keep what messages leave free: when a mapped block is freed, glibc raises its
+/// mmap threshold to the block's size and its trim threshold to twice that (mallopt(3),
+/// M_MMAP_THRESHOLD). Else a turn with large messages gives megabytes back, and the next gets them
+/// anew, page by page.
 fn keep_free_memory(alloc: Global) {
     let _block: Result<Vec<u8>, AllocError> = Vec::with_capacity(alloc, LARGE);
 }

@@ -24,7 +24,7 @@ const STACK: usize = 131_072;
 
 /// What the threads that wait for programs share.
 #[derive(Drop)]
-pub(crate) struct Launch {
+pub(crate) struct LaunchShared {
     services: Vec<Service>,
     /// The address of the bus, as its programs are told it.
     address: String,
@@ -33,15 +33,15 @@ pub(crate) struct Launch {
     waker: PollWaker,
 }
 
-impl Launch {
+impl LaunchShared {
     /// Programs of these services, for a bus at this path.
     pub(crate) fn new(
         alloc: Global,
         services: Vec<Service>,
         path: SocketPath<'_>,
         waker: PollWaker,
-    ) -> Result<Launch, AllocError> {
-        Ok(Launch {
+    ) -> Result<LaunchShared, AllocError> {
+        Ok(LaunchShared {
             services,
             address: format!(in alloc; "{path}")?,
             ends: ArrayQueue::new(alloc, ENDS)?,
@@ -102,7 +102,7 @@ impl Launch {
 #[derive(Drop)]
 pub(crate) struct ProgramJob {
     pub(crate) alloc: Global,
-    pub(crate) launch: Arc<Launch, Global>,
+    pub(crate) launch: Arc<LaunchShared, Global>,
     /// The place of the service.
     pub(crate) place: usize,
     pub(crate) start: u64,
@@ -153,7 +153,7 @@ fn run_jobs<R: Threads + Wait + RunsPrograms + Clock + Copy + Send + 'static>(
 
 /// Starts the thread that starts programs. It ends once no more of them can be asked for. It is
 /// false where there can be none.
-pub(crate) fn spawn_launcher<R: Threads + Wait + RunsPrograms + Clock + Copy + Send + 'static>(
+pub(crate) fn spawn_job_thread<R: Threads + Wait + RunsPrograms + Clock + Copy + Send + 'static>(
     rt: &R,
     jobs: Receiver<ProgramJob, Global>,
 ) -> bool {

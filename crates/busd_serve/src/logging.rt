@@ -11,16 +11,16 @@ use std::{fmt, io};
 #[derive(Drop)]
 struct Notice(Ended);
 
-/// A cause in words.
-fn in_words(cause: CloseCause) -> &'static str {
+/// Writes a cause in words.
+fn write_words<W: fmt::Write>(cause: CloseCause, f: &mut fmt::Formatter<W>) -> fmt::Result {
     match cause {
-        CloseCause::Faulty(_) => "it sent what is no message",
-        CloseCause::TooLong => "its message would be too long with its name",
-        CloseCause::NotHello => "it didn't begin with Hello",
-        CloseCause::MonitorSent => "it is a monitor, and sent a message",
-        CloseCause::Left => "it didn't read its messages",
-        CloseCause::LimitsExceeded => "the bus is full",
-        CloseCause::Unauthenticated(_) => "it didn't say who it is",
+        CloseCause::Faulty(fault) => write!(f, "{fault}"),
+        CloseCause::TooLong => write!(f, "its message would be too long with its name"),
+        CloseCause::NotHello => write!(f, "it didn't begin with Hello"),
+        CloseCause::MonitorSent => write!(f, "it is a monitor, and sent a message"),
+        CloseCause::Left => write!(f, "it didn't read its messages"),
+        CloseCause::LimitsExceeded => write!(f, "the bus is full"),
+        CloseCause::Unauthenticated(fault) => write!(f, "{fault}"),
     }
 }
 
@@ -31,7 +31,10 @@ impl fmt::Display for Notice {
             None => write!(f, "busd: {}", self.0.cause)?,
         }
         match self.0.cause {
-            EndCause::Closed(cause) => write!(f, ": {}", in_words(cause)),
+            EndCause::Closed(cause) => {
+                write!(f, ": ")?;
+                write_words(cause, f)
+            }
             _ => Ok(()),
         }
     }
@@ -42,7 +45,7 @@ impl fmt::Display for Notice {
 pub(crate) struct EndLogger<'a, R: Eprint + Clock> {
     rt: &'a R,
     is_wanted: bool,
-    refusals: AcceptErrors<'a, R>,
+    refusals: AcceptLogger<'a, R>,
 }
 
 impl<'a, R: Eprint + Clock> EndLogger<'a, R> {
@@ -50,7 +53,7 @@ impl<'a, R: Eprint + Clock> EndLogger<'a, R> {
         EndLogger {
             rt,
             is_wanted,
-            refusals: AcceptErrors::new(rt, is_wanted),
+            refusals: AcceptLogger::new(rt, is_wanted),
         }
     }
 }
@@ -69,19 +72,19 @@ impl<R: Eprint + Clock> EndLog for EndLogger<'_, R> {
 }
 
 /// How often it is told at most that connections can't be accepted or served, in seconds.
-const SELDOM: u64 = 1;
+const SECONDS_BETWEEN: u64 = 1;
 
 /// Writes why connections can't be accepted or served, where that is wanted, once a second at most.
 #[derive(Drop)]
-pub(crate) struct AcceptErrors<'a, R: Eprint + Clock> {
+pub(crate) struct AcceptLogger<'a, R: Eprint + Clock> {
     rt: &'a R,
     is_wanted: bool,
     last: Option<Instant>,
 }
 
-impl<'a, R: Eprint + Clock> AcceptErrors<'a, R> {
-    pub(crate) fn new(rt: &'a R, is_wanted: bool) -> AcceptErrors<'a, R> {
-        AcceptErrors {
+impl<'a, R: Eprint + Clock> AcceptLogger<'a, R> {
+    pub(crate) fn new(rt: &'a R, is_wanted: bool) -> AcceptLogger<'a, R> {
+        AcceptLogger {
             rt,
             is_wanted,
             last: None,
@@ -105,13 +108,13 @@ impl<'a, R: Eprint + Clock> AcceptErrors<'a, R> {
     /// Whether the last one is long ago.
     fn is_due(&self, now: Instant) -> bool {
         match self.last {
-            Some(last) => now.duration_since(last) >= Duration::from_secs(SELDOM),
+            Some(last) => now.duration_since(last) >= Duration::from_secs(SECONDS_BETWEEN),
             None => true,
         }
     }
 }
 
-impl<R: Eprint + Clock> AcceptLog for AcceptErrors<'_, R> {
+impl<R: Eprint + Clock> AcceptLog for AcceptLogger<'_, R> {
     fn tell(&mut self, error: &io::Error) {
         self.write(error);
     }

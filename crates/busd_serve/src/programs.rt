@@ -1,7 +1,7 @@
 //! The programs of services.
 
 use crate::bus::Bus;
-use crate::launch::{Launch, ProgramJob, spawn_launcher};
+use crate::launch::{LaunchShared, ProgramJob, spawn_job_thread};
 use crate::runtime::DaemonRuntime;
 use busd_core::ServeFault;
 use busd_sockets::PollWaker;
@@ -25,7 +25,7 @@ pub(crate) struct Launcher<'a, R: Wait> {
     rt: &'a R,
     alloc: Global,
     requests: Tap<StartRequest>,
-    launch: Arc<Launch, Global>,
+    launch: Arc<LaunchShared, Global>,
     jobs: Sender<ProgramJob, Global>,
 }
 
@@ -43,9 +43,9 @@ pub(crate) fn start_launcher<'a, R: DaemonRuntime>(
     requests: Tap<StartRequest>,
     waker: PollWaker,
 ) -> Result<Launcher<'a, R>, ServeFault> {
-    let launch = Launch::new(alloc, services, bus.options.path, waker)?;
+    let launch = LaunchShared::new(alloc, services, bus.options.path, waker)?;
     let (jobs, taken) = bounded(alloc, JOBS)?;
-    if launch.has_services() && !spawn_launcher(rt, taken) {
+    if launch.has_services() && !spawn_job_thread(rt, taken) {
         return Err(ServeFault::Memory);
     }
     let Ok(launch) = Arc::new(alloc, launch) else {

@@ -23,7 +23,8 @@ pub trait RunsPrograms {
     fn run_program(&self, alloc: Global, service: &Service, address: &str) -> ProgramEnd;
 }
 
-/// Starts the program of a service.
+/// Starts the program of a service, with the variables that "Message Bus Starting Services
+/// (Activation)" of the D-Bus Specification names.
 fn spawn<R: Processes>(
     rt: &R,
     alloc: Global,

@@ -7,7 +7,7 @@ ghost use Rattle.seq_bus_core.specs.Tickets.{opening_bus};
 use crate::bus::{Bus, Listening};
 use crate::chores::SeatByClock;
 use crate::fault::{fault_of, poll_fault};
-use crate::logging::{AcceptErrors, EndLogger};
+use crate::logging::{AcceptLogger, EndLogger};
 use crate::polls::push;
 use crate::programs::start_launcher;
 use crate::runtime::DaemonRuntime;
@@ -232,7 +232,7 @@ fn run_threads<
         entrance,
         coordinator,
         bus.new_connections.as_slice(),
-        AcceptErrors::new(rt, bus.options.is_verbose),
+        AcceptLogger::new(rt, bus.options.is_verbose),
         chores,
     )
     .map_err(poll_fault)?;

@@ -22,7 +22,7 @@ pub trait AcceptLog {
     /// The system refused to accept one.
     fn tell(&mut self, error: &io::Error);
 
-    /// A connection was closed, since as many wait for its router as may.
+    /// A connection was closed, since its router's queue of new connections is full.
     fn refuse(&mut self);
 }
 

@@ -4,7 +4,7 @@ use std::rt::Clock;
 use std::time::{Duration, Instant};
 
 /// How long that time is, in seconds. Who comes while it runs has until its next end.
-const TIME: u64 = 30;
+const LOGIN_SECONDS: u64 = 30;
 
 /// The time in which who connects is to have a name, by the clock of the system. Where that tells
 /// nothing, no time passes.
@@ -30,7 +30,7 @@ impl<'a, R: Clock> LoginTimer<'a, R> {
             return false;
         };
         let is_over = match self.since {
-            Some(since) => now.duration_since(since) >= Duration::from_secs(TIME),
+            Some(since) => now.duration_since(since) >= Duration::from_secs(LOGIN_SECONDS),
             None => false,
         };
         if is_over || self.since.is_none() {
@@ -43,6 +43,6 @@ impl<'a, R: Clock> LoginTimer<'a, R> {
     pub(crate) fn left(&self) -> Option<Duration> {
         let since = self.since?;
         let now = Instant::now(self.rt).ok()?;
-        Some(Duration::from_secs(TIME).saturating_sub(now.duration_since(since)))
+        Some(Duration::from_secs(LOGIN_SECONDS).saturating_sub(now.duration_since(since)))
     }
 }

@@ -18,7 +18,7 @@ use std::time::Duration;
 const EVENTS: usize = 256;
 
 /// How many connections are told of at once.
-const NEW: usize = 64;
+const ACCEPTS_PER_WAIT: usize = 64;
 
 /// Who writes down which connections ended, or are not served.
 pub trait EndLog {
@@ -60,7 +60,7 @@ pub struct Sockets<'a, L: EndLog + Drop, R: Clock> {
     /// What is not told yet, the last first.
     readiness: Vec<Readiness>,
     /// How many connections that came may be told of before the next wait.
-    left: usize,
+    accepts_left: usize,
     login_timer: LoginTimer<'a, R>,
     log: L,
 }
@@ -79,7 +79,7 @@ impl<'a, L: EndLog + Drop, R: Clock> Sockets<'a, L, R> {
             events: Events::with_capacity(alloc, EVENTS)?,
             new_connections,
             readiness: Vec::with_capacity(alloc, EVENTS)?,
-            left: NEW,
+            accepts_left: ACCEPTS_PER_WAIT,
             login_timer: LoginTimer::new(rt),
             log,
         })
@@ -138,13 +138,13 @@ impl<'a, L: EndLog + Drop, R: Clock> Source<ClientSocket> for Sockets<'a, L, R> 
             Timeout::Never => None,
         };
         // More connections may have come than were told of, and nobody tells that again.
-        let most = if self.left == 0 {
+        let most = if self.accepts_left == 0 {
             Some(Duration::from_millis(0))
         } else {
             most
         };
         let most = shorter(most, self.login_timer.left());
-        self.left = NEW;
+        self.accepts_left = ACCEPTS_PER_WAIT;
         if self.poll.poll(&mut self.events, most).is_err() {
             return Err(Fault::Poll);
         }
@@ -155,7 +155,7 @@ impl<'a, L: EndLog + Drop, R: Clock> Source<ClientSocket> for Sockets<'a, L, R> 
         if let Some(event) = self.next_event() {
             return Some(event);
         }
-        self.left = self.left.checked_sub(1)?;
+        self.accepts_left = self.accepts_left.checked_sub(1)?;
         let NewConnection { stream, challenge } = self.new_connections.pop(rt)?;
         Some(SourceEvent::Accepted {
             socket: ClientSocket { stream },
