@@ -114,8 +114,8 @@ $usage$more" serve --address bus --routers 1 --services services --user 1000
     refused 2 "error: invalid value '0' for '--routers <N>': 0 is not in 1..=8$more" routers=0
     refused 2 "error: invalid value '9' for '--routers <N>': 9 is not in 1..=8$more" routers=9
     refused 2 "error: invalid value 'two' for '--routers <N>': invalid digit found in string$more" routers=two
-    refused 2 'error: an argument is no UTF-8' address=$'\xff'
-    fault 2 'error: an argument is no UTF-8' $'\xff'
+    refused 2 'error: an argument is not valid UTF-8' address=$'\xff'
+    fault 2 'error: an argument is not valid UTF-8' $'\xff'
     for path in '' "b$name_of_107" 'the bus' 'bus,guid' 'bus%20' 'bus:1' 'büs' \~/bus; do
         refused 2 'busd: address' address="$path"
     done

@@ -32,7 +32,8 @@ Exit status:
   0  the input came to its end, or help was asked for
   2  the command line is wrong
   3  `busd run`: the bus closed the connection
-  4  a file, a socket or another device of the system fails
+  4  a file, a socket or another device of the system fails, or a keyring or a
+     service file does not read
   5  there is no memory";
 
 /// What stands behind the help of `busd run`.
@@ -96,7 +97,7 @@ fn fail_unread<R: Eprint>(rt: &R, error: &io::Error) -> ExitCode
     ensures { exit_status result ≡ unread_status (error_kind error.now) }
 {
     if error.kind() == io::ErrorKind::InvalidData {
-        let _ = eprintln!(rt; "error: an argument is no UTF-8");
+        let _ = eprintln!(rt; "error: an argument is not valid UTF-8");
         return ExitCode::from(2);
     }
     fail(rt, RunFault::Memory)

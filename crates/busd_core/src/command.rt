@@ -58,12 +58,7 @@ fn flag<'a>(alloc: Global, name: &'a str, help: &'a str) -> Arg<'a> {
 
 fn options<'a>(alloc: Global) -> Result<Vec<Arg<'a>>, AllocError> {
     Ok(vec![in alloc;
-        value(
-            alloc,
-            "address",
-            "PATH",
-            "Path of the socket, which is made",
-        ),
+        value(alloc, "address", "PATH", "Path of the socket to create"),
         value(
             alloc,
             "routers",
@@ -82,13 +77,13 @@ fn options<'a>(alloc: Global) -> Result<Vec<Arg<'a>>, AllocError> {
             alloc,
             "user",
             "NAME",
-            "Who clients say that they are; most tell their user's number",
+            "User that clients log in as; most send their uid",
         ),
-        optional(alloc, "trace", "DIR", "Folder that the run is recorded in"),
+        optional(alloc, "trace", "DIR", "Folder to record the run in"),
         flag(
             alloc,
             "anonymous",
-            "Lets clients in that do not say who they are",
+            "Also lets clients in that do not authenticate (ANONYMOUS)",
         ),
         flag(
             alloc,
@@ -98,7 +93,7 @@ fn options<'a>(alloc: Global) -> Result<Vec<Arg<'a>>, AllocError> {
         flag(
             alloc,
             "verbose",
-            "Tells of each connection that ends by a fault",
+            "Writes to standard error why connections are closed or refused",
         ),
     ]?)
 }

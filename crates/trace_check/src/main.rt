@@ -50,7 +50,7 @@ fn command_line<'a>(alloc: Global) -> Result<Command<'a>, AllocError> {
         .arg(
             Arg::new(alloc, "explain")
                 .long("explain")
-                .help("Tells on standard error the line that a no names, and why")
+                .help("Also writes to standard error which line is not legal, and why")
                 .action(ArgAction::SetTrue),
         )
 }
@@ -147,7 +147,7 @@ fn fail_unread<R: Eprint>(rt: &R, error: &io::Error) -> ExitCode
     ensures { exit_status result ≡ unread_status (error_kind error.now) }
 {
     if error.kind() == io::ErrorKind::InvalidData {
-        let _ = eprintln!(rt; "error: an argument is no UTF-8");
+        let _ = eprintln!(rt; "error: an argument is not valid UTF-8");
         return ExitCode::from(2);
     }
     fail(rt, CheckFault::Memory)
