@@ -17,9 +17,6 @@ use std::time::Duration;
 /// smaller.
 pub const MAIN_THREAD: usize = usize::MAX;
 
-/// How many places for connections a bus has.
-const SLOTS: usize = MAX_CONNECTIONS;
-
 /// How long a router waits at most until another one ends a turn, in milliseconds.
 const TURN_WAIT: u64 = 2;
 
@@ -37,7 +34,7 @@ pub trait Wake {
     fn wake(&self);
 }
 
-/// What other threads may tell a router.
+/// What a router and the other threads tell each other.
 #[derive(Drop)]
 struct RouterState<W: Wake + Drop> {
     waker: W,
@@ -45,7 +42,8 @@ struct RouterState<W: Wake + Drop> {
     sleeps: AtomicBool,
     /// There is mail from another router for a slot of it: which one, the flag of the slot says.
     mail: AtomicBool,
-    /// A connection of it was full for another router.
+    /// It is to check which of its connections are present: one was full for another router, or
+    /// some left late.
     check_due: AtomicBool,
     /// A connection came for it.
     comes: AtomicBool,
@@ -102,14 +100,14 @@ impl<W: Wake + Drop> RouterState<W> {
     }
 }
 
-// A flag that is raised already is not written: others may be reading it.
+/// A flag that is raised already is not written: others may be reading it.
 fn raise(flag: &AtomicBool) {
     if !flag.load(Ordering::SeqCst) {
         flag.store(true, Ordering::SeqCst);
     }
 }
 
-// Whether a flag was raised. It no longer is.
+/// Whether a flag was raised. It no longer is.
 fn lower(flag: &AtomicBool) -> bool {
     flag.load(Ordering::SeqCst) && flag.swap(false, Ordering::SeqCst)
 }
@@ -160,8 +158,8 @@ fn tellings_of(alloc: Global, threads: usize) -> Result<Vec<CachePadded<Telling>
 
 /// A flag for each slot.
 fn flags(alloc: Global) -> Result<Vec<AtomicBool>, AllocError> {
-    let mut flags = Vec::with_capacity(alloc, SLOTS)?;
-    for _slot in 0..SLOTS {
+    let mut flags = Vec::with_capacity(alloc, MAX_CONNECTIONS)?;
+    for _slot in 0..MAX_CONNECTIONS {
         flags.push(AtomicBool::new(false))?;
     }
     Ok(flags)
@@ -201,7 +199,7 @@ impl<W: Wake + Drop> Coordinator<W> {
     pub(crate) fn places(&self) -> usize
         ensures { result ≡ places_of self.now }
     {
-        SLOTS / self.states.len().max(1)
+        MAX_CONNECTIONS / self.states.len().max(1)
     }
 
     /// The slot of a router's first place.
@@ -358,7 +356,7 @@ impl<W: Wake + Drop> Coordinator<W> {
 
     /// Whether there is mail for any slot of a router. The flag is lowered, before those of the
     /// slots are.
-    pub(crate) fn take_any_mail(&self, router: usize) -> bool {
+    pub(crate) fn take_any_mail_flag(&self, router: usize) -> bool {
         match self.states.get(router) {
             Some(state) => lower(&state.mail),
             None => false,
@@ -366,7 +364,7 @@ impl<W: Wake + Drop> Coordinator<W> {
     }
 
     /// Whether there is mail for this slot. The flag is lowered.
-    pub(crate) fn take_mail(&self, slot: usize) -> bool {
+    pub(crate) fn take_mail_flag(&self, slot: usize) -> bool {
         match self.mail.get(slot) {
             Some(flag) => lower(flag),
             None => false,
@@ -381,8 +379,8 @@ impl<W: Wake + Drop> Coordinator<W> {
         }
     }
 
-    /// Connections that came for a router up to now are looked for.
-    pub(crate) fn look_for_connections(&self, router: usize) {
+    /// A router looks for connections now: those that come later raise the flag again.
+    pub(crate) fn lower_comes(&self, router: usize) {
         if let Some(state) = self.states.get(router) {
             state.comes.store(false, Ordering::SeqCst);
         }
@@ -409,8 +407,8 @@ impl<W: Wake + Drop> Coordinator<W> {
         }
     }
 
-    /// Whether a connection of this router was full for another. The flag is lowered.
-    pub(crate) fn take_check(&self, router: usize) -> bool {
+    /// Whether a router is to check which of its connections are present. The flag is lowered.
+    pub(crate) fn take_check_flag(&self, router: usize) -> bool {
         match self.states.get(router) {
             Some(state) => lower(&state.check_due),
             None => false,
@@ -431,7 +429,7 @@ impl<W: Wake + Drop> Coordinator<W> {
     }
 
     /// A router waits no more.
-    pub(crate) fn wake_up(&self, router: usize) {
+    pub(crate) fn end_sleep(&self, router: usize) {
         if let Some(state) = self.states.get(router) {
             state.sleeps.store(false, Ordering::SeqCst);
         }

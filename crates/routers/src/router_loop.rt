@@ -21,12 +21,8 @@ pub struct Router<'a, V: BusView, G: Gate, P: Post<V>, S: Socket, E: Source<S>, 
     coordinator: &'a Coordinator<W>,
     host: Host<V, G, P, S>,
     source: E,
-    /// There was no memory for something in the last turn.
-    is_short_of_memory: bool,
-}
-
-fn any_failed(one: Result<(), AllocError>, other: Result<(), AllocError>) -> bool {
-    one.is_err() || other.is_err()
+    /// The last turn left something undone, for want of memory or of room for a start.
+    must_retry: bool,
 }
 
 impl<'a, V: BusView, G: Gate, P: Post<V>, S: Socket, E: Source<S>, W: Wake + Drop> Model
@@ -61,7 +57,7 @@ impl<'a, V: BusView, G: Gate, P: Post<V>, S: Socket, E: Source<S>, W: Wake + Dro
             coordinator,
             host,
             source,
-            is_short_of_memory: false,
+            must_retry: false,
         }
     }
 
@@ -108,12 +104,12 @@ impl<'a, V: BusView, G: Gate, P: Post<V>, S: Socket, E: Source<S>, W: Wake + Dro
         let waited = self
             .source
             .wait(if may_sleep { timeout } else { Timeout::Zero });
-        self.coordinator.wake_up(self.me);
+        self.coordinator.end_sleep(self.me);
         waited
     }
 
     fn timeout(&self) -> Timeout {
-        if self.is_short_of_memory {
+        if self.must_retry {
             return Timeout::Short;
         }
         if self.host.is_busy() {
@@ -129,7 +125,7 @@ impl<'a, V: BusView, G: Gate, P: Post<V>, S: Socket, E: Source<S>, W: Wake + Dro
     fn take_events<R: Wait>(&mut self, rt: &R, right: &V::Right) -> bool
         ensures serves { WorksOnBy V.BusView G.Gate P.Post self.old self.new }
     {
-        self.coordinator.look_for_connections(self.me);
+        self.coordinator.lower_comes(self.me);
         for _ in rt.forever() {
             let Some(event) = self.source.next(rt) else {
                 return false;
@@ -183,7 +179,7 @@ impl<'a, V: BusView, G: Gate, P: Post<V>, S: Socket, E: Source<S>, W: Wake + Dro
         self.end_login_time();
         let ticked = self.tick(right);
         let turned = self.host.turn(right);
-        self.is_short_of_memory = any_failed(ticked, turned);
+        self.must_retry = ticked.is_err() || turned.is_err();
         self.tell_ended();
     }
 
@@ -221,10 +217,10 @@ impl<'a, V: BusView, G: Gate, P: Post<V>, S: Socket, E: Source<S>, W: Wake + Dro
     fn take_flags(&mut self)
         ensures same { self.new ≡ self.old }
     {
-        if self.coordinator.take_any_mail(self.me) {
+        if self.coordinator.take_any_mail_flag(self.me) {
             self.take_mail_flags();
         }
-        if self.coordinator.take_check(self.me) {
+        if self.coordinator.take_check_flag(self.me) {
             self.host.check_came();
         }
     }
@@ -235,7 +231,7 @@ impl<'a, V: BusView, G: Gate, P: Post<V>, S: Socket, E: Source<S>, W: Wake + Dro
     {
         let first = self.coordinator.first_slot(self.me);
         for slot in first..first.saturating_add(self.coordinator.places()) {
-            if self.coordinator.take_mail(slot) {
+            if self.coordinator.take_mail_flag(slot) {
                 if let Ok(slot) = u16::try_from(slot) {
                     self.host.mail_came(slot);
                 }

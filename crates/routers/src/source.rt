@@ -57,8 +57,8 @@ pub trait Source<S: Socket> {
     /// as long as this is asked with `is_wanted`, whether there is anyone without one.
     fn login_time_passes(&mut self, is_wanted: bool) -> bool;
 
-    /// From now on it is told what happens to this socket, under its key. It is false where the
-    /// system refuses that.
+    /// Registers a socket under its key: from now on its readiness is told. It is false where the
+    /// system refuses that, which the source itself notes, as at [`refuse`](Source::refuse).
     fn watch(&mut self, key: usize, socket: &mut S) -> bool;
 
     /// A connection that came is not served, and its socket is closed.
