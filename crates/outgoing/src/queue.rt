@@ -125,6 +125,7 @@ impl<C: Chunk + Drop> Outgoing<C> {
     pub fn flush<S: Sink>(&mut self, sink: &mut S) -> io::Result<Flushed>
         ensures flushes { Flushes self.old self.new (S.taken sink.old) (S.taken sink.new) }
         ensures flushed { IfOk result (λ flushed. flushed ≡ flushed_of self.new) }
+        ensures unread { S.remaining sink.new ≡ S.remaining sink.old }
     {
         for _ in 0..u64::MAX {
             if self.is_empty() {
@@ -147,6 +148,7 @@ impl<C: Chunk + Drop> Outgoing<C> {
     fn write_some<S: Sink>(&self, sink: &mut S) -> io::Result<usize>
         ensures bound { WritesAtMost result self.now }
         ensures bytes { WriteAppends (S.taken sink.old) (S.taken sink.new) result self.now }
+        ensures unread { S.remaining sink.new ≡ S.remaining sink.old }
     {
         let last = self.last.as_slice();
         let first = &part_at(&self.parts, last, 0)[self.written..];

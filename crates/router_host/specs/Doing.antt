@@ -11,19 +11,21 @@ use Rattle.router_core.specs.Deeds.{GatedCall}
 use Rattle.router_host_core.specs.declared.ending.EndCause.{EndCause}
 use Rattle.router_host_core.specs.declared.post.StartRequest.{StartRequest}
 use Rattle.router_host_core.specs.declared.post.Post.{Ghosts as Post}
-use Rattle.router_host_core.specs.Carrying.{Each, line_at, ended_at}
-use Rattle.router_host_core.specs.Sockets.{IsFlushedAt, IsTakenOut, cause_of, let_go}
+use Rattle.router_host_core.specs.Carrying.{Each, line_at, with_line, ended_at}
+use Rattle.router_host_core.specs.Sockets.{Gives, IsFlushedAt, IsReadToEnd, IsTakenOut, cause_of, let_go}
 use Rattle.router_host_core.specs.States.{LineState}
 use Rattle.router_host.specs.Happening.{CatchesUp, Happens, IsSlotBlocked}
-use Rattle.router_host.specs.States.{Hosted}
+use Rattle.router_host.specs.States.{Happening, Hosted, Piece, Waiting}
 
 -- What a host does by itself.
 pub data Task (N : Type 0) : Type 0 where
   -- What events before brought goes on.
   Catches : Task N
-  -- The event that was kept happens, or is kept still.
+  -- What was kept happens, or is kept still.
   Resumes : Task N
-  -- Bytes of a connection, or whole messages of it, are an event.
+  -- The socket of the connection of this key gives these bytes, which wait to be an event.
+  Reads : ℕ → List ℕ → Task N
+  -- Whole messages of a connection are an event.
   Hears : Event N → Task N
   -- An envelope of this slot is taken from the post, and is an event.
   Takes : ℕ → Envelope N → Task N
@@ -36,12 +38,18 @@ pub data Task (N : Type 0) : Type 0 where
   -- This connection took no more mail, which is an event.
   PutsOut : Conn → Task N
 
--- an event of bytes or messages of connections
+-- an event of messages of connections
 abbrev pub IsHeard : {N : Type 0} → Event N → Type 0
-IsHeard (event.Bytes key piece) = Unit {0}
 IsHeard (event.Next key) = Unit {0}
 IsHeard (event.Turn keys) = Unit {0}
 IsHeard other = ⊥
+
+-- what waits is this event, or bytes that come by it
+abbrev pub IsWaiting : {N : Type 0} → Option (Waiting N) → Event N → Type 0
+IsWaiting (Some (Piece key bytes)) (event.Bytes other piece) =
+    (other ≡ key) × (piece.items ≡ bytes)
+IsWaiting (Some (Happening e)) other = e ≡ other
+IsWaiting kept other = ⊥
 
 module _ {P N G : Type 0} where
   abbrev pub with_lines : Hosted P G N → List (Option LineState) → Hosted P G N
@@ -53,54 +61,61 @@ module _ {P N G : Type 0} where
   abbrev pub with_full : Hosted P G N → List (Option Conn) → Hosted P G N
   with_full s full = record s { carried = record s.carried { full = full } }
 
-module _ {P N G : Type 0} (told : N → History) (passes : G → GatedCall → G → Type 0)
+module _ {P N G : Type 0} (told : N → History) (registry_of : N → ℕ) (passes : G → GatedCall → G → Type 0)
     (alone : Bool) (puts : P → Conn → Envelope N → P → Type 0)
     (starts : P → StartRequest → P → Type 0) where
   -- The event happens; or what events before brought goes on, and the event is kept.
   abbrev pub IsBrought : Hosted P G N → Event N → Hosted P G N → Type 0
   IsBrought before e after =
-      Happens told passes alone puts starts before e after
+      Happens told registry_of passes alone puts starts before e after
       ⊎ ((between : Hosted P G N) × CatchesUp puts starts before between
-      × (after ≡ record between { kept = Some e }))
+      × (after ≡ record between { kept = Some (Happening e) }))
 
   -- It happens that the connection took no more mail; or what events before brought goes on, and it is noted once more.
   abbrev pub IsPutOut : Hosted P G N → Conn → Hosted P G N → Type 0
   IsPutOut before conn after =
-      Happens told passes alone puts starts before (event.Full conn.number) after
+      Happens told registry_of passes alone puts starts before (event.Full conn.number) after
       ⊎ ((between : Hosted P G N) × CatchesUp puts starts before between
       × (after ≡ with_full between (slice_set between.carried.full conn.slot (Some conn))))
 
-module _ {P N G : Type 0} (told : N → History) (passes : G → GatedCall → G → Type 0)
+module _ {P N G : Type 0} (told : N → History) (registry_of : N → ℕ) (passes : G → GatedCall → G → Type 0)
     (alone : Bool) (puts : P → Conn → Envelope N → P → Type 0)
     (starts : P → StartRequest → P → Type 0)
     (takes : P → ℕ → Envelope N → P → Type 0) where
-  -- Nothing else is done. While an event is kept, none of these but itself is served, and no envelope is taken.
+  -- Nothing else is done. While something is kept, nothing else is served, no socket is read and no envelope is taken.
   abbrev pub IsDone : Task N → Hosted P G N → Hosted P G N → Type 0
   IsDone Catches before after = CatchesUp puts starts before after
   IsDone Resumes before after =
-      (e : Event N) × (before.kept ≡ Some e)
-      × IsBrought told passes alone puts starts (record before { kept = None }) e after
+      (e : Event N) × IsWaiting before.kept e
+      × IsBrought told registry_of passes alone puts starts (record before { kept = None }) e after
+  IsDone (Reads key bytes) before after =
+      (before.kept ≡ None)
+      × ((l : LineState) × (line_at before.carried.lines key ≡ Some l)
+      × ((left : Option (List ℕ)) × Gives l bytes left
+      × (after ≡ record (with_lines before
+      (with_line before.carried.lines key (record l { left = left })))
+      { kept = Some (Piece key bytes) })))
   IsDone (Hears e) before after =
-      (before.kept ≡ None) × IsHeard e × IsBrought told passes alone puts starts before e after
+      (before.kept ≡ None) × IsHeard e × IsBrought told registry_of passes alone puts starts before e after
   IsDone (Takes slot envelope) before after =
       (before.kept ≡ None) × (IsSlotBlocked before slot → ⊥)
       × ((post : P) × takes before.carried.post slot envelope post
-      × IsBrought told passes alone puts starts (with_post before post)
+      × IsBrought told registry_of passes alone puts starts (with_post before post)
       (event.Mail slot envelope) after)
   IsDone (Ends key cause) before after =
-      after ≡ with_lines before
-      (ended_at before.carried.lines key cause (line_at before.carried.lines key))
+      (l : LineState) × (line_at before.carried.lines key ≡ Some l) × IsReadToEnd l.left cause
+      × (after ≡ with_lines before (ended_at before.carried.lines key cause (Some l)))
   IsDone (Flushes key) before after =
       (lines : List (Option LineState)) × IsFlushedAt key before.carried.lines lines
       × (after ≡ with_lines before lines)
   IsDone (LetsGo key) before after =
       (before.kept ≡ None)
       × ((cause : EndCause) × (cause_of (line_at before.carried.lines key) ≡ Some cause)
-      × IsBrought told passes alone puts starts
+      × IsBrought told registry_of passes alone puts starts
       (with_lines before (let_go before.carried.lines key (Some cause))) (event.Closed key) after)
   IsDone (PutsOut conn) before after =
       (full : List (Option Conn)) × IsTakenOut conn before.carried.full full
-      × IsPutOut told passes alone puts starts (with_full before full) conn after
+      × IsPutOut told registry_of passes alone puts starts (with_full before full) conn after
 
   -- Such tasks are done, one after the other, and nothing else.
   pub record Does (before after : Hosted P G N) : Type 0 where
@@ -111,9 +126,9 @@ module _ {P N G : Type 0} (told : N → History) (passes : G → GatedCall → G
 abbrev pub IsBroughtBy : {V N R G P : Type 0} → BusView V N R → Gate G → Post P V N R → Hosted P G N →
     Event N → Hosted P G N → Type 0
 IsBroughtBy view gate post before e after =
-    IsBrought view.told gate.passes view.alone post.puts post.starts before e after
+    IsBrought view.told view.registry_of gate.passes view.alone post.puts post.starts before e after
 
 abbrev pub DoesBy : {V N R G P : Type 0} → BusView V N R → Gate G → Post P V N R → Hosted P G N →
     Hosted P G N → Type 0
 DoesBy view gate post before after =
-    Does view.told gate.passes view.alone post.puts post.starts post.takes before after
+    Does view.told view.registry_of gate.passes view.alone post.puts post.starts post.takes before after

@@ -7,6 +7,7 @@ use Rattle.outbox_core.specs.declared.envelope.Envelope.{Envelope}
 use Rattle.router_core.specs.declared.action.Action.{Action}
 use Rattle.router_core.specs.declared.event.Event.{Event}
 use Rattle.router_core.specs.declared.gate.Gate.{Ghosts as Gate}
+use Rattle.router_core.specs.Acts.{Brings}
 use Rattle.router_core.specs.Deeds.{GatedCall}
 use Rattle.router_core.specs.Standing.{has_slot}
 use Rattle.router.specs.OneEvent.{IsServedWell}
@@ -25,7 +26,7 @@ module _ {P N G : Type 0} (puts : P → Conn → Envelope N → P → Type 0)
 
 -- What events before brought is carried out; then the engine serves the event, and the actions that it brings are carried out, up to a
 -- start that there is no room for now. Nothing else is done.
-pub record Happens {P N G : Type 0} (told : N → History) (passes : G → GatedCall → G → Type 0)
+pub record Happens {P N G : Type 0} (told : N → History) (registry_of : N → ℕ) (passes : G → GatedCall → G → Type 0)
     (alone : Bool) (puts : P → Conn → Envelope N → P → Type 0)
     (starts : P → StartRequest → P → Type 0)
     (before : Hosted P G N) (event : Event N) (after : Hosted P G N) : Type 0 where
@@ -33,6 +34,7 @@ pub record Happens {P N G : Type 0} (told : N → History) (passes : G → Gated
   pub catches_up : CatchesUp puts starts before between
   pub none_left : between.undone ≡ []
   pub actions : List (Action N)
+  pub brings : Brings told registry_of passes alone between.engine event actions after.engine
   pub serves : IsServedWell told passes alone between.engine event actions after.engine
   pub carried : GoesOn puts starts actions between.carried after.undone after.carried
   pub kept : after.kept ≡ between.kept
@@ -41,7 +43,7 @@ pub record Happens {P N G : Type 0} (told : N → History) (passes : G → Gated
 abbrev pub HappensBy : {V N R G P : Type 0} → BusView V N R → Gate G → Post P V N R → Hosted P G N →
     Event N → Hosted P G N → Type 0
 HappensBy view gate post before event after =
-    Happens view.told gate.passes view.alone post.puts post.starts before event after
+    Happens view.told view.registry_of gate.passes view.alone post.puts post.starts before event after
 
 -- The socket of the connection that has the slot took no more bytes.
 abbrev pub IsSlotBlocked : {P G N : Type 0} → Hosted P G N → ℕ → Type 0

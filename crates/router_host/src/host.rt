@@ -8,6 +8,8 @@ ghost use Rattle.router_core.specs.declared.event.Event.TheVariants.{Child};
 ghost use Rattle.router_host.specs.Doing.{with_lines};
 ghost use Rattle.router_host.specs.Happening.{CatchesUp, HappensBy};
 ghost use Rattle.router_host.specs.Opening.{MakesRoom, OpensBy};
+ghost use Rattle.router_host.specs.States.{new_host};
+ghost use Rattle.router_host_core.specs.States.{new_line};
 
 use crate::kept::Kept;
 use crate::opening::{OpenFault, Opened, open};
@@ -36,7 +38,7 @@ pub struct Host<V: BusView, G: Gate, P: Post<V>, S: Socket> {
     /// What was read last.
     pub(crate) room: Vec<u8>,
     pub(crate) ended: Vec<Ended>,
-    /// A connection of these took no more mail: whether it is present is to be checked.
+    /// Which of these connections are present is to be checked at the next tick.
     pub(crate) check_due: bool,
     /// The last event seems to have added or removed rules. Such calls come in numbers, and share a
     /// publication where they are served at once.
@@ -53,17 +55,17 @@ impl<V: BusView, G: Gate, P: Post<V>, S: Socket> Model for Host<V, G, P, S> {
 
     ghost Value = { Hosted P G V.Note };
 
-    ghost use Rattle.router_host.specs.Keeping.{KeepsOwn, event_of};
+    ghost use Rattle.router_host.specs.Keeping.{KeepsOwn, waiting};
 
     ghost view = { λ h. record {
       engine = h.engine;
       carried = h.carrier;
       undone = reverse h.undone.items;
-      kept = event_of h.kept;
+      kept = waiting h.room.items h.kept;
     } };
 
     ghost invariant = { λ h. (P.registry h.carrier.post ≡ h.engine.view.registry)
-        × KeepsOwn V.registry_of h.engine.view.registry h.kept
+        × KeepsOwn V.registry_of h.engine.view.registry h.room.items h.kept
         × AllByRecursion (CarriesOwn V.registry_of h.engine.view.registry)
         (reverse h.undone.items) };
 }
@@ -78,8 +80,7 @@ impl<V: BusView + Drop, G: Gate + Drop, P: Post<V>, S: Socket> Host<V, G, P, S> 
         count: u16,
     ) -> Result<Self, AllocError>
         requires { P.registry post ≡ engine.view.registry }
-        ensures engine { IfOk result (λ host. host.engine ≡ engine) }
-        ensures post { IfOk result (λ host. host.carried.post ≡ post) }
+        ensures { IfOk result (λ host. host ≡ new_host engine post) }
     {
         let room = Vec::from_elem(alloc, 0u8, ROOM)?;
         Ok(Host {
@@ -131,7 +132,8 @@ impl<V: BusView, G: Gate, P: Post<V>, S: Socket> Host<V, G, P, S> {
         challenge: Option<[u8; 16]>,
     ) -> Result<usize, OpenFault>
         ensures opens { IfOk result (λ key.
-            OpensBy V.BusView G.Gate P.Post self.old key challenge self.new) }
+            OpensBy V.BusView G.Gate P.Post self.old
+            (new_line (S.remaining socket) (S.taken socket)) key challenge self.new) }
         ensures err { OnErr result (MakesRoom P.puts P.starts self.old self.new) }
     {
         let Ok(()) = self.catch_up(right) else {
@@ -190,7 +192,7 @@ impl<V: BusView, G: Gate, P: Post<V>, S: Socket> Host<V, G, P, S> {
     }
 
     /// Another router asks to check which connections are present: one of this router took no more
-    /// mail.
+    /// mail, or some that were to leave the bus before have left it.
     pub fn check_came(&mut self)
         ensures { self.new ≡ self.old }
     {

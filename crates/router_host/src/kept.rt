@@ -6,6 +6,6 @@ use router_core::Event;
 #[derive(Drop)]
 pub(crate) enum Kept<N: Drop> {
     Happening(Event<N>),
-    /// So many bytes of a connection are in the room.
+    /// The first bytes of the room, so many, came from a connection.
     Piece { key: usize, count: usize },
 }

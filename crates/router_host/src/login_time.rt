@@ -1,4 +1,4 @@
-//! The time in which who connects is to have a name.
+//! The login time: within it who connects is to log in and say Hello.
 
 ghost use Rattle.std.specs.Prelude.{◌≡◌, None};
 ghost use Rattle.router.specs.Numbers.{number_at};
@@ -25,7 +25,7 @@ impl<V: BusView, G: Gate, P: Post<V>, S: Socket> Host<V, G, P, S> {
         false
     }
 
-    /// The time in which who connects is to have a name has passed once more. Each connection
+    /// The login time has passed once more. Each connection
     /// without one that was there already when it passed last is over; one that came since has
     /// until it passes next. The next turn lets go of those that are over.
     pub fn end_login_time(&mut self)

@@ -3,7 +3,7 @@
 ghost use Rattle.std.specs.Prelude.{◌≡◌, IfOk, OnErr};
 ghost use Rattle.std.specs.List.{AllByRecursion};
 ghost use Rattle.router_core.specs.Deeds.{CarriesOwn};
-ghost use Rattle.router_core.specs.Acts.{IsNextKey};
+ghost use Rattle.router_core.specs.Acts.{BringsBy, IsNextKey};
 ghost use Rattle.router_core.specs.declared.event.Event.TheVariants as event;
 ghost use Rattle.router.specs.OneEvent.{IsServedWellBy};
 
@@ -24,7 +24,7 @@ pub enum OpenFault {
     #[error("nobody may log in")]
     NobodyMayLogIn,
     /// More starts of services are asked for than are carried out.
-    #[error("too many starts")]
+    #[error("too many starts of services wait")]
     TooManyStarts,
     #[error("out of memory")]
     NoMemory,
@@ -45,6 +45,8 @@ pub(crate) fn open<V: BusView, G: Gate>(
     ensures notes { IfOk result (λ opened.
         AllByRecursion (CarriesOwn V.registry_of engine.old.view.registry) opened.actions.items) }
     ensures key { IfOk result (λ opened. IsNextKey engine.old opened.key) }
+    ensures brings { IfOk result (λ opened. BringsBy V.BusView G.Gate engine.old
+        (event.Opened opened.key challenge) opened.actions.items engine.new) }
     ensures served { IfOk result (λ opened. IsServedWellBy V.BusView G.Gate engine.old
         (event.Opened opened.key challenge) opened.actions.items engine.new) }
     ensures registry { engine.new.view.registry ≡ engine.old.view.registry }

@@ -1,6 +1,6 @@
 //! A turn.
 
-ghost use Rattle.std.specs.Prelude.{◌≡◌, [], None, false, OnOk, OnErr};
+ghost use Rattle.std.specs.Prelude.{◌≡◌, ◌≤◌, [], None, false, length, take, IfOk, OnOk, OnErr};
 ghost use Rattle.std.specs.List.{AllByRecursion};
 ghost use Rattle.router_core.specs.Deeds.{CarriesOwn};
 ghost use Rattle.router_core.specs.Acts.{CanHappen};
@@ -19,7 +19,7 @@ use router_core::{Action, Event, Gate};
 use router_host_core::{EndCause, Ended, Post, Pulled, SLOTS, Socket, Todo};
 use seq_bus_core::Conn;
 use seq_bus_core::limits::MAX_BATCH;
-use std::alloc::AllocError;
+use std::alloc::{AllocError, Global};
 
 /// How many messages of a connection are served before mail is taken: what they bring for one
 /// connection there is room for.
@@ -55,6 +55,7 @@ impl<V: BusView, G: Gate, P: Post<V>, S: Socket> Host<V, G, P, S> {
         done
     }
 
+    /// All of a turn but its end. What waits for sockets is written even where serving failed.
     fn do_all(&mut self, right: &V::Right) -> Result<(), AllocError>
         ensures does { DoesBy V.BusView G.Gate P.Post self.old self.new }
         ensures ok { OnOk result (self.new.kept ≡ None) }
@@ -73,7 +74,8 @@ impl<V: BusView, G: Gate, P: Post<V>, S: Socket> Host<V, G, P, S> {
         self.carrier.lines.flush_all();
     }
 
-    /// What failed is done first in the next turn.
+    /// Ends a turn. After a failure all is looked at in the next one; whoever was brought something is
+    /// woken.
     fn end_turn(&mut self, right: &V::Right, failed: bool)
         ensures { self.new ≡ self.old }
     {
@@ -88,7 +90,8 @@ impl<V: BusView, G: Gate, P: Post<V>, S: Socket> Host<V, G, P, S> {
     ///
     /// # Errors
     ///
-    /// There was no memory for it. A tick is wanted still.
+    /// There was no memory for it, or no room for what events before it brought. A tick is wanted
+    /// still.
     pub fn tick(&mut self, right: &V::Right) -> Result<(), AllocError>
         ensures happens { OnOk result
             (HappensBy V.BusView G.Gate P.Post self.old Tick self.new) }
@@ -101,7 +104,8 @@ impl<V: BusView, G: Gate, P: Post<V>, S: Socket> Host<V, G, P, S> {
         Ok(())
     }
 
-    /// Where Leaves were due, they were made for connections of whatever router.
+    /// Where Leaves were due, the other routers are asked to check their connections, since they may
+    /// be of any. Whoever was brought something is woken.
     fn end_tick(&mut self, right: &V::Right, leaves: bool)
         ensures { self.new ≡ self.old }
     {
@@ -111,6 +115,8 @@ impl<V: BusView, G: Gate, P: Post<V>, S: Socket> Host<V, G, P, S> {
         self.carrier.post.wake_others(right);
     }
 
+    /// Serves what was left, lets go of who is over, takes mail, and serves what is ready, in this
+    /// order.
     fn serve_all(&mut self, right: &V::Right) -> Result<(), AllocError>
         ensures does { DoesBy V.BusView G.Gate P.Post self.old self.new }
         ensures ok { OnOk result (self.new.kept ≡ None) }
@@ -123,6 +129,7 @@ impl<V: BusView, G: Gate, P: Post<V>, S: Socket> Host<V, G, P, S> {
         self.serve_ready(right)
     }
 
+    /// Lets go of the connections that are over, and puts out those that took no more mail.
     fn let_go_all(&mut self, right: &V::Right) -> Result<(), AllocError>
         requires none { self.old.kept ≡ None }
         ensures does { DoesBy V.BusView G.Gate P.Post self.old self.new }
@@ -251,7 +258,13 @@ impl<V: BusView, G: Gate, P: Post<V>, S: Socket> Host<V, G, P, S> {
         match self.kept.take() {
             None => Ok(()),
             Some(Kept::Happening(event)) => self.serve(right, event),
-            Some(Kept::Piece { key, count }) => self.feed(right, key, count),
+            Some(Kept::Piece { key, count }) => match front(self.alloc, &self.room, count) {
+                Ok(piece) => self.serve(right, Event::Bytes { key, piece }),
+                Err(AllocError) => {
+                    self.kept = Some(Kept::Piece { key, count });
+                    Err(AllocError)
+                }
+            },
         }
     }
 
@@ -395,27 +408,14 @@ impl<V: BusView, G: Gate, P: Post<V>, S: Socket> Host<V, G, P, S> {
         ensures ok { OnOk result (self.new.kept ≡ None) }
     {
         match self.carrier.lines.pull(key, &mut self.room) {
-            Pulled::Bytes(count) => self.feed(right, key, count),
+            Pulled::Bytes(count) => {
+                self.kept = Some(Kept::Piece { key, count });
+                self.serve_kept(right)
+            }
             Pulled::Nothing => Ok(()),
             Pulled::Over(cause) => {
                 self.carrier.lines.end(key, cause);
                 Ok(())
-            }
-        }
-    }
-
-    /// The engine is given the first bytes of the room.
-    fn feed(&mut self, right: &V::Right, key: usize, count: usize) -> Result<(), AllocError>
-        requires none { self.old.kept ≡ None }
-        ensures does { DoesBy V.BusView G.Gate P.Post self.old self.new }
-        ensures ok { OnOk result (self.new.kept ≡ None) }
-    {
-        let bytes = self.room.get(..count).unwrap_or(b"");
-        match Vec::from_slice(self.alloc, bytes) {
-            Ok(piece) => self.serve(right, Event::Bytes { key, piece }),
-            Err(AllocError) => {
-                self.kept = Some(Kept::Piece { key, count });
-                Err(AllocError)
             }
         }
     }
@@ -663,6 +663,14 @@ impl<V: BusView, G: Gate, P: Post<V>, S: Socket> Host<V, G, P, S> {
             self.carrier.post.ask_check(right, conn);
         }
     }
+}
+
+/// A copy of the first bytes, so many.
+fn front(alloc: Global, bytes: &[u8], count: usize) -> Result<Vec<u8>, AllocError>
+    requires { count ≤ length bytes.now }
+    ensures { IfOk result (λ piece. piece.items ≡ take count bytes.now) }
+{
+    Vec::from_slice(alloc, &bytes[..count])
 }
 
 /// Whether an event that brought these actions seems to have added or removed rules: it was

@@ -57,17 +57,22 @@ IsBlockedAt lines key = (l : LineState) × (line_at lines key ≡ Some l) × (l.
 abbrev pub envelope_for : {N : Type 0} → Option N → Content → Conn → Envelope N
 envelope_for note content conn = record { number = conn.number; note = note; content = content }
 
+-- It is noted that the connection took no more mail.
+abbrev pub IsNotedFull : Conn → List (Option Conn) → Type 0
+IsNotedFull conn full = slice_index_or full conn.slot None ≡ Some conn
+
 module _ {P N : Type 0} (puts : P → Conn → Envelope N → P → Type 0) where
   -- It is noted that the connection took no more mail.
   abbrev pub IsRefused : Conn → Carried P → Carried P → Type 0
   IsRefused conn before after =
       after ≡ record before { full = slice_set before.full conn.slot (Some conn) }
 
-  -- An envelope for the connection is put, or it is refused.
+  -- An envelope for the connection is put, where none was refused before; or it is refused.
   abbrev pub IsPut : Option N → Content → Conn → Carried P → Carried P → Type 0
   IsPut carried content conn before after =
-      ((post : P) × puts before.post conn (envelope_for carried content conn) post
-      × (after ≡ record before { post = post }))
+      ((IsNotedFull conn before.full → ⊥)
+      × ((post : P) × puts before.post conn (envelope_for carried content conn) post
+      × (after ≡ record before { post = post })))
       ⊎ IsRefused conn before after
 
   -- to the monitors that are no recipients, and then to the recipients

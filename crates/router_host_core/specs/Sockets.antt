@@ -1,9 +1,44 @@
 -- What becomes of connections by their sockets, and of who took no more mail.
-use Rattle.std.specs.Prelude.{◌≡◌, ◌⊎◌, ℕ, true, false, Option, Some, None, List, [], ◌++◌, if◌then◌else◌, slice_get, slice_set}
+use Rattle.std.specs.Prelude.{◌≡◌, ◌≤◌, ◌⊎◌, ℕ, true, false, Option, Some, None, List, [], ◌++◌, length, take, if◌then◌else◌, slice_get, slice_set}
+use Rattle.std.specs.Io.KnownBytes.{Appends, IsAtEnd, prepend_known}
 use Rattle.seq_bus_core.specs.declared.connection.Conn.{Conn}
 use Rattle.router_host_core.specs.declared.ending.EndCause.{EndCause}
+use Rattle.router_host_core.specs.declared.ending.EndCause.TheVariants.{EndOfInput, HungUp, Unreadable}
+use Rattle.router_host_core.specs.declared.line.Pulled.{Pulled}
+use Rattle.router_host_core.specs.declared.line.Pulled.TheVariants.{Bytes, Nothing, Over}
 use Rattle.router_host_core.specs.Carrying.{line_at, with_line}
 use Rattle.router_host_core.specs.States.{LineState, ended_by}
+
+-- The socket gives these bytes, and has the others yet to give.
+abbrev pub Gives : LineState → List ℕ → Option (List ℕ) → Type 0
+Gives l bytes left = l.left ≡ prepend_known bytes left
+
+-- A socket that has these bytes yet to give can be read no more, for this cause: it has none left at the end of the input; or a read fails.
+abbrev pub IsReadToEnd : Option (List ℕ) → EndCause → Type 0
+IsReadToEnd left EndOfInput = IsAtEnd left
+IsReadToEnd left HungUp = Unit {0}
+IsReadToEnd left Unreadable = Unit {0}
+IsReadToEnd left other = ⊥
+
+-- What a read came to: the first bytes of the room are those that the socket gave; or it gave none, now or for good.
+abbrev pub IsPulled : LineState → Pulled → List ℕ → LineState → Type 0
+IsPulled before (Bytes count) room after =
+    (left : Option (List ℕ)) × (count ≤ length room) × Gives before (take count room) left
+    × (after ≡ record before { left = left })
+IsPulled before Nothing room after = after ≡ before
+IsPulled before (Over cause) room after = IsReadToEnd before.left cause × (after ≡ before)
+
+abbrev pub IsPulledIn : List (Option LineState) → ℕ → Option LineState → Pulled → List ℕ →
+    List (Option LineState) → Type 0
+IsPulledIn before key None pulled room after = (pulled ≡ Nothing) × (after ≡ before)
+IsPulledIn before key (Some l) pulled room after =
+    (read : LineState) × IsPulled l pulled room read × (after ≡ with_line before key read)
+
+-- the connection of a key is read, if there is one, and no other
+abbrev pub IsPulledAt : ℕ → List (Option LineState) → Pulled → List ℕ → List (Option LineState) →
+    Type 0
+IsPulledAt key before pulled room after =
+    IsPulledIn before key (line_at before key) pulled room after
 
 -- The socket takes the first of the bytes that wait: it takes all, or no more for now, or it fails, and no more may follow. Then the
 -- connection is over; but where the other side hung up, what waits is lost alone, and what came before is read to its end.
@@ -11,12 +46,14 @@ pub record IsFlushed (before after : LineState) : Type 0 where
   pub reached : List ℕ
   pub rest : List ℕ
   pub splits : before.waits ≡ reached ++ rest
+  pub taken : Option (List ℕ)
+  pub takes : Appends before.taken taken reached
   pub outcome :
-      ((rest ≡ []) × (after ≡ record before { waits = rest }))
-      ⊎ (after ≡ record before { waits = rest; blocked = true })
+      ((rest ≡ []) × (after ≡ record before { taken = taken; waits = rest }))
+      ⊎ (after ≡ record before { taken = taken; waits = rest; blocked = true })
       ⊎ ((cause : EndCause)
-      × (after ≡ ended_by cause (record before { waits = rest; broken = true })))
-      ⊎ (after ≡ record before { waits = []; blocked = false; broken = true })
+      × (after ≡ ended_by cause (record before { taken = taken; waits = rest; broken = true })))
+      ⊎ (after ≡ record before { taken = taken; waits = []; blocked = false; broken = true })
 
 abbrev pub IsFlushedIn : List (Option LineState) → ℕ → Option LineState →
     List (Option LineState) → Type 0

@@ -5,6 +5,7 @@ ghost use Rattle.std.specs.List.{AllByRecursion};
 ghost use Rattle.router_core.specs.declared.action.Action.TheVariants.{Run};
 ghost use Rattle.router_core.specs.Deeds.{CarriesOwn, IsOwnNote};
 ghost use Rattle.router_host_core.specs.Carrying.{GoesOn, IsCarriedOut, IsStart, ArePut, IsPut};
+ghost use Rattle.router_host_core.specs.States.{idle};
 
 use crate::ending::EndCause;
 use crate::lines::Lines;
@@ -60,7 +61,7 @@ fn copy_of<N: CheapCopy>(note: &Option<N>) -> Option<N>
 impl<V: BusView, P: Post<V>, S: Socket> Carrier<V, P, S> {
     /// No connections.
     pub fn new(alloc: Global, post: P, slots: Slots) -> Self
-        ensures { result.post ≡ post }
+        ensures { result ≡ idle post }
     {
         Carrier {
             lines: Lines::new(alloc),
@@ -163,6 +164,7 @@ impl<V: BusView, P: Post<V>, S: Socket> Carrier<V, P, S> {
         ensures registry { P.registry self.new.post ≡ P.registry self.old.post }
     {
         if self.put_out.contains(to) {
+            // It is noted already: contracts see that it is refused.
             self.put_out.add(to);
             return;
         }

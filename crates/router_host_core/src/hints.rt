@@ -3,13 +3,13 @@
 use std::alloc::Global;
 use std::mem;
 
-/// Keys to be looked at in the next turn, in order. Where there was no memory to note one, all are
+/// Keys or slots to be looked at in the next turn, in order. Where there was no memory to note one, all are
 /// to be looked at.
 #[derive(Drop)]
 pub(crate) struct Hints {
     alloc: Global,
     keys: Vec<usize>,
-    // Room for the keys that come while these are looked at.
+    /// Room for the keys that come while these are looked at.
     spare: Vec<usize>,
     all: bool,
 }

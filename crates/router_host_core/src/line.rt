@@ -1,8 +1,8 @@
 //! A connection.
 
-ghost use Rattle.std.specs.Prelude.{◌≡◌, [], false, true};
+ghost use Rattle.std.specs.Prelude.{◌≡◌, [], ℕ, List, Option, false, true};
 ghost use Rattle.router_host_core.specs.Carrying.{IsWritten};
-ghost use Rattle.router_host_core.specs.Sockets.{IsFlushed};
+ghost use Rattle.router_host_core.specs.Sockets.{IsFlushed, IsPulled, IsReadToEnd};
 ghost use Rattle.router_host_core.specs.States.{new_line, ended_by};
 
 use crate::ending::EndCause;
@@ -25,7 +25,7 @@ pub(crate) struct Line<S: Socket> {
     out: Outgoing<Written>,
     /// How many bytes wait at most.
     waiting: usize,
-    /// Its slot, once mail came for it.
+    /// Its slot, once mail was looked for there.
     slot: Option<u16>,
     /// There may be something to be read.
     readable: bool,
@@ -42,7 +42,7 @@ pub(crate) struct Line<S: Socket> {
     listed: bool,
     /// It is among those to be flushed.
     dirty: bool,
-    /// The time in which who connects is to have a name passed since it came.
+    /// A login time has passed since it came.
     aged: bool,
 }
 
@@ -52,6 +52,8 @@ impl<S: Socket> Model for Line<S> {
     ghost Value = { LineState };
 
     ghost view = { λ l. record {
+      left = S.remaining l.socket;
+      taken = S.taken l.socket;
       waits = l.out;
       blocked = l.blocked;
       broken = l.broken;
@@ -60,7 +62,9 @@ impl<S: Socket> Model for Line<S> {
 }
 
 /// Why a connection is over whose socket can't be read.
-fn end_by(kind: ErrorKind) -> EndCause {
+fn end_by(kind: ErrorKind) -> EndCause
+    ensures { (left : Option (List ℕ)) → IsReadToEnd left result }
+{
     match kind {
         ErrorKind::BrokenPipe | ErrorKind::ConnectionReset => EndCause::HungUp,
         _ => EndCause::Unreadable,
@@ -81,7 +85,7 @@ impl<S: Socket> Line<S> {
     /// A connection that came, of which there may be something to be read. It is among those to be
     /// served.
     pub(crate) fn new(alloc: Global, socket: S) -> Line<S>
-        ensures { result ≡ new_line }
+        ensures { result ≡ new_line (S.remaining socket) (S.taken socket) }
     {
         Line {
             alloc,
@@ -130,8 +134,7 @@ impl<S: Socket> Line<S> {
         !std::mem::replace(&mut self.dirty, true)
     }
 
-    /// The time in which who connects is to have a name passes. Tells whether it did before, since
-    /// the connection came.
+    /// A login time passes. Tells whether one did before, since the connection came.
     pub(crate) fn age(&mut self) -> bool
         ensures { self.new ≡ self.old }
     {
@@ -197,9 +200,9 @@ impl<S: Socket> Line<S> {
 
     /// Reads once, where there may be something.
     pub(crate) fn pull(&mut self, room: &mut [u8]) -> Pulled
-        ensures { self.new ≡ self.old }
+        ensures { IsPulled self.old result room.new self.new }
     {
-        if !self.readable {
+        if !self.readable || room.is_empty() {
             return Pulled::Nothing;
         }
         match self.socket.read(room) {

@@ -2,7 +2,7 @@
 
 ghost use Rattle.std.specs.Prelude.{◌≡◌, ◌++◌, ◌<◌, [], ℕ, List, None, true, OnOk, length, replicate};
 ghost use Rattle.router_host_core.specs.Carrying.{Each, line_at, with_line, IsWrittenAt, ended_at, IsBlockedAt};
-ghost use Rattle.router_host_core.specs.Sockets.{IsFlushedAt, cause_of, let_go, unblocked_at};
+ghost use Rattle.router_host_core.specs.Sockets.{IsFlushedAt, IsPulledAt, cause_of, let_go, unblocked_at};
 ghost use Rattle.router_host_core.specs.States.{new_line};
 
 use crate::ending::EndCause;
@@ -83,7 +83,8 @@ impl<S: Socket> Lines<S> {
 
     /// A connection came, which there is room for.
     pub fn open(&mut self, key: usize, socket: S)
-        ensures { self.new ≡ with_line self.old key new_line }
+        ensures { self.new ≡ with_line self.old key
+            (new_line (S.remaining socket) (S.taken socket)) }
     {
         let alloc = self.alloc;
         if key < self.table.len() {
@@ -166,7 +167,7 @@ impl<S: Socket> Lines<S> {
 
     /// Reads from the socket of a connection, once.
     pub fn pull(&mut self, key: usize, room: &mut [u8]) -> Pulled
-        ensures { self.new ≡ self.old }
+        ensures { IsPulledAt key self.old result room.new self.new }
     {
         if key >= self.table.len() {
             return Pulled::Nothing;
@@ -257,8 +258,7 @@ impl<S: Socket> Lines<S> {
         self.has_newcomers = false;
     }
 
-    /// The time in which who connects is to have a name passes for a connection. Tells whether it
-    /// did before, since that came.
+    /// A login time passes for a connection. Tells whether one did before, since that came.
     pub fn age(&mut self, key: usize) -> bool
         ensures { self.new ≡ self.old }
     {

@@ -1,6 +1,8 @@
 //! Who is to be put out.
 
-ghost use Rattle.std.specs.Prelude.{◌≡◌, slice_set, Some, IfSome, IfNone};
+ghost use Rattle.std.specs.Prelude.{◌≡◌, replicate, slice_set, true, None, Some, IfSome, IfNone};
+ghost use Rattle.router_host_core.specs.Carrying.{IsNotedFull};
+ghost use Rattle.router_host_core.specs.declared.put_out.TheConstants.{SLOTS};
 ghost use Rattle.router_host_core.specs.Sockets.{IsTakenOut};
 
 use seq_bus_core::Conn;
@@ -32,7 +34,9 @@ impl Model for PutOut {
 
 impl PutOut {
     /// Nobody.
-    pub fn new() -> PutOut {
+    pub fn new() -> PutOut
+        ensures { result ≡ replicate SLOTS None }
+    {
         PutOut {
             conns: [None; SLOTS],
             any: false,
@@ -56,9 +60,11 @@ impl PutOut {
     }
 
     /// Whether a connection is among them.
-    pub fn contains(&self, conn: Conn) -> bool {
+    pub fn contains(&self, conn: Conn) -> bool
+        ensures { IsNotedFull conn self.now → result ≡ true }
+    {
         let slot = usize::from(conn.slot);
-        self.any && slot < self.conns.len() && self.conns[slot] == Some(conn)
+        slot < self.conns.len() && self.conns[slot] == Some(conn)
     }
 
     /// One of them, who is then no longer among them.

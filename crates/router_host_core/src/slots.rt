@@ -70,8 +70,8 @@ impl Slots {
     }
 
     /// Takes back the room of slots that were looked at.
-    pub fn give_back(&mut self, keys: Vec<usize>) {
-        self.hints.give_back(keys);
+    pub fn give_back(&mut self, slots: Vec<usize>) {
+        self.hints.give_back(slots);
     }
 
     /// The first of them.

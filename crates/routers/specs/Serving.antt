@@ -11,6 +11,7 @@ use Rattle.router_host_core.specs.declared.post.StartRequest.{StartRequest}
 use Rattle.router_host_core.specs.declared.post.Post.{Ghosts as Post}
 use Rattle.router_host_core.specs.Carrying.{Each, line_at}
 use Rattle.router_host_core.specs.Sockets.{unblocked_at}
+use Rattle.router_host_core.specs.States.{new_line}
 use Rattle.router_host.specs.Doing.{Does, with_lines}
 use Rattle.router_host.specs.Expiring.{LoginTimeEnds}
 use Rattle.router_host.specs.Happening.{CatchesUp, Happens}
@@ -30,22 +31,23 @@ pub data Happening : Type 0 where
   -- A turn.
   Turns : Happening
 
-module _ {P N G : Type 0} (told : N → History) (passes : G → GatedCall → G → Type 0)
+module _ {P N G : Type 0} (told : N → History) (registry_of : N → ℕ) (passes : G → GatedCall → G → Type 0)
     (alone : Bool) (puts : P → Conn → Envelope N → P → Type 0)
     (starts : P → StartRequest → P → Type 0)
     (takes : P → ℕ → Envelope N → P → Type 0) where
   abbrev pub HasHappened : Happening → Hosted P G N → Hosted P G N → Type 0
   HasHappened (Comes challenge) before after =
-      ((key : ℕ) × Opens told passes alone puts starts before key challenge after)
+      ((left : Option (List ℕ)) × (taken : Option (List ℕ)) × (key : ℕ)
+      × Opens told registry_of passes alone puts starts before (new_line left taken) key challenge after)
       ⊎ MakesRoom puts starts before after
   HasHappened (Unblocks key) before after =
       after ≡ with_lines before
       (unblocked_at before.carried.lines key (line_at before.carried.lines key))
   HasHappened Ticks before after =
-      Happens told passes alone puts starts before Tick after
+      Happens told registry_of passes alone puts starts before Tick after
       ⊎ CatchesUp puts starts before after
   HasHappened Expires before after = LoginTimeEnds before after
-  HasHappened Turns before after = Does told passes alone puts starts takes before after
+  HasHappened Turns before after = Does told registry_of passes alone puts starts takes before after
 
   -- Such things happen, one after the other, and nothing else.
   pub record WorksOn (before after : Hosted P G N) : Type 0 where
@@ -56,4 +58,4 @@ module _ {P N G : Type 0} (told : N → History) (passes : G → GatedCall → G
 abbrev pub WorksOnBy : {V N R G P : Type 0} → BusView V N R → Gate G → Post P V N R → Hosted P G N →
     Hosted P G N → Type 0
 WorksOnBy view gate post before after =
-    WorksOn view.told gate.passes view.alone post.puts post.starts post.takes before after
+    WorksOn view.told view.registry_of gate.passes view.alone post.puts post.starts post.takes before after

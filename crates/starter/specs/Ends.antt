@@ -29,7 +29,7 @@ end_of (StartTimedOut name start) =
     Some (record { name = name; start = start; how = TimedOut })
 end_of other = None
 
-module _ {P N G : Type 0} (told : N → History) (passes : G → GatedCall → G → Type 0)
+module _ {P N G : Type 0} (told : N → History) (registry_of : N → ℕ) (passes : G → GatedCall → G → Type 0)
     (alone : Bool) (puts : P → Conn → Envelope N → P → Type 0)
     (starts : P → StartRequest → P → Type 0) where
   -- The end of a start happens to the host.
@@ -37,7 +37,7 @@ module _ {P N G : Type 0} (told : N → History) (passes : G → GatedCall → G
   HasEnded None before after = after ≡ before
   HasEnded (Some end) before after =
       (boxed : Box StartEnd Global) × (boxed.value ≡ end)
-      × Happens told passes alone puts starts before (Child boxed) after
+      × Happens told registry_of passes alone puts starts before (Child boxed) after
 
   -- What is reported happens to the host. A program that is run changes nothing there.
   abbrev pub IsDone : Deed → Hosted P G N → Hosted P G N → Type 0
@@ -62,22 +62,22 @@ module _ {P N G : Type 0} (told : N → History) (passes : G → GatedCall → G
 abbrev pub HasEndedBy : {V N R G P : Type 0} → BusView V N R → Gate G → Post P V N R →
     Option StartEnd → Hosted P G N → Hosted P G N → Type 0
 HasEndedBy view gate post end before after =
-    HasEnded view.told gate.passes view.alone post.puts post.starts end before after
+    HasEnded view.told view.registry_of gate.passes view.alone post.puts post.starts end before after
 
 abbrev pub IsDoneBy : {V N R G P : Type 0} → BusView V N R → Gate G → Post P V N R →
     Deed → Hosted P G N → Hosted P G N → Type 0
 IsDoneBy view gate post deed before after =
-    IsDone view.told gate.passes view.alone post.puts post.starts deed before after
+    IsDone view.told view.registry_of gate.passes view.alone post.puts post.starts deed before after
 
 abbrev pub AreDoneBy : {V N R G P : Type 0} → BusView V N R → Gate G → Post P V N R →
     List Deed → Hosted P G N → List Deed → Hosted P G N → Type 0
 AreDoneBy view gate post due before left after =
-    AreDone view.told gate.passes view.alone post.puts post.starts due before left after
+    AreDone view.told view.registry_of gate.passes view.alone post.puts post.starts due before left after
 
 abbrev pub MayCatchUpBy : {V N R G P : Type 0} → BusView V N R → Gate G → Post P V N R →
     Hosted P G N → Hosted P G N → Type 0
 MayCatchUpBy view gate post before after =
-    MayCatchUp view.told gate.passes view.alone post.puts post.starts before after
+    MayCatchUp view.told view.registry_of gate.passes view.alone post.puts post.starts before after
 
 -- What a starter does to its host.
 pub data Step : Type 0 where
@@ -88,14 +88,14 @@ pub data Step : Type 0 where
   -- What happens to the host of a router happens.
   Has : Happening → Step
 
-module _ {P N G : Type 0} (told : N → History) (passes : G → GatedCall → G → Type 0)
+module _ {P N G : Type 0} (told : N → History) (registry_of : N → ℕ) (passes : G → GatedCall → G → Type 0)
     (alone : Bool) (puts : P → Conn → Envelope N → P → Type 0)
     (starts : P → StartRequest → P → Type 0)
     (takes : P → ℕ → Envelope N → P → Type 0) where
   abbrev pub IsStep : Step → Hosted P G N → Hosted P G N → Type 0
-  IsStep (Acts deed) before after = IsDone told passes alone puts starts deed before after
-  IsStep GoesOn before after = MayCatchUp told passes alone puts starts before after
-  IsStep (Has h) before after = HasHappened told passes alone puts starts takes h before after
+  IsStep (Acts deed) before after = IsDone told registry_of passes alone puts starts deed before after
+  IsStep GoesOn before after = MayCatchUp told registry_of passes alone puts starts before after
+  IsStep (Has h) before after = HasHappened told registry_of passes alone puts starts takes h before after
 
   -- Such steps are made, one after the other, and nothing else is done.
   pub record MakesSteps (before after : Hosted P G N) : Type 0 where
@@ -106,4 +106,4 @@ module _ {P N G : Type 0} (told : N → History) (passes : G → GatedCall → G
 abbrev pub MakesStepsBy : {V N R G P : Type 0} → BusView V N R → Gate G → Post P V N R →
     Hosted P G N → Hosted P G N → Type 0
 MakesStepsBy view gate post before after =
-    MakesSteps view.told gate.passes view.alone post.puts post.starts post.takes before after
+    MakesSteps view.told view.registry_of gate.passes view.alone post.puts post.starts post.takes before after

@@ -1,5 +1,5 @@
 -- What the main thread does to its host.
-use Rattle.std.specs.Prelude.{◌≡◌, false}
+use Rattle.std.specs.Prelude.{◌≡◌, ℕ, false}
 use Rattle.seq_bus_core.specs.Histories.{History}
 use Rattle.outbox_core.specs.declared.envelope.Envelope.{Envelope}
 use Rattle.router_core.specs.declared.gate.OpenGate.{OpenGate}
@@ -12,10 +12,10 @@ use Rattle.starter.specs.Ends.{MakesSteps}
 abbrev pub MainHost : Type 0
 MainHost = Hosted (Ways (Envelope History) StartRequest) OpenGate History
 
--- It makes the steps of a starter. What it sends it sends by its lane.
-abbrev pub MakesMainSteps : MainHost → MainHost → Type 0
-MakesMainSteps before after =
-    MakesSteps (λ note. note) (λ gate call same. same ≡ gate) false
+-- It makes the steps of a starter. What it sends it sends by its lane, and its notes are of this registry.
+abbrev pub MakesMainSteps : (registry : ℕ) → MainHost → MainHost → Type 0
+MakesMainSteps registry before after =
+    MakesSteps (λ note. note) (λ note. registry) (λ gate call same. same ≡ gate) false
     (λ ways to envelope later. Sends ways to.slot envelope later)
     (λ ways start later. AsksFor ways start later)
     (λ ways slot envelope later. Receives ways slot envelope later) before after

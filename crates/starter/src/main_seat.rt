@@ -82,7 +82,7 @@ impl<
     ///
     /// What it recorded can't be written.
     pub fn turn<X: Wait>(&mut self, rt: &X, now: u64) -> Result<Option<u64>, Fault>
-        ensures steps { MakesMainSteps self.old self.new }
+        ensures steps { MakesMainSteps J.book.number self.old self.new }
     {
         let turned = self.starter.turn(rt, self.rt, now);
         self.starter.record(&mut self.trace)?;

@@ -35,6 +35,7 @@ returns-in-Ok-open-clause-opens g c = record {
   next = rw (← c.self.view_is, ← c.self-inside.view_is) c.in-Ok-open.ensures.key;
   has_place = subst (λ key. key < length c.make_room.new.self) (c.free_key-key.ensures.0 ∙ sym c.in-Ok-open.ensures.key.0) c.in-Ok-make_room.ensures.ok;
   actions = c.in-Ok-open.field-0.actions.items;
+  brings = rw (c.carry_out.ensures.engine, ← c.self.view_is, ← c.self-inside.view_is) c.in-Ok-open.ensures.brings;
   serves = rw (c.carry_out.ensures.engine, ← c.self.view_is, ← c.self-inside.view_is) c.in-Ok-open.ensures.served;
   carried = rw (← c.self.view_is, ← c.self-inside.view_is, ← c.open-in-Ok-open.ensures) c.carry_out.ensures.goes_on;
   kept = rw (← c.self.view_is, ← c.self-inside.view_is) c.carry_out.ensures.kept;

@@ -18,7 +18,7 @@ returns-in-Err-clause-done g c =
 
 pub loop-deed-preserved : goal.loop-deed-preserved
 loop-deed-preserved g c =
-    let step = IsDone g.V.BusView.told g.G.Gate.passes g.V.BusView.alone g.P.Post.puts g.P.Post.starts in (
+    let step = IsDone g.V.BusView.told g.V.BusView.registry_of g.G.Gate.passes g.V.BusView.alone g.P.Post.puts g.P.Post.starts in (
       rw c.do_one.ensures.deeds (one_more step c.loop-deed.self.deeds.items c.pop.new.self.items (reverse c.args.self.now.deeds.items) c.in-Some.deed c.in-Some.ensures.items c.loop-deed.self.host c.do_one.new.self.host c.args.self.now.host c.loop-deed.invariant.0 c.in_default-do_one.ensures.done),
       c.do_one.ensures.supervisor ∙ c.loop-deed.invariant.1,
     )

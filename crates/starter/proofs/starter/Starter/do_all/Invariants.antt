@@ -6,7 +6,7 @@ use Rattle.starter.proofs.starter.Starter.do_all.Given as goal
 
 abbrev pub invariant-loop-deed : goal.invariant-loop-deed
 invariant-loop-deed g l =
-    SoFar (IsDone g.V.BusView.told g.G.Gate.passes g.V.BusView.alone g.P.Post.puts g.P.Post.starts) (reverse l.self.deeds.items) (reverse l.fn.self.deeds.items) l.self.host l.fn.self.host
+    SoFar (IsDone g.V.BusView.told g.V.BusView.registry_of g.G.Gate.passes g.V.BusView.alone g.P.Post.puts g.P.Post.starts) (reverse l.self.deeds.items) (reverse l.fn.self.deeds.items) l.self.host l.fn.self.host
     × (l.self.supervisor ≡ l.fn.self.supervisor)
 
 abbrev pub decreases-loop-deed : goal.decreases-loop-deed
