@@ -366,6 +366,14 @@ logins() {
 busd: accept: too many connections without a name"
 }
 
+# A router whose places are taken is passed over while another has some: those of one of two routers leave, and as many
+# clients come.
+places() {
+    begin routers=2 --anonymous
+    told_to "128 of 128" places 256 2
+    finish
+}
+
 # Who connects and says nothing is let go of after half a minute to a whole one; who has a name stays. That is waited for
 # beside all else, and for longer where the machine is slow.
 patience() {
@@ -697,6 +705,7 @@ full_device
 help
 daemons
 logins
+places
 owners
 no_random_bytes
 few_files

@@ -12,6 +12,7 @@ client.py ADDRESS starts NAME N   calls StartServiceByName N times and reads not
 client.py ADDRESS own NAME        owns a name, and answers every call until the bus is gone
 client.py ADDRESS bytes HEX       sends bytes in place of a conversation, and waits for the end
 client.py ADDRESS crowd N         connects N times for a second and says nothing, and asks for the names after that
+client.py ADDRESS places N K      has N clients come, and as many as leave when each K-th does, and prints how many get in
 client.py ADDRESS owners NAME S   has three clients take a name from one another for S seconds, and tells whether a
                                   fourth was told of each change behind the one before
 client.py ADDRESS patience -      connects and says nothing, and prints how many seconds it was let, and the names then
@@ -219,6 +220,16 @@ def main(address, what, name, count="0"):
         silent.recv(1)
         waited = time.monotonic() - since
         print(round(waited), named.answer(named.call(BUS, "ListNames")))
+        return
+    if what == "places":
+        clients = [Client(address) for _ in range(int(name))]
+        leaving = clients[:: int(count)]
+        for client in leaving:
+            client.input.close()
+            client.socket.close()
+        time.sleep(0.5)
+        came = [Client(address) for _ in leaving]
+        print(sum(client.name.startswith(":") for client in came), "of", len(came))
         return
     if what == "crowd":
         crowd = []

@@ -58,8 +58,9 @@ enum Accepted {
     Later,
 }
 
-/// Accepts connections and hands them to the routers in turn, beside its chores. What doesn't fit
-/// into a router's queue is closed.
+/// Accepts connections and hands them to the routers in turn, beside its chores. A router whose
+/// places are taken is passed over while others have some. What doesn't fit into a router's queue
+/// is closed.
 #[derive(Drop)]
 pub struct Acceptor<'a, F: Read + Drop, L: AcceptLog + Drop, C: Chores + Drop> {
     poll: Poll,
@@ -72,6 +73,8 @@ pub struct Acceptor<'a, F: Read + Drop, L: AcceptLog + Drop, C: Chores + Drop> {
     new_connections: &'a [NewConnections],
     /// The router whose turn it is.
     next: usize,
+    /// How many connections each router was handed.
+    handed: Vec<u64>,
     log: L,
     chores: C,
 }
@@ -103,6 +106,7 @@ impl<'a, F: Read + Drop, L: AcceptLog + Drop, C: Chores + Drop> Acceptor<'a, F, 
             coordinator,
             new_connections,
             next: 0,
+            handed: Vec::from_elem(alloc, 0u64, new_connections.len())?,
             log,
             chores,
         })
@@ -132,25 +136,49 @@ impl<'a, F: Read + Drop, L: AcceptLog + Drop, C: Chores + Drop> Acceptor<'a, F, 
         Ok(accepted)
     }
 
-    /// Hands a connection to the router whose turn it is, or closes it where that one's queue is
-    /// full.
+    /// Hands a connection to a router, or closes it where that one's queue is full.
     fn hand_over<R: Wait>(&mut self, rt: &R, stream: UnixStream) -> Result<(), Fault> {
         let mut challenge = [0; 16];
         if self.random.read_exact(&mut challenge).is_err() {
             return Err(Fault::Random);
         }
-        if self.next >= self.new_connections.len() {
-            self.next = 0;
-        }
-        if let Some(new_connections) = self.new_connections.get(self.next) {
-            let handed = new_connections.push(rt, NewConnection { stream, challenge });
-            if handed.is_err() {
-                self.log.refuse();
+        let router = self.next_router();
+        if let Some(new_connections) = self.new_connections.get(router) {
+            match new_connections.push(rt, NewConnection { stream, challenge }) {
+                Ok(()) => self.count_handed(router),
+                Err(_full) => self.log.refuse(),
             }
-            self.coordinator.tell_of_connection(self.next);
+            self.coordinator.tell_of_connection(router);
         }
-        self.next = self.next.saturating_add(1);
+        self.next = router.saturating_add(1);
         Ok(())
+    }
+
+    /// The first router that has a place, from the one on whose turn it is; that one where none
+    /// has.
+    fn next_router(&self) -> usize {
+        let count = self.handed.len();
+        let first = if self.next < count { self.next } else { 0 };
+        for steps in 0..count {
+            let router = (first.saturating_add(steps)) % count.max(1);
+            if self.has_place(router) {
+                return router;
+            }
+        }
+        first
+    }
+
+    fn has_place(&self, router: usize) -> bool {
+        match self.handed.get(router) {
+            Some(handed) => self.coordinator.has_place(router, *handed),
+            None => false,
+        }
+    }
+
+    fn count_handed(&mut self, router: usize) {
+        if let Some(handed) = self.handed.get_mut(router) {
+            *handed = handed.saturating_add(1);
+        }
     }
 }
 

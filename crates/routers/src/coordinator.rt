@@ -55,6 +55,8 @@ struct RouterState<W: Wake + Drop> {
     turns: AtomicU64,
     /// Another router waits for the end of its turn.
     awaited: AtomicBool,
+    /// How many connections that came to it are gone: over, or not served.
+    gone: AtomicU64,
 }
 
 impl<W: Wake + Drop> RouterState<W> {
@@ -69,6 +71,7 @@ impl<W: Wake + Drop> RouterState<W> {
             serves: AtomicBool::new(false),
             turns: AtomicU64::new(0),
             awaited: AtomicBool::new(false),
+            gone: AtomicU64::new(0),
         }
     }
 
@@ -369,6 +372,22 @@ impl<W: Wake + Drop> Coordinator<W> {
             Some(flag) => lower(flag),
             None => false,
         }
+    }
+
+    /// A connection that came to a router is gone: it is over, or was not served.
+    pub(crate) fn note_gone(&self, router: usize) {
+        if let Some(state) = self.states.get(router) {
+            state.gone.fetch_add(1, Ordering::SeqCst);
+        }
+    }
+
+    /// Whether a router that so many connections were handed to has a place for one more.
+    pub fn has_place(&self, router: usize, handed: u64) -> bool {
+        let Some(state) = self.states.get(router) else {
+            return false;
+        };
+        let there = handed.saturating_sub(state.gone.load(Ordering::SeqCst));
+        usize::try_from(there).unwrap_or(usize::MAX) < self.places()
     }
 
     /// A connection came for a router, which is to be woken.

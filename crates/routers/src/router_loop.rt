@@ -163,11 +163,13 @@ impl<'a, V: BusView, G: Gate, P: Post<V>, S: Socket, E: Source<S>, W: Wake + Dro
         ensures serves { WorksOnBy V.BusView G.Gate P.Post self.old self.new }
     {
         if !self.source.watch(self.host.free_key(), &mut socket) {
+            self.coordinator.note_gone(self.me);
             return;
         }
         let opened = self.host.open(right, socket, challenge);
         if let Err(fault) = opened {
             self.source.refuse(fault);
+            self.coordinator.note_gone(self.me);
         }
     }
 
@@ -183,7 +185,7 @@ impl<'a, V: BusView, G: Gate, P: Post<V>, S: Socket, E: Source<S>, W: Wake + Dro
         self.tell_ended();
     }
 
-    /// The time in which who connects is to have a name passes, where there is anyone without.
+    /// The login time passes, where there is anyone without a name.
     fn end_login_time(&mut self)
         ensures serves { WorksOnBy V.BusView G.Gate P.Post self.old self.new }
     {
@@ -210,6 +212,7 @@ impl<'a, V: BusView, G: Gate, P: Post<V>, S: Socket, E: Source<S>, W: Wake + Dro
     {
         for ended in self.host.take_ended() {
             self.source.tell(ended);
+            self.coordinator.note_gone(self.me);
         }
     }
 
