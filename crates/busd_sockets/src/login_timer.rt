@@ -1,4 +1,4 @@
-//! The time in which who connects is to have a name.
+//! The login time: within it who connects is to log in and say Hello.
 
 use std::rt::Clock;
 use std::time::{Duration, Instant};
@@ -6,7 +6,7 @@ use std::time::{Duration, Instant};
 /// How long that time is, in seconds. Who comes while it runs has until its next end.
 const LOGIN_SECONDS: u64 = 30;
 
-/// The time in which who connects is to have a name, by the clock of the system. Where that tells
+/// The login time, by the clock of the system. Where that tells
 /// nothing, no time passes.
 #[derive(Drop)]
 pub(crate) struct LoginTimer<'a, R: Clock> {

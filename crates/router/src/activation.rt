@@ -145,7 +145,7 @@ fn wait<V: BusView, G: Gate>(
 }
 
 /// Lets a call wait until the service of its name runs. The first such call of a name asks for the
-/// service's program to be run. Without memory the call is answered so.
+/// service's program to be run. Without memory the call is answered NoMemory.
 pub(crate) fn hold<V: BusView, G: Gate>(
     alloc: Global,
     context: &mut Context<V, G>,

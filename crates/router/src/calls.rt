@@ -376,7 +376,8 @@ fn serve_request<V: BusView, G: Gate>(
     }
 }
 
-/// Serves a call as it was read: the gate is shown it first. One that has a fault is answered so.
+/// Serves a call as it was read: the gate is shown it first. One that has a fault is answered
+/// that fault's error.
 fn serve_reading<V: BusView, G: Gate>(
     alloc: Global,
     context: &mut Context<V, G>,

@@ -81,7 +81,7 @@ fn relay_plainly<V: BusView, G: Gate>(
     }
 }
 
-/// Shows the monitors a message that nobody gets. A call is answered so.
+/// Shows the monitors a message that nobody gets. A call is answered ServiceUnknown.
 fn relay_to_nobody<V: BusView, G: Gate>(
     context: &mut Context<V, G>,
     message: &Message,
@@ -174,7 +174,7 @@ fn relay<V: BusView, G: Gate>(
 }
 
 /// Relays a message once the bus has said where it goes. Where it says nothing, a call is answered
-/// so.
+/// Failed.
 pub(crate) fn routed<V: BusView, G: Gate>(
     alloc: Global,
     context: &mut Context<V, G>,

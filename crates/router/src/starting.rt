@@ -45,7 +45,7 @@ fn started<V: BusView, G: Gate>(
 }
 
 /// Has the service of a name started, unless the name has an owner. Without memory the call is
-/// answered so.
+/// answered NoMemory.
 // A change is large: it has a function of its own.
 #[inline(never)]
 pub(crate) fn start_service<V: BusView, G: Gate>(

@@ -43,7 +43,7 @@ fn watched<V: BusView, G: Gate>(
     }
 }
 
-/// Makes the caller a monitor with these rules. Without memory the call is answered so.
+/// Makes the caller a monitor with these rules. Without memory the call is answered NoMemory.
 #[inline(never)]
 pub(crate) fn become_monitor<V: BusView, G: Gate>(
     alloc: Global,

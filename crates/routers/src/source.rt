@@ -53,7 +53,7 @@ pub trait Source<S: Socket> {
     /// The next thing that happened; none once all is told.
     fn next<R: Wait>(&mut self, rt: &R) -> Option<SourceEvent<S>>;
 
-    /// Whether the time in which who connects is to have a name has passed once more. It runs only
+    /// Whether the login time has passed once more. It runs only
     /// as long as this is asked with `is_wanted`, whether there is anyone without one.
     fn login_time_passes(&mut self, is_wanted: bool) -> bool;
 
