@@ -1,5 +1,8 @@
 //! What happens to the sockets of a router.
 
+ghost use Rattle.std.specs.Prelude.{◌≡◌, true, is_some, IfSome};
+ghost use Rattle.routers.specs.Sources.{IsBrought};
+
 use crate::client_socket::ClientSocket;
 use crate::login_timer::LoginTimer;
 use crate::new_connection::{NewConnection, NewConnections};
@@ -98,7 +101,10 @@ impl<'a, L: EndLog + Drop, R: Clock> Sockets<'a, L, R> {
     }
 
     /// What a socket is ready for first. It goes once it has told all.
-    fn next_event(&mut self) -> Option<SourceEvent<ClientSocket>> {
+    fn next_event(&mut self) -> Option<SourceEvent<ClientSocket>>
+        ensures { IfSome result (λ event.
+            IsBrought (λ _ challenge. is_some challenge ≡ true) event) }
+    {
         let Readiness {
             key,
             readable,
@@ -131,6 +137,10 @@ fn shorter(one: Option<Duration>, other: Option<Duration>) -> Option<Duration> {
 }
 
 impl<'a, L: EndLog + Drop, R: Clock> Source<ClientSocket> for Sockets<'a, L, R> {
+    ghost use Rattle.std.specs.Prelude.{is_some, true};
+
+    ghost asks = { λ _ challenge. is_some challenge ≡ true };
+
     fn wait(&mut self, timeout: Timeout) -> Result<(), Fault> {
         let most = match timeout {
             Timeout::Zero => Some(Duration::from_millis(0)),

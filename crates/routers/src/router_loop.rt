@@ -2,6 +2,7 @@
 
 ghost use Rattle.std.specs.Prelude.{◌≡◌};
 ghost use Rattle.routers.specs.Serving.{WorksOnBy};
+ghost use Rattle.routers.specs.Sources.{IsBrought};
 
 use crate::coordinator::{Coordinator, Wake};
 use crate::fault::Fault;
@@ -73,7 +74,8 @@ impl<'a, V: BusView, G: Gate, P: Post<V>, S: Socket, E: Source<S>, W: Wake + Dro
         right: &V::Right,
         trace_writer: &mut T,
     ) -> Result<(), Fault>
-        ensures serves { WorksOnBy V.BusView G.Gate P.Post self.old self.new }
+        ensures serves { WorksOnBy V.BusView G.Gate P.Post E.Source S.Sink
+            self.old self.new }
     {
         for _ in rt.forever() {
             self.rest(right)?;
@@ -123,7 +125,8 @@ impl<'a, V: BusView, G: Gate, P: Post<V>, S: Socket, E: Source<S>, W: Wake + Dro
 
     /// Tells the host what happened, and whether nothing happens any more.
     fn take_events<R: Wait>(&mut self, rt: &R, right: &V::Right) -> bool
-        ensures serves { WorksOnBy V.BusView G.Gate P.Post self.old self.new }
+        ensures serves { WorksOnBy V.BusView G.Gate P.Post E.Source S.Sink
+            self.old self.new }
     {
         self.coordinator.lower_comes(self.me);
         for _ in rt.forever() {
@@ -139,7 +142,9 @@ impl<'a, V: BusView, G: Gate, P: Post<V>, S: Socket, E: Source<S>, W: Wake + Dro
 
     /// Tells the host of an event, and whether it is the last.
     fn take_event(&mut self, right: &V::Right, event: SourceEvent<S>) -> bool
-        ensures serves { WorksOnBy V.BusView G.Gate P.Post self.old self.new }
+        requires { IsBrought E.asks event }
+        ensures serves { WorksOnBy V.BusView G.Gate P.Post E.Source S.Sink
+            self.old self.new }
     {
         match event {
             SourceEvent::Accepted { socket, challenge } => {
@@ -160,7 +165,9 @@ impl<'a, V: BusView, G: Gate, P: Post<V>, S: Socket, E: Source<S>, W: Wake + Dro
 
     /// A connection came. It is closed where it can't be served.
     fn open(&mut self, right: &V::Right, mut socket: S, challenge: Option<[u8; 16]>)
-        ensures serves { WorksOnBy V.BusView G.Gate P.Post self.old self.new }
+        requires { E.asks socket challenge }
+        ensures serves { WorksOnBy V.BusView G.Gate P.Post E.Source S.Sink
+            self.old self.new }
     {
         if !self.source.watch(self.host.free_key(), &mut socket) {
             self.coordinator.note_gone(self.me);
@@ -175,7 +182,8 @@ impl<'a, V: BusView, G: Gate, P: Post<V>, S: Socket, E: Source<S>, W: Wake + Dro
 
     /// Does what there is to do.
     fn turn(&mut self, right: &V::Right)
-        ensures serves { WorksOnBy V.BusView G.Gate P.Post self.old self.new }
+        ensures serves { WorksOnBy V.BusView G.Gate P.Post E.Source S.Sink
+            self.old self.new }
     {
         self.take_flags();
         self.end_login_time();
@@ -187,7 +195,8 @@ impl<'a, V: BusView, G: Gate, P: Post<V>, S: Socket, E: Source<S>, W: Wake + Dro
 
     /// The login time passes, where there is anyone without a name.
     fn end_login_time(&mut self)
-        ensures serves { WorksOnBy V.BusView G.Gate P.Post self.old self.new }
+        ensures serves { WorksOnBy V.BusView G.Gate P.Post E.Source S.Sink
+            self.old self.new }
     {
         let is_wanted = self.host.has_unnamed();
         if !self.source.login_time_passes(is_wanted) {
@@ -198,7 +207,8 @@ impl<'a, V: BusView, G: Gate, P: Post<V>, S: Socket, E: Source<S>, W: Wake + Dro
 
     /// Time has passed, where a tick is wanted.
     fn tick(&mut self, right: &V::Right) -> Result<(), AllocError>
-        ensures serves { WorksOnBy V.BusView G.Gate P.Post self.old self.new }
+        ensures serves { WorksOnBy V.BusView G.Gate P.Post E.Source S.Sink
+            self.old self.new }
     {
         if !self.host.wants_tick() {
             return Ok(());

@@ -1,5 +1,8 @@
 //! What happens to a router.
 
+ghost use Rattle.std.specs.Prelude.{IfSome};
+ghost use Rattle.routers.specs.Sources.{IsBrought};
+
 use crate::fault::Fault;
 use router_host::{Ended, OpenFault, Socket};
 use std::sync::Wait;
@@ -43,6 +46,11 @@ pub enum SourceEvent<S: Drop> {
 /// Where a router hears of what happens to its connections, which are read from and written to
 /// sockets of type `S`.
 pub trait Source<S: Socket> {
+    ghost use Rattle.std.specs.Prelude.{List, ℕ, Option};
+
+    /// The challenge with which a connection over this socket may come.
+    ghost asks: { S → Option (List ℕ) → Type 0 };
+
     /// Waits for what happens next, no longer than this.
     ///
     /// # Errors
@@ -51,7 +59,8 @@ pub trait Source<S: Socket> {
     fn wait(&mut self, timeout: Timeout) -> Result<(), Fault>;
 
     /// The next thing that happened; none once all is told.
-    fn next<R: Wait>(&mut self, rt: &R) -> Option<SourceEvent<S>>;
+    fn next<R: Wait>(&mut self, rt: &R) -> Option<SourceEvent<S>>
+        ensures asks { IfSome result (λ event. IsBrought asks event) };
 
     /// Whether the login time has passed once more. It runs only
     /// as long as this is asked with `is_wanted`, whether there is anyone without one.
@@ -59,7 +68,9 @@ pub trait Source<S: Socket> {
 
     /// Registers a socket under its key: from now on its readiness is told. It is false where the
     /// system refuses that, which the source itself notes, as at [`refuse`](Source::refuse).
-    fn watch(&mut self, key: usize, socket: &mut S) -> bool;
+    fn watch(&mut self, key: usize, socket: &mut S) -> bool
+        ensures asks { (challenge : Option (List ℕ)) →
+            asks socket.old challenge → asks socket.new challenge };
 
     /// A connection that came is not served, and its socket is closed.
     fn refuse(&mut self, fault: OpenFault);

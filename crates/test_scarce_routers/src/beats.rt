@@ -130,6 +130,10 @@ impl Beats {
 }
 
 impl Source<Wire> for Beats {
+    ghost use Rattle.std.specs.Prelude.{◌≡◌, None};
+
+    ghost asks = { λ _ challenge. challenge ≡ None };
+
     fn wait(&mut self, _timeout: Timeout) -> Result<(), Fault> {
         self.is_told = false;
         Ok(())
