@@ -605,6 +605,27 @@ traces() {
     waits grep -q . said || wrong "tells of nobody that was put out"
     [ "$(joined | "$checker" - | cut -d ' ' -f 1)" = yes ] || wrong "puts out who does not read answers: $(joined | "$checker" --explain - 2>&1)"
     finish "busd: :1.2: closed: 66: it didn't read its messages"
+    without_standard_files
+}
+
+# A daemon that has no standard input, output and error: no file that it opens takes their place.
+without_standard_files() {
+    rm -f trace/*
+    start routers=1 --anonymous --verbose --trace trace
+    : > said
+    "$BUSD" "${words[@]}" <&- >&- 2>&- &
+    bus=$!
+    address=unix:path=bus
+    waits test -S bus || wrong "without standard files it listens nowhere"
+    told_to '' bytes 41
+    told_to "$bus_name :1.1" ask ListNames
+    waits says "yes 6" || wrong "without standard files it records a run of which is said: $(joined | "$checker" --explain - 2>&1)"
+    finish
+    start --print-address
+    status=0
+    timeout 20 "$BUSD" "${words[@]}" 2> err < /dev/null >&- || status=$?
+    tried=$((tried + 1))
+    [ "$status" = 4 ] && [ "$(< err)" = 'busd: device: output' ] && [ ! -e bus ] || wrong "${words[@]} without standard output"
 }
 
 # session STATUS ARGUMENT..: a session ends so, and leaves nothing

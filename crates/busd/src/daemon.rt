@@ -1,11 +1,13 @@
 //! `busd serve`: the bus of a socket.
 
+use crate::standard_files::fill_standard_files;
 use busd_core::{Device, Options, ServeFault};
 use busd_serve::{Bus, BusAddress, DaemonRuntime, Listening};
 use clap::ArgMatches;
 use std::fs::remove_file;
 use std::io;
 use std::io::Write;
+use std::os::fd::AsRawFd;
 use std::process::ExitCode;
 
 /// Tells where the bus is reached.
@@ -55,8 +57,9 @@ where
 /// Serves the clients of a socket, and tells why it ends.
 pub(crate) fn run_daemon<R: DaemonRuntime + Print>(rt: &R, found: &ArgMatches<'_>) -> ExitCode
 where
-    R::File: Send,
+    R::File: Send + AsRawFd,
 {
+    let _standard_files = fill_standard_files(rt);
     let Err(fault) = open_and_serve(rt, found) else {
         return ExitCode::SUCCESS;
     };

@@ -11,6 +11,7 @@ ghost use Rattle.std.specs.IoError.{error_kind};
 ghost use Rattle.busd.specs.Statuses.{refusal_status, unread_status};
 
 mod daemon;
+mod standard_files;
 mod stream;
 
 use crate::daemon::run_daemon;
