@@ -24,10 +24,14 @@
 //! ```
 #![tactic(auto)]
 
+mod closing;
+mod events;
 mod host;
 mod kept;
 mod login_time;
+mod mail;
 mod opening;
+mod serving;
 mod trace;
 mod turn;
 
