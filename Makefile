@@ -27,8 +27,8 @@ install:
 dist:
 	@tools/dist.sh
 
-# The gate: every proof, the edits that must fail, the tests, the programs as two compilers build them, and each
-# allocation of four of them refused in turn.
+# The gate: every proof, the edits that must fail, the tests, the programs as two compilers build them, each allocation
+# of four of them refused in turn, and the daemon started as its users do. Needs cc, glibc and python3 for the last two.
 test:
 	@tools/gate.sh
 
