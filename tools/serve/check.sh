@@ -252,7 +252,9 @@ help() {
     "$session" --help > out 2> err || status=$?
     [ "$status" = 0 ] && grep -q '^Usage: busd-run-session' out && grep -q '^Example' out && [ ! -s err ] ||
         wrong "in a session: --help"
-    [ "$("$session" --version)" = "$("$BUSD" --version)" ] || wrong "in a session: --version"
+    for asked in --version -V; do
+        [ "$("$session" "$asked")" = "$("$BUSD" --version)" ] || wrong "in a session: $asked"
+    done
 }
 
 # begin OPTION..: starts a daemon, and waits until clients can connect; FILES is how many files it may have open
@@ -652,6 +654,7 @@ sessions() {
     printf '#!/bin/sh\nexit 9\n' > a=b/nine
     chmod +x a=b/nine
     session 9 ./a=b/nine
+    recorded_session
     renewed_key
     sessions_at_once
     # The folder of the keyrings may stand elsewhere.
@@ -665,6 +668,28 @@ sessions() {
 
 nobody_runs() {
     ! grep -qsaF "$1" /proc/[0-9]*/cmdline
+}
+
+# A session's run is recorded where that is wanted, and is explained. The bus may end before it hears that the client
+# left.
+recorded_session() {
+    local words asked='"$0" "$DBUS_SESSION_BUS_ADDRESS" ask ListNames' verdict
+    session 125 --trace none true
+    session 125 --trace= true
+    session 125 --trace
+    for words in '--trace trace' --trace=trace; do
+        rm -f trace/*
+        # shellcheck disable=SC2086
+        session 0 --anonymous $words -- sh -c "$asked" "$client"
+        [ "$(< out)" = "org.freedesktop.DBus :1.1" ] || wrong "in a session that is recorded"
+        if [ -x "$checker" ]; then
+            verdict=$(joined | "$checker" -) || true
+            [[ $verdict == 'yes '[56] ]] || wrong "in a session that is recorded: $verdict"
+        elif [ ! -s trace/head.trace ] || [ ! -s trace/router-1.trace ]; then
+            wrong "in a session that is to be recorded: $(ls trace)"
+        fi
+    done
+    rm -f trace/*
 }
 
 # While a session lasts its key is renewed, which changes nothing but its time.
