@@ -6,8 +6,7 @@ use std::time::{Duration, Instant};
 /// How long that time is, in seconds. Who comes while it runs has until its next end.
 const LOGIN_SECONDS: u64 = 30;
 
-/// The login time, by the clock of the system. Where that tells
-/// nothing, no time passes.
+/// The login time, by the clock of the system. Where that tells nothing, no time passes.
 #[derive(Drop)]
 pub(crate) struct LoginTimer<'a, R: Clock> {
     rt: &'a R,

@@ -62,8 +62,8 @@ pub trait Source<S: Socket> {
     fn next<R: Wait>(&mut self, rt: &R) -> Option<SourceEvent<S>>
         ensures asks { IfSome result (λ event. IsBrought asks event) };
 
-    /// Whether the login time has passed once more. It runs only
-    /// as long as this is asked with `is_wanted`, whether there is anyone without one.
+    /// Whether the login time has passed once more. It runs only as long as this is asked with
+    /// `is_wanted`: while some connection has no name.
     fn login_time_passes(&mut self, is_wanted: bool) -> bool;
 
     /// Registers a socket under its key: from now on its readiness is told. It is false where the
