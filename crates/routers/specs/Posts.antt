@@ -13,12 +13,12 @@ places_of routers = max_connections / max routers 1
 
 -- Where fewer envelopes wait that a router put for a place of its own than an outbox holds, it has room
 -- for one more.
-abbrev pub max_own : ℕ
-max_own = ROOM
+abbrev pub own_soft_limit : ℕ
+own_soft_limit = ROOM
 
 -- how many wait there at most, where an event brings many at once
-abbrev pub most_own : ℕ
-most_own = max_own + MAX_EFFECTS
+abbrev pub own_hard_limit : ℕ
+own_hard_limit = own_soft_limit + MAX_EFFECTS
 
 -- A count of what was taken stops here.
 abbrev pub counted : ℕ → ℕ
@@ -83,10 +83,10 @@ module _ {E : Type 0} where
   HasNone p = (p.own ≡ []) × WasEmpty p.tap
 
   abbrev pub HasRoom : SlotMail E → Type 0
-  HasRoom p = length p.own < most_own
+  HasRoom p = length p.own < own_hard_limit
 
   abbrev pub IsFull : SlotMail E → Type 0
-  IsFull p = max_own ≤ length p.own
+  IsFull p = own_soft_limit ≤ length p.own
 
 -- What a router has: the ends of its lane into all outboxes, by slots; its places, of which the
 -- first has this slot; and its lane to whoever runs programs.

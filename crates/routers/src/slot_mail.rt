@@ -2,7 +2,7 @@
 
 ghost use Rattle.std.specs.Prelude.{◌≡◌, ◌<◌, ◌≤◌, ◌∷◌, ◌++◌, [], false, length, true, IfOk, MatchOption, MatchResult};
 ghost use Rattle.outbox.specs.Lanes.{WasEmpty};
-ghost use Rattle.routers.specs.Posts.{HasNone, HasRoom, IsFirst, IsFull, Takes, TakesOfOthers, is_due, kept, kept_behind, max_own, most_own, new_slot_mail};
+ghost use Rattle.routers.specs.Posts.{HasNone, HasRoom, IsFirst, IsFull, Takes, TakesOfOthers, is_due, kept, kept_behind, new_slot_mail, own_hard_limit, own_soft_limit};
 
 use outbox::{Full, ROOM, Tap};
 use router_core::limits::MAX_EFFECTS;
@@ -12,12 +12,13 @@ use std::marker::Model;
 use std::mem;
 use std::sync::Wait;
 
-/// Where so many envelopes wait that a router put for a place of its own, no later event puts one
-/// more there: as many as an outbox holds.
-const MAX_OWN: usize = ROOM;
+/// Where so many envelopes that a router put for a place of its own wait as an event begins, that
+/// event puts none more there: as many as an outbox holds.
+const OWN_SOFT_LIMIT: usize = ROOM;
 
-/// So many may wait where an event brings many at once, which it may while there is memory.
-const MOST_OWN: usize = MAX_OWN + MAX_EFFECTS;
+/// How many may wait there at most: an event that begins below the soft limit may bring many at
+/// once, while there is memory.
+const OWN_HARD_LIMIT: usize = OWN_SOFT_LIMIT + MAX_EFFECTS;
 
 /// An item, and how many of what others put come before it, counted from the first that was ever
 /// taken.
@@ -40,21 +41,21 @@ struct OwnQueue<E: Drop> {
 impl<E: Drop> Model for OwnQueue<E> {
     ghost use Rattle.std.specs.Prelude.{◌≤◌, List};
     ghost use Rattle.std.specs.VecDeque.{deque_capacity};
-    ghost use Rattle.routers.specs.Posts.{max_own};
+    ghost use Rattle.routers.specs.Posts.{own_soft_limit};
     ghost use Rattle.routers.specs.declared.slot_mail.Kept.{Kept as Known};
 
     ghost Value = { List (Known E) };
 
     ghost view = { λ q. q.kept.items };
 
-    ghost invariant = { λ q. max_own ≤ deque_capacity q.kept };
+    ghost invariant = { λ q. own_soft_limit ≤ deque_capacity q.kept };
 }
 
 impl<E: Drop> OwnQueue<E> {
     fn new(alloc: Global) -> Result<OwnQueue<E>, AllocError>
         ensures { IfOk result (λ q. q ≡ []) }
     {
-        let kept = VecDeque::with_capacity(alloc, MAX_OWN)?;
+        let kept = VecDeque::with_capacity(alloc, OWN_SOFT_LIMIT)?;
         Ok(OwnQueue {
             kept,
             event: 0,
@@ -65,25 +66,26 @@ impl<E: Drop> OwnQueue<E> {
     /// How many may wait while this event puts.
     fn limit(&mut self, event: u64) -> usize
         ensures same { self.new ≡ self.old }
-        ensures least { max_own ≤ result }
-        ensures most { result ≤ most_own }
+        ensures least { own_soft_limit ≤ result }
+        ensures most { result ≤ own_hard_limit }
     {
         if event != self.event {
             self.event = event;
             self.waited = self.kept.len();
         }
-        if self.waited < MAX_OWN {
-            MOST_OWN
+        if self.waited < OWN_SOFT_LIMIT {
+            OWN_HARD_LIMIT
         } else {
-            MAX_OWN
+            OWN_SOFT_LIMIT
         }
     }
 
     /// Puts an item of this event behind so many that others put.
     fn put(&mut self, item: E, others: u64, event: u64) -> Result<(), Full<E>>
         ensures { MatchResult result
-            (λ _. (length self.old < most_own) × (self.new ≡ kept_behind self.old item others))
-            (λ back. (back.0 ≡ item) × (self.new ≡ self.old) × (max_own ≤ length self.old)) }
+            (λ _. (length self.old < own_hard_limit)
+            × (self.new ≡ kept_behind self.old item others))
+            (λ back. (back.0 ≡ item) × (self.new ≡ self.old) × (own_soft_limit ≤ length self.old)) }
     {
         if self.kept.len() >= self.limit(event) {
             return Err(Full(item));
