@@ -18,10 +18,10 @@ use std::time::Duration;
 pub const MAIN_THREAD: usize = usize::MAX;
 
 /// How long a router waits at most until another one ends a turn, in milliseconds.
-const TURN_WAIT: u64 = 2;
+const TURN_WAIT_MILLIS: u64 = 2;
 
 /// How often the end of a turn is waited for at most by who waits for a router to have had one.
-const WAITS: u32 = 100;
+const MAX_TURN_WAITS: u32 = 100;
 
 /// A router that ends so many turns has had one that it began after they were counted: it may have
 /// been in one then.
@@ -98,7 +98,7 @@ impl<W: Wake + Drop> RouterState<W> {
         self.turns.park_timeout(
             rt,
             (turns & 0xffff_ffff) as u32,
-            Duration::from_millis(TURN_WAIT),
+            Duration::from_millis(TURN_WAIT_MILLIS),
         );
     }
 }
@@ -262,7 +262,7 @@ impl<W: Wake + Drop> Coordinator<W> {
     /// Waits until the router of a slot has had a turn that began after it had ended so many, but
     /// not for ever. Tells whether it had.
     pub(crate) fn await_had_turn<R: Wait>(&self, rt: &R, slot: usize, turns: u64) -> bool {
-        for _ in 0..WAITS {
+        for _ in 0..MAX_TURN_WAITS {
             if self.has_had_turn(slot, turns) {
                 return true;
             }

@@ -56,12 +56,12 @@ struct Backlog {
 
 /// So many envelopes are put for other routers before it is looked how many wait for one of their
 /// places: an odd number, so that each of several places has its turn.
-const LOOK: u8 = 7;
+const PUTS_PER_LOOK: u8 = 7;
 
-/// So many envelopes for a place are much. Most of its outbox is left for what one event may bring:
-/// over a hundred for a monitor, where a connection with 64 names leaves; and for what other
-/// routers put until they look.
-const MUCH: usize = 80;
+/// So many envelopes that wait for a place are a backlog. Most of its outbox is left for what one
+/// event may bring: over a hundred for a monitor, where a connection with 64 names leaves; and for
+/// what other routers put until they look.
+const MIN_BACKLOG: usize = 80;
 
 impl<'a, J: Naming, W: Wake + Drop> Model for LanePost<'a, J, W> {
     ghost use Rattle.outbox_core.specs.declared.envelope.Envelope.{Envelope};
@@ -240,7 +240,7 @@ impl<'a, J: Naming, W: Wake + Drop> LanePost<'a, J, W> {
         ensures same { self.new ≡ self.old }
     {
         self.puts_since_look = self.puts_since_look.saturating_add(1);
-        if self.puts_since_look < LOOK {
+        if self.puts_since_look < PUTS_PER_LOOK {
             return false;
         }
         self.puts_since_look = 0;
@@ -297,7 +297,7 @@ impl<'a, J: Naming, W: Wake + Drop> LanePost<'a, J, W> {
     fn has_much<R: Wait>(&mut self, right: &R, slot: usize) -> bool
         ensures same { self.new ≡ self.old }
     {
-        self.waiting(right, slot) >= MUCH
+        self.waiting(right, slot) >= MIN_BACKLOG
     }
 
     /// Whether a backlog is no reason to wait any more: it is gone, or its connection does not take

@@ -6,17 +6,17 @@ use std::sync::atomic::{AtomicBool, AtomicU64, Ordering};
 use std::time::Duration;
 
 /// How often it is looked whether a thread has told enough before this thread sleeps.
-const LOOKS: u32 = 200;
+const LOOKS_BEFORE_SLEEP: u32 = 200;
 
 /// How often it is slept at most while no more is told. A thread that takes longer is not waited
 /// for.
-const SLEEPS: u32 = 50;
+const MAX_IDLE_SLEEPS: u32 = 50;
 
 /// How long it is slept at a time, in milliseconds.
-const SLEEP: u64 = 2;
+const SLEEP_MILLIS: u64 = 2;
 
-/// How often it is looked at most, though more is told meanwhile.
-const MOST_LOOKS: u32 = 5000;
+/// How often it is slept at most, though more is told meanwhile.
+const MAX_SLEEPS: u32 = 5000;
 
 /// What one thread has told of the changes that it made: what comes of a change is put for whoever
 /// gets it once the change is made. Until then nobody is to put what comes later.
@@ -73,7 +73,7 @@ impl Telling {
 
     /// Looks for a while whether all is told up to a position.
     fn tells_soon(&self, position: u64) -> bool {
-        for _ in 0..LOOKS {
+        for _ in 0..LOOKS_BEFORE_SLEEP {
             if self.has_told(position) {
                 return true;
             }
@@ -89,7 +89,7 @@ impl Telling {
         self.told.park_timeout(
             rt,
             (told & 0xffff_ffff) as u32,
-            Duration::from_millis(SLEEP),
+            Duration::from_millis(SLEEP_MILLIS),
         );
     }
 
@@ -98,16 +98,16 @@ impl Telling {
         if self.tells_soon(position) {
             return;
         }
-        let mut sleeps = SLEEPS;
-        for _ in 0..MOST_LOOKS {
+        let mut sleeps_left = MAX_IDLE_SLEEPS;
+        for _ in 0..MAX_SLEEPS {
             let told = self.told.load(Ordering::SeqCst);
-            if told >= position || sleeps == 0 {
+            if told >= position || sleeps_left == 0 {
                 return;
             }
             self.sleep(rt, told);
-            sleeps = match self.told.load(Ordering::SeqCst) == told {
-                true => sleeps.saturating_sub(1),
-                false => SLEEPS,
+            sleeps_left = match self.told.load(Ordering::SeqCst) == told {
+                true => sleeps_left.saturating_sub(1),
+                false => MAX_IDLE_SLEEPS,
             };
         }
     }
