@@ -59,14 +59,14 @@ impl<'a, R: Eprint + Clock> EndLogger<'a, R> {
 }
 
 impl<R: Eprint + Clock> EndLog for EndLogger<'_, R> {
-    fn note(&mut self, ended: Ended) {
+    fn ended(&mut self, ended: Ended) {
         let is_fault = !matches!(ended.cause, EndCause::EndOfInput | EndCause::HungUp);
         if self.is_wanted && is_fault {
             let _unwritten = eprintln!(self.rt; "{}", Notice(ended));
         }
     }
 
-    fn refuse<T: fmt::Display>(&mut self, why: &T) {
+    fn refused<T: fmt::Display>(&mut self, why: &T) {
         self.refusals.write(why);
     }
 }
@@ -115,11 +115,11 @@ impl<'a, R: Eprint + Clock> AcceptLogger<'a, R> {
 }
 
 impl<R: Eprint + Clock> AcceptLog for AcceptLogger<'_, R> {
-    fn tell(&mut self, error: &io::Error) {
+    fn failed(&mut self, error: &io::Error) {
         self.write(error);
     }
 
-    fn refuse(&mut self) {
+    fn refused(&mut self) {
         self.write(&"too many connections wait for a router");
     }
 }

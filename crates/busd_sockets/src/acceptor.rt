@@ -20,10 +20,10 @@ const SHARE: usize = 64;
 /// Who is told that connections can't be accepted.
 pub trait AcceptLog {
     /// The system refused to accept one.
-    fn tell(&mut self, error: &io::Error);
+    fn failed(&mut self, error: &io::Error);
 
     /// A connection was closed, since its router's queue of new connections is full.
-    fn refuse(&mut self);
+    fn refused(&mut self);
 }
 
 /// What the thread that accepts does besides.
@@ -125,7 +125,7 @@ impl<'a, F: Read + Drop, L: AcceptLog + Drop, C: Chores + Drop> Acceptor<'a, F, 
                     }
                     ErrorKind::Interrupted | ErrorKind::ConnectionAborted => {}
                     _ => {
-                        self.log.tell(&error);
+                        self.log.failed(&error);
                         accepted = Accepted::Later;
                         break;
                     }
@@ -146,7 +146,7 @@ impl<'a, F: Read + Drop, L: AcceptLog + Drop, C: Chores + Drop> Acceptor<'a, F, 
         if let Some(new_connections) = self.new_connections.get(router) {
             match new_connections.push(rt, NewConnection { stream, challenge }) {
                 Ok(()) => self.count_handed(router),
-                Err(_full) => self.log.refuse(),
+                Err(_full) => self.log.refused(),
             }
             self.coordinator.tell_of_connection(router);
         }

@@ -26,10 +26,10 @@ const ACCEPTS_PER_WAIT: usize = 64;
 /// Who writes down which connections ended, or are not served.
 pub trait EndLog {
     /// A connection is over.
-    fn note(&mut self, ended: Ended);
+    fn ended(&mut self, ended: Ended);
 
     /// A connection that came was closed.
-    fn refuse<T: Display>(&mut self, why: &T);
+    fn refused<T: Display>(&mut self, why: &T);
 }
 
 /// What became of a socket, as far as it is not told yet.
@@ -184,17 +184,17 @@ impl<'a, L: EndLog + Drop, R: Clock> Source<ClientSocket> for Sockets<'a, L, R> 
         match registered {
             Ok(()) => true,
             Err(error) => {
-                self.log.refuse(&error);
+                self.log.refused(&error);
                 false
             }
         }
     }
 
-    fn refuse(&mut self, fault: OpenFault) {
-        self.log.refuse(&fault);
+    fn refused(&mut self, fault: OpenFault) {
+        self.log.refused(&fault);
     }
 
-    fn tell(&mut self, ended: Ended) {
-        self.log.note(ended);
+    fn ended(&mut self, ended: Ended) {
+        self.log.ended(ended);
     }
 }

@@ -175,7 +175,7 @@ impl<'a, V: BusView, G: Gate, P: Post<V>, S: Socket, E: Source<S>, W: Wake + Dro
         }
         let opened = self.host.open(right, socket, challenge);
         if let Err(fault) = opened {
-            self.source.refuse(fault);
+            self.source.refused(fault);
             self.coordinator.note_gone(self.me);
         }
     }
@@ -221,7 +221,7 @@ impl<'a, V: BusView, G: Gate, P: Post<V>, S: Socket, E: Source<S>, W: Wake + Dro
         ensures same { self.new ≡ self.old }
     {
         for ended in self.host.take_ended() {
-            self.source.tell(ended);
+            self.source.ended(ended);
             self.coordinator.note_gone(self.me);
         }
     }

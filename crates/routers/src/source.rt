@@ -67,14 +67,14 @@ pub trait Source<S: Socket> {
     fn login_time_passes(&mut self, is_wanted: bool) -> bool;
 
     /// Registers a socket under its key: from now on its readiness is told. It is false where the
-    /// system refuses that, which the source itself notes, as at [`refuse`](Source::refuse).
+    /// system refuses that, which the source itself notes, as at [`refused`](Source::refused).
     fn watch(&mut self, key: usize, socket: &mut S) -> bool
         ensures asks { (challenge : Option (List ℕ)) →
             asks socket.old challenge → asks socket.new challenge };
 
     /// A connection that came is not served, and its socket is closed.
-    fn refuse(&mut self, fault: OpenFault);
+    fn refused(&mut self, fault: OpenFault);
 
     /// A connection is over.
-    fn tell(&mut self, ended: Ended);
+    fn ended(&mut self, ended: Ended);
 }

@@ -159,11 +159,11 @@ impl<'a, R: Wait + Clock> Source<ClientSocket<'a, R>> for ScenarioSource<'a, R> 
         }
     }
 
-    fn refuse(&mut self, fault: OpenFault) {
+    fn refused(&mut self, fault: OpenFault) {
         self.progress.note_refused(self.rt, fault);
     }
 
-    fn tell(&mut self, ended: Ended) {
+    fn ended(&mut self, ended: Ended) {
         self.progress.note(self.rt, ended);
     }
 }

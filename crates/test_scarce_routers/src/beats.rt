@@ -169,13 +169,13 @@ impl Source<Wire> for Beats {
         true
     }
 
-    fn refuse(&mut self, fault: OpenFault) {
+    fn refused(&mut self, fault: OpenFault) {
         if fault == OpenFault::NoMemory {
             self.end(EndCause::NoMemory);
         }
     }
 
-    fn tell(&mut self, ended: Ended) {
+    fn ended(&mut self, ended: Ended) {
         self.end(ended.cause);
     }
 }

@@ -39,15 +39,15 @@ const END: Fault = Fault::Trace;
 struct NoLog;
 
 impl AcceptLog for NoLog {
-    fn tell(&mut self, _error: &io::Error) {}
+    fn failed(&mut self, _error: &io::Error) {}
 
-    fn refuse(&mut self) {}
+    fn refused(&mut self) {}
 }
 
 impl EndLog for NoLog {
-    fn note(&mut self, _ended: Ended) {}
+    fn ended(&mut self, _ended: Ended) {}
 
-    fn refuse<T: Display>(&mut self, _why: &T) {}
+    fn refused<T: Display>(&mut self, _why: &T) {}
 }
 
 /// Chores that see how many connections wait for the router.
