@@ -71,7 +71,7 @@ impl<R: Eprint + Clock> EndLog for EndLogger<'_, R> {
     }
 }
 
-/// How often it is told at most that connections can't be accepted or served, in seconds.
+/// The least time between two lines of an [`AcceptLogger`], in seconds.
 const SECONDS_BETWEEN: u64 = 1;
 
 /// Writes why connections can't be accepted or served, where that is wanted, once a second at most.
