@@ -82,6 +82,10 @@ pub struct Acceptor<'a, F: Read + Drop, L: AcceptLog + Drop, C: Chores + Drop> {
 impl<'a, F: Read + Drop, L: AcceptLog + Drop, C: Chores + Drop> Acceptor<'a, F, L, C> {
     /// Accepts what comes in there for the routers of the coordinator, whose main waker wakes the
     /// poll.
+    ///
+    /// # Errors
+    ///
+    /// The poll can't tell of the listener, or there is no memory for what is noted of routers.
     pub fn new(
         alloc: Global,
         entrance: Entrance<F>,

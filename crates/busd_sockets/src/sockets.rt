@@ -70,6 +70,10 @@ pub struct Sockets<'a, L: EndLog + Drop, R: Clock> {
 
 impl<'a, L: EndLog + Drop, R: Clock> Sockets<'a, L, R> {
     /// The sockets that this poll tells of. Its waker is used where connections come.
+    ///
+    /// # Errors
+    ///
+    /// There is no memory for what the poll tells.
     pub fn new(
         rt: &'a R,
         alloc: Global,

@@ -17,6 +17,10 @@ pub struct PollWaker {
 
 impl PollWaker {
     /// The waker of a poll, which has no other.
+    ///
+    /// # Errors
+    ///
+    /// The system gives none, or there is no memory for it.
     pub fn new(alloc: Global, poll: &Poll) -> io::Result<PollWaker> {
         let waker = Waker::new(poll.registry(), WAKER)?;
         match Arc::new(alloc, waker) {
@@ -26,6 +30,10 @@ impl PollWaker {
     }
 
     /// One more for the same poll.
+    ///
+    /// # Errors
+    ///
+    /// There are as many as can be counted.
     pub fn try_clone(&self) -> Result<PollWaker, AllocError> {
         Ok(PollWaker {
             waker: Arc::try_clone(&self.waker)?,

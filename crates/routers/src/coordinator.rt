@@ -179,6 +179,10 @@ impl<W: Wake + Drop> Model for Coordinator<W> {
 impl<W: Wake + Drop> Coordinator<W> {
     /// The coordinator of as many routers as there are wakers, and of the main thread, whose waker
     /// is `main`.
+    ///
+    /// # Errors
+    ///
+    /// There may not be memory for what they share.
     pub fn new(alloc: Global, wakers: Vec<W>, main: W) -> Result<Coordinator<W>, AllocError>
         ensures routers { IfOk result (λ c. c ≡ length wakers.items) }
     {
