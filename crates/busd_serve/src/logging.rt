@@ -43,16 +43,12 @@ impl fmt::Display for Notice {
 /// Writes of connections that were closed with a fault or are not served, where that is wanted.
 #[derive(Drop)]
 pub(crate) struct EndLogger<'a, R: Eprint + Clock> {
-    rt: &'a R,
-    is_wanted: bool,
     refusals: AcceptLogger<'a, R>,
 }
 
 impl<'a, R: Eprint + Clock> EndLogger<'a, R> {
     pub(crate) fn new(rt: &'a R, is_wanted: bool) -> EndLogger<'a, R> {
         EndLogger {
-            rt,
-            is_wanted,
             refusals: AcceptLogger::new(rt, is_wanted),
         }
     }
@@ -61,8 +57,8 @@ impl<'a, R: Eprint + Clock> EndLogger<'a, R> {
 impl<R: Eprint + Clock> EndLog for EndLogger<'_, R> {
     fn ended(&mut self, ended: Ended) {
         let is_fault = !matches!(ended.cause, EndCause::EndOfInput | EndCause::HungUp);
-        if self.is_wanted && is_fault {
-            let _unwritten = eprintln!(self.rt; "{}", Notice(ended));
+        if self.refusals.is_wanted && is_fault {
+            let _unwritten = eprintln!(self.refusals.rt; "{}", Notice(ended));
         }
     }
 

@@ -6,6 +6,7 @@ use names::WellKnown;
 use routers::{Fault, TraceSink};
 use std::alloc::Global;
 use std::fs::OpenFile;
+use std::io;
 use std::io::{ErrorKind, Write};
 use std::rt::Files;
 
@@ -24,13 +25,15 @@ impl<F: Write + Drop> TraceSink for TraceFile<F> {
         let Some(file) = &mut self.file else {
             return Ok(());
         };
-        match file.write_all(lines) {
-            Ok(()) => Ok(()),
-            Err(error) => Err(match error.kind() {
-                ErrorKind::OutOfMemory => Fault::Memory,
-                _ => Fault::Trace,
-            }),
-        }
+        file.write_all(lines).map_err(trace_fault)
+    }
+}
+
+/// The fault of lines that could not be written.
+fn trace_fault(error: io::Error) -> Fault {
+    match error.kind() {
+        ErrorKind::OutOfMemory => Fault::Memory,
+        _ => Fault::Trace,
     }
 }
 
