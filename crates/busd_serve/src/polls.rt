@@ -2,15 +2,12 @@
 
 use crate::fault::poll_fault;
 use busd_core::ServeFault;
-use busd_sockets::{NewConnections, PollWaker};
+use busd_sockets::{MAX_WAITING, NewConnections, PollWaker};
 use crossbeam_queue::ArrayQueue;
 use mio::Poll;
 use routers::Coordinator;
 use std::alloc::{AllocError, Global};
 use std::net::Net;
-
-/// How many connections wait for a router at most.
-const WAITING: usize = 64;
 
 /// The polls of a bus, with what wakes its threads and the queues of the connections that come to
 /// them.
@@ -77,7 +74,8 @@ impl RouterPolls {
         let waker = PollWaker::new(alloc, &poll).map_err(poll_fault)?;
         push(&mut self.wakers, waker)?;
         push(&mut self.polls, poll)?;
-        push(&mut self.new_connections, ArrayQueue::new(alloc, WAITING)?)?;
+        let new_connections = ArrayQueue::new(alloc, MAX_WAITING)?;
+        push(&mut self.new_connections, new_connections)?;
         Ok(())
     }
 }

@@ -1,6 +1,6 @@
 //! The thread that accepts connections.
 
-use crate::new_connection::{NewConnection, NewConnections};
+use crate::new_connection::{MAX_WAITING, NewConnection, NewConnections};
 use crate::waker::PollWaker;
 use mio::net::{UnixListener, UnixStream};
 use mio::{Events, Interest, Poll, Token};
@@ -13,9 +13,6 @@ use std::time::Duration;
 
 /// The token of the listener.
 const LISTENER: Token = Token(0);
-
-/// How many connections are accepted at once for each router.
-const SHARE: usize = 64;
 
 /// Who is told that connections can't be accepted.
 pub trait AcceptLog {
@@ -119,7 +116,7 @@ impl<'a, F: Read + Drop, L: AcceptLog + Drop, C: Chores + Drop> Acceptor<'a, F, 
     /// Accepts what waits, as many as routers take in a turn, and wakes the routers.
     fn accept_some<R: Wait>(&mut self, rt: &R) -> Result<Accepted, Fault> {
         let mut accepted = Accepted::More;
-        for _ in 0..self.new_connections.len().saturating_mul(SHARE) {
+        for _ in 0..self.new_connections.len().saturating_mul(MAX_WAITING) {
             match self.listener.accept() {
                 Ok((stream, _address)) => self.hand_over(rt, stream)?,
                 Err(error) => match error.kind() {

@@ -36,6 +36,6 @@ mod waker;
 
 pub use acceptor::{AcceptLog, Acceptor, Chores, Entrance};
 pub use client_socket::ClientSocket;
-pub use new_connection::NewConnections;
+pub use new_connection::{MAX_WAITING, NewConnections};
 pub use sockets::{EndLog, Sockets};
 pub use waker::PollWaker;

@@ -3,6 +3,9 @@
 use crossbeam_queue::ArrayQueue;
 use mio::net::UnixStream;
 
+/// How many connections wait for a router at most, and come to it in a turn.
+pub const MAX_WAITING: usize = 64;
+
 /// A connection that was accepted, and what it is asked.
 #[derive(Drop)]
 pub struct NewConnection {

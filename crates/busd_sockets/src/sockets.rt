@@ -5,7 +5,7 @@ ghost use Rattle.routers.specs.Sources.{IsBrought};
 
 use crate::client_socket::ClientSocket;
 use crate::login_timer::LoginTimer;
-use crate::new_connection::{NewConnection, NewConnections};
+use crate::new_connection::{MAX_WAITING, NewConnection, NewConnections};
 use crate::waker::WAKER;
 use mio::event::Event;
 use mio::{Events, Interest, Poll, Token};
@@ -19,9 +19,6 @@ use std::time::Duration;
 
 /// How many events are told at once.
 const EVENTS: usize = 256;
-
-/// How many connections are told of at once.
-const ACCEPTS_PER_WAIT: usize = 64;
 
 /// Who writes down which connections ended, or are not served.
 pub trait EndLog {
@@ -86,7 +83,7 @@ impl<'a, L: EndLog + Drop, R: Clock> Sockets<'a, L, R> {
             events: Events::with_capacity(alloc, EVENTS)?,
             new_connections,
             readiness: Vec::with_capacity(alloc, EVENTS)?,
-            accepts_left: ACCEPTS_PER_WAIT,
+            accepts_left: MAX_WAITING,
             login_timer: LoginTimer::new(rt),
             log,
         })
@@ -158,7 +155,7 @@ impl<'a, L: EndLog + Drop, R: Clock> Source<ClientSocket> for Sockets<'a, L, R> 
             most
         };
         let most = shorter(most, self.login_timer.left());
-        self.accepts_left = ACCEPTS_PER_WAIT;
+        self.accepts_left = MAX_WAITING;
         if self.poll.poll(&mut self.events, most).is_err() {
             return Err(Fault::Poll);
         }
