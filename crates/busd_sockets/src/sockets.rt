@@ -121,9 +121,10 @@ impl<'a, L: EndLog + Drop, R: Clock> Sockets<'a, L, R> {
             };
             let _has_room = self.readiness.push(rest);
         }
-        match readable {
-            true => Some(SourceEvent::Readable { key, closing }),
-            false => Some(SourceEvent::Writable { key }),
+        if readable {
+            Some(SourceEvent::Readable { key, closing })
+        } else {
+            Some(SourceEvent::Writable { key })
         }
     }
 }

@@ -105,9 +105,10 @@ impl Telling {
                 return;
             }
             self.sleep(rt, told);
-            sleeps_left = match self.told.load(Ordering::SeqCst) == told {
-                true => sleeps_left.saturating_sub(1),
-                false => MAX_IDLE_SLEEPS,
+            sleeps_left = if self.told.load(Ordering::SeqCst) == told {
+                sleeps_left.saturating_sub(1)
+            } else {
+                MAX_IDLE_SLEEPS
             };
         }
     }

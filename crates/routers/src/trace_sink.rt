@@ -30,9 +30,10 @@ pub trait TraceSink {
 pub fn traced<V: BusView>(alloc: Global, view: V, records: bool) -> Traced<V>
     ensures { result.view ≡ view }
 {
-    match records {
-        true => Traced::new(alloc, view),
-        false => Traced::silent(alloc, view),
+    if records {
+        Traced::new(alloc, view)
+    } else {
+        Traced::silent(alloc, view)
     }
 }
 
@@ -58,17 +59,19 @@ impl<'a, J: Naming, W: Wake + Drop, R: Wait, G: Gate, S: Socket, T: TraceSink> T
         host: &mut Host<Traced<Desk<'a, J, R>>, G, LanePost<'a, J, W>, S>,
     ) -> Result<(), Fault> {
         write_any(self, host.take_lines())?;
-        match host.lost() {
-            true => Err(Fault::Memory),
-            false => Ok(()),
+        if host.lost() {
+            Err(Fault::Memory)
+        } else {
+            Ok(())
         }
     }
 }
 
 /// Writes lines, if there are any.
 fn write_any<T: TraceSink>(sink: &mut T, lines: Vec<u8>) -> Result<(), Fault> {
-    match lines.is_empty() {
-        true => Ok(()),
-        false => sink.write(lines.as_slice()),
+    if lines.is_empty() {
+        Ok(())
+    } else {
+        sink.write(lines.as_slice())
     }
 }
