@@ -4,6 +4,7 @@ ghost use Rattle.std.specs.Prelude.{◌≡◌, ◌-◌, ◌*◌, ◌^◌, min, I
 ghost use Rattle.routers.specs.Posts.{places_of};
 
 use crate::fault::Fault;
+use crate::flag::{lower, raise};
 use crate::telling::Telling;
 use crossbeam_utils::CachePadded;
 use seq_bus_core::limits::MAX_CONNECTIONS;
@@ -101,18 +102,6 @@ impl<W: Wake + Drop> RouterState<W> {
             Duration::from_millis(TURN_WAIT_MILLIS),
         );
     }
-}
-
-/// A flag that is raised already is not written: others may be reading it.
-fn raise(flag: &AtomicBool) {
-    if !flag.load(Ordering::SeqCst) {
-        flag.store(true, Ordering::SeqCst);
-    }
-}
-
-/// Whether a flag was raised. It no longer is.
-fn lower(flag: &AtomicBool) -> bool {
-    flag.load(Ordering::SeqCst) && flag.swap(false, Ordering::SeqCst)
 }
 
 /// What the threads of a bus share, besides its registry and the queues between them: how to wake

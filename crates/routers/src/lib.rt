@@ -31,6 +31,7 @@
 
 mod coordinator;
 mod fault;
+mod flag;
 mod post;
 mod router_loop;
 mod slot_mail;

@@ -1,5 +1,6 @@
 //! Which of their changes the threads of a bus have told.
 
+use crate::flag::lower;
 use std::hint::spin_loop;
 use std::sync::Wait;
 use std::sync::atomic::{AtomicBool, AtomicU64, Ordering};
@@ -41,7 +42,7 @@ impl Telling {
 
     fn tell(&self, position: u64) {
         self.told.store(position, Ordering::SeqCst);
-        if self.is_awaited.load(Ordering::SeqCst) && self.is_awaited.swap(false, Ordering::SeqCst) {
+        if lower(&self.is_awaited) {
             self.told.wake_all();
         }
     }
