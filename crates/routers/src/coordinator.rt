@@ -40,22 +40,22 @@ pub trait Wake {
 struct RouterState<W: Wake + Drop> {
     waker: W,
     /// It waits, or is about to: whoever has something for it wakes it.
-    sleeps: AtomicBool,
+    is_sleeping: AtomicBool,
     /// There is mail from another router for a slot of it: which one, the flag of the slot says.
-    mail: AtomicBool,
+    has_mail: AtomicBool,
     /// It is to check which of its connections are present: one was full for another router, or
     /// some left late.
-    check_due: AtomicBool,
+    is_check_due: AtomicBool,
     /// A connection came for it.
-    comes: AtomicBool,
+    has_newcomers: AtomicBool,
     /// Something was brought to it: whoever ends a turn wakes it.
-    owed: AtomicBool,
+    is_owed: AtomicBool,
     /// It serves.
-    serves: AtomicBool,
+    is_serving: AtomicBool,
     /// How many turns it has ended.
     turns: AtomicU64,
     /// Another router waits for the end of its turn.
-    awaited: AtomicBool,
+    is_awaited: AtomicBool,
     /// How many connections that came to it are gone: over, or not served.
     gone: AtomicU64,
 }
@@ -64,20 +64,20 @@ impl<W: Wake + Drop> RouterState<W> {
     fn new(waker: W) -> RouterState<W> {
         RouterState {
             waker,
-            sleeps: AtomicBool::new(false),
-            mail: AtomicBool::new(false),
-            check_due: AtomicBool::new(false),
-            comes: AtomicBool::new(false),
-            owed: AtomicBool::new(false),
-            serves: AtomicBool::new(false),
+            is_sleeping: AtomicBool::new(false),
+            has_mail: AtomicBool::new(false),
+            is_check_due: AtomicBool::new(false),
+            has_newcomers: AtomicBool::new(false),
+            is_owed: AtomicBool::new(false),
+            is_serving: AtomicBool::new(false),
             turns: AtomicU64::new(0),
-            awaited: AtomicBool::new(false),
+            is_awaited: AtomicBool::new(false),
             gone: AtomicU64::new(0),
         }
     }
 
     fn wake(&self) {
-        if self.sleeps.swap(false, Ordering::SeqCst) {
+        if self.is_sleeping.swap(false, Ordering::SeqCst) {
             self.waker.wake();
         }
     }
@@ -85,7 +85,7 @@ impl<W: Wake + Drop> RouterState<W> {
     /// It has ended a turn: whoever waits for that goes on.
     fn end_turn(&self) {
         self.turns.fetch_add(1, Ordering::SeqCst);
-        if lower(&self.awaited) {
+        if lower(&self.is_awaited) {
             self.turns.wake_all();
         }
     }
@@ -94,7 +94,7 @@ impl<W: Wake + Drop> RouterState<W> {
     fn await_turn<R: Wait>(&self, rt: &R) {
         let turns = self.turns.load(Ordering::SeqCst);
         // Before it is woken: if it is about to sleep, it sees this.
-        raise(&self.awaited);
+        raise(&self.is_awaited);
         self.wake();
         self.turns.park_timeout(
             rt,
@@ -120,7 +120,7 @@ pub struct Coordinator<W: Wake + Drop> {
     /// By slots: the connection did not take its mail, though its router had a turn.
     stuck: Vec<AtomicBool>,
     main: W,
-    stops: AtomicBool,
+    is_over: AtomicBool,
     /// The fault that came first.
     fault: OnceLock<Fault>,
 }
@@ -186,7 +186,7 @@ impl<W: Wake + Drop> Coordinator<W> {
             mail,
             stuck,
             main,
-            stops: AtomicBool::new(false),
+            is_over: AtomicBool::new(false),
             fault: OnceLock::new(),
         })
     }
@@ -217,8 +217,8 @@ impl<W: Wake + Drop> Coordinator<W> {
         }
         // Behind the slot's flag: whoever sees this one sees that one.
         if let Some(state) = self.states.get(self.router_of(slot)) {
-            raise(&state.mail);
-            raise(&state.owed);
+            raise(&state.has_mail);
+            raise(&state.is_owed);
         }
     }
 
@@ -227,7 +227,7 @@ impl<W: Wake + Drop> Coordinator<W> {
     pub(crate) fn turns_of(&self, slot: usize) -> Option<u64> {
         let stuck = self.stuck.get(slot)?;
         let state = self.states.get(self.router_of(slot))?;
-        if stuck.load(Ordering::SeqCst) || !state.serves.load(Ordering::SeqCst) {
+        if stuck.load(Ordering::SeqCst) || !state.is_serving.load(Ordering::SeqCst) {
             return None;
         }
         Some(state.turns.load(Ordering::SeqCst))
@@ -238,7 +238,7 @@ impl<W: Wake + Drop> Coordinator<W> {
     pub(crate) fn has_had_turn(&self, slot: usize, turns: u64) -> bool {
         match self.states.get(self.router_of(slot)) {
             Some(state) => {
-                !state.serves.load(Ordering::SeqCst)
+                !state.is_serving.load(Ordering::SeqCst)
                     || state.turns.load(Ordering::SeqCst) >= turns.saturating_add(TURNS_APART)
             }
             None => true,
@@ -281,14 +281,14 @@ impl<W: Wake + Drop> Coordinator<W> {
     /// A router begins to serve.
     pub(crate) fn begin_serving(&self, router: usize) {
         if let Some(state) = self.states.get(router) {
-            state.serves.store(true, Ordering::SeqCst);
+            state.is_serving.store(true, Ordering::SeqCst);
         }
     }
 
     /// A router serves no more.
     pub(crate) fn end_serving(&self, router: usize) {
         if let Some(state) = self.states.get(router) {
-            state.serves.store(false, Ordering::SeqCst);
+            state.is_serving.store(false, Ordering::SeqCst);
         }
     }
 
@@ -354,7 +354,7 @@ impl<W: Wake + Drop> Coordinator<W> {
     /// slots are.
     pub(crate) fn take_any_mail_flag(&self, router: usize) -> bool {
         match self.states.get(router) {
-            Some(state) => lower(&state.mail),
+            Some(state) => lower(&state.has_mail),
             None => false,
         }
     }
@@ -386,15 +386,15 @@ impl<W: Wake + Drop> Coordinator<W> {
     /// A connection came for a router, which is to be woken.
     pub fn tell_of_connection(&self, router: usize) {
         if let Some(state) = self.states.get(router) {
-            raise(&state.comes);
-            raise(&state.owed);
+            raise(&state.has_newcomers);
+            raise(&state.is_owed);
         }
     }
 
     /// A router looks for connections now: those that come later raise the flag again.
-    pub(crate) fn lower_comes(&self, router: usize) {
+    pub(crate) fn lower_newcomers_flag(&self, router: usize) {
         if let Some(state) = self.states.get(router) {
-            state.comes.store(false, Ordering::SeqCst);
+            state.has_newcomers.store(false, Ordering::SeqCst);
         }
     }
 
@@ -402,8 +402,8 @@ impl<W: Wake + Drop> Coordinator<W> {
     /// whether it is present.
     pub(crate) fn ask_check(&self, slot: usize) {
         if let Some(state) = self.states.get(self.router_of(slot)) {
-            raise(&state.check_due);
-            raise(&state.owed);
+            raise(&state.is_check_due);
+            raise(&state.is_owed);
         }
     }
 
@@ -413,8 +413,8 @@ impl<W: Wake + Drop> Coordinator<W> {
         let own = self.router_of(slot);
         for (router, state) in self.states.iter().enumerate() {
             if router != own {
-                raise(&state.check_due);
-                raise(&state.owed);
+                raise(&state.is_check_due);
+                raise(&state.is_owed);
             }
         }
     }
@@ -422,7 +422,7 @@ impl<W: Wake + Drop> Coordinator<W> {
     /// Whether a router is to check which of its connections are present. The flag is lowered.
     pub(crate) fn take_check_flag(&self, router: usize) -> bool {
         match self.states.get(router) {
-            Some(state) => lower(&state.check_due),
+            Some(state) => lower(&state.is_check_due),
             None => false,
         }
     }
@@ -432,25 +432,25 @@ impl<W: Wake + Drop> Coordinator<W> {
         let Some(state) = self.states.get(router) else {
             return false;
         };
-        state.sleeps.store(true, Ordering::SeqCst);
-        let is_awaited = state.mail.load(Ordering::SeqCst)
-            || state.check_due.load(Ordering::SeqCst)
-            || state.comes.load(Ordering::SeqCst)
-            || state.awaited.load(Ordering::SeqCst);
-        !(is_awaited || self.is_over())
+        state.is_sleeping.store(true, Ordering::SeqCst);
+        let has_work = state.has_mail.load(Ordering::SeqCst)
+            || state.is_check_due.load(Ordering::SeqCst)
+            || state.has_newcomers.load(Ordering::SeqCst)
+            || state.is_awaited.load(Ordering::SeqCst);
+        !(has_work || self.is_over())
     }
 
     /// A router waits no more.
     pub(crate) fn end_sleep(&self, router: usize) {
         if let Some(state) = self.states.get(router) {
-            state.sleeps.store(false, Ordering::SeqCst);
+            state.is_sleeping.store(false, Ordering::SeqCst);
         }
     }
 
     /// Wakes the routers that something was brought to, if they sleep.
     pub fn wake_owed(&self) {
         for state in &self.states {
-            if lower(&state.owed) {
+            if lower(&state.is_owed) {
                 state.wake();
             }
         }
@@ -463,12 +463,12 @@ impl<W: Wake + Drop> Coordinator<W> {
 
     /// Whether all are to end.
     pub fn is_over(&self) -> bool {
-        self.stops.load(Ordering::SeqCst)
+        self.is_over.load(Ordering::SeqCst)
     }
 
     /// All threads are to end after their turn.
     pub fn stop(&self) {
-        self.stops.store(true, Ordering::SeqCst);
+        self.is_over.store(true, Ordering::SeqCst);
         self.main.wake();
         for state in &self.states {
             state.waker.wake();

@@ -128,7 +128,7 @@ impl<'a, V: BusView, G: Gate, P: Post<V>, S: Socket, E: Source<S>, W: Wake + Dro
         ensures serves { WorksOnBy V.BusView G.Gate P.Post E.Source S.Sink
             self.old self.new }
     {
-        self.coordinator.lower_comes(self.me);
+        self.coordinator.lower_newcomers_flag(self.me);
         for _ in rt.forever() {
             let Some(event) = self.source.next(rt) else {
                 return false;
