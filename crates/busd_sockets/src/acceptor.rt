@@ -170,10 +170,9 @@ impl<'a, F: Read + Drop, L: AcceptLog + Drop, C: Chores + Drop> Acceptor<'a, F, 
     }
 
     fn has_place(&self, router: usize) -> bool {
-        match self.handed.get(router) {
-            Some(handed) => self.coordinator.has_place(router, *handed),
-            None => false,
-        }
+        self.handed
+            .get(router)
+            .is_some_and(|handed| self.coordinator.has_place(router, *handed))
     }
 
     fn count_handed(&mut self, router: usize) {

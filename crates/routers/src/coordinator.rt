@@ -353,18 +353,14 @@ impl<W: Wake + Drop> Coordinator<W> {
     /// Whether there is mail for any slot of a router. The flag is lowered, before those of the
     /// slots are.
     pub(crate) fn take_any_mail_flag(&self, router: usize) -> bool {
-        match self.states.get(router) {
-            Some(state) => lower(&state.has_mail),
-            None => false,
-        }
+        self.states
+            .get(router)
+            .is_some_and(|state| lower(&state.has_mail))
     }
 
     /// Whether there is mail for this slot. The flag is lowered.
     pub(crate) fn take_mail_flag(&self, slot: usize) -> bool {
-        match self.mail.get(slot) {
-            Some(flag) => lower(flag),
-            None => false,
-        }
+        self.mail.get(slot).is_some_and(|flag| lower(flag))
     }
 
     /// A connection that came to a router is gone: it is over, or was not served.
@@ -421,10 +417,9 @@ impl<W: Wake + Drop> Coordinator<W> {
 
     /// Whether a router is to check which of its connections are present. The flag is lowered.
     pub(crate) fn take_check_flag(&self, router: usize) -> bool {
-        match self.states.get(router) {
-            Some(state) => lower(&state.is_check_due),
-            None => false,
-        }
+        self.states
+            .get(router)
+            .is_some_and(|state| lower(&state.is_check_due))
     }
 
     /// A router is about to wait. It is not to, where something came for it meanwhile.
