@@ -12,3 +12,7 @@ pub mod Cutting
 pub mod AtOnce
 pub mod Extending
 pub mod Ending
+pub mod Results
+pub mod Stages
+pub mod Passing
+pub mod Letting

@@ -4,3 +4,4 @@ pub mod Outputs
 pub mod GrantedRuns
 pub mod Cuts
 pub mod Streams
+pub mod Logins

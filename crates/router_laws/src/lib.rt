@@ -29,7 +29,8 @@
 //! of its events: any two runs of the same events write the same bytes to each connection
 //! ([`runs`]), and it does not matter how those bytes were cut that came ([`cuts`]). Of
 //! [`busd_core::run`] the same is said in fewer words: what it writes for a stream depends on the
-//! bytes of the stream alone ([`streams`]). Each function of these modules does nothing: what it
+//! bytes of the stream alone ([`streams`]). And whatever happens to a router, no connection is let in
+//! but by what it has said ([`logins`]). Each function of these modules does nothing: what it
 //! ensures is the law, for the proof of whoever calls it.
 //!
 //! ```
@@ -50,6 +51,7 @@
 
 pub mod cuts;
 mod fault;
+pub mod logins;
 mod outlets;
 pub mod runs;
 mod session;

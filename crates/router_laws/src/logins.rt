@@ -1,0 +1,24 @@
+//! Who is let in.
+
+ghost use Rattle.router_laws.specs.Logins.{ComersHaveSaidNothing, EachHasShown, HearingGoesOn, OthersLeaveItAlone};
+
+use sasl::laws::nobody_is_let_in_unknown;
+
+/// Whatever happens to a router, from the first event on: a connection that is past authentication
+/// has shown, by the bytes that came for it, who it is, or nobody asked it.
+pub fn each_has_shown_who_it_is()
+    ensures { EachHasShown }
+{
+    nobody_is_let_in_unknown();
+}
+
+/// What a connection says that is asked who it is is one conversation, however its bytes come: it
+/// begins with nothing; bytes go on with it, and let the connection in only by what it has shown in
+/// all of them; and no other event does anything to it.
+pub fn lines_are_one_conversation()
+    ensures first { ComersHaveSaidNothing }
+    ensures on { HearingGoesOn }
+    ensures others { OthersLeaveItAlone }
+{
+    nobody_is_let_in_unknown();
+}
