@@ -8,10 +8,11 @@ use Rattle.sasl.specs.Laws.{HasShown}
 use Rattle.bus_view.specs.Views.{Knowledge}
 use Rattle.router_core.specs.Acts.{Exchange, Goes}
 use Rattle.router_core.specs.Deeds.{Deed}
-use Rattle.router_core.specs.Events.{Occasion, Opened, Bytes, Closed, is_user, script}
-use Rattle.router_core.specs.Laws.{HasNotBegun}
+use Rattle.router_core.specs.Events.{Occasion, Opened, Bytes, Closed, gathering, gathering_of_none, is_user, script}
+use Rattle.router_core.specs.Laws.{HasNotBegun, IsClosing}
 use Rattle.router_core.specs.OneThread.{Rest}
 use Rattle.router_core.specs.Standing.{Stage, Authenticating, Unnamed, Named, Closing, Peer, Standing, fresh, peer_at, with_newcomer}
+use Rattle.router_core.specs.declared.joint.Joint.{Joint}
 use Rattle.router_laws.specs.Turns.{AreServedBy, Turn}
 
 -- ## What came for a connection
@@ -105,3 +106,14 @@ abbrev pub OthersLeaveItAlone : Type 0
 OthersLeaveItAlone =
     (s t : Standing) (occasion : Occasion) (key : ℕ) (p : Peer) (setting : Setting) (state : AuthState) (asked : List Exchange) (deeds : List Deed) →
     is_of key occasion ≡ false → HasNotBegun s key p setting state → Goes (script s occasion) asked deeds t → peer_at t key ≡ Some p
+
+-- ## Turns of several connections
+
+-- Whoever still says who it is is passed over in a turn, whichever calls stand before it.
+abbrev pub LinesArePassedOver : Type 0
+LinesArePassedOver = (joints : List Joint) (s : Standing) (key : ℕ) (p : Peer) (setting : Setting) (state : AuthState) → HasNotBegun s key p setting state →
+    gathering joints s key (peer_at s key) ≡ gathering_of_none joints s
+
+-- So is whoever was closed.
+abbrev pub ClosedArePassedOver : Type 0
+ClosedArePassedOver = (joints : List Joint) (s : Standing) (key : ℕ) (p : Peer) → IsClosing s key p → gathering joints s key (peer_at s key) ≡ gathering_of_none joints s

@@ -1,6 +1,6 @@
 //! Who is let in.
 
-ghost use Rattle.router_laws.specs.Logins.{ComersHaveSaidNothing, EachHasShown, HearingGoesOn, OthersLeaveItAlone};
+ghost use Rattle.router_laws.specs.Logins.{ClosedArePassedOver, ComersHaveSaidNothing, EachHasShown, HearingGoesOn, LinesArePassedOver, OthersLeaveItAlone};
 
 use sasl::laws::nobody_is_let_in_unknown;
 
@@ -22,3 +22,10 @@ pub fn lines_are_one_conversation()
 {
     nobody_is_let_in_unknown();
 }
+
+/// In a turn, whichever calls of others stand before it, a connection is passed over that says who
+/// it is, or that was closed.
+pub fn quiet_connections_are_passed_over()
+    ensures lines { LinesArePassedOver }
+    ensures closed { ClosedArePassedOver }
+{}
