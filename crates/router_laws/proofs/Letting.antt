@@ -26,7 +26,7 @@ use Rattle.router_core.specs.Scripts.{Gives, and_then}
 use Rattle.router_core.specs.Standing.{Stage, Authenticating, Unnamed, Named, Closing, Peer, Standing, fresh, peer_at, with_peer, without_peer, newcomer, first_stage, conn_of}
 use Rattle.router_core.proofs.Trimmed.{get-placed, get-placed_other, get-vacated, get-vacated_other}
 use Rattle.router_laws.specs.Turns.{AreServedBy, Turn as Served}
-use Rattle.router_laws.specs.Logins.{Client, comer, with_piece, client_after, client_of, HasBegun, IsLetIn, HasSaid, EachHasShown, ComersHaveSaidNothing, HasHeard, HearingGoesOn, is_of, OthersLeaveItAlone}
+use Rattle.router_laws.specs.Logins.{Client, comer, with_piece, client_after, client_of, HasBegun, IsLetIn, HasSaid, EachHasShown, ComersHaveSaidNothing, HasHeard, HearingGoesOn, is_of, OthersLeaveItAlone, ClosedStayClosed}
 use Rattle.router_laws.proofs.Results.{Always, of_result, whatever, one_then, weaker}
 use Rattle.router_laws.proofs.Stages.{MaySpeak, Passes, as_it_was, unnamed_still, has_name, was_closed, PassesAt, at_rest, Ahead}
 use Rattle.router_laws.proofs.Passing.{next_passes, turn_passes, mail_passes, leave_passes, child_passes, tick_passes}
@@ -278,20 +278,27 @@ other_passes s t (Full number) key asked deeds not goes = ahead_at s t (Full num
 other_passes s t (Child e) key asked deeds not goes = ahead_at s t (Child e) key asked deeds goes (child_passes s e)
 other_passes s t Tick key asked deeds not goes = ahead_at s t Tick key asked deeds goes (tick_passes s)
 
-pub others_leave_it_alone : OthersLeaveItAlone
-others_leave_it_alone s t occasion key p setting state asked deeds not is goes =
+-- who does not speak stays as it was
+left_alone : (s t : Standing) (occasion : Occasion) (key : ℕ) (p : Peer) (asked : List Exchange) (deeds : List Deed) → is_of key occasion ≡ false → peer_at s key ≡ Some p → (MaySpeak p.stage → ⊥) →
+    Goes (script s occasion) asked deeds t → peer_at t key ≡ Some p
+left_alone s t occasion key p asked deeds not here quiet goes =
     let went = (other_passes s t occasion key asked deeds not goes).1 in
-    let at : PassesAt (Some p) (peer_at t key) = subst (λ (o : Option Peer). PassesAt o (peer_at t key)) is.0 went in
+    let at : PassesAt (Some p) (peer_at t key) = subst (λ (o : Option Peer). PassesAt o (peer_at t key)) here went in
     at.1 ∙ ap (λ (x : Peer). Some x) (still at.0 at.2)
   where
-    waits : MaySpeak p.stage → ⊥
-    waits served = subst (λ (x : Stage). MaySpeak x) is.1 served
-
     still : (q : Peer) → Passes p q → q ≡ p
     still q (as_it_was e) = e
-    still q (unnamed_still privileged a b) = absurd (waits (subst (λ (x : Stage). MaySpeak x) (sym a) tt))
-    still q (has_name conn served b) = absurd (waits served)
-    still q (was_closed conn served b) = absurd (waits served)
+    still q (unnamed_still privileged a b) = absurd (quiet (subst (λ (x : Stage). MaySpeak x) (sym a) tt))
+    still q (has_name conn served b) = absurd (quiet served)
+    still q (was_closed conn served b) = absurd (quiet served)
+
+pub others_leave_it_alone : OthersLeaveItAlone
+others_leave_it_alone s t occasion key p setting state asked deeds not is goes =
+    left_alone s t occasion key p asked deeds not is.0 (λ speaks. subst (λ (x : Stage). MaySpeak x) is.1 speaks) goes
+
+pub closed_stay_closed : ClosedStayClosed
+closed_stay_closed s t occasion key p asked deeds not is goes =
+    left_alone s t occasion key p asked deeds not is.0 (λ speaks. subst (λ (x : Stage). MaySpeak x) is.1.1 speaks) goes
 
 -- ## From the first event on
 

@@ -107,6 +107,12 @@ OthersLeaveItAlone =
     (s t : Standing) (occasion : Occasion) (key : ℕ) (p : Peer) (setting : Setting) (state : AuthState) (asked : List Exchange) (deeds : List Deed) →
     is_of key occasion ≡ false → HasNotBegun s key p setting state → Goes (script s occasion) asked deeds t → peer_at t key ≡ Some p
 
+-- Nor does any other event do anything to one that was closed, and is not gone yet.
+abbrev pub ClosedStayClosed : Type 0
+ClosedStayClosed =
+    (s t : Standing) (occasion : Occasion) (key : ℕ) (p : Peer) (asked : List Exchange) (deeds : List Deed) →
+    is_of key occasion ≡ false → IsClosing s key p → Goes (script s occasion) asked deeds t → peer_at t key ≡ Some p
+
 -- ## Turns of several connections
 
 -- Whoever still says who it is is passed over in a turn, whichever calls stand before it.

@@ -1,6 +1,6 @@
 //! Who is let in.
 
-ghost use Rattle.router_laws.specs.Logins.{ClosedArePassedOver, ComersHaveSaidNothing, EachHasShown, HearingGoesOn, LinesArePassedOver, OthersLeaveItAlone};
+ghost use Rattle.router_laws.specs.Logins.{ClosedArePassedOver, ClosedStayClosed, ComersHaveSaidNothing, EachHasShown, HearingGoesOn, LinesArePassedOver, OthersLeaveItAlone};
 
 use sasl::laws::nobody_is_let_in_unknown;
 
@@ -22,6 +22,12 @@ pub fn lines_are_one_conversation()
 {
     nobody_is_let_in_unknown();
 }
+
+/// A connection that was closed stays as it is until it is gone, or bytes of it come, which are let
+/// go.
+pub fn closed_connections_stay_closed()
+    ensures { ClosedStayClosed }
+{}
 
 /// In a turn, whichever calls of others stand before it, a connection is passed over that says who
 /// it is, or that was closed.
