@@ -1,6 +1,6 @@
 //! The bytes that wait for a socket.
 
-ghost use Rattle.std.specs.Prelude.{◌≡◌, ◌-◌, ◌<◌, ◌≤◌, [], ◌++◌, length, drop, IfOk, IfErr, OnOk, OnErr, ◌==◌};
+ghost use Rattle.std.specs.Prelude.{◌≡◌, ◌≢◌, ◌-◌, ◌<◌, ◌≤◌, [], ◌++◌, length, drop, IfOk, IfErr, OnOk, OnErr, ◌==◌};
 ghost use Rattle.std.specs.Io.{WritesAtMost};
 ghost use Rattle.std.specs.Io.KnownBytes.{WriteAppends};
 ghost use Rattle.outgoing.specs.Flushing.{Flushes, flushed_of};
@@ -121,10 +121,11 @@ impl<C: Chunk + Drop> Outgoing<C> {
     ///
     /// An error is the sink's own, of a kind other than `WouldBlock`, or of the kind `WriteZero`
     /// where the sink takes nothing and gives no reason. What the sink took before is gone, and
-    /// the rest waits.
+    /// the rest waits: there is one.
     pub fn flush<S: Sink>(&mut self, sink: &mut S) -> io::Result<Flushed>
         ensures flushes { Flushes self.old self.new (S.taken sink.old) (S.taken sink.new) }
         ensures flushed { IfOk result (λ flushed. flushed ≡ flushed_of self.new) }
+        ensures failed { OnErr result (self.new ≢ []) }
         ensures unread { S.remaining sink.new ≡ S.remaining sink.old }
     {
         for _ in 0..u64::MAX {
@@ -140,6 +141,9 @@ impl<C: Chunk + Drop> Outgoing<C> {
                     _ => return Err(error),
                 },
             }
+        }
+        if self.is_empty() {
+            return Ok(Flushed::All);
         }
         Err(io::Error::from(ErrorKind::TimedOut))
     }

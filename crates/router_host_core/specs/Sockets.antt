@@ -1,9 +1,9 @@
 -- What becomes of connections by their sockets, and of who took no more mail.
-use Rattle.std.specs.Prelude.{◌≡◌, ◌≤◌, ◌⊎◌, ℕ, true, false, Option, Some, None, List, [], ◌++◌, length, take, if◌then◌else◌, slice_get, slice_set}
+use Rattle.std.specs.Prelude.{◌≡◌, ◌≢◌, ◌≤◌, ◌⊎◌, ℕ, true, false, Option, Some, None, List, [], ◌++◌, length, take, if◌then◌else◌, slice_get, slice_set}
 use Rattle.std.specs.Io.KnownBytes.{Appends, IsAtEnd, prepend_known}
 use Rattle.seq_bus_core.specs.declared.connection.Conn.{Conn}
 use Rattle.router_host_core.specs.declared.ending.EndCause.{EndCause}
-use Rattle.router_host_core.specs.declared.ending.EndCause.TheVariants.{EndOfInput, HungUp, Unreadable}
+use Rattle.router_host_core.specs.declared.ending.EndCause.TheVariants.{EndOfInput, HungUp, Unreadable, Unwritable}
 use Rattle.router_host_core.specs.declared.line.Pulled.{Pulled}
 use Rattle.router_host_core.specs.declared.line.Pulled.TheVariants.{Bytes, Nothing, Over}
 use Rattle.router_host_core.specs.Carrying.{line_at, with_line}
@@ -40,8 +40,15 @@ abbrev pub IsPulledAt : ℕ → List (Option LineState) → Pulled → List ℕ 
 IsPulledAt key before pulled room after =
     IsPulledIn before key (line_at before key) pulled room after
 
--- The socket takes the first of the bytes that wait: it takes all, or no more for now, or it fails, and no more may follow. Then the
+-- What becomes of a connection whose socket did not take all that waits: it took no more for now; or it failed, and no more may follow: then the
 -- connection is over; but where the other side hung up, what waits is lost alone, and what came before is read to its end.
+abbrev pub IsCutShort : LineState → LineState → Type 0
+IsCutShort before after =
+    (after ≡ record before { blocked = true })
+    ⊎ (after ≡ ended_by Unwritable (record before { broken = true }))
+    ⊎ (after ≡ record before { waits = []; blocked = false; broken = true })
+
+-- The socket takes the first of the bytes that wait, and the rest waits. Where there is no rest, nothing else changes.
 pub record IsFlushed (before after : LineState) : Type 0 where
   pub reached : List ℕ
   pub rest : List ℕ
@@ -50,10 +57,7 @@ pub record IsFlushed (before after : LineState) : Type 0 where
   pub takes : Appends before.taken taken reached
   pub outcome :
       ((rest ≡ []) × (after ≡ record before { taken = taken; waits = rest }))
-      ⊎ (after ≡ record before { taken = taken; waits = rest; blocked = true })
-      ⊎ ((cause : EndCause)
-      × (after ≡ ended_by cause (record before { taken = taken; waits = rest; broken = true })))
-      ⊎ (after ≡ record before { taken = taken; waits = []; blocked = false; broken = true })
+      ⊎ ((rest ≢ []) × IsCutShort (record before { taken = taken; waits = rest }) after)
 
 abbrev pub IsFlushedIn : List (Option LineState) → ℕ → Option LineState →
     List (Option LineState) → Type 0

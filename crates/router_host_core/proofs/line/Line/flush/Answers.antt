@@ -1,5 +1,5 @@
 use Rattle.std.proofs.Common.{rules, ◌≡◌, [], inl, inr, refl}
-use Rattle.router_host_core.specs.declared.ending.EndCause.TheVariants.{Unwritable}
+use Rattle.router_host_core.proofs.Rests.{some_waits}
 use Rattle.router_host_core.proofs.line.Line.flush.Goals as goal
 
 pub returns-in-Ok-All : goal.returns-in-Ok-All
@@ -19,7 +19,10 @@ returns-in-Ok-Waits g c = record {
   splits = rw (← c.self.view_is) c.flush.ensures.flushes.splits;
   taken = g.S.Sink.taken c.flush.new.sink;
   takes = rw (← c.self.view_is) c.flush.ensures.flushes.takes;
-  outcome = inr (inl (rw (← c.self.view_is, c.flush.ensures.unread) refl));
+  outcome = inr (
+    some_waits c.flush.new.self (search rules),
+    inl (rw (← c.self.view_is, c.flush.ensures.unread) refl),
+  );
 }
 
 pub returns-in-BrokenPipe : goal.returns-in-BrokenPipe
@@ -29,7 +32,10 @@ returns-in-BrokenPipe g c = record {
   splits = rw (← c.self.view_is) c.flush.ensures.flushes.splits;
   taken = g.S.Sink.taken c.flush.new.sink;
   takes = rw (← c.self.view_is) c.flush.ensures.flushes.takes;
-  outcome = inr (inr (inr (rw (← c.self.view_is, c.lose.ensures, c.flush.ensures.unread) refl)));
+  outcome = inr (
+    c.in-Err.ensures.failed,
+    inr (inr (rw (← c.self.view_is, c.lose.ensures, c.flush.ensures.unread) refl)),
+  );
 }
 
 pub returns-in_default : goal.returns-in_default
@@ -39,5 +45,8 @@ returns-in_default g c = record {
   splits = rw (← c.self.view_is) c.flush.ensures.flushes.splits;
   taken = g.S.Sink.taken c.flush.new.sink;
   takes = rw (← c.self.view_is) c.flush.ensures.flushes.takes;
-  outcome = inr (inr (inl (Unwritable, rw (← c.self.view_is, c.end.ensures, c.flush.ensures.unread) refl)));
+  outcome = inr (
+    c.in-Err.ensures.failed,
+    inr (inl (rw (← c.self.view_is, c.end.ensures, c.flush.ensures.unread) refl)),
+  );
 }
