@@ -1,5 +1,5 @@
 -- All that a host does.
-use Rattle.std.specs.Prelude.{◌≡◌, ◌⊎◌, ℕ, Bool, Some, None, Option, List, slice_set}
+use Rattle.std.specs.Prelude.{◌≡◌, ◌⊎◌, ℕ, Bool, Some, None, Option, List}
 use Rattle.seq_bus_core.specs.Histories.{History}
 use Rattle.seq_bus_core.specs.declared.connection.Conn.{Conn}
 use Rattle.bus_view.specs.declared.view.BusView.{Ghosts as BusView}
@@ -11,8 +11,9 @@ use Rattle.router_core.specs.Deeds.{GatedCall}
 use Rattle.router_host_core.specs.declared.ending.EndCause.{EndCause}
 use Rattle.router_host_core.specs.declared.post.StartRequest.{StartRequest}
 use Rattle.router_host_core.specs.declared.post.Post.{Ghosts as Post}
-use Rattle.router_host_core.specs.Carrying.{Each, line_at, with_line, ended_at}
-use Rattle.router_host_core.specs.Sockets.{Gives, IsFlushedAt, IsReadToEnd, IsTakenOut, cause_of, let_go}
+use Rattle.router_host_core.specs.declared.put_out.FullConn.{FullConn}
+use Rattle.router_host_core.specs.Carrying.{Each, full_at, line_at, with_line, ended_at}
+use Rattle.router_host_core.specs.Sockets.{Gives, IsFlushedAt, IsReadToEnd, IsUntold, cause_of, let_go, told_full}
 use Rattle.router_host_core.specs.States.{LineState}
 use Rattle.router_host.specs.Happening.{CatchesUp, Happens, IsSlotBlocked}
 use Rattle.router_host.specs.States.{Happening, Hosted, Piece, Waiting}
@@ -35,7 +36,7 @@ pub data Task (N : Type 0) : Type 0 where
   Flushes : ℕ → Task N
   -- The connection of this key is over, and let go of, which is an event.
   LetsGo : ℕ → Task N
-  -- This connection took no more mail, which is an event.
+  -- This connection took no more mail, which is an event that the engine was not told yet.
   PutsOut : Conn → Task N
 
 -- an event of messages of connections
@@ -58,7 +59,7 @@ module _ {P N G : Type 0} where
   abbrev pub with_post : Hosted P G N → P → Hosted P G N
   with_post s post = record s { carried = record s.carried { post = post } }
 
-  abbrev pub with_full : Hosted P G N → List (Option Conn) → Hosted P G N
+  abbrev pub with_full : Hosted P G N → List (Option FullConn) → Hosted P G N
   with_full s full = record s { carried = record s.carried { full = full } }
 
 module _ {P N G : Type 0} (told : N → History) (registry_of : N → ℕ) (passes : G → GatedCall → G → Type 0)
@@ -71,12 +72,14 @@ module _ {P N G : Type 0} (told : N → History) (registry_of : N → ℕ) (pass
       ⊎ ((between : Hosted P G N) × CatchesUp puts starts before between
       × (after ≡ record between { kept = Some (Happening e) }))
 
-  -- It happens that the connection took no more mail; or what events before brought goes on, and it is noted once more.
+  -- It happens that the connection took no more mail, and the engine was told; or what events before brought goes on.
   abbrev pub IsPutOut : Hosted P G N → Conn → Hosted P G N → Type 0
   IsPutOut before conn after =
-      Happens told registry_of passes alone puts starts before (event.Full conn.number) after
-      ⊎ ((between : Hosted P G N) × CatchesUp puts starts before between
-      × (after ≡ with_full between (slice_set between.carried.full conn.slot (Some conn))))
+      ((between : Hosted P G N)
+      × Happens told registry_of passes alone puts starts before (event.Full conn.number) between
+      × (after ≡ with_full between
+      (told_full between.carried.full conn (full_at between.carried.full conn))))
+      ⊎ CatchesUp puts starts before after
 
 module _ {P N G : Type 0} (told : N → History) (registry_of : N → ℕ) (passes : G → GatedCall → G → Type 0)
     (alone : Bool) (puts : P → Conn → Envelope N → P → Type 0)
@@ -114,8 +117,8 @@ module _ {P N G : Type 0} (told : N → History) (registry_of : N → ℕ) (pass
       × IsBrought told registry_of passes alone puts starts
       (with_lines before (let_go before.carried.lines key (Some cause))) (event.Closed key) after)
   IsDone (PutsOut conn) before after =
-      (full : List (Option Conn)) × IsTakenOut conn before.carried.full full
-      × IsPutOut told registry_of passes alone puts starts (with_full before full) conn after
+      IsUntold conn before.carried.full
+      × IsPutOut told registry_of passes alone puts starts before conn after
 
   -- Such tasks are done, one after the other, and nothing else.
   pub record Does (before after : Hosted P G N) : Type 0 where

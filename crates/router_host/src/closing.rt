@@ -117,19 +117,13 @@ impl<V: BusView, G: Gate, P: Post<V>, S: Socket> Host<V, G, P, S> {
         ensures does { DoesBy V.BusView G.Gate P.Post self.old self.new }
         ensures same { self.new.kept ≡ self.old.kept }
     {
-        let Some(conn) = self.carrier.put_out.take() else {
+        let Some(conn) = self.carrier.put_out.first_untold() else {
             return Ok(false);
         };
-        match self.tell_full(right, conn) {
-            Ok(()) => {
-                self.ask_check(right, conn);
-                Ok(true)
-            }
-            Err(AllocError) => {
-                self.carrier.put_out.add(conn);
-                Err(AllocError)
-            }
-        }
+        self.tell_full(right, conn)?;
+        self.carrier.put_out.note_told(conn);
+        self.ask_check(right, conn);
+        Ok(true)
     }
 
     /// The engine is told that a connection took no more mail.

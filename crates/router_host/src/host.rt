@@ -213,7 +213,7 @@ impl<V: BusView, G: Gate, P: Post<V>, S: Socket> Host<V, G, P, S> {
             || !self.undone.is_empty()
             || !self.carrier.lines.is_quiet()
             || !self.carrier.slots.is_empty()
-            || !self.carrier.put_out.is_empty()
+            || !self.carrier.put_out.are_told()
     }
 
     /// Whether a tick is wanted: whether a connection is present is to be checked, or one could not

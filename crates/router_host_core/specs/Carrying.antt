@@ -1,5 +1,5 @@
 -- What becomes of the actions of an event.
-use Rattle.std.specs.Prelude.{◌≡◌, ◌⊎◌, ℕ, Bool, true, false, Option, Some, None, List, [], ◌∷◌, ◌++◌, slice_index_or, slice_set}
+use Rattle.std.specs.Prelude.{◌≡◌, ◌≤◌, ◌⊎◌, ℕ, nat_le, Bool, true, false, Option, Some, None, List, [], ◌∷◌, ◌++◌, slice_index_or, slice_set, if◌then◌else◌}
 use Rattle.seq_bus_core.specs.declared.connection.Conn.{Conn}
 use Rattle.outbox_core.specs.Deliveries.{deliveries_of}
 use Rattle.outbox_core.specs.declared.content.Content.{Content}
@@ -8,6 +8,7 @@ use Rattle.router_core.specs.declared.action.Action.{Action}
 use Rattle.router_core.specs.declared.action.Action.TheVariants.{Write, Put, Close, Run}
 use Rattle.router_host_core.specs.declared.ending.EndCause.{EndCause}
 use Rattle.router_host_core.specs.declared.post.StartRequest.{StartRequest}
+use Rattle.router_host_core.specs.declared.put_out.FullConn.{FullConn}
 use Rattle.router_host_core.specs.declared.ending.EndCause.TheVariants.{Closed, NoMemory}
 use Rattle.router_host_core.specs.States.{LineState, Carried, ended_by}
 
@@ -57,17 +58,33 @@ IsBlockedAt lines key = (l : LineState) × (line_at lines key ≡ Some l) × (l.
 abbrev pub envelope_for : {N : Type 0} → Option N → Content → Conn → Envelope N
 envelope_for note content conn = record { number = conn.number; note = note; content = content }
 
--- It is noted that the connection took no more mail.
-abbrev pub IsNotedFull : Conn → List (Option Conn) → Type 0
-IsNotedFull conn full = slice_index_or full conn.slot None ≡ Some conn
+-- the latest connection of this one's slot that took no more mail, if there was one
+abbrev pub full_at : List (Option FullConn) → Conn → Option FullConn
+full_at full conn = slice_index_or full conn.slot None
+
+-- It is noted of the connection, or of a later one of its slot, that it took no more mail.
+abbrev pub IsNotedFull : Conn → List (Option FullConn) → Type 0
+IsNotedFull conn full =
+    (noted : FullConn) × (full_at full conn ≡ Some noted) × (conn.number ≤ noted.conn.number)
+
+-- a connection that took no more mail, which the engine was not told yet
+abbrev pub untold : Conn → FullConn
+untold conn = record { conn = conn; told = false }
+
+-- It is noted that the connection took no more mail, but where one of a greater number is noted, which is a later one.
+abbrev pub noted_full : List (Option FullConn) → Conn → Option FullConn → List (Option FullConn)
+noted_full full conn None = slice_set full conn.slot (Some (untold conn))
+noted_full full conn (Some noted) =
+    if nat_le conn.number noted.conn.number then full
+    else slice_set full conn.slot (Some (untold conn))
 
 module _ {P N : Type 0} (puts : P → Conn → Envelope N → P → Type 0) where
   -- It is noted that the connection took no more mail.
   abbrev pub IsRefused : Conn → Carried P → Carried P → Type 0
   IsRefused conn before after =
-      after ≡ record before { full = slice_set before.full conn.slot (Some conn) }
+      after ≡ record before { full = noted_full before.full conn (full_at before.full conn) }
 
-  -- An envelope for the connection is put, where none was refused before; or it is refused.
+  -- An envelope for the connection is put, where none for it was refused before; or it is refused.
   abbrev pub IsPut : Option N → Content → Conn → Carried P → Carried P → Type 0
   IsPut carried content conn before after =
       ((IsNotedFull conn before.full → ⊥)

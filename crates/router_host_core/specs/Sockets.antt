@@ -1,12 +1,13 @@
 -- What becomes of connections by their sockets, and of who took no more mail.
-use Rattle.std.specs.Prelude.{◌≡◌, ◌≢◌, ◌≤◌, ◌⊎◌, ℕ, true, false, Option, Some, None, List, [], ◌++◌, length, take, if◌then◌else◌, slice_get, slice_set}
+use Rattle.std.specs.Prelude.{◌≡◌, ◌≢◌, ◌≤◌, ◌⊎◌, ℕ, true, false, Option, Some, None, List, [], ◌++◌, length, take, ◌==◌, if◌then◌else◌, slice_set}
 use Rattle.std.specs.Io.KnownBytes.{Appends, IsAtEnd, prepend_known}
 use Rattle.seq_bus_core.specs.declared.connection.Conn.{Conn}
 use Rattle.router_host_core.specs.declared.ending.EndCause.{EndCause}
 use Rattle.router_host_core.specs.declared.ending.EndCause.TheVariants.{EndOfInput, HungUp, Unreadable, Unwritable}
 use Rattle.router_host_core.specs.declared.line.Pulled.{Pulled}
 use Rattle.router_host_core.specs.declared.line.Pulled.TheVariants.{Bytes, Nothing, Over}
-use Rattle.router_host_core.specs.Carrying.{line_at, with_line}
+use Rattle.router_host_core.specs.declared.put_out.FullConn.{FullConn}
+use Rattle.router_host_core.specs.Carrying.{full_at, line_at, untold, with_line}
 use Rattle.router_host_core.specs.States.{LineState, ended_by}
 
 -- The socket gives these bytes, and has the others yet to give.
@@ -85,8 +86,14 @@ abbrev pub let_go : List (Option LineState) → ℕ → Option EndCause → List
 let_go lines key None = lines
 let_go lines key (Some cause) = slice_set lines key None
 
--- One of those who took no more mail is no longer among them.
-abbrev pub IsTakenOut : Conn → List (Option Conn) → List (Option Conn) → Type 0
-IsTakenOut conn before after =
-    (place : ℕ) × (slice_get before place ≡ Some (Some conn))
-    × (after ≡ slice_set before place None)
+-- It is noted that the connection took no more mail, and the engine was not told yet.
+abbrev pub IsUntold : Conn → List (Option FullConn) → Type 0
+IsUntold conn full = full_at full conn ≡ Some (untold conn)
+
+-- The engine was told that the connection took no more mail, if no later one of its slot is noted since.
+abbrev pub told_full : List (Option FullConn) → Conn → Option FullConn → List (Option FullConn)
+told_full full conn None = full
+told_full full conn (Some noted) =
+    if noted.conn.number == conn.number then
+    slice_set full conn.slot (Some (record noted { told = true }))
+    else full

@@ -1,8 +1,8 @@
 -- What actions are carried out on, as contracts see it.
 use Rattle.std.specs.Prelude.{Bool, false, ℕ, Option, Some, None, List, [], replicate}
 use Rattle.std.specs.Option.{option_or}
-use Rattle.seq_bus_core.specs.declared.connection.Conn.{Conn}
 use Rattle.router_host_core.specs.declared.ending.EndCause.{EndCause}
+use Rattle.router_host_core.specs.declared.put_out.FullConn.{FullConn}
 use Rattle.router_host_core.specs.declared.put_out.TheConstants.{SLOTS}
 
 -- A connection: the bytes that its socket has yet to give, and those that it took, where they are known; the bytes that wait for the
@@ -15,13 +15,13 @@ pub record LineState : Type 0 where
   pub broken : Bool
   pub ended : Option EndCause
 
--- The connections by their keys, the ways to other routers, and for each slot who of it took no more mail.
+-- The connections by their keys, the ways to other routers, and for each slot the latest connection that took no more mail, if there was one.
 pub record Carried (P : Type 0) : Type 0 where
   pub lines : List (Option LineState)
   pub post : P
-  pub full : List (Option Conn)
+  pub full : List (Option FullConn)
 
--- no connections, and nobody who took no more mail
+-- no connections, and none that took no more mail
 abbrev pub idle : {P : Type 0} → P → Carried P
 idle post = record { lines = []; post = post; full = replicate SLOTS None }
 

@@ -1,9 +1,9 @@
 //! Who is to be put out.
 
-ghost use Rattle.std.specs.Prelude.{◌≡◌, replicate, slice_set, true, None, Some, IfSome, IfNone};
-ghost use Rattle.router_host_core.specs.Carrying.{IsNotedFull};
+ghost use Rattle.std.specs.Prelude.{◌≡◌, replicate, true, None, IfSome};
+ghost use Rattle.router_host_core.specs.Carrying.{IsNotedFull, full_at, noted_full};
 ghost use Rattle.router_host_core.specs.declared.put_out.TheConstants.{SLOTS};
-ghost use Rattle.router_host_core.specs.Sockets.{IsTakenOut};
+ghost use Rattle.router_host_core.specs.Sockets.{IsUntold, told_full};
 
 use seq_bus_core::Conn;
 use seq_bus_core::limits::MAX_CONNECTIONS;
@@ -12,20 +12,29 @@ use std::marker::Model;
 /// How many slots a bus has: one for each connection.
 pub const SLOTS: usize = MAX_CONNECTIONS;
 
-/// The connections that took no more mail, one of each slot at most. A slot whose connection is
-/// another was given to another since.
+/// A connection that took no more mail.
+#[derive(Clone, Copy, Debug, PartialEq, Eq)]
+pub struct FullConn {
+    pub conn: Conn,
+    /// The engine was told of it.
+    pub told: bool,
+}
+
+/// The connections that took no more mail, the latest of each slot. They are put no more even once
+/// they have left the bus: their routers may have them still.
 #[derive(Drop)]
 pub struct PutOut {
-    conns: [Option<Conn>; SLOTS],
-    any: bool,
+    conns: [Option<FullConn>; SLOTS],
+    /// There may be some that the engine was not told of.
+    any_untold: bool,
 }
 
 impl Model for PutOut {
     ghost use Rattle.std.specs.Prelude.{◌≡◌, List, Option, length};
-    ghost use Rattle.seq_bus_core.specs.declared.connection.Conn.{Conn};
+    ghost use Rattle.router_host_core.specs.declared.put_out.FullConn.{FullConn};
     ghost use Rattle.router_host_core.specs.declared.put_out.TheConstants.{SLOTS};
 
-    ghost Value = { List (Option Conn) };
+    ghost Value = { List (Option FullConn) };
 
     ghost view = { λ p. p.conns };
 
@@ -39,49 +48,73 @@ impl PutOut {
     {
         PutOut {
             conns: [None; SLOTS],
-            any: false,
+            any_untold: false,
         }
     }
 
     /// A connection took no more mail.
     pub fn add(&mut self, conn: Conn)
-        ensures { self.new ≡ slice_set self.old conn.slot (Some conn) }
+        ensures { self.new ≡ noted_full self.old conn (full_at self.old conn) }
     {
         let slot = usize::from(conn.slot);
+        if let Some(Some(noted)) = self.conns.get(slot) {
+            if conn.number <= noted.conn.number {
+                return;
+            }
+        }
         if slot < self.conns.len() {
-            self.conns[slot] = Some(conn);
-            self.any = true;
+            self.conns[slot] = Some(FullConn { conn, told: false });
+            self.any_untold = true;
         }
     }
 
-    /// Whether there is nobody.
-    pub fn is_empty(&self) -> bool {
-        !self.any
+    /// Whether the engine was told of all of them.
+    pub fn are_told(&self) -> bool {
+        !self.any_untold
     }
 
-    /// Whether a connection is among them.
+    /// Whether a connection is among them, or a later one of its slot.
     pub fn contains(&self, conn: Conn) -> bool
         ensures { IsNotedFull conn self.now → result ≡ true }
     {
-        let slot = usize::from(conn.slot);
-        slot < self.conns.len() && self.conns[slot] == Some(conn)
+        match self.conns.get(usize::from(conn.slot)) {
+            Some(Some(noted)) => conn.number <= noted.conn.number,
+            _ => false,
+        }
     }
 
-    /// One of them, who is then no longer among them.
-    pub fn take(&mut self) -> Option<Conn>
-        ensures taken { IfSome result (λ conn. IsTakenOut conn self.old self.new) }
-        ensures none { IfNone result (self.new ≡ self.old) }
+    /// One of them that the engine was not told of.
+    pub fn first_untold(&mut self) -> Option<Conn>
+        ensures untold { IfSome result (λ conn. IsUntold conn self.old) }
+        ensures same { self.new ≡ self.old }
     {
-        if !self.any {
+        if !self.any_untold {
             return None;
         }
         for slot in 0..SLOTS {
-            if let Some(conn) = self.conns[slot] {
-                self.conns[slot] = None;
-                return Some(conn);
+            if let Some(noted) = self.conns[slot] {
+                if !noted.told && usize::from(noted.conn.slot) == slot {
+                    return Some(noted.conn);
+                }
             }
         }
-        self.any = false;
+        self.any_untold = false;
         None
+    }
+
+    /// The engine was told of a connection.
+    pub fn note_told(&mut self, conn: Conn)
+        ensures { self.new ≡ told_full self.old conn (full_at self.old conn) }
+    {
+        let slot = usize::from(conn.slot);
+        if let Some(Some(noted)) = self.conns.get(slot) {
+            let conn_noted = noted.conn;
+            if conn_noted.number == conn.number {
+                self.conns[slot] = Some(FullConn {
+                    conn: conn_noted,
+                    told: true,
+                });
+            }
+        }
     }
 }
