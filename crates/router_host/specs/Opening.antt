@@ -1,5 +1,5 @@
 -- A connection comes to a host.
-use Rattle.std.specs.Prelude.{◌≡◌, ◌<◌, ℕ, Bool, Option, None, List, [], ◌++◌, length, replicate}
+use Rattle.std.specs.Prelude.{◌≡◌, ◌<◌, ◌≤◌, ℕ, Bool, true, false, Option, None, is_some, List, [], ◌++◌, length, replicate, count_by}
 use Rattle.seq_bus_core.specs.Histories.{History}
 use Rattle.seq_bus_core.specs.declared.connection.Conn.{Conn}
 use Rattle.bus_view.specs.declared.view.BusView.{Ghosts as BusView}
@@ -7,13 +7,17 @@ use Rattle.outbox_core.specs.declared.envelope.Envelope.{Envelope}
 use Rattle.router_core.specs.declared.action.Action.{Action}
 use Rattle.router_core.specs.declared.event.Event.TheVariants.{Opened}
 use Rattle.router_core.specs.declared.gate.Gate.{Ghosts as Gate}
-use Rattle.router_core.specs.Acts.{Brings, IsNextKey}
+use Rattle.router_core.specs.Acts.{Brings, IsNextKey, State}
 use Rattle.router_core.specs.Deeds.{GatedCall}
+use Rattle.router_core.specs.Standing.{is_unnamed}
 use Rattle.router.specs.OneEvent.{IsServedWell}
 use Rattle.router_host_core.specs.declared.post.Post.{Ghosts as Post}
 use Rattle.router_host_core.specs.declared.post.StartRequest.{StartRequest}
 use Rattle.router_host_core.specs.Carrying.{GoesOn, with_line}
 use Rattle.router_host_core.specs.States.{LineState}
+use Rattle.router_host.specs.declared.opening.OpenFault.{OpenFault}
+use Rattle.router_host.specs.declared.opening.OpenFault.TheVariants.{TooManyUnnamed, NobodyMayLogIn, TooManyStarts, NoMemory}
+use Rattle.router_host.specs.declared.opening.TheConstants.{MOST_UNNAMED}
 use Rattle.router_host.specs.Doing.{with_lines}
 use Rattle.router_host.specs.Happening.{CatchesUp}
 use Rattle.router_host.specs.States.{Hosted}
@@ -46,6 +50,15 @@ pub record Opens {P N G : Type 0} (told : N → History) (registry_of : N → �
       (record between.carried { lines = with_line between.carried.lines key line })
       after.undone after.carried
   pub kept : after.kept ≡ between.kept
+
+-- Why a connection that comes with this challenge does not stand there: 64 have no name yet; or it is asked who it is, and nobody may log in; or there
+-- is no room for what events before brought, or no memory.
+abbrev pub IsOpenFault : {G : Type 0} → State G → Option (List ℕ) → OpenFault → Type 0
+IsOpenFault s challenge TooManyUnnamed = MOST_UNNAMED ≤ count_by is_unnamed s.standing.peers
+IsOpenFault s challenge NobodyMayLogIn =
+    (is_some challenge ≡ true) × (is_some s.standing.login ≡ false)
+IsOpenFault s challenge TooManyStarts = Unit {0}
+IsOpenFault s challenge NoMemory = Unit {0}
 
 -- the same by a view, a gate and a post
 abbrev pub OpensBy : {V N R G P : Type 0} → BusView V N R → Gate G → Post P V N R → Hosted P G N →

@@ -1,13 +1,15 @@
 //! The host of an engine.
 
-ghost use Rattle.std.specs.Prelude.{◌≡◌, IfOk, OnOk, OnErr};
+ghost use Rattle.std.specs.Prelude.{◌≡◌, ◌<◌, IfOk, IfErr, OnOk, OnErr, count_by};
 ghost use Rattle.router_core.specs.Acts.{IsNextKey};
+ghost use Rattle.router_core.specs.Standing.{is_unnamed};
 ghost use Rattle.router_host_core.specs.Carrying.{line_at};
 ghost use Rattle.router_host_core.specs.Sockets.{unblocked_at};
 ghost use Rattle.router_core.specs.declared.event.Event.TheVariants.{Child};
 ghost use Rattle.router_host.specs.Doing.{with_lines};
 ghost use Rattle.router_host.specs.Happening.{CatchesUp, HappensBy};
-ghost use Rattle.router_host.specs.Opening.{MakesRoom, OpensBy};
+ghost use Rattle.router_host.specs.Opening.{IsOpenFault, MakesRoom, OpensBy};
+ghost use Rattle.router_host.specs.declared.opening.TheConstants.{MOST_UNNAMED};
 ghost use Rattle.router_host.specs.States.{new_host};
 ghost use Rattle.router_host_core.specs.States.{new_line};
 
@@ -135,6 +137,9 @@ impl<V: BusView, G: Gate, P: Post<V>, S: Socket> Host<V, G, P, S> {
             OpensBy V.BusView G.Gate P.Post self.old
             (new_line (S.remaining socket) (S.taken socket)) key challenge self.new) }
         ensures err { OnErr result (MakesRoom P.puts P.starts self.old self.new) }
+        ensures few { OnOk result
+            (count_by is_unnamed self.old.engine.standing.peers < MOST_UNNAMED) }
+        ensures fault { IfErr result (λ fault. IsOpenFault self.old.engine challenge fault) }
     {
         let Ok(()) = self.catch_up(right) else {
             return Err(OpenFault::TooManyStarts);

@@ -1,11 +1,14 @@
 //! Connections that come.
 
-ghost use Rattle.std.specs.Prelude.{◌≡◌, IfOk, OnErr};
+ghost use Rattle.std.specs.Prelude.{◌≡◌, ◌<◌, IfOk, IfErr, OnOk, OnErr, count_by};
 ghost use Rattle.std.specs.List.{AllByRecursion};
 ghost use Rattle.router_core.specs.Deeds.{CarriesOwn};
 ghost use Rattle.router_core.specs.Acts.{BringsBy, IsNextKey};
+ghost use Rattle.router_core.specs.Standing.{is_unnamed};
 ghost use Rattle.router_core.specs.declared.event.Event.TheVariants as event;
 ghost use Rattle.router.specs.OneEvent.{IsServedWellBy};
+ghost use Rattle.router_host.specs.Opening.{IsOpenFault};
+ghost use Rattle.router_host.specs.declared.opening.TheConstants.{MOST_UNNAMED};
 
 use bus_view::BusView;
 use router::Engine;
@@ -51,6 +54,8 @@ pub(crate) fn open<V: BusView, G: Gate>(
         (event.Opened opened.key challenge) opened.actions.items engine.new) }
     ensures registry { engine.new.view.registry ≡ engine.old.view.registry }
     ensures err { OnErr result (engine.new ≡ engine.old) }
+    ensures few { OnOk result (count_by is_unnamed engine.old.standing.peers < MOST_UNNAMED) }
+    ensures fault { IfErr result (λ fault. IsOpenFault engine.old challenge fault) }
 {
     if engine.unnamed() >= MOST_UNNAMED {
         return Err(OpenFault::TooManyUnnamed);
