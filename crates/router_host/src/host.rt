@@ -1,6 +1,6 @@
 //! The host of an engine.
 
-ghost use Rattle.std.specs.Prelude.{◌≡◌, ◌<◌, IfOk, IfErr, OnOk, OnErr, count_by};
+ghost use Rattle.std.specs.Prelude.{◌≡◌, ◌≢◌, ◌<◌, [], IfOk, IfErr, IsTrue, OnOk, OnErr, count_by};
 ghost use Rattle.router_core.specs.Acts.{IsNextKey};
 ghost use Rattle.router_core.specs.Standing.{is_unnamed};
 ghost use Rattle.router_host_core.specs.Carrying.{line_at};
@@ -223,7 +223,9 @@ impl<V: BusView, G: Gate, P: Post<V>, S: Socket> Host<V, G, P, S> {
 
     /// Whether a tick is wanted: whether a connection is present is to be checked, or one could not
     /// leave the bus yet.
-    pub fn wants_tick(&self) -> bool {
+    pub fn wants_tick(&self) -> bool
+        ensures { self.now.engine.standing.due_leaves ≢ [] → IsTrue result }
+    {
         self.check_due || self.engine.ticks()
     }
 
