@@ -1,9 +1,10 @@
 -- What each of several brings, one after the other.
-use Rattle.std.proofs.Common.{◌≡◌, ℕ, ◌+◌, ◌<◌, ◌≤◌, Option, List, [], ◌∷◌, ◌++◌, length, get_or, take, drop, sym, ap, ◌∙◌, subst, append_assoc, append-nil, take-append-drop}
-use Rattle.std.specs.Io.KnownBytes.{Appends}
+use Rattle.std.proofs.Common.{◌≡◌, ℕ, ◌+◌, ◌<◌, ◌≤◌, Option, Result, Ok, Err, List, [], ◌∷◌, ◌++◌, length, get_or, take, drop, sym, ap, ◌∙◌, subst, append_assoc, append-nil, take-append-drop}
+use Rattle.std.specs.Io.KnownBytes.{Appends, Keeps}
 use Rattle.std.specs.Iterator.{Yields, YieldsFirst}
 use Rattle.std.specs.List.{flat_map}
-use Rattle.std.proofs.KnownBytes.{Appends-trans}
+use Rattle.std.proofs.KnownBytes.{Appends-trans, Appends-kept}
+use Rattle.busd_core.specs.Transfers.{WritesFront}
 use Rattle.std.proofs.lemmas.Grind.{flat_map-append}
 use Rattle.std.proofs.lemmas.List.{take_more, take_all}
 
@@ -40,8 +41,13 @@ module _ {X : Type 0} (f : X → List ℕ) (xs : List X) (i : ℕ) (o p q : Opti
         Appends-trans o p q begin front begun more,
       )
 
-  pub writes_all : length xs ≤ i → Appends o p (flat_map f xs)
+  writes_all : length xs ≤ i → Appends o p (flat_map f xs)
   writes_all over = subst (λ (l : List X). Appends o p (flat_map f l)) (take_all i xs over) begun
+
+  -- all was written, whether or not it could be flushed
+  pub writes_flushed : {E : Type 0} → length xs ≤ i → (result : Result (Unit {0}) E) → Keeps p q → WritesFront o q (flat_map f xs) result
+  writes_flushed over (Ok u) kept = Appends-kept o p q (flat_map f xs) (writes_all over) kept
+  writes_flushed over (Err e) kept = (flat_map f xs, [], sym (append-nil (flat_map f xs)), Appends-kept o p q (flat_map f xs) (writes_all over) kept)
 
 -- what an iterator gave, and what it has left
 pub given_first : {X : Type 0} (given before left : List X) → Yields (YieldsFirst (λ (xs : List X). xs)) before given left → before ≡ given ++ left

@@ -1,4 +1,5 @@
 pub mod Known
+pub mod Noting
 pub mod Each
 pub mod Closing
 pub mod Quiet

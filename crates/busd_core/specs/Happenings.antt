@@ -11,10 +11,11 @@ use Rattle.router_core.specs.declared.action.Action.{Action}
 use Rattle.router_core.specs.declared.action.Action.TheVariants.{Write, Put, Close}
 use Rattle.router_core.specs.declared.cause.CloseCause.{CloseCause}
 use Rattle.router_core.specs.declared.event.Event.{Event}
-use Rattle.router_core.specs.declared.event.Event.TheVariants.{Mail}
+use Rattle.router_core.specs.declared.event.Event.TheVariants.{Bytes, Mail, Closed}
 use Rattle.router_core.specs.Acts.{Exchange, State}
 use Rattle.router_core.specs.Deeds.{GatedCall}
 use Rattle.router.specs.OneEvent.{IsServedWell}
+use Rattle.router.specs.Upcoming.{HasNoNext}
 
 -- ## What actions do to the connection of a key
 
@@ -119,6 +120,20 @@ module _ {N G : Type 0} (told : N → History) (passes : G → GatedCall → G �
     pub put : mails_of seat actions ≡ come ++ left
     pub mailed : AreMailed between come later after
     pub writes : written ++ missing ≡ written_to key actions ++ later
+
+-- ## When more is read
+
+-- Bytes come, and the end of the input, only where nothing of the connection is left to be served.
+abbrev pub IsTimely : {N G : Type 0} → ℕ → State G → Event N → Type 0
+IsTimely key before (Bytes of piece) = HasNoNext before.standing key
+IsTimely key before (Closed of) = HasNoNext before.standing key
+IsTimely key before other = Unit {0}
+
+module _ {N G : Type 0} (told : N → History) (passes : G → GatedCall → G → Type 0) (alone : Bool) (seat key : ℕ) where
+  -- So it is at each of the events.
+  abbrev pub AreTimely : (before : State G) (events : List (Event N)) (written : List ℕ) (after : State G) → AllHappen told passes alone seat key before events written after → Type 0
+  AreTimely before [] written after happen = Unit {0}
+  AreTimely before (event ∷ events) written after happen = IsTimely key before event × AreTimely happen.0 events happen.2 after happen.4
 
 -- ## What was asked and answered
 

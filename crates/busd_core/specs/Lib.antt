@@ -1,3 +1,4 @@
+pub mod Readings
 pub mod Happenings
 pub mod Sessions
 pub mod Parts

@@ -1,6 +1,6 @@
 -- What the parts of a run do.
 use Rattle.std.specs.Prelude.{◌≡◌, ◌⊎◌, ℕ, Bool, List, [], ◌++◌, Option, Result, Ok, Err}
-use Rattle.std.specs.Io.KnownBytes.{Consumes, Appends}
+use Rattle.std.specs.Io.KnownBytes.{Appends}
 use Rattle.seq_bus_core.specs.Histories.{History}
 use Rattle.bus_view.specs.declared.view.BusView.{Ghosts as BusView}
 use Rattle.router_core.specs.declared.action.Action.{Action}
@@ -11,13 +11,14 @@ use Rattle.router_core.specs.Deeds.{GatedCall}
 use Rattle.router.specs.OneEvent.{IsServedWell}
 use Rattle.busd_core.specs.declared.run_fault.RunFault.{RunFault}
 use Rattle.busd_core.specs.declared.run_fault.RunFault.TheVariants as fault
+use Rattle.busd_core.specs.Readings.{Reading, IsRead}
 use Rattle.busd_core.specs.Happenings.{written_to, Delivery, AreMailed, Happens, Closes, Breaks}
 
 -- Nothing was read; or there was no memory for what was read.
-abbrev pub LosesPiece : Option (List ℕ) → Option (List ℕ) → RunFault → Type 0
-LosesPiece old new fault.Input = Consumes old new []
-LosesPiece old new fault.Memory = (lost : List ℕ) × Consumes old new lost
-LosesPiece old new other = ⊥
+abbrev pub LosesPiece : (holds old new : Option (List ℕ)) (noted notes : Option (List Reading)) → RunFault → Type 0
+LosesPiece holds old new noted notes fault.Input = IsRead holds old new noted notes []
+LosesPiece holds old new noted notes fault.Memory = (lost : List ℕ) × IsRead holds old new noted notes lost
+LosesPiece holds old new noted notes other = ⊥
 
 module _ {N G : Type 0} (told : N → History) (registry_of : N → ℕ) (passes : G → GatedCall → G → Type 0) (alone : Bool) (key : ℕ) where
   -- The event brought these actions, and what they write was written.

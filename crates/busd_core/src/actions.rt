@@ -19,7 +19,8 @@ fn bytes_for<N: Drop>(key: usize, action: &Action<N>) -> &[u8]
     }
 }
 
-/// Writes what the actions write to the connection, or at a failure a front of it.
+/// Writes what the actions write to the connection, and flushes it, or at a failure writes a front
+/// of it.
 pub fn write_out<N: Drop, W: Write>(
     writer: &mut W,
     key: usize,
@@ -31,7 +32,7 @@ pub fn write_out<N: Drop, W: Write>(
     for action in actions {
         write_whole(writer, bytes_for(key, action))?;
     }
-    Ok(())
+    writer.flush()
 }
 
 /// Why an action closes the connection, if it does.

@@ -6,9 +6,7 @@
 //!
 //! ```
 //! use bus_view::BusView;
-//! use busd_core::{RunFault, run};
-//! use router::Engine;
-//! use router_core::OpenGate;
+//! use busd_core::{RunFault, run_over};
 //! use std::alloc::Global;
 //!
 //! /// What a bus, seen from its seat 1, writes to a client that sends these messages.
@@ -18,12 +16,9 @@
 //!     right: &V::Right,
 //!     messages: &[u8],
 //! ) -> Result<Vec<u8>, RunFault> {
-//!     let Ok(mut engine) = Engine::new(alloc, bus, OpenGate, None) else {
-//!         return Err(RunFault::Memory);
-//!     };
 //!     let mut reader = messages;
 //!     let mut written = Vec::new(alloc);
-//!     run(alloc, &mut engine, right, &mut reader, &mut written)?;
+//!     run_over(alloc, bus, right, &mut reader, &mut written)?;
 //!     Ok(written)
 //! }
 //! ```
@@ -54,6 +49,7 @@ mod command;
 mod files;
 mod mail;
 mod options;
+mod read_beside;
 mod run_fault;
 mod serve_fault;
 mod service_fault;
@@ -66,9 +62,10 @@ pub use address::SocketPath;
 pub use command::serve_command;
 pub use files::{open_random, random_bytes, read_cookie};
 pub use options::Options;
+pub use read_beside::ReadBeside;
 pub use run_fault::RunFault;
 pub use serve_fault::{Device, ServeFault, device_fault};
 pub use service_fault::{FileName, ServiceCode};
 pub use services::{read_services, rising_names};
-pub use stream::run;
+pub use stream::{run, run_over};
 pub use trace::{TraceFiles, open_trace};

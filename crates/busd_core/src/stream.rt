@@ -1,43 +1,49 @@
 //! One stream, served from its first byte to its end.
 
 ghost use Rattle.std.specs.Prelude.{◌≡◌, ◌<◌, [], length, IfOk, IfErr, IfSome, IfNone, OnOk};
-ghost use Rattle.std.specs.Io.KnownBytes.{Consumes, IsAtEnd};
+ghost use Rattle.std.specs.Io.KnownBytes.{IsAtEnd};
 ghost use Rattle.router_core.specs.Acts.{CanHappen};
+ghost use Rattle.busd_core.specs.Readings.{IsRead};
 ghost use Rattle.busd_core.specs.Parts.{LosesPiece, IsCarriedOutBy};
-ghost use Rattle.busd_core.specs.Sessions.{RunsBy};
+ghost use Rattle.busd_core.specs.Sessions.{RunsAnew, RunsBy};
 
 use crate::actions::closed_by;
 use crate::carrying::{Endpoint, dispatch};
 use crate::mail::deliver_all;
+use crate::read_beside::ReadBeside;
 use crate::run_fault::RunFault;
 use crate::transfer::read_piece;
 use bus_view::BusView;
 use router::Engine;
-use router_core::{Event, Gate};
+use router_core::{Event, Gate, OpenGate};
 use std::alloc::Global;
-use std::io::{Read, Write};
+use std::io::Write;
 
 /// The most bytes that are read at once.
 const PIECE: usize = 4096;
 
 /// The next bytes of the input, or none at its end.
-fn next_piece<R: Read>(
+fn next_piece<R: ReadBeside<W>, W: Write>(
     alloc: Global,
     reader: &mut R,
+    writer: &W,
     buffer: &mut [u8],
 ) -> Result<Option<Vec<u8>>, RunFault>
     requires { 0 < length buffer.old }
     ensures piece { IfOk result
         (λ o. IfSome o (λ piece.
-        Consumes (R.remaining reader.old) (R.remaining reader.new) piece.items)) }
+        IsRead (W.contents writer.now) (R.remaining reader.old) (R.remaining reader.new)
+        (R.readings reader.old) (R.readings reader.new) piece.items)) }
     ensures end { IfOk result
-        (λ o. IfNone o (Consumes (R.remaining reader.old) (R.remaining reader.new) [] ×
+        (λ o. IfNone o (IsRead (W.contents writer.now) (R.remaining reader.old)
+        (R.remaining reader.new) (R.readings reader.old) (R.readings reader.new) [] ×
         IsAtEnd (R.remaining reader.new))) }
     ensures err { IfErr result
-        (λ fault. LosesPiece (R.remaining reader.old) (R.remaining reader.new) fault) }
+        (λ fault. LosesPiece (W.contents writer.now) (R.remaining reader.old)
+        (R.remaining reader.new) (R.readings reader.old) (R.readings reader.new) fault) }
     ensures room { length buffer.new ≡ length buffer.old }
 {
-    let Ok(count) = read_piece(reader, buffer) else {
+    let Ok(count) = read_piece(reader, writer, buffer) else {
         return Err(RunFault::Input);
     };
     if count == 0 {
@@ -75,17 +81,18 @@ fn carry_out<V: BusView, G: Gate, W: Write>(
 /// connection needs no authentication, and counts as the bus's own user ("Message Bus Messages" of
 /// the D-Bus Specification).
 ///
-/// The connection comes, with the key that is next. Its bytes come as they are read, and each whole
-/// message is served before more is read. What the actions of an event write to the connection is
-/// written at once; what they put to connections of this router comes back as mail, in order,
-/// without a note, as the router that made it has nothing to learn from it. At the end of the input
-/// the connection is gone, and a rest that is no whole message is ignored.
+/// The connection comes, with the key that is next. Its bytes come as they are read. Each whole
+/// message is served, and what that brings is written and flushed, before more is read: so a client
+/// may wait for each reply. What the actions of an event write to the connection is written at once;
+/// what they put to connections of this router comes back as mail, in order, without a note, as the
+/// router that made it has nothing to learn from it. At the end of the input the connection is gone,
+/// and a rest that is no whole message is ignored.
 ///
 /// # Errors
 ///
 /// The run ends earlier where the connection is closed, with all that was written to it up to
 /// there; where the reader or the writer fails; and where there is not enough memory to go on.
-pub fn run<V: BusView, G: Gate, R: Read, W: Write>(
+pub fn run<V: BusView, G: Gate, R: ReadBeside<W>, W: Write>(
     alloc: Global,
     engine: &mut Engine<V, G>,
     right: &V::Right,
@@ -93,8 +100,8 @@ pub fn run<V: BusView, G: Gate, R: Read, W: Write>(
     writer: &mut W,
 ) -> Result<(), RunFault>
     ensures runs { RunsBy V.BusView G.Gate engine.old.view.seat engine.old engine.new
-        (R.remaining reader.old) (R.remaining reader.new) (W.contents writer.old)
-        (W.contents writer.new) result }
+        (R.remaining reader.old) (R.remaining reader.new) (R.readings reader.old)
+        (R.readings reader.new) (W.contents writer.old) (W.contents writer.new) result }
     ensures whole { OnOk result (IsAtEnd (R.remaining reader.new)) }
 {
     let seat = engine.view().seat();
@@ -102,7 +109,7 @@ pub fn run<V: BusView, G: Gate, R: Read, W: Write>(
 }
 
 /// The same, where the seat of the engine's router is known.
-fn run_at<V: BusView, G: Gate, R: Read, W: Write>(
+fn run_at<V: BusView, G: Gate, R: ReadBeside<W>, W: Write>(
     alloc: Global,
     engine: &mut Engine<V, G>,
     right: &V::Right,
@@ -111,7 +118,8 @@ fn run_at<V: BusView, G: Gate, R: Read, W: Write>(
     writer: &mut W,
 ) -> Result<(), RunFault>
     ensures runs { RunsBy V.BusView G.Gate seat engine.old engine.new (R.remaining reader.old)
-        (R.remaining reader.new) (W.contents writer.old) (W.contents writer.new) result }
+        (R.remaining reader.new) (R.readings reader.old) (R.readings reader.new)
+        (W.contents writer.old) (W.contents writer.new) result }
     ensures whole { OnOk result (IsAtEnd (R.remaining reader.new)) }
 {
     let key = engine.free_key();
@@ -127,10 +135,34 @@ fn run_at<V: BusView, G: Gate, R: Read, W: Write>(
             carry_out(engine, right, endpoint, Event::Next { key }, writer)?;
             continue;
         }
-        let Some(piece) = next_piece(alloc, reader, &mut buffer)? else {
+        let Some(piece) = next_piece(alloc, reader, writer, &mut buffer)? else {
             return carry_out(engine, right, endpoint, Event::Closed { key }, writer);
         };
         carry_out(engine, right, endpoint, Event::Bytes { key, piece }, writer)?;
     }
     Err(RunFault::Memory)
+}
+
+/// Serves the message stream of one connection over a view of the bus, as [`run`] does, by an engine
+/// of its own, which lets each call pass.
+///
+/// # Errors
+///
+/// As those of [`run`]; `Memory` comes also where there is none for the engine.
+pub fn run_over<V: BusView + Drop, R: ReadBeside<W>, W: Write>(
+    alloc: Global,
+    view: V,
+    right: &V::Right,
+    reader: &mut R,
+    writer: &mut W,
+) -> Result<(), RunFault>
+    ensures runs { RunsAnew V.told ⟦<OpenGate as Gate>⟧.passes V.alone (V.knows view)
+        (R.remaining reader.old) (R.remaining reader.new) (R.readings reader.old)
+        (R.readings reader.new) (W.contents writer.old) (W.contents writer.new) result }
+    ensures whole { OnOk result (IsAtEnd (R.remaining reader.new)) }
+{
+    let Ok(mut engine) = Engine::new(alloc, view, OpenGate, None) else {
+        return Err(RunFault::Memory);
+    };
+    run(alloc, &mut engine, right, reader, writer)
 }

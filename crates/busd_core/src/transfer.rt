@@ -3,8 +3,9 @@
 ghost use Rattle.std.specs.Prelude.{◌<◌, length};
 ghost use Rattle.busd_core.specs.Transfers.{WritesFront, ReadsPiece};
 
+use crate::read_beside::ReadBeside;
 use std::io;
-use std::io::{ErrorKind, Read, Write};
+use std::io::{ErrorKind, Write};
 
 /// Writes all the bytes, or at a failure a front of them.
 pub fn write_whole<W: Write>(writer: &mut W, bytes: &[u8]) -> Result<(), io::Error>
@@ -29,12 +30,17 @@ pub fn write_whole<W: Write>(writer: &mut W, bytes: &[u8]) -> Result<(), io::Err
 }
 
 /// Reads one piece, which is empty only at the end.
-pub fn read_piece<R: Read>(reader: &mut R, piece: &mut [u8]) -> Result<usize, io::Error>
+pub fn read_piece<R: ReadBeside<W>, W: Write>(
+    reader: &mut R,
+    writer: &W,
+    piece: &mut [u8],
+) -> Result<usize, io::Error>
     requires { 0 < length piece.old }
-    ensures { ReadsPiece (R.remaining reader.old) (R.remaining reader.new) piece.new result }
+    ensures { ReadsPiece (W.contents writer.now) (R.remaining reader.old) (R.remaining reader.new)
+        (R.readings reader.old) (R.readings reader.new) piece.new result }
 {
     for _ in 0..u64::MAX {
-        match reader.read(piece) {
+        match reader.read_beside(writer, piece) {
             Ok(count) => return Ok(count),
             Err(error) => {
                 if error.kind() != ErrorKind::Interrupted {

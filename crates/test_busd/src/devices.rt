@@ -1,7 +1,7 @@
-//! Readers and writers that move one byte at a time, and fail.
+//! Readers and writers that move one byte at a time, and fail, and a client that waits for a reply.
 
 use crate::runs::{joined, run};
-use busd_core::RunFault;
+use busd_core::{ReadBeside, RunFault};
 use std::alloc::{AllocError, Global};
 use std::io;
 use std::io::{ErrorKind, Read, Write};
@@ -56,6 +56,37 @@ impl Write for Room {
     }
 }
 
+/// Gives one byte at a time, and more once the writer holds so much.
+#[derive(Drop)]
+struct Waiting<'a> {
+    bytes: &'a [u8],
+    due: usize,
+    more: &'a [u8],
+}
+
+impl ReadBeside<Vec<u8>> for Waiting<'_> {
+    fn read_beside(&mut self, writer: &Vec<u8>, room: &mut [u8]) -> io::Result<usize> {
+        if room.is_empty() {
+            return Ok(0);
+        }
+        if self.bytes.is_empty() {
+            if writer.len() < self.due {
+                return Err(io::Error::from(ErrorKind::WouldBlock));
+            }
+            self.bytes = self.more;
+            self.more = &[];
+        }
+        match self.bytes.split_first() {
+            Some((first, others)) => {
+                room[0] = *first;
+                self.bytes = others;
+                Ok(1)
+            }
+            None => Ok(0),
+        }
+    }
+}
+
 /// How many bytes of the sample are read before the reader fails, if it does; for how many the
 /// writer has room; how the run ends, and how many bytes are written then.
 type Row = (Option<usize>, usize, Result<(), RunFault>, usize);
@@ -94,4 +125,23 @@ fn devices_that_fail(rt: HostRuntime) {
         let is_due = is_so(alloc, row) == Ok(true) || is_so(alloc, row) == Ok(true);
         assert!(rt; is_due, "row {place}");
     }
+}
+
+/// Whether the second message comes where the client waits for the replies to the first.
+fn hears_first(alloc: Global) -> Result<bool, AllocError> {
+    let mut reader = Waiting {
+        bytes: HELLO,
+        due: WELCOME.len() + ACQUIRED.len(),
+        more: GET_NAME_OWNER,
+    };
+    let mut writer = Vec::new(alloc);
+    let ended = run(alloc, &mut reader, &mut writer);
+    let expected = joined(alloc, &[WELCOME, ACQUIRED, OWNER])?;
+    Ok(ended == Ok(()) && writer.as_slice() == expected.as_slice())
+}
+
+#[test]
+fn a_client_that_waits(rt: HostRuntime) {
+    let alloc = rt.alloc();
+    assert!(rt; hears_first(alloc) == Ok(true) || hears_first(alloc) == Ok(true));
 }

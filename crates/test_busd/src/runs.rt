@@ -1,16 +1,14 @@
 //! A run over memory, by an engine over a plain bus.
 
 use bus_view::can_open;
-use busd_core::{RunFault, run as run_by};
+use busd_core::{ReadBeside, RunFault, run_over};
 use owner_queues::Profile;
-use router::Engine;
-use router_core::OpenGate;
 use seq_bus::SeqBus;
 use std::alloc::{AllocError, Global};
-use std::io::{Read, Write};
+use std::io::Write;
 
 /// Runs over a bus of its own, with one router and no services.
-pub(crate) fn run<R: Read, W: Write>(
+pub(crate) fn run<R: ReadBeside<W>, W: Write>(
     alloc: Global,
     reader: &mut R,
     writer: &mut W,
@@ -21,10 +19,7 @@ pub(crate) fn run<R: Read, W: Write>(
     let Ok(bus) = SeqBus::new(alloc, &[], 1, Profile::Two) else {
         return Err(RunFault::Memory);
     };
-    let Ok(mut engine) = Engine::new(alloc, bus, OpenGate, None) else {
-        return Err(RunFault::Memory);
-    };
-    run_by(alloc, &mut engine, &(), reader, writer)
+    run_over(alloc, bus, &(), reader, writer)
 }
 
 pub(crate) fn joined(alloc: Global, parts: &[&[u8]]) -> Result<Vec<u8>, AllocError> {

@@ -2,7 +2,7 @@ use Rattle.std.proofs.Common.{arith}
 use Rattle.std.proofs.KnownBytes.{Appends-nil}
 use Rattle.std.proofs.lemmas.Result.{err_from_is_err_and}
 use Rattle.busd_core.specs.Happenings.{bytes_for}
-use Rattle.busd_core.proofs.Each.{writes_more, writes_front, writes_all}
+use Rattle.busd_core.proofs.Each.{writes_more, writes_front, writes_flushed}
 use Rattle.busd_core.proofs.actions.write_out.Goals as goal
 
 pub loop-action-init : goal.loop-action-init
@@ -24,4 +24,4 @@ returns-in_err-write_whole g c =
 pub returns : goal.returns
 returns g c =
     let contents = g.W.Write.contents in
-    writes_all (bytes_for c.args.key) c.args.actions.now c.loop-action.action-index (contents c.args.writer.now) (contents c.loop-action.writer) (contents c.loop-action.writer) c.loop-action.invariant (omega (arith, c.loop-action-test.false))
+    writes_flushed (bytes_for c.args.key) c.args.actions.now c.loop-action.action-index (contents c.args.writer.now) (contents c.loop-action.writer) (contents c.flush.new.self) c.loop-action.invariant (omega (arith, c.loop-action-test.false)) c.flush.result c.flush.ensures.bytes
