@@ -8,6 +8,7 @@
 ghost use Rattle.std.specs.Prelude.{◌≡◌, [], ◌∷◌};
 ghost use Rattle.owner_queues.specs.declared.request.Profile.TheVariants.{Two};
 ghost use Rattle.seq_bus_core.specs.Tickets.{opening_bus};
+ghost use Rattle.registry_snapshots.specs.Openings.{identity};
 
 mod bus;
 mod samples;
@@ -63,7 +64,7 @@ fn measure_opened<J: Naming + Send + Sync, R: Print + Clock + Threads + Wait + S
     service: WellKnown,
     part: Part,
 ) -> Result<()>
-    requires { (opened ≡ J.book) × (J.opening ≡ opening_bus Two ROUTERS (service ∷ [])) }
+    requires { (opened ≡ identity J.book J.name J.parts) × (J.opening ≡ opening_bus Two ROUTERS (service ∷ [])) }
 {
     let opened = Shared::<J>::new(report.rt, alloc, opened, &[service], ROUTERS);
     let (shared, seats) = opened.ok().context("the registry is not opened")?;

@@ -3,6 +3,7 @@
 ghost use Rattle.std.specs.Prelude.{◌≡◌, []};
 ghost use Rattle.owner_queues.specs.declared.request.Profile.TheVariants.{Two};
 ghost use Rattle.seq_bus_core.specs.Tickets.{opening_bus};
+ghost use Rattle.registry_snapshots.specs.Openings.{identity};
 
 use busd_core::{RunFault, run};
 use registry_snapshots::{Desk, Naming, NewHistory, Seat, Shared};
@@ -36,7 +37,7 @@ fn run_over_registry<J: Naming, R: Input + Print + AllocGlobal + Wait>(
     rt: &R,
     opened: NewHistory,
 ) -> Result<(), RunFault>
-    requires { (opened ≡ J.book) × (J.opening ≡ opening_bus Two 1 []) }
+    requires { (opened ≡ identity J.book J.name J.parts) × (J.opening ≡ opening_bus Two 1 []) }
 {
     let Ok((shared, mut seats)) = Shared::<J>::new(rt, rt.alloc(), opened, &[], 1) else {
         return Err(RunFault::Memory);

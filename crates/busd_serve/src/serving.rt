@@ -3,6 +3,7 @@
 ghost use Rattle.std.specs.Prelude.{◌≡◌, []};
 ghost use Rattle.owner_queues.specs.declared.request.Profile.TheVariants.{Two};
 ghost use Rattle.seq_bus_core.specs.Tickets.{opening_bus};
+ghost use Rattle.registry_snapshots.specs.Openings.{identity};
 
 use crate::bus::{Bus, Listening};
 use crate::chores::SeatByClock;
@@ -78,7 +79,7 @@ fn serve_over_registry<
     F: Read + Write + Send + Drop,
     R: DaemonRuntime,
 >(rt: &R, opened: NewHistory, bus: &Bus<'_>, listening: Listening<F>) -> Result<(), ServeFault>
-    requires { (opened ≡ J.book)
+    requires { (opened ≡ identity J.book J.name J.parts)
         × (J.opening ≡ opening_bus Two bus.now.options.routers listening.names.items) }
 {
     let routers = bus.options.routers;

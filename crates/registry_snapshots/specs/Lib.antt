@@ -1,3 +1,5 @@
 pub mod Seats
 pub mod Refusals
 pub mod Settlings
+pub mod Tallies
+pub mod Openings

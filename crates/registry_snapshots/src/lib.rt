@@ -42,6 +42,7 @@ mod refusal;
 mod registrar;
 mod seat;
 mod shared;
+mod tally;
 
 pub use desk::Desk;
 pub use opening::{Serve, start};

@@ -5,6 +5,7 @@ ghost use Rattle.owner_queues.specs.declared.request.Profile.TheVariants.{Two};
 ghost use Rattle.seq_bus_core.specs.Histories.{CanOpen, max_routers};
 ghost use Rattle.seq_bus_core.specs.Tickets.{opening_bus};
 ghost use Rattle.registry_snapshots.specs.Seats.{fresh_to};
+ghost use Rattle.registry_snapshots_core.specs.Copies.{identity};
 ghost use Rattle.registry_snapshots.specs.declared.refusal.StartFault.TheVariants.{Routers, Services};
 
 use crate::refusal::StartFault;
@@ -44,7 +45,7 @@ fn begin<J: Naming + Send + Sync, S: Serve, R: Wait>(
     routers: u8,
     server: S,
 ) -> Result<S::Out, StartFault>
-    requires book { opened ≡ J.book }
+    requires named { opened ≡ identity J.book J.name J.parts }
     requires bus { J.opening ≡ opening_bus Two routers services.now }
     requires served { S.bus server ≡ opening_bus Two routers services.now }
     ensures given { IfOk result (λ out. S.gives server out) }

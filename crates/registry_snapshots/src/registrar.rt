@@ -1,19 +1,23 @@
 //! What makes changes, under the lock.
 
 ghost use Rattle.std.specs.List.{AllByRecursion};
-ghost use Rattle.std.specs.Prelude.{◌≡◌, ◌≢◌, ◌⊎◌, ◌+◌, ◌<◌, ◌≤◌, ◌^◌, [], length, false, Some, slice_get, IfOk, IfErr, OnErr};
+ghost use Rattle.std.specs.Prelude.{◌≡◌, ◌≢◌, ◌⊎◌, ◌+◌, ◌<◌, ◌≤◌, ◌^◌, [], length, false, Some, slice_get, IfOk, IfErr, OnOk, OnErr};
 ghost use Rattle.owner_queues.specs.declared.request.Profile.TheVariants.{Two};
 ghost use Rattle.seq_bus_core.specs.Batches.{IsBatch};
 ghost use Rattle.seq_bus_core.specs.Bounds.{IsBounded};
-ghost use Rattle.seq_bus_core.specs.Histories.{CanOpen, IsLegal, Begins, numbers_of};
+ghost use Rattle.seq_bus_core.specs.Histories.{CanOpen, IsLegal, Begins, max_routers, numbers_of};
 ghost use Rattle.seq_bus_core.specs.Tickets.{opening_bus};
 ghost use Rattle.seq_bus_core.specs.declared.limits.TheConstants.{MAX_BATCH};
 ghost use Rattle.registry_snapshots_core.specs.Copies.{IsSnapOf};
 ghost use Rattle.registry_snapshots.specs.Seats.{AreSeatChanged, IsSeatChanged};
+ghost use Rattle.registry_snapshots.specs.Tallies.{AreAllSeats, made_by, parts_by, tallied};
+ghost use Rattle.registry_snapshots_core.specs.Seating.{all_parts};
 ghost use Rattle.bus_view.specs.declared.refusal.Cause.{Cause};
 ghost use Rattle.bus_view.specs.declared.refusal.Cause.TheVariants.{ForeignSeat, HistoryFull, Gone};
 
 use crate::copies::{Copies, SnapReader};
+use crate::seat::Seat;
+use crate::tally::Tally;
 use activation::HeldCalls;
 use bus_view::{BatchCause, Cause, RefusedAll};
 use names::WellKnown;
@@ -26,6 +30,7 @@ use settling::{prepare, prepare_all};
 use std::alloc::{AllocError, Global};
 use std::marker::Model;
 use std::sync::Wait;
+use std::sync::ledger::{Book, Share};
 
 /// It knows all of the history, and what the calls carry that wait after it.
 ///
@@ -38,10 +43,14 @@ pub struct Registrar<J: Naming> {
     calls: HeldCalls,
     // Room for the queue that a name is about to have.
     queue: Queue,
+    // Where each seat counts the changes that it made: all of them are the history.
+    ledger: Book<J>,
+    // What makes shares of no part.
+    none: Share<J>,
 }
 
 impl<J: Naming> Model for Registrar<J> {
-    ghost use Rattle.std.specs.Prelude.{Bool};
+    ghost use Rattle.std.specs.Prelude.{◌≡◌, Bool, length};
     ghost use Rattle.registry_snapshots_core.specs.Copies.{SnapView};
     ghost use Rattle.registry_snapshots.specs.Settlings.{KeepsUp};
 
@@ -49,7 +58,8 @@ impl<J: Naming> Model for Registrar<J> {
 
     ghost view = { λ r. r.copies };
 
-    ghost invariant = { λ r. KeepsUp J.opening r.copies r.third r.calls };
+    ghost invariant = { λ r. KeepsUp J.opening r.copies r.third r.calls
+        × (r.ledger.total ≡ length r.copies.0.prefix.log) };
 }
 
 /// Whether a seat that knows this much and made so many changes may make so many more now. It gives
@@ -79,6 +89,27 @@ pub fn judge(shown: &Snap, seat: u8, made: u64, known: &Prefix, more: u64) -> Re
     Ok(prefix)
 }
 
+/// Gathers what seats counted, where what each has seen begins this prefix.
+fn gather<J: Naming>(
+    mut seats: Vec<Seat<J>>,
+    all: &mut Share<J>,
+    whole: &Prefix,
+) -> Result<(), Cause>
+    requires book { whole.now.book ≡ J.book }
+    ensures parts { OnOk result (all.new.parts
+        ≡ all.old.parts + parts_by J.opening.state.routers seats.items) }
+    ensures amount { OnOk result (all.new.amount ≡ all.old.amount + made_by seats.items) }
+    ensures seen { OnOk result
+        (AllByRecursion (λ seat. Begins seat.seen whole.now.log) seats.items) }
+{
+    while let Some(seat) = seats.pop() {
+        if !seat.hand_in(all, whole) {
+            return Err(Cause::Gone);
+        }
+    }
+    Ok(())
+}
+
 /// A batch that is handed back.
 fn refused_all(changes: Vec<Change>, cause: Cause) -> RefusedAll
     ensures { result ≡ record { changes = changes; cause = BatchCause.Refused cause } }
@@ -99,11 +130,14 @@ impl<J: Naming> Registrar<J> {
         seats: usize,
         head: Head,
         prefix: &Prefix,
+        ledger: Book<J>,
+        none: Share<J>,
     ) -> Result<Registrar<J>, AllocError>
         requires bus { CanOpen routers services.now
             × (J.opening ≡ opening_bus Two routers services.now) }
         requires seats { (0 < seats) × (seats < 2 ^ 32) }
         requires prefix { (head ≡ J.book) × (prefix.now.book ≡ J.book) × (prefix.now.log ≡ []) }
+        requires ledger { ledger.total ≡ 0 }
         ensures { IfOk result (λ r. (r.0.prefix.log ≡ []) × (r.1 ≡ false)) }
     {
         let calls = HeldCalls::new(alloc)?;
@@ -114,6 +148,8 @@ impl<J: Naming> Registrar<J> {
             third,
             calls,
             queue: Queue::new(),
+            ledger,
+            none,
         })
     }
 
@@ -122,8 +158,8 @@ impl<J: Naming> Registrar<J> {
         self.copies.reader()
     }
 
-    /// Makes a change of a seat that knows this much and made so many, or refuses it. A change is
-    /// large, and is not moved.
+    /// Makes a change of a seat that knows this much and made so many, and counts it, or refuses
+    /// it. A change is large, and is not moved.
     ///
     /// What it gives of the history is what is published, and nothing that is refused: no prefix
     /// lies beyond it.
@@ -132,20 +168,23 @@ impl<J: Naming> Registrar<J> {
         rt: &R,
         alloc: Global,
         seat: u8,
-        made: u64,
+        tally: &mut Tally<J>,
         known: &Prefix,
         change: &Change,
     ) -> Result<(Outcome, Prefix), Cause>
         requires book { known.now.book ≡ J.book }
+        requires part { 0 < tally.old.parts }
         ensures made { IfOk result (λ r.
-            IsSeatChanged J.book J.opening seat known.now.log made change.now r.0 r.1.log) }
+            IsSeatChanged J.book J.opening seat known.now.log tally.old.made change.now r.0 r.1.log) }
         ensures few { IfOk result (λ r. IsBounded r.0) }
-        ensures next { IfOk result (λ r. (r.1.book ≡ J.book) × (made < 2 ^ 63)) }
+        ensures next { IfOk result (λ r. r.1.book ≡ J.book) }
+        ensures counted { OnOk result (tally.new ≡ tallied (tally.old.made + 1) tally.old.parts) }
+        ensures uncounted { OnErr result (tally.new ≡ tally.old) }
         ensures published { IfOk result (λ r. (r.1 ≡ self.new.0.prefix) × (self.new.1 ≡ false)) }
         ensures same { OnErr result (self.new.0 ≡ self.old.0) }
         ensures judged { IfErr result (λ e. e ≢ Gone → self.new ≡ self.old) }
         ensures foreign { IfErr result (λ e. e ≡ ForeignSeat →
-            (slice_get self.old.0.last seat ≢ Some made)
+            (slice_get self.old.0.last seat ≢ Some tally.old.made)
             ⊎ (length self.old.0.prefix.log < length known.now.log)) }
         ensures full { IfErr result (λ e. e ≡ HistoryFull →
             2 ^ 63 ≤ length self.old.0.prefix.log) }
@@ -153,6 +192,7 @@ impl<J: Naming> Registrar<J> {
         if self.copies.is_spent() {
             return Err(Cause::Gone);
         }
+        let made = tally.made();
         let shown = self.copies.published();
         let prefix = judge(shown, seat, made, known, 1)?;
         let queue = &mut self.queue;
@@ -169,11 +209,12 @@ impl<J: Naming> Registrar<J> {
             return Err(Cause::Gone);
         };
         let outcome = settling.settle(&mut self.calls, change);
+        tally.add(&mut self.ledger, 1);
         Ok((outcome, next))
     }
 
     /// Makes a batch of changes of a seat that knows this much and made so many, all in one
-    /// publication, or refuses it.
+    /// publication, and counts them, or refuses it.
     ///
     /// What it gives of the history is what is published, and nothing that is refused: no prefix
     /// lies beyond it.
@@ -182,18 +223,21 @@ impl<J: Naming> Registrar<J> {
         rt: &R,
         alloc: Global,
         seat: u8,
-        made: u64,
+        tally: &mut Tally<J>,
         known: &Prefix,
         changes: Vec<Change>,
     ) -> Result<(Vec<Outcome>, Prefix), RefusedAll>
         requires book { known.now.book ≡ J.book }
+        requires part { 0 < tally.old.parts }
         requires batch { IsBatch changes.items }
         ensures made { IfOk result (λ r.
-            AreSeatChanged J.book J.opening seat known.now.log made changes.items
+            AreSeatChanged J.book J.opening seat known.now.log tally.old.made changes.items
             r.0.items r.1.log) }
         ensures few { IfOk result (λ r. AllByRecursion IsBounded r.0.items) }
-        ensures next { IfOk result (λ r. (r.1.book ≡ J.book)
-            × (made + length changes.items ≤ 2 ^ 63)) }
+        ensures next { IfOk result (λ r. r.1.book ≡ J.book) }
+        ensures counted { OnOk result
+            (tally.new ≡ tallied (tally.old.made + length changes.items) tally.old.parts) }
+        ensures uncounted { OnErr result (tally.new ≡ tally.old) }
         ensures published { IfOk result (λ r. (r.1 ≡ self.new.0.prefix) × (self.new.1 ≡ false)) }
         ensures refused { IfErr result (λ e. e.changes ≡ changes) }
         ensures cause { IfErr result (λ e. (cause : Cause) × (e.cause ≡ BatchCause.Refused cause)) }
@@ -201,7 +245,7 @@ impl<J: Naming> Registrar<J> {
         ensures judged { IfErr result (λ e. e.cause ≢ BatchCause.Refused Gone →
             self.new ≡ self.old) }
         ensures foreign { IfErr result (λ e. e.cause ≡ BatchCause.Refused ForeignSeat →
-            (slice_get self.old.0.last seat ≢ Some made)
+            (slice_get self.old.0.last seat ≢ Some tally.old.made)
             ⊎ (length self.old.0.prefix.log < length known.now.log)) }
         ensures full { IfErr result (λ e. e.cause ≡ BatchCause.Refused HistoryFull →
             2 ^ 63 < length self.old.0.prefix.log + length changes.items) }
@@ -209,6 +253,7 @@ impl<J: Naming> Registrar<J> {
         if self.copies.is_spent() {
             return Err(refused_all(changes, Cause::Gone));
         }
+        let made = tally.made();
         let shown = self.copies.published();
         let prefix = match judge(shown, seat, made, known, changes.len() as u64) {
             Ok(prefix) => prefix,
@@ -227,7 +272,26 @@ impl<J: Naming> Registrar<J> {
             return Err(refused_all(batch.changes, Cause::Gone));
         };
         let outcomes = settlings.settle(&mut self.calls, &batch.changes);
+        tally.add(&mut self.ledger, batch.changes.len() as u64);
         Ok((outcomes, next))
+    }
+
+    /// All of the history, once all seats are there, and what each has seen begins it. It has as
+    /// many changes as they made.
+    pub fn whole_history(&mut self, seats: Vec<Seat<J>>) -> Result<Prefix, Cause>
+        requires all { AreAllSeats J.opening.state.routers seats.items }
+        requires routers { J.opening.state.routers ≤ max_routers }
+        requires parts { J.parts ≡ all_parts }
+        ensures book { IfOk result (λ whole. whole.book ≡ J.book) }
+        ensures made { IfOk result (λ whole. length whole.log ≡ made_by seats.items) }
+        ensures seen { IfOk result (λ whole.
+            AllByRecursion (λ seat. Begins seat.seen whole.log) seats.items) }
+    {
+        let whole = self.copies.published().prefix().copy();
+        let mut all = self.none.empty();
+        gather(seats, &mut all, &whole)?;
+        self.ledger.audit(&mut all);
+        Ok(whole)
     }
 
     /// Ends the copies, once the readers have left.
@@ -237,6 +301,8 @@ impl<J: Naming> Registrar<J> {
             third: _,
             calls: _,
             queue: _,
+            ledger: _,
+            none: _,
         } = self;
         copies.end(rt);
     }

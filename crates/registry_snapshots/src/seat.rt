@@ -1,6 +1,6 @@
 //! The seats of a registry, one a router.
 
-ghost use Rattle.std.specs.Prelude.{◌≡◌, ◌+◌, ◌<◌, ◌^◌, length, false, [], Some, is_some, OnOk, OnErr, IfOk, IfErr, IfSome, ◌↔◌};
+ghost use Rattle.std.specs.Prelude.{◌≡◌, ◌+◌, ◌<◌, ◌^◌, length, false, true, [], Some, is_some, OnOk, OnErr, IfOk, IfErr, IfSome, ◌↔◌};
 ghost use Rattle.std.specs.Fn.{FnOnceReturnsAt};
 ghost use Rattle.std.specs.List.{AllByRecursion};
 ghost use Rattle.bus_view.specs.Bodies.{Answers};
@@ -12,13 +12,16 @@ ghost use Rattle.seq_bus_core.specs.BusState.{connection_of};
 ghost use Rattle.seq_bus_core.specs.Histories.{HasJust, IsLegal, Begins};
 ghost use Rattle.seq_bus_core.specs.Recipients.{recipients};
 ghost use Rattle.seq_bus_core.specs.Tickets.{bus_after};
-ghost use Rattle.registry_snapshots_core.specs.Copies.{SnapView};
-ghost use Rattle.bus_view.specs.Views.{having_made, AreChanged, IsChanged, IsNoted, IsRead, IsUnread};
-ghost use Rattle.registry_snapshots.specs.Seats.{fresh, knowledge_of, IsUnwatched};
+ghost use Rattle.registry_snapshots_core.specs.Copies.{IsLastOf, SnapView, prefix_of};
+ghost use Rattle.registry_snapshots_core.specs.Seating.{parts_of};
+ghost use Rattle.bus_view.specs.Views.{AreChanged, IsChanged, IsNoted, IsRead, IsUnread};
+ghost use Rattle.registry_snapshots.specs.Seats.{fresh, knowledge_of, seat_at, IsUnwatched};
+ghost use Rattle.registry_snapshots.specs.Tallies.{tallied};
 
 use crate::copies::SnapReader;
 use crate::protocol::{CopyKeepsRule, CopyRule};
 use crate::shared::Shared;
+use crate::tally::Tally;
 use bus_view::{AskFault, Asked, BatchCause, CheapCopy, Gone, Refused, RefusedAll};
 use left_right::reader::Reading;
 use match_rules::Facts;
@@ -26,6 +29,7 @@ use registry_snapshots_core::{Naming, Note, Prefix, Snap};
 use seq_bus_core::{Change, Outcome, Query, Verdict};
 use std::marker::Model;
 use std::sync::Wait;
+use std::sync::ledger::Share;
 
 /// What one router reads the bus with, and makes changes.
 ///
@@ -35,7 +39,7 @@ use std::sync::Wait;
 #[derive(Drop)]
 pub struct Seat<J: Naming> {
     number: u8,
-    made: u64,
+    tally: Tally<J>,
     last: u64,
     // Gone while it reads.
     reader: Option<SnapReader<J>>,
@@ -46,18 +50,20 @@ pub struct Seat<J: Naming> {
 }
 
 impl<J: Naming> Model for Seat<J> {
-    ghost use Rattle.std.specs.Prelude.{◌≡◌, false, Some};
+    ghost use Rattle.std.specs.Prelude.{◌≡◌, ◌<◌, false, Some};
     ghost use Rattle.seq_bus_core.specs.Histories.{History, Begins};
     ghost use Rattle.registry_snapshots.specs.Seats.{SeatView, knowledge_of, seat_at, IsUnwatched};
+    ghost use Rattle.registry_snapshots_core.specs.Seating.{parts_of};
 
     ghost Value = { SeatView };
 
-    ghost view = { λ s. seat_at s.number s.prefix.log s.made s.last s.held };
+    ghost view = { λ s. seat_at s.number s.prefix.log s.tally.made s.last s.held };
 
     ghost invariant = { λ s. (s.prefix.book ≡ J.book)
         × ((held : History) → s.held ≡ Some held → Begins held s.prefix.log)
         × (s.watched ≡ false → IsUnwatched (knowledge_of J.book J.opening
-        (seat_at s.number s.prefix.log s.made s.last s.held))) };
+        (seat_at s.number s.prefix.log s.tally.made s.last s.held)))
+        × (s.tally.parts ≡ parts_of J.opening.state.routers s.number) × (0 < s.tally.parts) };
 }
 
 type SnapReading<J> = Reading<Snap, (), CopyRule<J>>;
@@ -73,6 +79,8 @@ fn enter<J: Naming>(
     ensures prefix { IfOk result (λ r. (r.1.book ≡ J.book) × Begins seen.now.log r.1.log
         × IsLegal r.1.log × HasJust number made r.1.log) }
     ensures copy { IfOk result (λ r. r.0.part.value.bus ≡ (bus_after J.opening r.1.log).state) }
+    ensures whole { IfOk result (λ r. (r.0.part.value.prefix ≡ r.1)
+        × IsLastOf r.0.part.value.last r.1.log) }
 {
     let reading = reader.enter_as::<CopyKeepsRule<J>>()?;
     let snap = reading.get();
@@ -85,14 +93,16 @@ fn enter<J: Naming>(
 }
 
 impl<J: Naming> Seat<J> {
-    /// The seat of this number, which has seen nothing.
-    pub(crate) fn new(number: u8, reader: SnapReader<J>, prefix: Prefix) -> Seat<J>
-        requires { (prefix.book ≡ J.book) × (prefix.log ≡ []) }
+    /// The seat of this number, which has seen and made nothing.
+    pub(crate) fn new(number: u8, reader: SnapReader<J>, prefix: Prefix, tally: Tally<J>) -> Seat<J>
+        requires prefix { (prefix.book ≡ J.book) × (prefix.log ≡ []) }
+        requires tally { tally ≡ tallied 0 (parts_of J.opening.state.routers number) }
+        requires part { 0 < tally.parts }
         ensures { result ≡ fresh number }
     {
         Seat {
             number,
-            made: 0,
+            tally,
             last: 0,
             reader: Some(reader),
             prefix,
@@ -119,7 +129,7 @@ impl<J: Naming> Seat<J> {
     pub fn made(&self) -> u64
         ensures { result ≡ self.now.made }
     {
-        self.made
+        self.tally.made()
     }
 
     /// The place in the history of the last change that it made, from 1; 0 where it made none.
@@ -135,12 +145,14 @@ impl<J: Naming> Seat<J> {
         ensures read { IfOk result (λ r. IsRead false (knowledge_of J.book J.opening self.old)
             (knowledge_of J.book J.opening (record self.old { seen = r.1.log }))) }
         ensures copy { IfOk result (λ r. r.0.part.value.bus ≡ (bus_after J.opening r.1.log).state) }
+        ensures whole { IfOk result (λ r. (r.0.part.value.prefix ≡ prefix_of J.book r.1.log)
+            × IsLastOf r.0.part.value.last r.1.log) }
         ensures same { self.new ≡ self.old }
     {
         let Some(reader) = self.reader.take() else {
             return Err(Gone);
         };
-        match enter(reader, self.number, self.made, &self.prefix) {
+        match enter(reader, self.number, self.tally.made(), &self.prefix) {
             Ok(entered) => Ok(entered),
             Err(reader) => {
                 self.reader = Some(reader);
@@ -162,6 +174,27 @@ impl<J: Naming> Seat<J> {
         self.prefix = prefix;
     }
 
+    // Gives what it counted to a share of others. Tells whether what it has seen begins this prefix.
+    pub(crate) fn hand_in(self, all: &mut Share<J>, whole: &Prefix) -> bool
+        requires book { whole.now.book ≡ J.book }
+        ensures parts { all.new.parts
+            ≡ all.old.parts + parts_of J.opening.state.routers self.number }
+        ensures amount { all.new.amount ≡ all.old.amount + self.made }
+        ensures begins { result ≡ true → Begins self.seen whole.now.log }
+    {
+        let Seat {
+            number: _,
+            tally,
+            last: _,
+            reader: _,
+            prefix,
+            watched: _,
+            held: _,
+        } = self;
+        tally.merge_into(all);
+        prefix.begins(whole)
+    }
+
     /// Calls `f` once on the published copy and gives its answer. It waits for no lock and takes no
     /// memory.
     ///
@@ -171,6 +204,7 @@ impl<J: Naming> Seat<J> {
         requires { F.IsAlwaysCallable f }
         ensures answer { IfOk result (λ r. (copy : SnapView)
             × (copy.bus ≡ (bus_after J.opening self.new.seen).state)
+            × (copy.prefix ≡ prefix_of J.book self.new.seen) × IsLastOf copy.last self.new.seen
             × FnOnceReturnsAt F.FnOnce f copy r) }
         ensures read { OnOk result (IsRead false (knowledge_of J.book J.opening self.old)
             (knowledge_of J.book J.opening self.new)) }
@@ -285,9 +319,10 @@ impl<J: Naming> Seat<J> {
         ensures refused { IfErr result (λ e. e.change ≡ change) }
         ensures unchanged { OnErr result (self.new ≡ self.old) }
     {
-        match shared.change(rt, self.number, self.made, &self.prefix, &change) {
+        self.watched = true;
+        match shared.change(rt, self.number, &mut self.tally, &self.prefix, &change) {
             Ok((outcome, prefix)) => {
-                let note = self.go_on(1, prefix);
+                let note = self.go_on(prefix);
                 Ok((outcome, note))
             }
             Err(cause) => Err(Refused { change, cause }),
@@ -315,28 +350,26 @@ impl<J: Naming> Seat<J> {
         ensures cause { IfErr result (λ e. (e.cause ≡ BatchCause.Batch) ↔ ¬ IsBatch changes.items) }
         ensures unchanged { OnErr result (self.new ≡ self.old) }
     {
-        let count = changes.len() as u64;
+        self.watched = true;
         let (outcomes, prefix) = shared.change_all(
             rt,
             self.number,
-            self.made,
+            &mut self.tally,
             &self.prefix,
             changes,
         )?;
-        let note = self.go_on(count, prefix);
+        let note = self.go_on(prefix);
         Ok((outcomes, note))
     }
 
-    // Goes on to where so many changes of it were made, and tells of them in a note.
-    fn go_on(&mut self, count: u64, prefix: Prefix) -> Note<J>
+    // Goes on to the end of what it changed last, and tells of it in a note.
+    fn go_on(&mut self, prefix: Prefix) -> Note<J>
         requires book { prefix.book ≡ J.book }
-        requires room { self.old.made + count < 2 ^ 64 }
         ensures note { result ≡ prefix.log }
-        ensures seen { knowledge_of J.book J.opening self.new
-            ≡ having_made (knowledge_of J.book J.opening self.old) count prefix.log }
+        ensures seen { self.new
+            ≡ seat_at self.old.number prefix.log self.old.made (length prefix.log) (Some prefix.log) }
     {
         let note = Note::of(&prefix);
-        self.made += count;
         self.last = prefix.len();
         self.prefix = prefix;
         self.watched = true;

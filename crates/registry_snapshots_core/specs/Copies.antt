@@ -7,6 +7,15 @@ use Rattle.seq_bus_core.specs.Steps.{step}
 use Rattle.seq_bus_core.specs.Tickets.{WholeBus, bus_after}
 use Rattle.registry.specs.PreparedChanges.{PreparedChange, absorbed_along}
 
+-- what tells a registry from all others: the book of its history, and the ledger of its seats, with its parts
+pub record Identity : Type 0 where
+  pub book : Book
+  pub ledger : ℕ
+  pub parts : ℕ
+
+abbrev pub identity : Book → (ledger parts : ℕ) → Identity
+identity book ledger parts = record { book = book; ledger = ledger; parts = parts }
+
 -- a beginning of a book's history
 pub record PrefixView : Type 0 where
   pub book : Book

@@ -1,3 +1,4 @@
 pub mod Publications
 pub mod Copies
 pub mod Pending
+pub mod Seating

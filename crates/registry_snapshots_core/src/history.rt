@@ -4,11 +4,14 @@ ghost use Rattle.std.specs.Prelude.{◌≡◌, ◌+◌, ◌==◌, ◌<◌, ◌�
 ghost use Rattle.seq_bus_core.specs.Batches.{entries_of};
 ghost use Rattle.seq_bus_core.specs.Histories.{IsLegal, Begins};
 ghost use Rattle.registry_snapshots_core.specs.Copies.{prefix_of};
+ghost use Rattle.registry_snapshots_core.specs.Seating.{all_parts};
 
 use logbook::{Gain, Offer, Plain, Play, Rule, Seen, Start, Word};
+use seq_bus_core::limits::MAX_ROUTERS;
 use seq_bus_core::{Change, Entry};
 use std::collections::LinkedList;
 use std::marker::Model;
+use std::sync::ledger::Blank;
 
 /// The entries that are published together. No value of it is made.
 pub struct Publication {
@@ -142,22 +145,28 @@ impl Model for Prefix {
     ghost invariant = { λ f. (f.count ≡ length (flat f.seen.log)) × IsLegal (flat f.seen.log) };
 }
 
-/// An empty history, which has no name yet. Contracts see its book.
+/// How many parts a registry's ledger has, one for each seat that there may be.
+const PARTS: u64 = MAX_ROUTERS as u64 + 1;
+
+/// An empty history, and the ledger of its seats, which have no name yet.
 #[derive(Drop)]
 pub struct NewHistory {
     head: Head,
     prefix: Prefix,
+    ledger: Blank,
 }
 
 impl Model for NewHistory {
     ghost use Rattle.std.specs.Prelude.{◌≡◌, []};
-    ghost use Rattle.logbook.specs.Pages.{Book};
+    ghost use Rattle.registry_snapshots_core.specs.Copies.{Identity, identity};
+    ghost use Rattle.registry_snapshots_core.specs.Seating.{all_parts};
 
-    ghost Value = { Book };
+    ghost Value = { Identity };
 
-    ghost view = { λ o. o.prefix.book };
+    ghost view = { λ o. identity o.prefix.book o.ledger.name o.ledger.parts };
 
-    ghost invariant = { λ o. (o.head ≡ o.prefix.book) × (o.prefix.log ≡ []) };
+    ghost invariant = { λ o. (o.head ≡ o.prefix.book) × (o.prefix.log ≡ [])
+        × (o.ledger.parts ≡ all_parts) };
 }
 
 impl NewHistory {
@@ -168,15 +177,23 @@ impl NewHistory {
                 word: Word::tracked(0, &mut first),
             },
             prefix: Prefix { count: 0, seen },
+            ledger: Blank::new(PARTS),
         }
     }
 
-    /// The word with its length, and the prefix that has seen nothing.
-    pub fn parts(self) -> (Head, Prefix)
-        ensures { (result.0 ≡ self) × (result.1.book ≡ self) × (result.1.log ≡ []) }
+    /// The word with its length, the prefix that has seen nothing, and the ledger.
+    pub fn parts(self) -> (Head, Prefix, Blank)
+        ensures history { (result.0 ≡ self.book) × (result.1.book ≡ self.book)
+            × (result.1.log ≡ []) }
+        ensures ledger { (result.2.name ≡ self.ledger) × (result.2.parts ≡ self.parts)
+            × (self.parts ≡ all_parts) }
     {
-        let NewHistory { head, prefix } = self;
-        (head, prefix)
+        let NewHistory {
+            head,
+            prefix,
+            ledger,
+        } = self;
+        (head, prefix, ledger)
     }
 }
 

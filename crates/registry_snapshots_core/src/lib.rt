@@ -15,7 +15,7 @@
 //!     if !can_open(&[], 2) {
 //!         return Ok(false);
 //!     }
-//!     let (_head, prefix) = NewHistory::new().parts();
+//!     let (_head, prefix, _ledger) = NewHistory::new().parts();
 //!     let snap = Snap::new(alloc, &[], 2, 3, prefix)?;
 //!     Ok(snap.prefix().len() == 0 && snap.made(2) == Some(0) && !snap.present(1))
 //! }

@@ -1,12 +1,14 @@
 //! Which registry it is.
 
 use std::marker::Brand;
+use std::sync::ledger::Ledger;
 
-/// Which registry it is: its history, and the bus that it was opened as.
+/// Which registry it is: its history, the ledger in which its seats count the changes that they
+/// make, and the bus that it was opened as.
 ///
 /// Each call of `start` of `registry_snapshots` picks its own, as does each call of a function over
 /// `J: Naming` at `Brand`.
-pub trait Naming {
+pub trait Naming: Ledger {
     ghost use Rattle.logbook.specs.Pages.{Book};
     ghost use Rattle.seq_bus_core.specs.Tickets.{WholeBus};
 

@@ -3,6 +3,7 @@
 ghost use Rattle.std.specs.Prelude.{◌≡◌, []};
 ghost use Rattle.owner_queues.specs.declared.request.Profile.TheVariants.{Two};
 ghost use Rattle.seq_bus_core.specs.Tickets.{opening_bus};
+ghost use Rattle.registry_snapshots.specs.Openings.{identity};
 
 use crate::gate::HoldingGate;
 use crate::progress::{FlagWaker, MAIN, Progress};
@@ -48,7 +49,7 @@ fn open<J: Naming + Send + Sync, R: Threads + Wait + Clock + Sync>(
     routers: u8,
     scenario: &Scenario,
 ) -> Result<Played, Fail>
-    requires { (opened ≡ J.book) × (J.opening ≡ opening_bus Two routers []) }
+    requires { (opened ≡ identity J.book J.name J.parts) × (J.opening ≡ opening_bus Two routers []) }
 {
     let Ok((shared, seats)) = Shared::<J>::new(rt, alloc, opened, &[], routers) else {
         return Err(Fail::from("no registry"));

@@ -5,6 +5,7 @@
 ghost use Rattle.std.specs.Prelude.{◌≡◌, ◌<◌, [], IfOk};
 ghost use Rattle.owner_queues.specs.declared.request.Profile.TheVariants.{Two};
 ghost use Rattle.seq_bus_core.specs.Tickets.{opening_bus};
+ghost use Rattle.registry_snapshots.specs.Openings.{identity};
 
 use crate::publishing::publish_to;
 use bus_view::Refused;
@@ -217,7 +218,7 @@ fn serve_once<J: Naming + Send + Sync, R: Threads + Wait + Sync>(
     opened: NewHistory,
     client: &mut Client,
 ) -> Result<(), Fail>
-    requires { (opened ≡ J.book) × (J.opening ≡ opening_bus Two 1 []) }
+    requires { (opened ≡ identity J.book J.name J.parts) × (J.opening ≡ opening_bus Two 1 []) }
 {
     let Ok((shared, mut seats)) = Shared::<J>::new(rt, alloc, opened, &[], 1) else {
         return Err(Fail::from("no memory"));

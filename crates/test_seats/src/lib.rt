@@ -4,6 +4,8 @@
 #![tactic(auto)]
 
 #[cfg(test)]
+mod counting;
+#[cfg(test)]
 mod first_path;
 #[cfg(test)]
 mod notes;

@@ -3,6 +3,7 @@
 ghost use Rattle.std.specs.Prelude.{◌≡◌, []};
 ghost use Rattle.owner_queues.specs.declared.request.Profile.TheVariants.{Two};
 ghost use Rattle.seq_bus_core.specs.Tickets.{opening_bus};
+ghost use Rattle.registry_snapshots.specs.Openings.{identity};
 
 use match_rules::{Facts, MessageKind};
 use names::UniqueName;
@@ -95,7 +96,7 @@ fn two_routers<J: Naming + Send + Sync, R: Threads + Wait + Abort + Sync>(
     alloc: Global,
     opened: NewHistory,
 )
-    requires { (opened ≡ J.book) × (J.opening ≡ opening_bus Two 2 []) }
+    requires { (opened ≡ identity J.book J.name J.parts) × (J.opening ≡ opening_bus Two 2 []) }
 {
     let (shared, mut seats) = Shared::<J>::new(rt, alloc, opened, &[], 2)
         .ok()

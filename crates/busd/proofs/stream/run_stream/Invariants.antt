@@ -4,5 +4,8 @@ use Rattle.seq_bus_core.specs.Tickets.{opening_bus}
 use Rattle.busd.proofs.stream.run_stream.Given as goal
 
 -- the registry that is just opened
-abbrev pub ghosts-run_over_registry : goal.ghosts-run_over_registry
-ghosts-run_over_registry g a = record { book = a.opened; opening = opening_bus Two 1 [] }
+abbrev pub ghosts-run_over_registry-J-Ledger : goal.ghosts-run_over_registry-J-Ledger
+ghosts-run_over_registry-J-Ledger g a = record { name = a.opened.ledger; parts = a.opened.parts }
+
+abbrev pub ghosts-run_over_registry-J-Naming : goal.ghosts-run_over_registry-J-Naming
+ghosts-run_over_registry-J-Naming g a = record { book = a.opened.book; opening = opening_bus Two 1 [] }

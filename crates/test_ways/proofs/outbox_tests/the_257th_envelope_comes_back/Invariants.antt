@@ -4,5 +4,8 @@ use Rattle.seq_bus_core.specs.Tickets.{opening_bus}
 use Rattle.test_ways.proofs.outbox_tests.the_257th_envelope_comes_back.Given as goal
 
 -- the registry that is just opened
-abbrev pub ghosts-two_routers : goal.ghosts-two_routers
-ghosts-two_routers g a = record { book = a.opened; opening = opening_bus Two 2 [] }
+abbrev pub ghosts-two_routers-J-Ledger : goal.ghosts-two_routers-J-Ledger
+ghosts-two_routers-J-Ledger g a = record { name = a.opened.ledger; parts = a.opened.parts }
+
+abbrev pub ghosts-two_routers-J-Naming : goal.ghosts-two_routers-J-Naming
+ghosts-two_routers-J-Naming g a = record { book = a.opened.book; opening = opening_bus Two 2 [] }

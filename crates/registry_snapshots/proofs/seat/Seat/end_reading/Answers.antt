@@ -14,11 +14,13 @@ invariant_of-self g c =
     let log : History = c.args.prefix.log in
     let read = c.requires.read in
     let begun : Begins c.self.inside.prefix.log log = subst (λ (v : SeatView). Begins v.seen log) (sym c.self.view_is) read.reached.begun in
-    let own : HasJust c.self.inside.number c.self.inside.made log = subst (λ (v : SeatView). HasJust v.number v.made log) (sym c.self.view_is) read.own in
+    let own : HasJust c.self.inside.number c.self.inside.tally.made log = subst (λ (v : SeatView). HasJust v.number v.made log) (sym c.self.view_is) read.own in
     let bus = ap (λ (s : SnapView). s.bus) c.get.ensures ∙ c.requires.copy in
     let any = sym (ap (λ (b : BusState). list_any is_monitor b.connections) bus) ∙ sym c.has_monitors-self-inside.ensures in
-    let now : SeatView = seat_at c.self.inside.number log c.self.inside.made c.self.inside.last c.self.inside.held in (
+    let now : SeatView = seat_at c.self.inside.number log c.self.inside.tally.made c.self.inside.last c.self.inside.held in (
       c.requires.book,
       λ held is. begins_trans held c.self.inside.prefix.log log (c.self.invariant.1 held is) begun,
       λ unwatched. record { read = read_here g.J.Naming.book g.J.Naming.opening now log (begins_same log log refl) read.legal own; none = any ∙ unwatched },
+      c.self.invariant.3,
+      c.self.invariant.4,
     )
