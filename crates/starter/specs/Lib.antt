@@ -1,2 +1,4 @@
 pub mod Ends
 pub mod MainSeats
+pub mod Starting
+pub mod States

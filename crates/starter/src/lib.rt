@@ -27,9 +27,11 @@
 #![tactic(auto)]
 
 mod main_seat;
+mod programs;
 mod starter;
 mod unfinished;
 
 pub use main_seat::MainSeat;
-pub use starter::{Programs, Starter};
+pub use programs::Programs;
+pub use starter::Starter;
 pub use unfinished::Unfinished;

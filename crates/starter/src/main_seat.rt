@@ -1,9 +1,12 @@
 //! The seat of the thread that started the routers.
 
-ghost use Rattle.std.specs.Prelude.{◌≡◌, [], IfSome};
+ghost use Rattle.std.specs.Prelude.{◌≡◌, ◌⊎◌, [], IfOk, IfSome};
+ghost use Rattle.routers.specs.declared.source.TheConstants.{RETRY_AFTER};
 ghost use Rattle.starter.specs.MainSeats.{MakesMainSteps};
+ghost use Rattle.starter.specs.States.{IsIdle, new_starter};
 
-use crate::starter::{Programs, Starter};
+use crate::programs::Programs;
+use crate::starter::Starter;
 use crate::unfinished::Unfinished;
 use registry_snapshots::{Desk, Naming, Shared};
 use router::Traced;
@@ -21,7 +24,7 @@ use std::sync::Wait;
 /// routers. It serves no connection: it runs the programs of services, tells the bus how starts
 /// end, and writes what it recorded.
 ///
-/// Contracts see its host.
+/// Contracts see it as a starter.
 #[derive(Drop)]
 pub struct MainSeat<'a, J: Naming, S: Socket, W: Wake + Drop, Q: Programs + Drop, T, R: Wait> {
     rt: &'a R,
@@ -31,11 +34,11 @@ pub struct MainSeat<'a, J: Naming, S: Socket, W: Wake + Drop, Q: Programs + Drop
 
 impl<'a, J: Naming, S: Socket, W: Wake + Drop, Q: Programs + Drop, T, R: Wait> Model
     for MainSeat<'a, J, S, W, Q, T, R> {
-    ghost use Rattle.starter.specs.MainSeats.{MainHost};
+    ghost use Rattle.starter.specs.MainSeats.{MainState};
 
-    ghost Value = { MainHost };
+    ghost Value = { MainState Q };
 
-    ghost view = { λ m. m.starter.host };
+    ghost view = { λ m. m.starter };
 }
 
 impl<
@@ -56,9 +59,10 @@ impl<
         setup: SeatSetup<J, T>,
         programs: Q,
     ) -> Option<MainSeat<'a, J, S, W, Q, T, R>>
-        ensures lane { IfSome result (λ main. main.carried.post.lane ≡ setup.lane) }
-        ensures starts { IfSome result (λ main. main.carried.post.starts ≡ setup.starts) }
-        ensures none { IfSome result (λ main. main.carried.post.places ≡ []) }
+        ensures new { IfSome result (λ main. main ≡ new_starter programs main.host) }
+        ensures lane { IfSome result (λ main. main.host.carried.post.lane ≡ setup.lane) }
+        ensures starts { IfSome result (λ main. main.host.carried.post.starts ≡ setup.starts) }
+        ensures none { IfSome result (λ main. main.host.carried.post.places ≡ []) }
     {
         let SeatSetup {
             seat,
@@ -82,7 +86,8 @@ impl<
     ///
     /// What it recorded can't be written.
     pub fn turn<X: Wait>(&mut self, rt: &X, now: u64) -> Result<Option<u64>, Fault>
-        ensures steps { MakesMainSteps J.book.number self.old self.new }
+        ensures steps { MakesMainSteps Q.Programs J.book.number now self.old self.new }
+        ensures all { IfOk result (λ wait. (wait ≡ Some RETRY_AFTER) ⊎ IsIdle self.new) }
     {
         let turned = self.starter.turn(rt, self.rt, now);
         self.starter.record(&mut self.trace)?;

@@ -1,8 +1,14 @@
 //! The programs of services: which are run, and what routers are told of them.
 
-ghost use Rattle.std.specs.Prelude.{◌≡◌, ◌<◌, ◌++◌, ◌∷◌, [], IfErr, IfSome, OnOk, OnErr, reverse, vec_capacity, vec_len};
-ghost use Rattle.starter.specs.Ends.{AreDoneBy, HasEndedBy, IsDoneBy, MakesStepsBy, MayCatchUpBy, end_of};
+ghost use Rattle.std.specs.Prelude.{◌≡◌, ◌⊎◌, ◌<◌, ◌++◌, ◌∷◌, [], IfErr, IfSome, OnErr, OnOk, IsOk};
+ghost use Rattle.std.specs.Prelude.{option_map, reverse, slice_get, vec_capacity, vec_len};
+ghost use Rattle.supervisor.specs.Supervising.{due_of};
+ghost use Rattle.supervisor.specs.declared.deed.Deed.TheVariants.{Run};
+ghost use Rattle.starter.specs.Ends.{HasEndedBy, MayCatchUpBy, end_of};
+ghost use Rattle.starter.specs.Starting.{GoesAheadBy, IsDoneBy, MakesStepsBy};
+ghost use Rattle.starter.specs.States.{AreInOrder, AreReports, IsIdle, IsNotRun, IsReport, new_starter};
 
+use crate::programs::Programs;
 use crate::unfinished::Unfinished;
 use bus_view::BusView;
 use names::BusName;
@@ -12,19 +18,10 @@ use router_host::{Host, Post, Socket};
 use routers::{Fault, TraceWriter};
 use seq_bus_core::Change;
 use std::alloc::{AllocError, Global};
+use std::marker::Model;
+use std::mem;
 use std::sync::Wait;
 use supervisor::{Deed, Event, Supervisor};
-
-/// Who runs the programs of services.
-pub trait Programs {
-    /// Runs the program of the service of this name, as the start of this number. It is false where
-    /// it can't be run; otherwise it is told later what becomes of it.
-    fn run(&mut self, name: &BusName, start: u64) -> bool;
-
-    /// What happened since, one after another: a start is asked for, a program ended or could not
-    /// be run.
-    fn next<R: Wait>(&mut self, rt: &R) -> Option<Event>;
-}
 
 /// How many happenings are looked at in a turn.
 const HANDFUL: u32 = 512;
@@ -41,6 +38,24 @@ pub struct Starter<V: BusView, G: Gate, P: Post<V>, S: Socket, Q: Programs + Dro
     deeds: Vec<Deed>,
     /// What the supervisor is to be told next.
     happened: Option<Event>,
+}
+
+impl<V: BusView, G: Gate, P: Post<V>, S: Socket, Q: Programs + Drop> Model
+    for Starter<V, G, P, S, Q> {
+    ghost use Rattle.std.specs.Prelude.{reverse};
+    ghost use Rattle.starter.specs.States.{AreReports, StarterState};
+
+    ghost Value = { StarterState Q P G V.Note };
+
+    ghost view = { λ s. record {
+      kept = s.supervisor;
+      due = reverse s.deeds.items;
+      untold = s.happened;
+      programs = s.programs;
+      host = s.host;
+    } };
+
+    ghost invariant = { λ s. AreReports (reverse s.deeds.items) };
 }
 
 /// How a start ended, where a change of the bus tells that.
@@ -67,7 +82,8 @@ impl<V: BusView + Drop, P: Post<V>, S: Socket, Q: Programs + Drop> Starter<V, Op
     /// none where there is no memory for it.
     pub fn over(alloc: Global, view: V, post: P, programs: Q) -> Option<Self>
         requires { P.registry post ≡ (V.knows view).registry }
-        ensures { IfSome result (λ starter. starter.host.carried.post ≡ post) }
+        ensures new { IfSome result (λ starter. starter ≡ new_starter programs starter.host) }
+        ensures post { IfSome result (λ starter. starter.host.carried.post ≡ post) }
     {
         let engine = Engine::new(alloc, view, OpenGate, None).ok()?;
         let Ok(host) = Host::new(alloc, engine, post, 0, 0) else {
@@ -80,7 +96,7 @@ impl<V: BusView + Drop, P: Post<V>, S: Socket, Q: Programs + Drop> Starter<V, Op
 impl<V: BusView, G: Gate, P: Post<V>, S: Socket, Q: Programs + Drop> Starter<V, G, P, S, Q> {
     /// A starter without starts, which tells the bus by this host.
     pub fn new(alloc: Global, host: Host<V, G, P, S>, programs: Q) -> Self
-        ensures { result.host ≡ host }
+        ensures { result ≡ new_starter programs host }
     {
         Starter {
             alloc,
@@ -93,7 +109,9 @@ impl<V: BusView, G: Gate, P: Post<V>, S: Socket, Q: Programs + Drop> Starter<V, 
     }
 
     /// The moment when a turn is due though nothing happens, in milliseconds.
-    pub fn due(&self) -> Option<u64> {
+    pub fn due(&self) -> Option<u64>
+        ensures { result ≡ option_map due_of (slice_get self.now.kept.starts 0) }
+    {
         self.supervisor.due()
     }
 
@@ -105,7 +123,8 @@ impl<V: BusView, G: Gate, P: Post<V>, S: Socket, Q: Programs + Drop> Starter<V, 
     /// Something could not be done yet. It is done first in the next turn, which is to come some
     /// time later.
     pub fn turn<R: Wait>(&mut self, rt: &R, right: &V::Right, now: u64) -> Result<bool, Unfinished>
-        ensures steps { MakesStepsBy V.BusView G.Gate P.Post self.old.host self.new.host }
+        ensures steps { MakesStepsBy Q.Programs V.BusView G.Gate P.Post now self.old self.new }
+        ensures all { OnOk result (IsIdle self.new) }
     {
         let reported = self.tell_all(rt, right, now);
         let ticked = self.tick(right);
@@ -115,7 +134,8 @@ impl<V: BusView, G: Gate, P: Post<V>, S: Socket, Q: Programs + Drop> Starter<V, 
 
     /// Time has passed, where a tick is wanted.
     fn tick(&mut self, right: &V::Right) -> Result<(), AllocError>
-        ensures steps { MakesStepsBy V.BusView G.Gate P.Post self.old.host self.new.host }
+        ensures steps { GoesAheadBy Q.Programs V.BusView G.Gate P.Post self.old self.new }
+        ensures same { self.new ≡ record self.old { host = self.new.host } }
     {
         if !self.host.wants_tick() {
             return Ok(());
@@ -129,7 +149,9 @@ impl<V: BusView, G: Gate, P: Post<V>, S: Socket, Q: Programs + Drop> Starter<V, 
         reported: Result<bool, Unfinished>,
         ticked: Result<(), AllocError>,
         turned: Result<(), AllocError>,
-    ) -> Result<bool, Unfinished> {
+    ) -> Result<bool, Unfinished>
+        ensures { OnOk result (IsOk reported) }
+    {
         turned?;
         ticked?;
         match self.host.wants_tick() {
@@ -144,7 +166,7 @@ impl<V: BusView, G: Gate, P: Post<V>, S: Socket, Q: Programs + Drop> Starter<V, 
     ///
     /// It can't be written, or there was no memory for a part of it.
     pub fn record<T: TraceWriter<V, G, P, S>>(&mut self, trace_writer: &mut T) -> Result<(), Fault>
-        ensures same { self.new.host ≡ self.old.host }
+        ensures same { self.new ≡ self.old }
     {
         trace_writer.record(&mut self.host)
     }
@@ -152,7 +174,8 @@ impl<V: BusView, G: Gate, P: Post<V>, S: Socket, Q: Programs + Drop> Starter<V, 
     /// Tells the supervisor the time, and what happened since, up to a handful. Tells whether more may
     /// be waiting.
     fn tell_all<R: Wait>(&mut self, rt: &R, right: &V::Right, now: u64) -> Result<bool, Unfinished>
-        ensures steps { MakesStepsBy V.BusView G.Gate P.Post self.old.host self.new.host }
+        ensures steps { MakesStepsBy Q.Programs V.BusView G.Gate P.Post now self.old self.new }
+        ensures all { OnOk result (IsIdle self.new) }
     {
         self.go_on(right)?;
         self.tell(right, Event::Tick { now })?;
@@ -167,7 +190,9 @@ impl<V: BusView, G: Gate, P: Post<V>, S: Socket, Q: Programs + Drop> Starter<V, 
 
     /// Something happened to a program, or is asked for.
     fn tell(&mut self, right: &V::Right, event: Event) -> Result<(), Unfinished>
-        ensures steps { MakesStepsBy V.BusView G.Gate P.Post self.old.host self.new.host }
+        ensures steps { GoesAheadBy Q.Programs V.BusView G.Gate P.Post
+            (record self.old { untold = Some event }) self.new }
+        ensures all { OnOk result (IsIdle self.new) }
     {
         self.happened = Some(event);
         self.go_on(right)
@@ -175,16 +200,22 @@ impl<V: BusView, G: Gate, P: Post<V>, S: Socket, Q: Programs + Drop> Starter<V, 
 
     /// Does what is left to be done. A program that can't be run is one more thing that happened.
     fn go_on(&mut self, right: &V::Right) -> Result<(), Unfinished>
-        ensures steps { MakesStepsBy V.BusView G.Gate P.Post self.old.host self.new.host }
+        ensures steps { GoesAheadBy Q.Programs V.BusView G.Gate P.Post self.old self.new }
+        ensures all { OnOk result (IsIdle self.new) }
     {
-        self.do_all(right)?;
+        let deeds = mem::replace(&mut self.deeds, Vec::new(self.alloc));
+        self.do_all(right, deeds)?;
         self.supervise(right)?;
         self.supervise(right)
     }
 
     /// Tells the supervisor what happened, and does what it decides.
     fn supervise(&mut self, right: &V::Right) -> Result<(), Unfinished>
-        ensures steps { MakesStepsBy V.BusView G.Gate P.Post self.old.host self.new.host }
+        requires idle { self.old.due ≡ [] }
+        ensures steps { GoesAheadBy Q.Programs V.BusView G.Gate P.Post self.old self.new }
+        ensures all { OnOk result (self.new.due ≡ []) }
+        ensures not_run { OnOk result (IsNotRun self.new.untold) }
+        ensures told { OnOk result (IsNotRun self.old.untold → self.new.untold ≡ None) }
     {
         let Some(event) = self.happened else {
             return Ok(());
@@ -192,21 +223,23 @@ impl<V: BusView, G: Gate, P: Post<V>, S: Socket, Q: Programs + Drop> Starter<V, 
         let mut deeds = self.supervisor.event(&event)?;
         self.happened = None;
         deeds.reverse();
-        self.deeds = deeds;
-        self.do_all(right)
+        self.do_all(right, deeds)
     }
 
-    /// Does what is to be done.
-    fn do_all(&mut self, right: &V::Right) -> Result<(), Unfinished>
-        ensures done { AreDoneBy V.BusView G.Gate P.Post
-            (reverse self.old.deeds.items) self.old.host
-            (reverse self.new.deeds.items) self.new.host }
-        ensures all { OnOk result (self.new.deeds.items ≡ []) }
-        ensures supervisor { self.new.supervisor ≡ self.old.supervisor }
+    /// Does these things, from the last to the first. What can't be done yet is due still.
+    fn do_all(&mut self, right: &V::Right, mut deeds: Vec<Deed>) -> Result<(), Unfinished>
+        requires idle { self.old.due ≡ [] }
+        requires order { AreInOrder (reverse deeds.items) self.old.untold }
+        ensures steps { GoesAheadBy Q.Programs V.BusView G.Gate P.Post
+            (record self.old { due = reverse deeds.items }) self.new }
+        ensures all { OnOk result (self.new.due ≡ []) }
+        ensures told { AreReports (reverse deeds.items) → self.new.untold ≡ self.old.untold }
+        ensures not_run { IsNotRun self.old.untold → IsNotRun self.new.untold }
     {
-        while let Some(deed) = self.deeds.pop() {
+        while let Some(deed) = deeds.pop() {
             if let Err(deed) = self.do_one(right, deed) {
-                push_back(&mut self.deeds, deed);
+                push_back(&mut deeds, deed);
+                self.deeds = deeds;
                 return Err(Unfinished);
             }
         }
@@ -215,19 +248,18 @@ impl<V: BusView, G: Gate, P: Post<V>, S: Socket, Q: Programs + Drop> Starter<V, 
 
     /// Does one thing. Where there is no memory for it, it comes back.
     fn do_one(&mut self, right: &V::Right, deed: Deed) -> Result<(), Deed>
+        requires { IsReport deed ⊎ (self.old.untold ≡ None) }
         ensures done { OnOk result
-            (IsDoneBy V.BusView G.Gate P.Post deed self.old.host self.new.host) }
+            (IsDoneBy Q.Programs V.BusView G.Gate P.Post deed self.old self.new) }
         ensures err { OnErr result (MayCatchUpBy V.BusView G.Gate P.Post
             self.old.host self.new.host) }
+        ensures same { OnErr result (self.new ≡ record self.old { host = self.new.host }) }
+        ensures report { OnErr result (IsReport deed) }
         ensures back { IfErr result (λ later. later ≡ deed) }
-        ensures deeds { self.new.deeds ≡ self.old.deeds }
-        ensures supervisor { self.new.supervisor ≡ self.old.supervisor }
     {
         match deed {
             Deed::Run { name, start } => {
-                if !self.programs.run(&name, start) {
-                    self.happened = Some(Event::NotRun { start });
-                }
+                self.run(&name, start);
                 Ok(())
             }
             Deed::Report(change) => match self.report(right, &change) {
@@ -237,14 +269,25 @@ impl<V: BusView, G: Gate, P: Post<V>, S: Socket, Q: Programs + Drop> Starter<V, 
         }
     }
 
+    /// Runs the program of a service. That it can't be run is the next thing that happened.
+    fn run(&mut self, name: &BusName, start: u64)
+        requires { self.old.untold ≡ None }
+        ensures { IsDoneBy Q.Programs V.BusView G.Gate P.Post (Run name.now start)
+            self.old self.new }
+    {
+        if self.programs.run(name, start) {
+            return;
+        }
+        self.happened = Some(Event::NotRun { start });
+    }
+
     /// Tells the bus how a start ended.
     fn report(&mut self, right: &V::Right, change: &Change) -> Result<(), AllocError>
         ensures happens { OnOk result (HasEndedBy V.BusView G.Gate P.Post
             (end_of change.now) self.old.host self.new.host) }
         ensures err { OnErr result (MayCatchUpBy V.BusView G.Gate P.Post
             self.old.host self.new.host) }
-        ensures deeds { self.new.deeds ≡ self.old.deeds }
-        ensures supervisor { self.new.supervisor ≡ self.old.supervisor }
+        ensures same { self.new ≡ record self.old { host = self.new.host } }
     {
         let Some(end) = end_of(change) else {
             return Ok(());
