@@ -115,7 +115,7 @@ fn main(rt: HostRuntime) -> ExitCode {
     match command.try_get_matches_from(words.as_slice()) {
         Ok(found) => match found.subcommand_matches("serve") {
             Some(asked) => run_daemon(&rt, asked),
-            None => match run_stream(&rt) {
+            None => match run_stream(&rt, &mut rt.reader(), &mut io::writer(&rt)) {
                 Ok(()) => ExitCode::SUCCESS,
                 Err(fault) => fail(&rt, fault),
             },
