@@ -24,13 +24,27 @@ use std::net::Net;
 use std::rt::Files;
 
 /// A bus that clients can connect to. Any thread may stop it.
-#[derive(Drop)]
 pub struct Bus<'a> {
     pub(crate) options: Options<'a>,
     pub(crate) login: LoginSettings<'a>,
     pub(crate) coordinator: Coordinator<PollWaker>,
     /// By routers.
     pub(crate) new_connections: Vec<NewConnections>,
+}
+
+impl Drop for Bus<'_> {
+    fn drop(self) {
+        let Bus {
+            options,
+            login,
+            coordinator,
+            new_connections,
+        } = self;
+        drop(options);
+        drop(login);
+        drop(coordinator);
+        drop(new_connections);
+    }
 }
 
 /// What the threads of a bus will work with, made when it is opened.

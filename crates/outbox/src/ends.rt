@@ -68,7 +68,6 @@ impl<E: Drop> End<E> {
 ///
 /// Contracts see which queue it is of, and what its hand knows: what was taken from the queue, and
 /// what was put by lanes that were not given away.
-#[derive(Drop)]
 pub struct Tap<E> {
     queue: Arc<Queue<E>, Global>,
     pass: Pass<E, Hand<E>>,
@@ -87,6 +86,14 @@ impl<E> Model for Tap<E> {
 
     ghost invariant = { λ s. IsPassOf (arc_value s.queue) s.pass
         × (ruled_capacity (arc_value s.queue) ≡ ROOM) × ((end_of s.pass).hand.takes ≡ true) };
+}
+
+impl<E: Drop> Drop for Tap<E> {
+    fn drop(self) {
+        let Tap { queue, pass } = self;
+        drop(queue);
+        drop(pass);
+    }
 }
 
 /// A new queue, with all in one hand.

@@ -11,7 +11,6 @@ use std::sync::Wait;
 /// What one thread puts with, into the queue of each slot.
 ///
 /// Contracts see its end of each queue.
-#[derive(Drop)]
 pub struct Lane<E> {
     ends: Vec<End<E>>,
 }
@@ -25,6 +24,13 @@ impl<E> Model for Lane<E> {
     ghost view = { λ l. l.ends.items };
 
     ghost invariant = { λ l. All MayPut l.ends.items };
+}
+
+impl<E: Drop> Drop for Lane<E> {
+    fn drop(self) {
+        let Lane { ends } = self;
+        drop(ends);
+    }
 }
 
 /// The next lane of all queues.

@@ -7,12 +7,21 @@ use seq_bus_core::SharedBytes;
 use std::alloc::AllocError;
 
 /// A message on its way to a connection.
-#[derive(Debug, Drop)]
+#[derive(Debug)]
 pub enum Content {
     /// A message of a connection, as it is written.
     Relayed(SharedBytes),
     /// A message of the bus itself.
     Own(BusMessage),
+}
+
+impl Drop for Content {
+    fn drop(self) {
+        match self {
+            Content::Relayed(bytes) => drop(bytes),
+            Content::Own(message) => drop(message),
+        }
+    }
 }
 
 impl Content {

@@ -7,13 +7,24 @@ use bus_view::CheapCopy;
 use std::alloc::AllocError;
 
 /// What one router sends another for a connection.
-#[derive(Drop)]
 pub struct Envelope<N: Drop> {
     /// The number of the connection that it is for. Its slot may be another's by now.
     pub number: u64,
     /// What the sender knew of the bus: the furthest note that it had made or taken.
     pub note: Option<N>,
     pub content: Content,
+}
+
+impl<N: Drop> Drop for Envelope<N> {
+    fn drop(self) {
+        let Envelope {
+            number: _,
+            note,
+            content,
+        } = self;
+        drop(note);
+        drop(content);
+    }
 }
 
 impl<N: CheapCopy + Drop> Envelope<N> {

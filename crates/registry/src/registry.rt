@@ -28,7 +28,6 @@ use std::marker::Model;
 /// The state of a message bus, in tables whose room is made when the bus is opened.
 ///
 /// Contracts see the state that the definitions speak of.
-#[derive(Drop)]
 pub struct Registry {
     pub(crate) profile: Profile,
     pub(crate) routers: u8,
@@ -57,6 +56,30 @@ impl Model for Registry {
     ghost view = { state_of };
 
     ghost invariant = { IsKept };
+}
+
+impl Drop for Registry {
+    fn drop(self) {
+        let Registry {
+            profile: _,
+            routers: _,
+            services,
+            connections,
+            names,
+            rules,
+            starts,
+            next_number: _,
+            next_ticket: _,
+            next_start: _,
+            room,
+        } = self;
+        drop(services);
+        drop(connections);
+        drop(names);
+        drop(rules);
+        drop(starts);
+        drop(room);
+    }
 }
 
 impl Registry {

@@ -36,7 +36,6 @@ use std::sync::ledger::Share;
 /// Contracts see its number, the beginning of the history that it has `seen`, how many changes it
 /// `made`, the place of the `last` of them in the history, and the longest beginning that a note
 /// tells which it `held`; and by them what it knows as a view of a bus.
-#[derive(Drop)]
 pub struct Seat<J: Naming> {
     number: u8,
     tally: Tally<J>,
@@ -64,6 +63,24 @@ impl<J: Naming> Model for Seat<J> {
         × (s.watched ≡ false → IsUnwatched (knowledge_of J.book J.opening
         (seat_at s.number s.prefix.log s.tally.made s.last s.held)))
         × (s.tally.parts ≡ parts_of J.opening.state.routers s.number) × (0 < s.tally.parts) };
+}
+
+impl<J: Naming> Drop for Seat<J> {
+    fn drop(self) {
+        let Seat {
+            number: _,
+            tally,
+            last: _,
+            reader,
+            prefix,
+            watched: _,
+            held,
+        } = self;
+        drop(tally);
+        drop(reader);
+        drop(prefix);
+        drop(held);
+    }
 }
 
 type SnapReading<J> = Reading<Snap, (), CopyRule<J>>;

@@ -12,7 +12,6 @@ use std::marker::{Model, PhantomData};
 ///
 /// Contracts see the beginning of the history that it tells. Which registry it is of is said by its
 /// type.
-#[derive(Drop)]
 pub struct Note<J: Naming> {
     prefix: Prefix,
     of: PhantomData<J>,
@@ -27,6 +26,13 @@ impl<J: Naming> Model for Note<J> {
     ghost view = { λ n. n.prefix.log };
 
     ghost invariant = { λ n. n.prefix.book ≡ J.book };
+}
+
+impl<J: Naming> Drop for Note<J> {
+    fn drop(self) {
+        let Note { prefix, of: _ } = self;
+        drop(prefix);
+    }
 }
 
 impl<J: Naming> CheapCopy for Note<J> {

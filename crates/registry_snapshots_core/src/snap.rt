@@ -17,7 +17,6 @@ use std::marker::Model;
 const PROFILE: Profile = Profile::Two;
 
 /// The bus as it was published.
-#[derive(Drop)]
 pub struct Snap {
     registry: Registry,
     // The number of each seat's last change.
@@ -31,6 +30,19 @@ impl Model for Snap {
     ghost Value = { SnapView };
 
     ghost view = { λ s. record { bus = s.registry; last = s.last.items; prefix = s.prefix } };
+}
+
+impl Drop for Snap {
+    fn drop(self) {
+        let Snap {
+            registry,
+            last,
+            prefix,
+        } = self;
+        drop(registry);
+        drop(last);
+        drop(prefix);
+    }
 }
 
 /// What brings a copy up.

@@ -21,7 +21,6 @@ use std::marker::Model;
 
 /// An engine serves one event after another, and hands out the actions that each brings. An event
 /// that there is no memory for changes nothing.
-#[derive(Drop)]
 pub struct Engine<V: BusView, G: Gate> {
     pub(crate) peers: Peers<V, G>,
 }
@@ -41,6 +40,13 @@ impl<V: BusView, G: Gate> Model for Engine<V, G> {
     } };
 
     ghost invariant = { λ e. e.peers.work.world.actions ≡ [] };
+}
+
+impl<V: BusView + Drop, G: Gate + Drop> Drop for Engine<V, G> {
+    fn drop(self) {
+        let Engine { peers } = self;
+        drop(peers);
+    }
 }
 
 impl<V: BusView + Drop, G: Gate + Drop> Engine<V, G> {

@@ -6,7 +6,6 @@ use std::sync::ArcStr;
 
 /// Who may log in: the user whose cookie this is, and, where they are allowed, anonymous clients.
 /// (D-Bus Specification: "Authentication Mechanisms".)
-#[derive(Drop)]
 pub struct Login {
     /// What identifies the bus to its clients.
     pub guid: [u8; 16],
@@ -28,4 +27,17 @@ impl Model for Login {
       allow_anonymous =
           l.allow_anonymous;
     } };
+}
+
+impl Drop for Login {
+    fn drop(self) {
+        let Login {
+            guid: _,
+            user,
+            cookie,
+            allow_anonymous: _,
+        } = self;
+        drop(user);
+        drop(cookie);
+    }
 }

@@ -29,7 +29,6 @@ const ROOM: usize = 262_144;
 /// An engine, the connections that it serves, and the mail of their slots.
 ///
 /// Its notes and those of its post are of one registry.
-#[derive(Drop)]
 pub struct Host<V: BusView, G: Gate, P: Post<V>, S: Socket> {
     pub(crate) alloc: Global,
     pub(crate) engine: Engine<V, G>,
@@ -70,6 +69,29 @@ impl<V: BusView, G: Gate, P: Post<V>, S: Socket> Model for Host<V, G, P, S> {
         × KeepsOwn V.registry_of h.engine.view.registry h.room.items h.kept
         × AllByRecursion (CarriesOwn V.registry_of h.engine.view.registry)
         (reverse h.undone.items) };
+}
+
+impl<V: BusView + Drop, G: Gate + Drop, P: Post<V>, S: Socket> Drop for Host<V, G, P, S> {
+    fn drop(self) {
+        let Host {
+            alloc: _,
+            engine,
+            carrier,
+            undone,
+            kept,
+            room,
+            ended,
+            check_due: _,
+            changes_rules: _,
+            untold: _,
+        } = self;
+        drop(engine);
+        drop(carrier);
+        drop(undone);
+        drop(kept);
+        drop(room);
+        drop(ended);
+    }
 }
 
 impl<V: BusView + Drop, G: Gate + Drop, P: Post<V>, S: Socket> Host<V, G, P, S> {

@@ -107,7 +107,6 @@ impl<W: Wake + Drop> RouterState<W> {
 /// What the threads of a bus share, besides its registry and the queues between them: how to wake
 /// each, which slots have mail, and whether they are to end. Contracts see how many routers there
 /// are.
-#[derive(Drop)]
 pub struct Coordinator<W: Wake + Drop> {
     states: Vec<RouterState<W>>,
     /// By routers, and behind them of the main thread: what they have told of their changes. Each
@@ -123,6 +122,29 @@ pub struct Coordinator<W: Wake + Drop> {
     is_over: AtomicBool,
     /// The fault that came first.
     fault: OnceLock<Fault>,
+}
+
+impl<W: Wake + Drop> Drop for Coordinator<W> {
+    fn drop(self) {
+        let Coordinator {
+            states,
+            tellings,
+            latest,
+            mail,
+            stuck,
+            main,
+            is_over,
+            fault,
+        } = self;
+        drop(states);
+        drop(tellings);
+        drop(latest);
+        drop(mail);
+        drop(stuck);
+        drop(main);
+        drop(is_over);
+        drop(fault);
+    }
 }
 
 /// A state for each waker.

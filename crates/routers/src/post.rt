@@ -20,7 +20,6 @@ use std::sync::Wait;
 /// another thread. What it puts for a place of its own passes no outbox.
 ///
 /// Contracts see the lanes, the places and the slot of the first.
-#[derive(Drop)]
 pub struct LanePost<'a, J: Naming, W: Wake + Drop> {
     lane: Lane<EnvelopeOf<J>>,
     places: Vec<SlotMail<EnvelopeOf<J>>>,
@@ -44,6 +43,29 @@ pub struct LanePost<'a, J: Naming, W: Wake + Drop> {
     puts_since_look: u8,
     /// What another router is behind with.
     backlog: Option<Backlog>,
+}
+
+impl<'a, J: Naming, W: Wake + Drop> Drop for LanePost<'a, J, W> {
+    fn drop(self) {
+        let LanePost {
+            lane,
+            places,
+            starts,
+            coordinator: _,
+            first: _,
+            me: _,
+            events: _,
+            seen: _,
+            last: _,
+            is_telling: _,
+            cleared: _,
+            puts_since_look: _,
+            backlog: _,
+        } = self;
+        drop(lane);
+        drop(places);
+        drop(starts);
+    }
 }
 
 /// Much mail that waits for a place of another router.

@@ -15,7 +15,6 @@ struct Parts {
 /// A secret that a server shares with its user, and the number by which the user finds it in its
 /// keyring. Whoever knows the secret is taken for the user. (D-Bus Specification:
 /// "DBUS_COOKIE_SHA1".)
-#[derive(Drop)]
 pub struct Cookie {
     parts: Arc<Parts>,
 }
@@ -28,6 +27,13 @@ impl Model for Cookie {
 
     ghost view = { λ c.
         record { id = (arc_value c.parts).id.items; secret = (arc_value c.parts).secret.items } };
+}
+
+impl Drop for Cookie {
+    fn drop(self) {
+        let Cookie { parts } = self;
+        drop(parts);
+    }
 }
 
 impl Cookie {

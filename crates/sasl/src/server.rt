@@ -24,7 +24,6 @@ const MAX_REJECTIONS: u64 = 6;
 ///
 /// Bytes may come in any pieces: what is sent, and how it ends, depend on the bytes so far and not
 /// on their cuts.
-#[derive(Drop)]
 pub struct Server {
     alloc: Global,
     setting: Setting,
@@ -45,6 +44,20 @@ impl Model for Server {
     } };
 
     ghost invariant = { λ s. IsKept s.phase s.rejections s.line.items };
+}
+
+impl Drop for Server {
+    fn drop(self) {
+        let Server {
+            alloc: _,
+            setting,
+            phase: _,
+            rejections: _,
+            line,
+        } = self;
+        drop(setting);
+        drop(line);
+    }
 }
 
 /// The state after a reply: rejections are counted, and the sixth closes.

@@ -25,7 +25,6 @@ use std::sync::Wait;
 /// end, and writes what it recorded.
 ///
 /// Contracts see it as a starter.
-#[derive(Drop)]
 pub struct MainSeat<'a, J: Naming, S: Socket, W: Wake + Drop, Q: Programs + Drop, T, R: Wait> {
     rt: &'a R,
     starter: Starter<Traced<Desk<'a, J, R>>, OpenGate, LanePost<'a, J, W>, S, Q>,
@@ -39,6 +38,19 @@ impl<'a, J: Naming, S: Socket, W: Wake + Drop, Q: Programs + Drop, T, R: Wait> M
     ghost Value = { MainState Q };
 
     ghost view = { λ m. m.starter };
+}
+
+impl<'a, J: Naming, S: Socket, W: Wake + Drop, Q: Programs + Drop, T: Drop, R: Wait> Drop
+    for MainSeat<'a, J, S, W, Q, T, R> {
+    fn drop(self) {
+        let MainSeat {
+            rt: _,
+            starter,
+            trace,
+        } = self;
+        drop(starter);
+        drop(trace);
+    }
 }
 
 impl<

@@ -36,15 +36,22 @@ fn is_owner(bytes: &[u8]) -> bool {
 
 /// What the client is answered, which calls once more where that is that there is no memory.
 fn answer(engine: &mut Plain, alloc: Global) -> Option<Content> {
-    match called(engine, alloc)? {
-        Content::Own(
-            BusMessage::Error {
-                to: _,
-                error: ErrorKind::NoMemory,
-            },
-        ) => called(engine, alloc),
-        content => Some(content),
+    let content = called(engine, alloc)?;
+    if is_refused(&content) {
+        return called(engine, alloc);
     }
+    Some(content)
+}
+
+/// Whether the answer is that there is no memory.
+fn is_refused(content: &Content) -> bool {
+    matches!(
+        content,
+        Content::Own(BusMessage::Error {
+            error: ErrorKind::NoMemory,
+            ..
+        })
+    )
 }
 
 /// What is put for it.
