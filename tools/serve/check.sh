@@ -561,8 +561,8 @@ traces() {
         bus=
         [ "$status" = 4 ] && [ "$(< said)" = 'busd: device: trace' ] && [ ! -e bus ] || wrong "writes no trace: $(< said)"
     fi
-    # Of an earlier trace nothing is left.
-    for file in head main router-1 router-2; do
+    # Of an earlier trace nothing is left, and of one of more routers neither.
+    for file in head main router-1 router-2 router-3 router-8; do
         printf 'c 1 1 1 hello 1\n' > "trace/$file.trace"
     done
     service recorded 1 "$group" 'Name=com.example.Owns' "Exec=$client unix:path=bus own com.example.Owns"

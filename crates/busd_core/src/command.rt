@@ -22,8 +22,8 @@ A socket's file that is there already is not replaced: remove it where no other
 bus uses it.
 
 With --trace each change of the bus, each query and where each message went is
-written to the folder's files, which are made anew. Whether they tell of a
-legal run is checked by
+written to the folder's files. What stood in them is gone. Whether they tell of
+a legal run is checked by
   cat DIR/head.trace DIR/main.trace DIR/router-*.trace | bus-check -
 
 Exit status:

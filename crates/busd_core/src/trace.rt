@@ -7,6 +7,7 @@ use crate::serve_fault::{Device, ServeFault, device_fault};
 use crate::services::push;
 use names::WellKnown;
 use owner_queues::Profile;
+use seq_bus_core::limits::MAX_ROUTERS;
 use std::alloc::{AllocError, Global};
 use std::fs::{OpenFile, OpenOptions};
 use std::io;
@@ -38,19 +39,55 @@ fn head(alloc: Global, routers: u8, services: &[WellKnown]) -> Result<String, Al
 /// The files of a trace, one for each seat and one for its head. What stood in them before stands
 /// there until the trace begins.
 #[derive(Drop)]
-pub struct TraceFiles<F: Drop> {
+pub struct TraceFiles<'a, F: Drop> {
+    folder: &'a str,
     head: F,
     /// That of the main thread first.
     seats: Vec<F>,
 }
 
+fn path_of(alloc: Global, folder: &str, name: &str) -> Result<String, AllocError> {
+    format!(in alloc; "{folder}/{name}.trace")
+}
+
+fn router_name(alloc: Global, router: u8) -> Result<String, AllocError> {
+    format!(in alloc; "router-{router}")
+}
+
 /// Opens a file of the folder, to write to it. One that is not there is made.
 fn open<R: Files + AllocGlobal>(rt: &R, folder: &str, name: &str) -> io::Result<R::File> {
-    let path = format!(in rt.alloc(); "{folder}/{name}.trace")?;
+    let path = path_of(rt.alloc(), folder, name)?;
     OpenOptions::new()
         .write(true)
         .create(true)
         .open(rt, path.as_str())
+}
+
+/// Takes what stands in a file of the folder out of it, if there is such a file.
+fn empty<R: Files + AllocGlobal>(rt: &R, folder: &str, name: &str) -> io::Result<()> {
+    let path = path_of(rt.alloc(), folder, name)?;
+    let opened = OpenOptions::new()
+        .write(true)
+        .truncate(true)
+        .open(rt, path.as_str());
+    match opened {
+        Ok(_file) => Ok(()),
+        Err(error) => match error.kind() {
+            ErrorKind::NotFound => Ok(()),
+            _ => Err(error),
+        },
+    }
+}
+
+/// Empties the files that a bus of more routers left in the folder.
+fn empty_others<R: Files + AllocGlobal>(rt: &R, folder: &str, routers: u8) -> io::Result<()> {
+    for router in 1..=MAX_ROUTERS {
+        if router > routers {
+            let name = router_name(rt.alloc(), router)?;
+            empty(rt, folder, name.as_str())?;
+        }
+    }
+    Ok(())
 }
 
 /// Adds a file of the folder.
@@ -71,7 +108,7 @@ fn add_routers<R: Files + AllocGlobal>(
     files: &mut Vec<R::File>,
 ) -> io::Result<()> {
     for router in 1..=routers {
-        let name = format!(in rt.alloc(); "router-{router}")?;
+        let name = router_name(rt.alloc(), router)?;
         add_file(rt, folder, name.as_str(), files)?;
     }
     Ok(())
@@ -86,15 +123,16 @@ fn seats<R: Files + AllocGlobal>(rt: &R, folder: &str, routers: u8) -> io::Resul
 }
 
 /// Opens the head, and the file of each seat.
-fn open_all<R: Files + AllocGlobal>(
+fn open_all<'a, R: Files + AllocGlobal>(
     rt: &R,
-    folder: &str,
+    folder: &'a str,
     routers: u8,
-) -> io::Result<TraceFiles<R::File>> {
+) -> io::Result<TraceFiles<'a, R::File>> {
     if folder.is_empty() {
         return Err(io::Error::from(ErrorKind::NotFound));
     }
     Ok(TraceFiles {
+        folder,
         head: open(rt, folder, "head")?,
         seats: seats(rt, folder, routers)?,
     })
@@ -111,43 +149,46 @@ fn clear<F: OpenFile>(file: &F) -> io::Result<()> {
     }
 }
 
-impl<F: OpenFile + Write + Drop> TraceFiles<F> {
+impl<F: OpenFile + Write + Drop> TraceFiles<'_, F> {
     /// Begins the trace of a bus with so many routers and these services, whose names rise: writes
-    /// its head. Of an earlier trace nothing is left in the files. Hands out those that lines are
-    /// to be written to, that of the main thread first.
+    /// its head. Of an earlier trace nothing is left in the folder's files, of one with more
+    /// routers neither. Hands out those that lines are to be written to, that of the main thread
+    /// first.
     ///
     /// # Errors
     ///
     /// `Device(Trace)` where a file can't be written.
-    pub fn begin(
+    pub fn begin<R: Files + AllocGlobal>(
         self,
-        alloc: Global,
+        rt: &R,
         routers: u8,
         services: &[WellKnown],
     ) -> Result<Vec<F>, ServeFault> {
-        let TraceFiles { head, seats } = self;
-        match write_head(alloc, head, &seats, routers, services) {
-            Ok(()) => Ok(seats),
-            Err(error) => Err(device_fault(error, Device::Trace)),
-        }
+        self.write_head(rt, routers, services)
+            .map_err(|error| device_fault(error, Device::Trace))
     }
-}
 
-/// Clears the files, and writes the head.
-fn write_head<F: OpenFile + Write + Drop>(
-    alloc: Global,
-    file: F,
-    seats: &[F],
-    routers: u8,
-    services: &[WellKnown],
-) -> io::Result<()> {
-    let text = head(alloc, routers, services)?;
-    clear(&file)?;
-    for seat in seats {
-        clear(seat)?;
+    /// Empties all files, and writes the head.
+    fn write_head<R: Files + AllocGlobal>(
+        self,
+        rt: &R,
+        routers: u8,
+        services: &[WellKnown],
+    ) -> io::Result<Vec<F>> {
+        let text = head(rt.alloc(), routers, services)?;
+        let TraceFiles {
+            folder,
+            mut head,
+            seats,
+        } = self;
+        clear(&head)?;
+        for seat in &seats {
+            clear(seat)?;
+        }
+        empty_others(rt, folder, routers)?;
+        head.write_all(text.as_bytes())?;
+        Ok(seats)
     }
-    let mut file = file;
-    file.write_all(text.as_bytes())
 }
 
 /// Opens the files of the trace of a bus with so many routers, in a folder: `head.trace`,
@@ -156,10 +197,10 @@ fn write_head<F: OpenFile + Write + Drop>(
 /// # Errors
 ///
 /// `Device(Trace)` where a file can't be opened or made.
-pub fn open_trace<R: Files + AllocGlobal>(
+pub fn open_trace<'a, R: Files + AllocGlobal>(
     rt: &R,
-    folder: &str,
+    folder: &'a str,
     routers: u8,
-) -> Result<TraceFiles<R::File>, ServeFault> {
+) -> Result<TraceFiles<'a, R::File>, ServeFault> {
     open_all(rt, folder, routers).map_err(|error| device_fault(error, Device::Trace))
 }

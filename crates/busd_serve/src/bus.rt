@@ -80,20 +80,20 @@ impl fmt::Display for BusAddress<'_> {
 
 /// What is read and opened before the socket is made.
 #[derive(Drop)]
-struct Prepared<F: Drop> {
+struct Prepared<'a, F: Drop> {
     cookie: Cookie,
     services: Vec<Service>,
     names: Vec<WellKnown>,
-    traces: Option<TraceFiles<F>>,
+    traces: Option<TraceFiles<'a, F>>,
     random: F,
     guid: [u8; 16],
 }
 
 /// Reads what the options name, and opens the files of the trace where they want one.
-fn prepare<R: Files + AllocGlobal + Clone + Drop>(
+fn prepare<'a, R: Files + AllocGlobal + Clone + Drop>(
     rt: &R,
-    options: &Options<'_>,
-) -> Result<Prepared<R::File>, ServeFault> {
+    options: &Options<'a>,
+) -> Result<Prepared<'a, R::File>, ServeFault> {
     let cookie = read_cookie(rt, options.keyring)?;
     let services = read_services(rt, options.services)?;
     let names = rising_names(rt.alloc(), services.as_slice())?;
@@ -122,10 +122,10 @@ fn keep_free_memory(alloc: Global) {
 }
 
 /// Makes what the threads work with, and begins the trace.
-fn set_up<'a, F: OpenFile + Write + Drop, R: Net + AllocGlobal + Clone + Drop>(
+fn set_up<'a, F: OpenFile + Write + Drop, R: Net + Files + AllocGlobal + Clone + Drop>(
     rt: &R,
     options: Options<'a>,
-    prepared: Prepared<F>,
+    prepared: Prepared<'a, F>,
     listener: UnixListener,
 ) -> Result<(Bus<'a>, Listening<F>), ServeFault> {
     let Prepared {
@@ -143,7 +143,7 @@ fn set_up<'a, F: OpenFile + Write + Drop, R: Net + AllocGlobal + Clone + Drop>(
         router_polls,
         new_connections,
     } = open_polls(rt, rt.alloc(), options.routers)?;
-    let traces = begin_files(rt.alloc(), traces, options.routers, names.as_slice())?;
+    let traces = begin_files(rt, traces, options.routers, names.as_slice())?;
     let bus = Bus {
         login: LoginSettings::new(&options, guid, cookie),
         options,

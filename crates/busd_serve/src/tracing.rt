@@ -4,7 +4,6 @@ use crate::polls::push;
 use busd_core::{Options, ServeFault, TraceFiles, open_trace};
 use names::WellKnown;
 use routers::{Fault, TraceSink};
-use std::alloc::Global;
 use std::fs::OpenFile;
 use std::io;
 use std::io::{ErrorKind, Write};
@@ -38,10 +37,10 @@ fn trace_fault(error: io::Error) -> Fault {
 }
 
 /// Opens the files of the trace, where the options want one.
-pub(crate) fn open_files<R: Files + AllocGlobal>(
+pub(crate) fn open_files<'a, R: Files + AllocGlobal>(
     rt: &R,
-    options: &Options<'_>,
-) -> Result<Option<TraceFiles<R::File>>, ServeFault> {
+    options: &Options<'a>,
+) -> Result<Option<TraceFiles<'a, R::File>>, ServeFault> {
     match options.trace {
         Some(folder) => Ok(Some(open_trace(rt, folder, options.routers)?)),
         None => Ok(None),
@@ -49,15 +48,15 @@ pub(crate) fn open_files<R: Files + AllocGlobal>(
 }
 
 /// Where each thread of a bus with these services writes its lines, the main thread's first.
-pub(crate) fn begin_files<F: OpenFile + Write + Drop>(
-    alloc: Global,
-    files: Option<TraceFiles<F>>,
+pub(crate) fn begin_files<R: Files + AllocGlobal, F: OpenFile + Write + Drop>(
+    rt: &R,
+    files: Option<TraceFiles<'_, F>>,
     routers: u8,
     services: &[WellKnown],
 ) -> Result<Vec<TraceFile<F>>, ServeFault> {
-    let mut traces = Vec::new(alloc);
+    let mut traces = Vec::new(rt.alloc());
     match files {
-        Some(files) => for file in files.begin(alloc, routers, services)? {
+        Some(files) => for file in files.begin(rt, routers, services)? {
             push(&mut traces, TraceFile { file: Some(file) })?;
         },
         None => for _seat in 0..=routers {
