@@ -29,7 +29,9 @@ a legal run is checked by
 Exit status:
   0  this help: a daemon serves until a signal ends it
   2  the command line is wrong
-  4  the keyring, a service file, or a device of the system fails
+  4  the keyring, a service file, or a device of the system fails: input (a file
+     that is read), output (the standard one), trace (a file of it), random
+     (/dev/urandom), listen (the socket), poll (word of what sockets are ready)
   5  there is no memory";
 
 fn value<'a>(alloc: Global, name: &'a str, shown: &'a str, help: &'a str) -> Arg<'a> {
