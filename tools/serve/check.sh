@@ -400,7 +400,7 @@ patience_ends() {
     tried=$((tried + 1))
 }
 
-# serves_within N: with N open files at most it serves; else it has told what it could not open
+# serves_within N: with N open files at most it serves; else it has told what it could not open, which is kept in a file
 serves_within() {
     start
     status=0
@@ -408,7 +408,10 @@ serves_within() {
     tried=$((tried + 1))
     rm -f bus
     case $status:$(< err) in
-        4:'busd: device: '*) return 1 ;;
+        4:'busd: device: '*)
+            cat err >> lacking
+            return 1
+            ;;
         124:) ;;
         *) wrong "with $1 open files" ;;
     esac
@@ -447,10 +450,13 @@ rests() {
 
 # However few files may be open, it says what it could not open, or serves.
 few_files() {
-    local count=4
+    local count=4 device
     until serves_within "$count"; do
         count=$((count + 1))
         [ "$count" -lt 64 ] || wrong "does not start with $count open files"
+    done
+    for device in listen poll; do
+        grep -qx "busd: device: $device" lacking || wrong "with few open files it does not lack $device: $(< lacking)"
     done
     [ "$count" -gt 7 ] || wrong "serves with $count open files"
     if [ ! -r /proc/self/stat ]; then
