@@ -75,6 +75,10 @@ pub fn event_of(alloc: Global, row: &str) -> Result<Event<()>> {
             key,
             piece: sent::fullest(alloc)?,
         },
+        "longest" => Event::Bytes {
+            key,
+            piece: sent::longest(alloc)?,
+        },
         "serves" => Event::Next { key },
         "turn" => Event::Turn {
             keys: turn(alloc, key, words)?,

@@ -131,3 +131,23 @@ pub fn fullest(alloc: Global) -> Result<Vec<u8>, AllocError> {
     )?;
     Ok(message)
 }
+
+/// A signal of the 134,217,728 bytes that a message may have: two arrays of bytes.
+pub fn longest(alloc: Global) -> Result<Vec<u8>, AllocError> {
+    let mut message = Vec::from_slice(
+        alloc,
+        b"l\x04\0\x01\xb0\xff\xff\x07\x02\0\0\0\x3a\0\0\0\x01\x01o\0\x01\0\0\0/\0\0\0\0\0\0\0",
+    )?;
+    message.extend_from_slice(b"\x02\x01s\0\x03\0\0\0a.b\0\0\0\0\0\x03\x01s\0\x07\0\0\0Changed\0")?;
+    message.extend_from_slice(b"\x08\x01g\0\x04ayay\0\0\0\0\0\0\0")?;
+    put_zeros(alloc, &mut message, 67_108_864)?;
+    put_zeros(alloc, &mut message, 67_108_776)?;
+    Ok(message)
+}
+
+/// Appends an array of so many bytes, all zero.
+fn put_zeros(alloc: Global, message: &mut Vec<u8>, count: u32) -> Result<(), AllocError> {
+    message.extend_from_slice(&count.to_le_bytes())?;
+    let zeros = Vec::from_elem(alloc, 0, count as usize)?;
+    message.extend_from_slice(zeros.as_slice())
+}
