@@ -64,7 +64,8 @@ fn measure_opened<J: Naming + Send + Sync, R: Print + Clock + Threads + Wait + S
     service: WellKnown,
     part: Part,
 ) -> Result<()>
-    requires { (opened ≡ identity J.book J.name J.parts) × (J.opening ≡ opening_bus Two ROUTERS (service ∷ [])) }
+    requires { (opened ≡ identity J.book J.name J.parts)
+        × (J.opening ≡ opening_bus Two ROUTERS (service ∷ [])) }
 {
     let opened = Shared::<J>::new(report.rt, alloc, opened, &[service], ROUTERS);
     let (shared, seats) = opened.ok().context("the registry is not opened")?;

@@ -175,7 +175,8 @@ impl<J: Naming> Registrar<J> {
         requires book { known.now.book ≡ J.book }
         requires part { 0 < tally.old.parts }
         ensures made { IfOk result (λ r.
-            IsSeatChanged J.book J.opening seat known.now.log tally.old.made change.now r.0 r.1.log) }
+            IsSeatChanged J.book J.opening seat known.now.log tally.old.made change.now
+            r.0 r.1.log) }
         ensures few { IfOk result (λ r. IsBounded r.0) }
         ensures next { IfOk result (λ r. r.1.book ≡ J.book) }
         ensures counted { OnOk result (tally.new ≡ tallied (tally.old.made + 1) tally.old.parts) }

@@ -383,8 +383,8 @@ impl<J: Naming> Seat<J> {
     fn go_on(&mut self, prefix: Prefix) -> Note<J>
         requires book { prefix.book ≡ J.book }
         ensures note { result ≡ prefix.log }
-        ensures seen { self.new
-            ≡ seat_at self.old.number prefix.log self.old.made (length prefix.log) (Some prefix.log) }
+        ensures seen { self.new ≡ seat_at self.old.number prefix.log self.old.made
+            (length prefix.log) (Some prefix.log) }
     {
         let note = Note::of(&prefix);
         self.last = prefix.len();

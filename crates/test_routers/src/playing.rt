@@ -49,7 +49,8 @@ fn open<J: Naming + Send + Sync, R: Threads + Wait + Clock + Sync>(
     routers: u8,
     scenario: &Scenario,
 ) -> Result<Played, Fail>
-    requires { (opened ≡ identity J.book J.name J.parts) × (J.opening ≡ opening_bus Two routers []) }
+    requires { (opened ≡ identity J.book J.name J.parts)
+        × (J.opening ≡ opening_bus Two routers []) }
 {
     let Ok((shared, seats)) = Shared::<J>::new(rt, alloc, opened, &[], routers) else {
         return Err(Fail::from("no registry"));
