@@ -144,10 +144,8 @@ fn main_seat<'a, J: Naming, F: Write + Drop, Q: Programs + Drop, R: Wait + Clock
     setup: SeatSetup<J, TraceFile<F>>,
     programs: Q,
 ) -> Result<SeatByClock<'a, J, Q, TraceFile<F>, R>, ServeFault> {
-    match MainSeat::new(rt, rt.alloc(), shared, coordinator, setup, programs) {
-        Some(seat) => Ok(SeatByClock::new(rt, seat)),
-        None => Err(ServeFault::Memory),
-    }
+    let seat = MainSeat::new(rt, rt.alloc(), shared, coordinator, setup, programs)?;
+    Ok(SeatByClock::new(rt, seat))
 }
 
 /// Makes the ways between the threads and what runs the programs of services, and serves over them.

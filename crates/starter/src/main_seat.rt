@@ -1,6 +1,6 @@
 //! The seat of the thread that started the routers.
 
-ghost use Rattle.std.specs.Prelude.{◌≡◌, ◌⊎◌, [], IfOk, IfSome};
+ghost use Rattle.std.specs.Prelude.{◌≡◌, ◌⊎◌, [], IfOk};
 ghost use Rattle.routers.specs.declared.source.TheConstants.{RETRY_AFTER};
 ghost use Rattle.starter.specs.MainSeats.{MakesMainSteps};
 ghost use Rattle.starter.specs.States.{IsIdle, new_starter};
@@ -16,7 +16,7 @@ use routers::{
     Coordinator, Fault, LanePost, MAIN_THREAD, RETRY_AFTER, SeatSetup, TraceSink, TraceWriter,
     Wake, traced,
 };
-use std::alloc::Global;
+use std::alloc::{AllocError, Global};
 use std::marker::Model;
 use std::sync::Wait;
 
@@ -62,7 +62,7 @@ impl<
     T: TraceSink + Drop,
     R: Wait,
 > MainSeat<'a, J, S, W, Q, T, R> {
-    /// The main thread's part of a bus. There is none where there is no memory for it.
+    /// The main thread's part of a bus. It takes memory.
     pub fn new(
         rt: &'a R,
         alloc: Global,
@@ -70,11 +70,11 @@ impl<
         coordinator: &'a Coordinator<W>,
         setup: SeatSetup<J, T>,
         programs: Q,
-    ) -> Option<MainSeat<'a, J, S, W, Q, T, R>>
-        ensures new { IfSome result (λ main. main ≡ new_starter programs main.host) }
-        ensures lane { IfSome result (λ main. main.host.carried.post.lane ≡ setup.lane) }
-        ensures starts { IfSome result (λ main. main.host.carried.post.starts ≡ setup.starts) }
-        ensures none { IfSome result (λ main. main.host.carried.post.places ≡ []) }
+    ) -> Result<MainSeat<'a, J, S, W, Q, T, R>, AllocError>
+        ensures new { IfOk result (λ main. main ≡ new_starter programs main.host) }
+        ensures lane { IfOk result (λ main. main.host.carried.post.lane ≡ setup.lane) }
+        ensures starts { IfOk result (λ main. main.host.carried.post.starts ≡ setup.starts) }
+        ensures none { IfOk result (λ main. main.host.carried.post.places ≡ []) }
     {
         let SeatSetup {
             seat,
@@ -85,9 +85,9 @@ impl<
         let desk: Desk<'_, J, R> = Desk::new(seat, shared);
         let view = traced(alloc, desk, trace.records());
         let none = Vec::new(alloc);
-        let post = LanePost::new(alloc, MAIN_THREAD, lane, none, starts, coordinator).ok()?;
+        let post = LanePost::new(alloc, MAIN_THREAD, lane, none, starts, coordinator)?;
         let starter = Starter::over(alloc, view, post, programs)?;
-        Some(MainSeat { rt, starter, trace })
+        Ok(MainSeat { rt, starter, trace })
     }
 
     /// Runs what is asked for, tells the bus how starts ended, and writes what it recorded, at this

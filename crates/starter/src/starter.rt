@@ -1,6 +1,6 @@
 //! The programs of services: which are run, and what routers are told of them.
 
-ghost use Rattle.std.specs.Prelude.{◌≡◌, ◌⊎◌, ◌<◌, ◌++◌, ◌∷◌, [], IfErr, IfSome, OnErr, OnOk, IsOk};
+ghost use Rattle.std.specs.Prelude.{◌≡◌, ◌⊎◌, ◌<◌, ◌++◌, ◌∷◌, [], IfErr, IfOk, OnErr, OnOk, IsOk};
 ghost use Rattle.std.specs.Prelude.{option_map, reverse, slice_get, vec_capacity, vec_len};
 ghost use Rattle.supervisor.specs.Supervising.{due_of};
 ghost use Rattle.supervisor.specs.declared.deed.Deed.TheVariants.{Run};
@@ -78,18 +78,16 @@ fn end_of(change: &Change) -> Option<StartEnd>
 }
 
 impl<V: BusView + Drop, P: Post<V>, S: Socket, Q: Programs + Drop> Starter<V, OpenGate, P, S, Q> {
-    /// A starter over a view of the bus, which tells it by a host without connections. There is
-    /// none where there is no memory for it.
-    pub fn over(alloc: Global, view: V, post: P, programs: Q) -> Option<Self>
+    /// A starter over a view of the bus, which tells it by a host without connections. It takes
+    /// memory.
+    pub fn over(alloc: Global, view: V, post: P, programs: Q) -> Result<Self, AllocError>
         requires { P.registry post ≡ (V.knows view).registry }
-        ensures new { IfSome result (λ starter. starter ≡ new_starter programs starter.host) }
-        ensures post { IfSome result (λ starter. starter.host.carried.post ≡ post) }
+        ensures new { IfOk result (λ starter. starter ≡ new_starter programs starter.host) }
+        ensures post { IfOk result (λ starter. starter.host.carried.post ≡ post) }
     {
-        let engine = Engine::new(alloc, view, OpenGate, None).ok()?;
-        let Ok(host) = Host::new(alloc, engine, post, 0, 0) else {
-            return None;
-        };
-        Some(Starter::new(alloc, host, programs))
+        let engine = Engine::new(alloc, view, OpenGate, None)?;
+        let host = Host::new(alloc, engine, post, 0, 0)?;
+        Ok(Starter::new(alloc, host, programs))
     }
 }
 
