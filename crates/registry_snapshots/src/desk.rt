@@ -16,7 +16,6 @@ use std::sync::Wait;
 /// Its reads wait for no lock, and all but queries take no memory. A change waits for the lock of
 /// the registry, and for readers of the copy that it brings up. Contracts see what they see of the
 /// seat.
-#[derive(Drop)]
 pub struct Desk<'a, J: Naming, R: Wait> {
     seat: Seat<J>,
     shared: &'a Shared<J>,
@@ -29,6 +28,17 @@ impl<'a, J: Naming, R: Wait> Model for Desk<'a, J, R> {
     ghost Value = { SeatView };
 
     ghost view = { λ d. d.seat };
+}
+
+impl<J: Naming, R: Wait> Drop for Desk<'_, J, R> {
+    fn drop(self) {
+        let Desk {
+            seat,
+            shared: _,
+            right: _,
+        } = self;
+        drop(seat);
+    }
 }
 
 impl<'a, J: Naming, R: Wait> Desk<'a, J, R> {
