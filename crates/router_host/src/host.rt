@@ -14,7 +14,7 @@ ghost use Rattle.router_host.specs.States.{new_host};
 ghost use Rattle.router_host_core.specs.States.{new_line};
 
 use crate::kept::Kept;
-use crate::opening::{OpenFault, Opened, open};
+use crate::opening::{Newcomer, OpenFault, open};
 use bus_view::BusView;
 use router::Engine;
 use router_core::{Action, Event, Gate, StartEnd};
@@ -24,7 +24,7 @@ use std::marker::Model;
 use std::mem;
 
 /// The most bytes that are read from a socket at once.
-const ROOM: usize = 262_144;
+const MOST_READ: usize = 262_144;
 
 /// An engine, the connections that it serves, and the mail of their slots.
 ///
@@ -106,7 +106,7 @@ impl<V: BusView + Drop, G: Gate + Drop, P: Post<V>, S: Socket> Host<V, G, P, S> 
         requires { P.registry post ≡ engine.view.registry }
         ensures { IfOk result (λ host. host ≡ new_host engine post) }
     {
-        let room = Vec::from_elem(alloc, 0u8, ROOM)?;
+        let room = Vec::from_elem(alloc, 0u8, MOST_READ)?;
         Ok(Host {
             alloc,
             engine,
@@ -171,7 +171,7 @@ impl<V: BusView, G: Gate, P: Post<V>, S: Socket> Host<V, G, P, S> {
             return Err(OpenFault::NoMemory);
         };
         match open(&mut self.engine, right, challenge) {
-            Ok(Opened { key, actions }) => {
+            Ok(Newcomer { key, actions }) => {
                 self.carrier.lines.open(key, socket);
                 self.carry_out(right, actions);
                 Ok(key)

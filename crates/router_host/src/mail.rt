@@ -11,7 +11,7 @@ use router_host_core::{Post, Socket, Todo};
 use std::alloc::AllocError;
 
 /// How many envelopes are taken of a slot at once.
-const HANDFUL: u32 = 512;
+const MAIL_AT_ONCE: u32 = 512;
 
 impl<V: BusView, G: Gate, P: Post<V>, S: Socket> Host<V, G, P, S> {
     /// Takes the mail that came for the slots of this router.
@@ -71,7 +71,7 @@ impl<V: BusView, G: Gate, P: Post<V>, S: Socket> Host<V, G, P, S> {
         ensures blocked { IsSlotBlocked self.old slot → self.new ≡ self.old }
     {
         self.carrier.slots.look_at(slot);
-        for _ in 0..HANDFUL {
+        for _ in 0..MAIL_AT_ONCE {
             if !self.take_one(right, slot)? {
                 return Ok(());
             }

@@ -34,7 +34,7 @@ pub enum OpenFault {
 }
 
 /// A connection that came. Its engine knows it from now on, by the key that was next.
-pub(crate) struct Opened<N: Drop> {
+pub(crate) struct Newcomer<N: Drop> {
     pub(crate) key: usize,
     pub(crate) actions: Vec<Action<N>>,
 }
@@ -44,7 +44,7 @@ pub(crate) fn open<V: BusView, G: Gate>(
     engine: &mut Engine<V, G>,
     right: &V::Right,
     challenge: Option<[u8; 16]>,
-) -> Result<Opened<V::Note>, OpenFault>
+) -> Result<Newcomer<V::Note>, OpenFault>
     ensures notes { IfOk result (λ opened.
         AllByRecursion (CarriesOwn V.registry_of engine.old.view.registry) opened.actions.items) }
     ensures key { IfOk result (λ opened. IsNextKey engine.old opened.key) }
@@ -65,7 +65,7 @@ pub(crate) fn open<V: BusView, G: Gate>(
     }
     let key = engine.free_key();
     match engine.event(right, &mut Event::Opened { key, challenge }) {
-        Ok(actions) => Ok(Opened { key, actions }),
+        Ok(actions) => Ok(Newcomer { key, actions }),
         Err(_) => Err(OpenFault::NoMemory),
     }
 }

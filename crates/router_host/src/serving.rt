@@ -13,14 +13,14 @@ use std::alloc::AllocError;
 
 /// How many messages of a connection are served before mail is taken: what they bring for one
 /// connection there is room for.
-const PART: usize = 32;
+const MESSAGES_A_PART: usize = 32;
 
 /// How many such parts of a connection are served in a turn.
-const PARTS: u8 = 2;
+const PARTS_A_TURN: u8 = 2;
 
 /// How many connections are served before the other routers are told of their mail: so many have
 /// less for one connection than an outbox has room for.
-const FEW: u8 = 2;
+const CONNECTIONS_UNTOLD: u8 = 2;
 
 impl<V: BusView, G: Gate, P: Post<V>, S: Socket> Host<V, G, P, S> {
     /// Serves each connection that is ready.
@@ -76,7 +76,7 @@ impl<V: BusView, G: Gate, P: Post<V>, S: Socket> Host<V, G, P, S> {
         ensures { self.new ≡ self.old }
     {
         self.untold = self.untold.saturating_add(1);
-        if self.untold >= FEW {
+        if self.untold >= CONNECTIONS_UNTOLD {
             self.untold = 0;
             self.carrier.post.wake_others(right);
         }
@@ -109,7 +109,7 @@ impl<V: BusView, G: Gate, P: Post<V>, S: Socket> Host<V, G, P, S> {
         ensures does { DoesBy V.BusView G.Gate P.Post self.old self.new }
         ensures ok { OnOk result (self.new.kept ≡ None) }
     {
-        for _ in 0..PARTS {
+        for _ in 0..PARTS_A_TURN {
             if !self.engine.has_next(key) {
                 break;
             }
@@ -126,9 +126,9 @@ impl<V: BusView, G: Gate, P: Post<V>, S: Socket> Host<V, G, P, S> {
         ensures does { DoesBy V.BusView G.Gate P.Post self.old self.new }
         ensures ok { OnOk result (self.new.kept ≡ None) }
     {
-        let mut left = PART;
+        let mut left = MESSAGES_A_PART;
         let mut count = 1;
-        for _ in 0..PART {
+        for _ in 0..MESSAGES_A_PART {
             if left == 0 || !self.engine.has_next(key) || self.carrier.post.is_behind() {
                 break;
             }

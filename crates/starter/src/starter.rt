@@ -24,7 +24,7 @@ use std::sync::Wait;
 use supervisor::{Deed, Event, Supervisor};
 
 /// How many happenings are looked at in a turn.
-const HANDFUL: u32 = 512;
+const EVENTS_AT_ONCE: u32 = 512;
 
 /// A supervisor of started programs, and a host without connections, by which the bus is told how
 /// starts end.
@@ -169,7 +169,7 @@ impl<V: BusView, G: Gate, P: Post<V>, S: Socket, Q: Programs + Drop> Starter<V, 
         trace_writer.record(&mut self.host)
     }
 
-    /// Tells the supervisor the time, and what happened since, up to a handful. Tells whether more may
+    /// Tells the supervisor the time, and what happened since, up to so many. Tells whether more may
     /// be waiting.
     fn tell_all<R: Wait>(&mut self, rt: &R, right: &V::Right, now: u64) -> Result<bool, Unfinished>
         ensures steps { MakesStepsBy Q.Programs V.BusView G.Gate P.Post now self.old self.new }
@@ -177,7 +177,7 @@ impl<V: BusView, G: Gate, P: Post<V>, S: Socket, Q: Programs + Drop> Starter<V, 
     {
         self.go_on(right)?;
         self.tell(right, Event::Tick { now })?;
-        for _ in 0..HANDFUL {
+        for _ in 0..EVENTS_AT_ONCE {
             let Some(event) = self.programs.next(rt) else {
                 return Ok(false);
             };
