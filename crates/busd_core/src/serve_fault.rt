@@ -4,7 +4,7 @@ ghost use Rattle.std.specs.Prelude.{◌≡◌};
 
 use crate::service_fault::{FileName, ServiceCode};
 use sasl::KeyringCode;
-use std::alloc::AllocError;
+use std::alloc::{AllocError, AllocFailed};
 use std::{fmt, io};
 use thiserror::Error;
 
@@ -87,6 +87,18 @@ impl From<AllocError> for ServeFault {
     ghost from_gives = { λ _ e. e ≡ Memory };
 
     fn from(_e: AllocError) -> ServeFault {
+        ServeFault::Memory
+    }
+}
+
+// So that `v.push(x)?` converts to it. What there was no memory for is dropped.
+impl<T: Drop> From<AllocFailed<T>> for ServeFault {
+    ghost use Rattle.std.specs.Prelude.{◌≡◌};
+    ghost use Rattle.busd_core.specs.declared.serve_fault.ServeFault.TheVariants.{Memory};
+
+    ghost from_gives = { λ _ e. e ≡ Memory };
+
+    fn from(_refused: AllocFailed<T>) -> ServeFault {
         ServeFault::Memory
     }
 }

@@ -4,7 +4,6 @@ ghost use Rattle.std.specs.Prelude.{◌≡◌, ◌++◌, string_bytes, IfOk, OnO
 ghost use Rattle.busd_core.specs.Heads.{ended, head_text};
 
 use crate::serve_fault::{Device, ServeFault, device_fault};
-use crate::services::push;
 use names::WellKnown;
 use owner_queues::Profile;
 use seq_bus_core::limits::MAX_ROUTERS;
@@ -98,7 +97,8 @@ fn add_file<R: Files + AllocGlobal>(
     files: &mut Vec<R::File>,
 ) -> io::Result<()> {
     let file = open(rt, folder, name)?;
-    Ok(push(files, file)?)
+    files.push(file).map_err(|_| AllocError)?;
+    Ok(())
 }
 
 fn add_routers<R: Files + AllocGlobal>(

@@ -6,7 +6,7 @@ use busd_sockets::{MAX_WAITING, NewConnections, PollWaker};
 use crossbeam_queue::ArrayQueue;
 use mio::Poll;
 use routers::Coordinator;
-use std::alloc::{AllocError, Global};
+use std::alloc::Global;
 use std::net::Net;
 
 /// The polls of a bus, with what wakes its threads and the queues of the connections that come to
@@ -72,15 +72,10 @@ impl RouterPolls {
     fn open_one<R: Net>(&mut self, rt: &R, alloc: Global) -> Result<(), ServeFault> {
         let poll = Poll::new(rt).map_err(poll_fault)?;
         let waker = PollWaker::new(alloc, &poll).map_err(poll_fault)?;
-        push(&mut self.wakers, waker)?;
-        push(&mut self.polls, poll)?;
+        self.wakers.push(waker)?;
+        self.polls.push(poll)?;
         let new_connections = ArrayQueue::new(alloc, MAX_WAITING)?;
-        push(&mut self.new_connections, new_connections)?;
+        self.new_connections.push(new_connections)?;
         Ok(())
     }
-}
-
-/// Adds an item, or lets go of it where there is no memory for it.
-pub(crate) fn push<T: Drop>(items: &mut Vec<T>, item: T) -> Result<(), AllocError> {
-    Ok(items.push(item)?)
 }

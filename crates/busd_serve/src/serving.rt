@@ -9,7 +9,6 @@ use crate::bus::{Bus, Listening};
 use crate::chores::SeatByClock;
 use crate::fault::{fault_of, poll_fault};
 use crate::logging::{AcceptLogger, EndLogger};
-use crate::polls::push;
 use crate::programs::start_launcher;
 use crate::runtime::DaemonRuntime;
 use crate::tracing::TraceFile;
@@ -107,7 +106,7 @@ fn router_setups<'a, J: Naming, F: Drop, R: Net + Eprint + Clock + AllocGlobal>(
     let mut setups = Vec::with_capacity(rt.alloc(), bus.new_connections.len())?;
     for new_connections in bus.new_connections.iter().rev() {
         let setup = last_router(rt, bus, new_connections, parts)?;
-        push(&mut setups, setup)?;
+        setups.push(setup)?;
     }
     setups.reverse();
     Ok(setups)

@@ -1,6 +1,5 @@
 //! The files that the threads of a bus write their lines to.
 
-use crate::polls::push;
 use busd_core::{Options, ServeFault, TraceFiles, open_trace};
 use names::WellKnown;
 use routers::{Fault, TraceSink};
@@ -57,10 +56,10 @@ pub(crate) fn begin_files<R: Files + AllocGlobal, F: OpenFile + Write + Drop>(
     let mut traces = Vec::new(rt.alloc());
     match files {
         Some(files) => for file in files.begin(rt, routers, services)? {
-            push(&mut traces, TraceFile { file: Some(file) })?;
+            traces.push(TraceFile { file: Some(file) })?;
         },
         None => for _seat in 0..=routers {
-            push(&mut traces, TraceFile { file: None })?;
+            traces.push(TraceFile { file: None })?;
         },
     }
     Ok(traces)
