@@ -64,33 +64,33 @@ module _ {P N G : Type 0} where
 
 module _ {P N G : Type 0} (told : N → History) (registry_of : N → ℕ) (passes : G → GatedCall → G → Type 0)
     (alone : Bool) (puts : P → Conn → Envelope N → P → Type 0)
-    (starts : P → StartRequest → P → Type 0) where
+    (refuses : P → Conn → Type 0) (starts : P → StartRequest → P → Type 0) where
   -- The event happens; or what events before brought goes on, and the event is kept.
   abbrev pub IsBrought : Hosted P G N → Event N → Hosted P G N → Type 0
   IsBrought before e after =
-      Happens told registry_of passes alone puts starts before e after
-      ⊎ ((between : Hosted P G N) × CatchesUp puts starts before between
+      Happens told registry_of passes alone puts refuses starts before e after
+      ⊎ ((between : Hosted P G N) × CatchesUp puts refuses starts before between
       × (after ≡ record between { kept = Some (Happening e) }))
 
   -- It happens that the connection took no more mail, and the engine was told; or what events before brought goes on.
   abbrev pub IsPutOut : Hosted P G N → Conn → Hosted P G N → Type 0
   IsPutOut before conn after =
       ((between : Hosted P G N)
-      × Happens told registry_of passes alone puts starts before (event.Full conn.number) between
+      × Happens told registry_of passes alone puts refuses starts before (event.Full conn.number) between
       × (after ≡ with_full between
       (told_full between.carried.full conn (full_at between.carried.full conn))))
-      ⊎ CatchesUp puts starts before after
+      ⊎ CatchesUp puts refuses starts before after
 
 module _ {P N G : Type 0} (told : N → History) (registry_of : N → ℕ) (passes : G → GatedCall → G → Type 0)
     (alone : Bool) (puts : P → Conn → Envelope N → P → Type 0)
-    (starts : P → StartRequest → P → Type 0)
+    (refuses : P → Conn → Type 0) (starts : P → StartRequest → P → Type 0)
     (takes : P → ℕ → Envelope N → P → Type 0) where
   -- Nothing else is done. While something is kept, nothing else is served, no socket is read and no envelope is taken.
   abbrev pub IsDone : Task N → Hosted P G N → Hosted P G N → Type 0
-  IsDone Catches before after = CatchesUp puts starts before after
+  IsDone Catches before after = CatchesUp puts refuses starts before after
   IsDone Resumes before after =
       (e : Event N) × IsWaiting before.kept e
-      × IsBrought told registry_of passes alone puts starts (record before { kept = None }) e after
+      × IsBrought told registry_of passes alone puts refuses starts (record before { kept = None }) e after
   IsDone (Reads key bytes) before after =
       (before.kept ≡ None)
       × ((l : LineState) × (line_at before.carried.lines key ≡ Some l)
@@ -99,11 +99,11 @@ module _ {P N G : Type 0} (told : N → History) (registry_of : N → ℕ) (pass
       (with_line before.carried.lines key (record l { left = left })))
       { kept = Some (Piece key bytes) })))
   IsDone (Hears e) before after =
-      (before.kept ≡ None) × IsHeard e × IsBrought told registry_of passes alone puts starts before e after
+      (before.kept ≡ None) × IsHeard e × IsBrought told registry_of passes alone puts refuses starts before e after
   IsDone (Takes slot envelope) before after =
       (before.kept ≡ None) × (IsSlotBlocked before slot → ⊥)
       × ((post : P) × takes before.carried.post slot envelope post
-      × IsBrought told registry_of passes alone puts starts (with_post before post)
+      × IsBrought told registry_of passes alone puts refuses starts (with_post before post)
       (event.Mail slot envelope) after)
   IsDone (Ends key cause) before after =
       (l : LineState) × (line_at before.carried.lines key ≡ Some l) × IsReadToEnd l.left cause
@@ -114,11 +114,11 @@ module _ {P N G : Type 0} (told : N → History) (registry_of : N → ℕ) (pass
   IsDone (LetsGo key) before after =
       (before.kept ≡ None)
       × ((cause : EndCause) × (cause_of (line_at before.carried.lines key) ≡ Some cause)
-      × IsBrought told registry_of passes alone puts starts
+      × IsBrought told registry_of passes alone puts refuses starts
       (with_lines before (let_go before.carried.lines key (Some cause))) (event.Closed key) after)
   IsDone (PutsOut conn) before after =
       IsUntold conn before.carried.full
-      × IsPutOut told registry_of passes alone puts starts before conn after
+      × IsPutOut told registry_of passes alone puts refuses starts before conn after
 
   -- Such tasks are done, one after the other, and nothing else.
   pub record Does (before after : Hosted P G N) : Type 0 where
@@ -129,9 +129,9 @@ module _ {P N G : Type 0} (told : N → History) (registry_of : N → ℕ) (pass
 abbrev pub IsBroughtBy : {V N R G P : Type 0} → BusView V N R → Gate G → Post P V N R → Hosted P G N →
     Event N → Hosted P G N → Type 0
 IsBroughtBy view gate post before e after =
-    IsBrought view.told view.registry_of gate.passes view.alone post.puts post.starts before e after
+    IsBrought view.told view.registry_of gate.passes view.alone post.puts post.refuses post.starts before e after
 
 abbrev pub DoesBy : {V N R G P : Type 0} → BusView V N R → Gate G → Post P V N R → Hosted P G N →
     Hosted P G N → Type 0
 DoesBy view gate post before after =
-    Does view.told view.registry_of gate.passes view.alone post.puts post.starts post.takes before after
+    Does view.told view.registry_of gate.passes view.alone post.puts post.refuses post.starts post.takes before after

@@ -23,11 +23,11 @@ use Rattle.router_host.specs.Happening.{CatchesUp}
 use Rattle.router_host.specs.States.{Hosted}
 
 module _ {P N G : Type 0} (puts : P → Conn → Envelope N → P → Type 0)
-    (starts : P → StartRequest → P → Type 0) where
+    (refuses : P → Conn → Type 0) (starts : P → StartRequest → P → Type 0) where
   -- What events before brought goes on, and there may be places for more connections. Nothing else is done.
   pub record MakesRoom (before after : Hosted P G N) : Type 0 where
     pub between : Hosted P G N
-    pub catches_up : CatchesUp puts starts before between
+    pub catches_up : CatchesUp puts refuses starts before between
     pub places : ℕ
     pub is : after ≡ with_lines between (between.carried.lines ++ replicate places None)
 
@@ -35,18 +35,18 @@ module _ {P N G : Type 0} (puts : P → Conn → Envelope N → P → Type 0)
 -- engine is told, and the actions that this brings are carried out, up to a start that there is no room for now. Nothing else is done.
 pub record Opens {P N G : Type 0} (told : N → History) (registry_of : N → ℕ) (passes : G → GatedCall → G → Type 0)
     (alone : Bool) (puts : P → Conn → Envelope N → P → Type 0)
-    (starts : P → StartRequest → P → Type 0)
+    (refuses : P → Conn → Type 0) (starts : P → StartRequest → P → Type 0)
     (before : Hosted P G N) (line : LineState) (key : ℕ) (challenge : Option (List ℕ))
     (after : Hosted P G N) : Type 0 where
   pub between : Hosted P G N
-  pub makes_room : MakesRoom puts starts before between
+  pub makes_room : MakesRoom puts refuses starts before between
   pub none_left : between.undone ≡ []
   pub next : IsNextKey between.engine key
   pub has_place : key < length between.carried.lines
   pub actions : List (Action N)
   pub brings : Brings told registry_of passes alone between.engine (Opened key challenge) actions after.engine
   pub serves : IsServedWell told passes alone between.engine (Opened key challenge) actions after.engine
-  pub carried : GoesOn puts starts actions
+  pub carried : GoesOn puts refuses starts actions
       (record between.carried { lines = with_line between.carried.lines key line })
       after.undone after.carried
   pub kept : after.kept ≡ between.kept
@@ -64,4 +64,4 @@ IsOpenFault s challenge NoMemory = Unit {0}
 abbrev pub OpensBy : {V N R G P : Type 0} → BusView V N R → Gate G → Post P V N R → Hosted P G N →
     LineState → ℕ → Option (List ℕ) → Hosted P G N → Type 0
 OpensBy view gate post before line key challenge after =
-    Opens view.told view.registry_of gate.passes view.alone post.puts post.starts before line key challenge after
+    Opens view.told view.registry_of gate.passes view.alone post.puts post.refuses post.starts before line key challenge after

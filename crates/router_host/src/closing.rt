@@ -130,7 +130,7 @@ impl<V: BusView, G: Gate, P: Post<V>, S: Socket> Host<V, G, P, S> {
     fn tell_full(&mut self, right: &V::Right, conn: Conn) -> Result<(), AllocError>
         ensures happens { OnOk result
             (HappensBy V.BusView G.Gate P.Post self.old (Full conn.number) self.new) }
-        ensures err { OnErr result (CatchesUp P.puts P.starts self.old self.new) }
+        ensures err { OnErr result (CatchesUp P.puts P.refuses P.starts self.old self.new) }
     {
         self.dispatch(
             right,

@@ -25,7 +25,7 @@ impl<V: BusView, G: Gate, P: Post<V>, S: Socket> Host<V, G, P, S> {
     ///
     /// There is no room for a start yet.
     pub(crate) fn catch_up(&mut self, right: &V::Right) -> Result<(), AllocError>
-        ensures catches_up { CatchesUp P.puts P.starts self.old self.new }
+        ensures catches_up { CatchesUp P.puts P.refuses P.starts self.old self.new }
         ensures ok { OnOk result (self.new.undone ≡ []) }
     {
         if self.undone.is_empty() {
@@ -40,7 +40,7 @@ impl<V: BusView, G: Gate, P: Post<V>, S: Socket> Host<V, G, P, S> {
 
     /// Carries out what events brought that is not carried out yet, before one more is served.
     fn begin_event(&mut self, right: &V::Right) -> Result<(), AllocError>
-        ensures catches_up { CatchesUp P.puts P.starts self.old self.new }
+        ensures catches_up { CatchesUp P.puts P.refuses P.starts self.old self.new }
         ensures ok { OnOk result (self.new.undone ≡ []) }
     {
         self.catch_up(right)?;
@@ -77,7 +77,7 @@ impl<V: BusView, G: Gate, P: Post<V>, S: Socket> Host<V, G, P, S> {
         requires own { AllByRecursion (CarriesOwn V.registry_of self.old.engine.view.registry)
             actions.items }
         requires none { self.old.undone ≡ [] }
-        ensures goes_on { GoesOn P.puts P.starts actions.items self.old.carried self.new.undone
+        ensures goes_on { GoesOn P.puts P.refuses P.starts actions.items self.old.carried self.new.undone
             self.new.carried }
         ensures engine { self.new.engine ≡ self.old.engine }
         ensures kept { self.new.kept ≡ self.old.kept }
@@ -104,7 +104,7 @@ impl<V: BusView, G: Gate, P: Post<V>, S: Socket> Host<V, G, P, S> {
         requires { CanHappen V.registry_of self.old.engine event.old }
         ensures happens { OnOk result
             (HappensBy V.BusView G.Gate P.Post self.old event.old self.new) }
-        ensures err { OnErr result (CatchesUp P.puts P.starts self.old self.new) }
+        ensures err { OnErr result (CatchesUp P.puts P.refuses P.starts self.old self.new) }
         ensures handed_back { OnErr result (event.new ≡ event.old) }
     {
         self.begin_event(right)?;

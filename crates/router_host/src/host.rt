@@ -1,9 +1,9 @@
 //! The host of an engine.
 
-ghost use Rattle.std.specs.Prelude.{◌≡◌, ◌≢◌, ◌<◌, [], IfOk, IfErr, IsTrue, OnOk, OnErr, count_by};
+ghost use Rattle.std.specs.Prelude.{◌≡◌, ◌≢◌, ◌<◌, [], IfOk, IfErr, IsTrue, None, OnOk, OnErr, count_by, slice_index_or};
 ghost use Rattle.router_core.specs.Acts.{IsNextKey};
 ghost use Rattle.router_core.specs.Standing.{is_unnamed};
-ghost use Rattle.router_host_core.specs.Carrying.{line_at};
+ghost use Rattle.router_host_core.specs.Carrying.{line_at, refusal_of};
 ghost use Rattle.router_host_core.specs.Sockets.{unblocked_at};
 ghost use Rattle.router_core.specs.declared.event.Event.TheVariants.{Child};
 ghost use Rattle.router_host.specs.Doing.{with_lines};
@@ -18,7 +18,7 @@ use crate::opening::{Newcomer, OpenFault, open};
 use bus_view::BusView;
 use router::Engine;
 use router_core::{Action, Event, Gate, StartEnd};
-use router_host_core::{Carrier, Ended, Post, Slots, Socket};
+use router_host_core::{Carrier, Ended, Post, Refusal, Slots, Socket};
 use std::alloc::{AllocError, Global};
 use std::marker::Model;
 use std::mem;
@@ -158,7 +158,7 @@ impl<V: BusView, G: Gate, P: Post<V>, S: Socket> Host<V, G, P, S> {
         ensures opens { IfOk result (λ key.
             OpensBy V.BusView G.Gate P.Post self.old
             (new_line (S.remaining socket) (S.taken socket)) key challenge self.new) }
-        ensures err { OnErr result (MakesRoom P.puts P.starts self.old self.new) }
+        ensures err { OnErr result (MakesRoom P.puts P.refuses P.starts self.old self.new) }
         ensures few { OnOk result
             (count_by is_unnamed self.old.engine.standing.peers < MOST_UNNAMED) }
         ensures fault { IfErr result (λ fault. IsOpenFault self.old.engine challenge fault) }
@@ -189,7 +189,7 @@ impl<V: BusView, G: Gate, P: Post<V>, S: Socket> Host<V, G, P, S> {
     pub fn end_start(&mut self, right: &V::Right, end: Box<StartEnd>) -> Result<(), AllocError>
         ensures happens { OnOk result
             (HappensBy V.BusView G.Gate P.Post self.old (Child end) self.new) }
-        ensures err { OnErr result (CatchesUp P.puts P.starts self.old self.new) }
+        ensures err { OnErr result (CatchesUp P.puts P.refuses P.starts self.old self.new) }
     {
         self.dispatch(right, &mut Event::Child(end))
     }
@@ -232,6 +232,13 @@ impl<V: BusView, G: Gate, P: Post<V>, S: Socket> Host<V, G, P, S> {
         ensures { self.new ≡ self.old }
     {
         self.carrier.post.let_go_first(right);
+    }
+
+    /// Why the latest connection of a slot that took no more mail did not, if there was one.
+    pub fn refusal(&self, slot: u16) -> Option<Refusal>
+        ensures { result ≡ refusal_of (slice_index_or self.now.carried.full slot None) }
+    {
+        self.carrier.put_out.refusal(slot)
     }
 
     /// Whether something is left for the next turn.

@@ -68,7 +68,7 @@ impl<V: BusView, G: Gate, P: Post<V>, S: Socket> Host<V, G, P, S> {
     pub fn tick(&mut self, right: &V::Right) -> Result<(), AllocError>
         ensures happens { OnOk result
             (HappensBy V.BusView G.Gate P.Post self.old Tick self.new) }
-        ensures err { OnErr result (CatchesUp P.puts P.starts self.old self.new) }
+        ensures err { OnErr result (CatchesUp P.puts P.refuses P.starts self.old self.new) }
     {
         let leaves = self.engine.ticks();
         self.dispatch(right, &mut Event::Tick)?;

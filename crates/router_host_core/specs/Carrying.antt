@@ -9,6 +9,8 @@ use Rattle.router_core.specs.declared.action.Action.TheVariants.{Write, Put, Clo
 use Rattle.router_host_core.specs.declared.ending.EndCause.{EndCause}
 use Rattle.router_host_core.specs.declared.post.StartRequest.{StartRequest}
 use Rattle.router_host_core.specs.declared.put_out.FullConn.{FullConn}
+use Rattle.router_host_core.specs.declared.put_out.Refusal.{Refusal}
+use Rattle.router_host_core.specs.declared.put_out.Refusal.TheVariants as refusal
 use Rattle.router_host_core.specs.declared.ending.EndCause.TheVariants.{Closed, NoMemory}
 use Rattle.router_host_core.specs.States.{LineState, Carried, ended_by}
 
@@ -67,30 +69,44 @@ abbrev pub IsNotedFull : Conn → List (Option FullConn) → Type 0
 IsNotedFull conn full =
     (noted : FullConn) × (full_at full conn ≡ Some noted) × (conn.number ≤ noted.conn.number)
 
--- a connection that took no more mail, which the engine was not told yet
-abbrev pub untold : Conn → FullConn
-untold conn = record { conn = conn; told = false }
+-- why the connection took no more mail, if one is noted
+abbrev pub refusal_of : Option FullConn → Option Refusal
+refusal_of None = None
+refusal_of (Some noted) = Some noted.refusal
+
+-- a connection that took no more mail, for this reason, which the engine was not told yet
+abbrev pub untold : Conn → Refusal → FullConn
+untold conn why = record { conn = conn; refusal = why; told = false }
 
 -- It is noted that the connection took no more mail, but where one of a greater number is noted, which is a later one.
-abbrev pub noted_full : List (Option FullConn) → Conn → Option FullConn → List (Option FullConn)
-noted_full full conn None = slice_set full conn.slot (Some (untold conn))
-noted_full full conn (Some noted) =
+abbrev pub noted_full : List (Option FullConn) → Conn → Refusal → Option FullConn → List (Option FullConn)
+noted_full full conn why None = slice_set full conn.slot (Some (untold conn why))
+noted_full full conn why (Some noted) =
     if nat_le conn.number noted.conn.number then full
-    else slice_set full conn.slot (Some (untold conn))
+    else slice_set full conn.slot (Some (untold conn why))
 
-module _ {P N : Type 0} (puts : P → Conn → Envelope N → P → Type 0) where
-  -- It is noted that the connection took no more mail.
-  abbrev pub IsRefused : Conn → Carried P → Carried P → Type 0
-  IsRefused conn before after =
-      after ≡ record before { full = noted_full before.full conn (full_at before.full conn) }
+module _ {P N : Type 0} (puts : P → Conn → Envelope N → P → Type 0)
+    (refuses : P → Conn → Type 0) where
+  -- Why an envelope for a connection may be refused. The ways between routers know whether there is room, and not whether there is memory.
+  abbrev pub MayRefuse : P → Conn → Refusal → Type 0
+  MayRefuse post conn refusal.NoRoom = refuses post conn
+  MayRefuse post conn refusal.NoMemory = Unit {0}
 
-  -- An envelope for the connection is put, where none for it was refused before; or it is refused.
+  -- An envelope for the connection is refused, and it is noted why.
+  abbrev pub IsRefused : Conn → Refusal → Carried P → Carried P → Type 0
+  IsRefused conn why before after =
+      MayRefuse before.post conn why
+      × (after ≡ record before
+      { full = noted_full before.full conn why (full_at before.full conn) })
+
+  -- An envelope for the connection is put, or it is refused; and nothing is where one was refused before.
   abbrev pub IsPut : Option N → Content → Conn → Carried P → Carried P → Type 0
   IsPut carried content conn before after =
-      ((IsNotedFull conn before.full → ⊥)
-      × ((post : P) × puts before.post conn (envelope_for carried content conn) post
-      × (after ≡ record before { post = post })))
-      ⊎ IsRefused conn before after
+      (IsNotedFull conn before.full × (after ≡ before))
+      ⊎ ((IsNotedFull conn before.full → ⊥)
+      × (((post : P) × puts before.post conn (envelope_for carried content conn) post
+      × (after ≡ record before { post = post }))
+      ⊎ ((why : Refusal) × IsRefused conn why before after)))
 
   -- to the monitors that are no recipients, and then to the recipients
   abbrev pub ArePut : Option N → Content → List Conn → List Conn → Carried P → Carried P → Type 0
@@ -104,14 +120,14 @@ IsStart (Run name start) = Unit {0}
 IsStart other = ⊥
 
 module _ {P N : Type 0} (puts : P → Conn → Envelope N → P → Type 0)
-    (starts : P → StartRequest → P → Type 0) where
+    (refuses : P → Conn → Type 0) (starts : P → StartRequest → P → Type 0) where
   abbrev pub IsCarriedOut : Action N → Carried P → Carried P → Type 0
   IsCarriedOut (Write key bytes) before after =
       (lines : List (Option LineState))
       × IsWrittenAt before.lines key bytes (line_at before.lines key) lines
       × (after ≡ record before { lines = lines })
   IsCarriedOut (Put to carried content) before after =
-      ArePut puts carried content to.to to.monitors before after
+      ArePut puts refuses carried content to.to to.monitors before after
   IsCarriedOut (Close key cause) before after =
       after ≡ record before
       { lines = ended_at before.lines key (Closed cause) (line_at before.lines key) }

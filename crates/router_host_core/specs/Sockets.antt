@@ -7,6 +7,7 @@ use Rattle.router_host_core.specs.declared.ending.EndCause.TheVariants.{EndOfInp
 use Rattle.router_host_core.specs.declared.line.Pulled.{Pulled}
 use Rattle.router_host_core.specs.declared.line.Pulled.TheVariants.{Bytes, Nothing, Over}
 use Rattle.router_host_core.specs.declared.put_out.FullConn.{FullConn}
+use Rattle.router_host_core.specs.declared.put_out.Refusal.{Refusal}
 use Rattle.router_host_core.specs.Carrying.{full_at, line_at, untold, with_line}
 use Rattle.router_host_core.specs.States.{LineState, ended_by}
 
@@ -88,7 +89,7 @@ let_go lines key (Some cause) = slice_set lines key None
 
 -- It is noted that the connection took no more mail, and the engine was not told yet.
 abbrev pub IsUntold : Conn → List (Option FullConn) → Type 0
-IsUntold conn full = full_at full conn ≡ Some (untold conn)
+IsUntold conn full = (why : Refusal) × (full_at full conn ≡ Some (untold conn why))
 
 -- The engine was told that the connection took no more mail, if no later one of its slot is noted since.
 abbrev pub told_full : List (Option FullConn) → Conn → Option FullConn → List (Option FullConn)

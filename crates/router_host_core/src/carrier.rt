@@ -10,7 +10,7 @@ ghost use Rattle.router_host_core.specs.States.{idle};
 use crate::ending::EndCause;
 use crate::lines::Lines;
 use crate::post::{Post, StartRequest, TooManyStarts};
-use crate::put_out::PutOut;
+use crate::put_out::{PutOut, Refusal};
 use crate::slots::Slots;
 use crate::socket::Socket;
 use bus_view::{BusView, CheapCopy};
@@ -77,7 +77,7 @@ impl<V: BusView, P: Post<V>, S: Socket> Carrier<V, P, S> {
     pub fn carry_out(&mut self, right: &V::Right, actions: &mut Vec<Action<V::Note>>) -> bool
         requires { AllByRecursion (CarriesOwn V.registry_of (P.registry self.old.post))
             (reverse actions.old.items) }
-        ensures done { GoesOn P.puts P.starts (reverse actions.old.items) self.old
+        ensures done { GoesOn P.puts P.refuses P.starts (reverse actions.old.items) self.old
             (reverse actions.new.items) self.new }
         ensures all { IsTrue result ↔ (actions.new.items ≡ []) }
         ensures own { AllByRecursion (CarriesOwn V.registry_of (P.registry self.new.post))
@@ -96,7 +96,7 @@ impl<V: BusView, P: Post<V>, S: Socket> Carrier<V, P, S> {
     /// Carries out an action. A start that there is no room for comes back, and nothing is done.
     fn act(&mut self, right: &V::Right, action: Action<V::Note>) -> Result<(), Action<V::Note>>
         requires { CarriesOwn V.registry_of (P.registry self.old.post) action }
-        ensures done { OnOk result (IsCarriedOut P.puts P.starts action self.old self.new) }
+        ensures done { OnOk result (IsCarriedOut P.puts P.refuses P.starts action self.old self.new) }
         ensures refused { OnErr result (self.new ≡ self.old) }
         ensures back { IfErr result (λ later. (later ≡ action) × IsStart action) }
         ensures registry { P.registry self.new.post ≡ P.registry self.old.post }
@@ -125,7 +125,7 @@ impl<V: BusView, P: Post<V>, S: Socket> Carrier<V, P, S> {
         name: Box<BusName>,
         start: u64,
     ) -> Result<(), Action<V::Note>>
-        ensures done { OnOk result (IsCarriedOut P.puts P.starts
+        ensures done { OnOk result (IsCarriedOut P.puts P.refuses P.starts
             (Run name start) self.old self.new) }
         ensures refused { OnErr result (self.new ≡ self.old) }
         ensures back { IfErr result (λ later. later ≡ Run name start) }
@@ -148,7 +148,8 @@ impl<V: BusView, P: Post<V>, S: Socket> Carrier<V, P, S> {
         content: &Content,
     )
         requires { IsOwnNote V.registry_of (P.registry self.old.post) note.now }
-        ensures done { ArePut P.puts note.now content.now to.now monitors.now self.old self.new }
+        ensures done { ArePut P.puts P.refuses note.now content.now to.now monitors.now
+            self.old self.new }
         ensures registry { P.registry self.new.post ≡ P.registry self.old.post }
     {
         for conn in Deliveries::new(to, monitors) {
@@ -160,16 +161,14 @@ impl<V: BusView, P: Post<V>, S: Socket> Carrier<V, P, S> {
     /// later ones: what it gets has no gap.
     fn put_to(&mut self, right: &V::Right, to: Conn, note: &Option<V::Note>, content: &Content)
         requires { IsOwnNote V.registry_of (P.registry self.old.post) note.now }
-        ensures done { IsPut P.puts note.now content.now to self.old self.new }
+        ensures done { IsPut P.puts P.refuses note.now content.now to self.old self.new }
         ensures registry { P.registry self.new.post ≡ P.registry self.old.post }
     {
         if self.put_out.contains(to) {
-            // It is noted already: contracts see that it is refused.
-            self.put_out.add(to);
             return;
         }
         let Ok(content) = content.try_clone() else {
-            self.put_out.add(to);
+            self.put_out.add(to, Refusal::NoMemory);
             return;
         };
         let envelope = Envelope {
@@ -179,7 +178,7 @@ impl<V: BusView, P: Post<V>, S: Socket> Carrier<V, P, S> {
         };
         match self.post.put(right, to, envelope) {
             Ok(()) => self.slots.note_own(to.slot),
-            Err(_full) => self.put_out.add(to),
+            Err(_full) => self.put_out.add(to, Refusal::NoRoom),
         }
     }
 }

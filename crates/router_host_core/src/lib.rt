@@ -49,7 +49,7 @@ pub use hints::Todo;
 pub use line::Pulled;
 pub use lines::Lines;
 pub use post::{Post, StartRequest, TooManyStarts, Unsent};
-pub use put_out::{PutOut, SLOTS};
+pub use put_out::{PutOut, Refusal, SLOTS};
 pub use slots::Slots;
 pub use socket::Socket;
 pub use written::Written;

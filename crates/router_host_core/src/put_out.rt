@@ -1,7 +1,7 @@
 //! Who is to be put out.
 
-ghost use Rattle.std.specs.Prelude.{◌≡◌, replicate, true, None, IfSome};
-ghost use Rattle.router_host_core.specs.Carrying.{IsNotedFull, full_at, noted_full};
+ghost use Rattle.std.specs.Prelude.{◌≡◌, ◌↔◌, replicate, slice_index_or, IsTrue, None, IfSome};
+ghost use Rattle.router_host_core.specs.Carrying.{IsNotedFull, full_at, noted_full, refusal_of};
 ghost use Rattle.router_host_core.specs.declared.put_out.TheConstants.{SLOTS};
 ghost use Rattle.router_host_core.specs.Sockets.{IsUntold, told_full};
 
@@ -12,10 +12,21 @@ use std::marker::Model;
 /// How many slots a bus has: one for each connection.
 pub const SLOTS: usize = MAX_CONNECTIONS;
 
+/// Why a message for a connection was refused.
+#[derive(Clone, Copy, Debug, PartialEq, Eq)]
+pub enum Refusal {
+    /// There was no room for it.
+    NoRoom,
+    /// There was no memory to have it once more.
+    NoMemory,
+}
+
 /// A connection that took no more mail.
 #[derive(Clone, Copy, Debug, PartialEq, Eq)]
 pub struct FullConn {
     pub conn: Conn,
+    /// Why the first message that it lacks was refused.
+    pub refusal: Refusal,
     /// The engine was told of it.
     pub told: bool,
 }
@@ -52,9 +63,9 @@ impl PutOut {
         }
     }
 
-    /// A connection took no more mail.
-    pub fn add(&mut self, conn: Conn)
-        ensures { self.new ≡ noted_full self.old conn (full_at self.old conn) }
+    /// A connection took no more mail, for this reason.
+    pub fn add(&mut self, conn: Conn, refusal: Refusal)
+        ensures { self.new ≡ noted_full self.old conn refusal (full_at self.old conn) }
     {
         let slot = usize::from(conn.slot);
         if let Some(Some(noted)) = self.conns.get(slot) {
@@ -63,7 +74,11 @@ impl PutOut {
             }
         }
         if slot < self.conns.len() {
-            self.conns[slot] = Some(FullConn { conn, told: false });
+            self.conns[slot] = Some(FullConn {
+                conn,
+                refusal,
+                told: false,
+            });
             self.any_untold = true;
         }
     }
@@ -75,11 +90,21 @@ impl PutOut {
 
     /// Whether a connection is among them, or a later one of its slot.
     pub fn contains(&self, conn: Conn) -> bool
-        ensures { IsNotedFull conn self.now → result ≡ true }
+        ensures { IsTrue result ↔ IsNotedFull conn self.now }
     {
         match self.conns.get(usize::from(conn.slot)) {
             Some(Some(noted)) => conn.number <= noted.conn.number,
             _ => false,
+        }
+    }
+
+    /// Why the latest connection of a slot that took no more mail did not, if there was one.
+    pub fn refusal(&self, slot: u16) -> Option<Refusal>
+        ensures { result ≡ refusal_of (slice_index_or self.now slot None) }
+    {
+        match self.conns.get(usize::from(slot)) {
+            Some(Some(noted)) => Some(noted.refusal),
+            _ => None,
         }
     }
 
@@ -108,10 +133,10 @@ impl PutOut {
     {
         let slot = usize::from(conn.slot);
         if let Some(Some(noted)) = self.conns.get(slot) {
-            let conn_noted = noted.conn;
-            if conn_noted.number == conn.number {
+            if noted.conn.number == conn.number {
                 self.conns[slot] = Some(FullConn {
-                    conn: conn_noted,
+                    conn: noted.conn,
+                    refusal: noted.refusal,
                     told: true,
                 });
             }

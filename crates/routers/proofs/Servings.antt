@@ -15,25 +15,25 @@ use Rattle.routers.specs.Serving.{Happening, Comes, Ticks, HasHappened, WorksOn}
 
 module _ {P N G S : Type 0} {told : N → History} {registry_of : N → ℕ} {passes : G → GatedCall → G → Type 0}
     {alone : Bool} {puts : P → Conn → Envelope N → P → Type 0}
-    {starts : P → StartRequest → P → Type 0} {takes : P → ℕ → Envelope N → P → Type 0}
+    {refuses : P → Conn → Type 0} {starts : P → StartRequest → P → Type 0} {takes : P → ℕ → Envelope N → P → Type 0}
     {asks : S → Option (List ℕ) → Type 0} {remaining taken : S → Option (List ℕ)} where
-  pub serves_same : {a b : Hosted P G N} → b ≡ a → WorksOn told registry_of passes alone puts starts takes asks remaining taken a b
+  pub serves_same : {a b : Hosted P G N} → b ≡ a → WorksOn told registry_of passes alone puts refuses starts takes asks remaining taken a b
   serves_same is = record { happenings = []; happened = is }
 
-  pub serves_one : {a b : Hosted P G N} (h : Happening) → HasHappened told registry_of passes alone puts starts takes asks remaining taken h a b → WorksOn told registry_of passes alone puts starts takes asks remaining taken a b
+  pub serves_one : {a b : Hosted P G N} (h : Happening) → HasHappened told registry_of passes alone puts refuses starts takes asks remaining taken h a b → WorksOn told registry_of passes alone puts refuses starts takes asks remaining taken a b
   serves_one {b = b} h f = record { happenings = h ∷ []; happened = (b, f, refl) }
 
-  pub serves_then : {a b c : Hosted P G N} → WorksOn told registry_of passes alone puts starts takes asks remaining taken a b → WorksOn told registry_of passes alone puts starts takes asks remaining taken b c → WorksOn told registry_of passes alone puts starts takes asks remaining taken a c
+  pub serves_then : {a b c : Hosted P G N} → WorksOn told registry_of passes alone puts refuses starts takes asks remaining taken a b → WorksOn told registry_of passes alone puts refuses starts takes asks remaining taken b c → WorksOn told registry_of passes alone puts refuses starts takes asks remaining taken a c
   serves_then {a = a} {b = b} {c = c} f g = record {
     happenings = f.happenings ++ g.happenings;
-    happened = each_then (HasHappened told registry_of passes alone puts starts takes asks remaining taken) f.happenings g.happenings a b c f.happened g.happened;
+    happened = each_then (HasHappened told registry_of passes alone puts refuses starts takes asks remaining taken) f.happenings g.happenings a b c f.happened g.happened;
   }
 
-  pub serves_coming : {E : Type 0} {a b : Hosted P G N} (socket : S) (challenge : Option (List ℕ)) (r : Result ℕ E) → asks socket challenge → IfOk r (λ key. Opens told registry_of passes alone puts starts a (new_line (remaining socket) (taken socket)) key challenge b) → OnErr r (MakesRoom puts starts a b) →
-      WorksOn told registry_of passes alone puts starts takes asks remaining taken a b
+  pub serves_coming : {E : Type 0} {a b : Hosted P G N} (socket : S) (challenge : Option (List ℕ)) (r : Result ℕ E) → asks socket challenge → IfOk r (λ key. Opens told registry_of passes alone puts refuses starts a (new_line (remaining socket) (taken socket)) key challenge b) → OnErr r (MakesRoom puts refuses starts a b) →
+      WorksOn told registry_of passes alone puts refuses starts takes asks remaining taken a b
   serves_coming socket challenge (Ok key) asked f g = serves_one (Comes challenge) (inl (socket, asked, key, f))
   serves_coming socket challenge (Err why) asked f g = serves_one (Comes challenge) (inr g)
 
-  pub serves_tick : {A E : Type 0} {a b : Hosted P G N} (r : Result A E) → OnOk r (Happens told registry_of passes alone puts starts a Tick b) → OnErr r (CatchesUp puts starts a b) → WorksOn told registry_of passes alone puts starts takes asks remaining taken a b
+  pub serves_tick : {A E : Type 0} {a b : Hosted P G N} (r : Result A E) → OnOk r (Happens told registry_of passes alone puts refuses starts a Tick b) → OnErr r (CatchesUp puts refuses starts a b) → WorksOn told registry_of passes alone puts refuses starts takes asks remaining taken a b
   serves_tick (Ok done) f g = serves_one Ticks (inl f)
   serves_tick (Err why) f g = serves_one Ticks (inr g)

@@ -36,24 +36,24 @@ pub data Happening : Type 0 where
 
 module _ {P N G S : Type 0} (told : N → History) (registry_of : N → ℕ) (passes : G → GatedCall → G → Type 0)
     (alone : Bool) (puts : P → Conn → Envelope N → P → Type 0)
-    (starts : P → StartRequest → P → Type 0)
+    (refuses : P → Conn → Type 0) (starts : P → StartRequest → P → Type 0)
     (takes : P → ℕ → Envelope N → P → Type 0)
     (asks : S → Option (List ℕ) → Type 0)
     (remaining taken : S → Option (List ℕ)) where
   abbrev pub HasHappened : Happening → Hosted P G N → Hosted P G N → Type 0
   HasHappened (Comes challenge) before after =
       ((socket : S) × asks socket challenge × (key : ℕ)
-      × Opens told registry_of passes alone puts starts before
+      × Opens told registry_of passes alone puts refuses starts before
       (new_line (remaining socket) (taken socket)) key challenge after)
-      ⊎ MakesRoom puts starts before after
+      ⊎ MakesRoom puts refuses starts before after
   HasHappened (Unblocks key) before after =
       after ≡ with_lines before
       (unblocked_at before.carried.lines key (line_at before.carried.lines key))
   HasHappened Ticks before after =
-      Happens told registry_of passes alone puts starts before Tick after
-      ⊎ CatchesUp puts starts before after
+      Happens told registry_of passes alone puts refuses starts before Tick after
+      ⊎ CatchesUp puts refuses starts before after
   HasHappened Expires before after = LoginTimeEnds before after
-  HasHappened Turns before after = Does told registry_of passes alone puts starts takes before after
+  HasHappened Turns before after = Does told registry_of passes alone puts refuses starts takes before after
 
   -- Such things happen, one after the other, and nothing else.
   pub record WorksOn (before after : Hosted P G N) : Type 0 where
@@ -64,5 +64,5 @@ module _ {P N G S : Type 0} (told : N → History) (registry_of : N → ℕ) (pa
 abbrev pub WorksOnBy : {V N R G P S E : Type 0} → BusView V N R → Gate G → Post P V N R → Source E S →
     Sink S → Hosted P G N → Hosted P G N → Type 0
 WorksOnBy view gate post source sink before after =
-    WorksOn view.told view.registry_of gate.passes view.alone post.puts post.starts post.takes
+    WorksOn view.told view.registry_of gate.passes view.alone post.puts post.refuses post.starts post.takes
     source.asks sink.remaining sink.taken before after

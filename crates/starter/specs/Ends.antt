@@ -27,26 +27,26 @@ end_of other = None
 
 module _ {P N G : Type 0} (told : N → History) (registry_of : N → ℕ) (passes : G → GatedCall → G → Type 0)
     (alone : Bool) (puts : P → Conn → Envelope N → P → Type 0)
-    (starts : P → StartRequest → P → Type 0) where
+    (refuses : P → Conn → Type 0) (starts : P → StartRequest → P → Type 0) where
   -- The end of a start happens to the host.
   abbrev pub HasEnded : Option StartEnd → Hosted P G N → Hosted P G N → Type 0
   HasEnded None before after = after ≡ before
   HasEnded (Some end) before after =
       (boxed : Box StartEnd Global) × (boxed.value ≡ end)
-      × Happens told registry_of passes alone puts starts before (Child boxed) after
+      × Happens told registry_of passes alone puts refuses starts before (Child boxed) after
 
   -- What events before brought may have gone on; nothing else is done.
   abbrev pub MayCatchUp : Hosted P G N → Hosted P G N → Type 0
-  MayCatchUp before after = (after ≡ before) ⊎ CatchesUp puts starts before after
+  MayCatchUp before after = (after ≡ before) ⊎ CatchesUp puts refuses starts before after
 
 -- ## The same by a view, a gate and a post
 
 abbrev pub HasEndedBy : {V N R G P : Type 0} → BusView V N R → Gate G → Post P V N R →
     Option StartEnd → Hosted P G N → Hosted P G N → Type 0
 HasEndedBy view gate post end before after =
-    HasEnded view.told view.registry_of gate.passes view.alone post.puts post.starts end before after
+    HasEnded view.told view.registry_of gate.passes view.alone post.puts post.refuses post.starts end before after
 
 abbrev pub MayCatchUpBy : {V N R G P : Type 0} → BusView V N R → Gate G → Post P V N R →
     Hosted P G N → Hosted P G N → Type 0
 MayCatchUpBy view gate post before after =
-    MayCatchUp view.told view.registry_of gate.passes view.alone post.puts post.starts before after
+    MayCatchUp view.told view.registry_of gate.passes view.alone post.puts post.refuses post.starts before after

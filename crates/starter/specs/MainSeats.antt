@@ -4,7 +4,7 @@ use Rattle.seq_bus_core.specs.Histories.{History}
 use Rattle.outbox_core.specs.declared.envelope.Envelope.{Envelope}
 use Rattle.router_core.specs.declared.gate.OpenGate.{OpenGate}
 use Rattle.router_host_core.specs.declared.post.StartRequest.{StartRequest}
-use Rattle.routers.specs.Posts.{AsksFor, Receives, Sends, Ways}
+use Rattle.routers.specs.Posts.{AsksFor, IsFullFor, Receives, Sends, Ways}
 use Rattle.starter.specs.declared.programs.Programs.{Ghosts as Programs}
 use Rattle.starter.specs.Starting.{MakesSteps}
 use Rattle.starter.specs.States.{StarterState}
@@ -20,5 +20,6 @@ MakesMainSteps programs registry now before after =
     MakesSteps programs.runs programs.gives (λ note. note) (λ note. registry)
     (λ gate call same. same ≡ gate) false
     (λ ways to envelope later. Sends ways to.slot envelope later)
+    (λ ways to. IsFullFor ways to.slot)
     (λ ways start later. AsksFor ways start later)
     (λ ways slot envelope later. Receives ways slot envelope later) now before after

@@ -52,7 +52,7 @@ module _ {Q P N G : Type 0} (runs : Q → Text → ℕ → Bool → Q → Type 0
     (gives : Q → Option Event → Q → Type 0) (told : N → History) (registry_of : N → ℕ)
     (passes : G → GatedCall → G → Type 0) (alone : Bool)
     (puts : P → Conn → Envelope N → P → Type 0)
-    (starts : P → StartRequest → P → Type 0) where
+    (refuses : P → Conn → Type 0) (starts : P → StartRequest → P → Type 0) where
   -- A program is run, or can't be run, and nothing else changes. What is reported happens to the host, and nothing else changes.
   abbrev pub IsDone : Deed → StarterState Q P G N → StarterState Q P G N → Type 0
   IsDone (Run name start) before after =
@@ -60,7 +60,7 @@ module _ {Q P N G : Type 0} (runs : Q → Text → ℕ → Bool → Q → Type 0
       × IsAnswered can start before.untold after.untold
       × (after ≡ record before { untold = after.untold; programs = after.programs })
   IsDone (Report change) before after =
-      HasEnded told registry_of passes alone puts starts (end_of change) before.host after.host
+      HasEnded told registry_of passes alone puts refuses starts (end_of change) before.host after.host
       × (after ≡ record before { host = after.host })
 
   module _ (takes : P → ℕ → Envelope N → P → Type 0) (now : ℕ) where
@@ -78,14 +78,14 @@ module _ {Q P N G : Type 0} (runs : Q → Text → ℕ → Bool → Q → Type 0
     IsStep (Acts deed) before after =
         (before.due ≡ deed ∷ after.due) × IsDone deed (record before { due = after.due }) after
     IsStep GoesOn before after =
-        MayCatchUp told registry_of passes alone puts starts before.host after.host
+        MayCatchUp told registry_of passes alone puts refuses starts before.host after.host
         × (after ≡ record before { host = after.host })
     IsStep Ticks before after =
-        (Happens told registry_of passes alone puts starts before.host event.Tick after.host
-        ⊎ CatchesUp puts starts before.host after.host)
+        (Happens told registry_of passes alone puts refuses starts before.host event.Tick after.host
+        ⊎ CatchesUp puts refuses starts before.host after.host)
         × (after ≡ record before { host = after.host })
     IsStep Turns before after =
-        Does told registry_of passes alone puts starts takes before.host after.host
+        Does told registry_of passes alone puts refuses starts takes before.host after.host
         × (after ≡ record before { host = after.host })
 
     -- At this moment such steps are made, one after the other, and nothing else is done.
@@ -99,13 +99,13 @@ abbrev pub IsDoneBy : {Q V N R G P : Type 0} → Programs Q → BusView V N R �
     Deed → StarterState Q P G N → StarterState Q P G N → Type 0
 IsDoneBy programs view gate post deed before after =
     IsDone programs.runs programs.gives view.told view.registry_of gate.passes view.alone post.puts
-    post.starts deed before after
+    post.refuses post.starts deed before after
 
 abbrev pub MakesStepsBy : {Q V N R G P : Type 0} → Programs Q → BusView V N R → Gate G →
     Post P V N R → (now : ℕ) → StarterState Q P G N → StarterState Q P G N → Type 0
 MakesStepsBy programs view gate post now before after =
     MakesSteps programs.runs programs.gives view.told view.registry_of gate.passes view.alone post.puts
-    post.starts post.takes now before after
+    post.refuses post.starts post.takes now before after
 
 -- the same whatever time it is
 abbrev pub GoesAheadBy : {Q V N R G P : Type 0} → Programs Q → BusView V N R → Gate G →

@@ -21,6 +21,7 @@
 //!   many it can't be written any more; `A hangs up after N`: since the other side hung up.
 //! - `A ends`: it sends no more. `A breaks`: its socket can't be read any more.
 //! - `tick`: time passes. `late`: the time in which who connects is to have a name passes.
+//! - `refused SLOT`: tells each router that refused the client of this slot a message, and why.
 //! - `N times ROW`: the row is done so many times.
 //! - `show bytes`, `show words`: what comes from now on is told so.
 
@@ -38,7 +39,7 @@ use anyhow::{Context, Result, bail};
 use bus_view::BusView;
 use router::{Engine, Login};
 use router_core::Gate;
-use router_host::{Ended, Host, Post};
+use router_host::{Ended, Host, Post, Refusal};
 use std::alloc::{AllocError, Global};
 use std::cell::RefCell;
 use std::rc::Rc;
@@ -145,6 +146,7 @@ impl<V: BusView, G: Gate, P: Post<V>> Scene<V, G, P> {
         for _time in 0..count.parse::<u32>()? {
             self.act(right, row, &mut journal)?;
             self.findings.tell(&mut journal)?;
+            self.check_refusals()?;
             for client in self.clients.iter_mut() {
                 client.tell(self.shows_bytes, &mut journal)?;
             }
@@ -164,6 +166,7 @@ impl<V: BusView, G: Gate, P: Post<V>> Scene<V, G, P> {
             "crowd" => self.crowd(right, words, journal),
             "tick" => self.tick(right),
             "late" => self.end_login_time(right),
+            "refused" => self.tell_refused(words, journal),
             "show" => {
                 self.shows_bytes = words.next() == "bytes";
                 Ok(())
@@ -377,6 +380,31 @@ impl<V: BusView, G: Gate, P: Post<V>> Scene<V, G, P> {
             }
         }
         self.drive(right)
+    }
+
+    /// Tells which routers refused the client of a slot a message, and why.
+    fn tell_refused(&self, mut words: Words<'_>, journal: &mut Journal) -> Result<()> {
+        let slot = u16::try_from(words.number())?;
+        for (router, host) in self.hosts.iter().enumerate() {
+            if let Some(refusal) = host.refusal(slot) {
+                journal.begin("")?;
+                write!(journal.text, "{} {refusal:?}", router.saturating_add(1))?;
+            }
+        }
+        Ok(())
+    }
+
+    /// Nobody is refused a message but for want of room.
+    fn check_refusals(&self) -> Result<()> {
+        for host in self.hosts.iter() {
+            for slot in 0..PLACES {
+                let slot = u16::try_from(slot)?;
+                if host.refusal(slot) == Some(Refusal::NoMemory) {
+                    bail!("a message is refused for want of memory");
+                }
+            }
+        }
+        Ok(())
     }
 
     /// The routers take turns until none has anything left to do, and once more, for the mail that

@@ -8,7 +8,7 @@ use Rattle.router_host_core.proofs.carrier.Carrier.carry_out.Given as goal
 
 abbrev pub invariant-loop-action : goal.invariant-loop-action
 invariant-loop-action g l =
-    SoFar (IsCarriedOut g.P.Post.puts g.P.Post.starts) (reverse l.actions.items) (reverse l.fn.actions.items) l.self l.fn.self
+    SoFar (IsCarriedOut g.P.Post.puts g.P.Post.refuses g.P.Post.starts) (reverse l.actions.items) (reverse l.fn.actions.items) l.self l.fn.self
     × (AllByRecursion (CarriesOwn g.V.BusView.registry_of (g.P.Post.registry l.fn.self.post)) (reverse l.actions.items))
     × (g.P.Post.registry l.self.post ≡ g.P.Post.registry l.fn.self.post)
 

@@ -1,6 +1,9 @@
-use Rattle.std.proofs.Common.{◌∙◌}
+use Rattle.std.proofs.Common.{refl, ◌∙◌}
 use Rattle.routers.proofs.Servings.{serves_same, serves_then}
 use Rattle.routers.proofs.router_loop.Router.run.Goals as goal
+
+pub loop-init : goal.loop-init
+loop-init g c = serves_same refl
 
 pub returns-then-take_events : goal.returns-then-take_events
 returns-then-take_events g c = record { serves = serves_then c.loop.invariant (rw (c.rest.ensures.same) at c.take_events.ensures.serves) }
