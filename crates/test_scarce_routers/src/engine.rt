@@ -42,7 +42,7 @@ pub fn serve(alloc: Global) -> Served {
         in_turn: come && turns::are_served(&mut engine, alloc) == Some(true),
         leaving: come && leaving::are_gone(&mut engine, alloc) == Some(true),
         login: come && logins::is_let_in(&mut engine, alloc) == Some(true),
-        still: come && leaving::is_still_over_all(&mut engine) == Some(true),
+        still: come && leaving::is_still_over_all(&mut engine, alloc) == Some(true),
     };
     drop(engine);
     served
@@ -50,16 +50,24 @@ pub fn serve(alloc: Global) -> Served {
 
 /// A connection comes, and has its name.
 pub fn say_hello(engine: &mut Plain, alloc: Global) -> Option<()> {
-    if engine.free_key() != 0 {
+    open_named(engine, alloc, 0)
+}
+
+/// A connection comes with the next key, which this is, and has its name, though it says Hello once
+/// more where there was no memory for it.
+pub fn open_named(engine: &mut Plain, alloc: Global, key: usize) -> Option<()> {
+    if engine.free_key() != key {
         return None;
     }
     let opened = Event::Opened {
-        key: 0,
+        key,
         challenge: None,
     };
     happens(engine, opened)?;
-    sends(engine, alloc, HELLO)?;
-    has_name(engine, alloc, 1)?;
+    sends_at(engine, alloc, key, HELLO)?;
+    if engine.number_of(key).is_none() {
+        sends_at(engine, alloc, key, HELLO)?;
+    }
     Some(())
 }
 
@@ -146,19 +154,30 @@ pub fn happens(engine: &mut Plain, event: Event<()>) -> Option<()>
 
 /// A message comes and is served, whatever is done for it.
 pub fn sends(engine: &mut Plain, alloc: Global, sent: &[u8]) -> Option<()> {
-    let actions = send(engine, alloc, sent);
-    let is_served = actions.is_some();
-    drop(actions);
-    is_served.then_some(())
+    sends_at(engine, alloc, 0, sent)
+}
+
+/// A message of the connection of a key comes and is served, whatever is done for it.
+fn sends_at(engine: &mut Plain, alloc: Global, key: usize, sent: &[u8]) -> Option<()> {
+    let fed = feed_at(engine, alloc, key, sent);
+    let has_come = fed.is_some();
+    drop(fed);
+    has_come.then_some(())?;
+    happens(engine, Event::Next { key })
 }
 
 /// What bytes bring that come.
 pub fn feed(engine: &mut Plain, alloc: Global, sent: &[u8]) -> Option<Vec<Action<()>>> {
+    feed_at(engine, alloc, 0, sent)
+}
+
+/// What bytes bring that come for the connection of a key.
+fn feed_at(engine: &mut Plain, alloc: Global, key: usize, sent: &[u8]) -> Option<Vec<Action<()>>> {
     let piece = match Vec::from_slice(alloc, sent) {
         Ok(piece) => piece,
         Err(_) => Vec::from_slice(alloc, sent).ok()?,
     };
-    brought(engine, Event::Bytes { key: 0, piece })
+    brought(engine, Event::Bytes { key, piece })
 }
 
 /// Bytes come, whatever they bring.

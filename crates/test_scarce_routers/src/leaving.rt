@@ -1,6 +1,6 @@
 //! Connections that are put out or gone, where there may be no memory for their Leaves.
 
-use crate::engine::{Plain, brought, happens, say_hello, tried};
+use crate::engine::{Plain, brought, happens, open_named, say_hello, tried};
 use router_core::{Action, CloseCause, Event};
 use seq_bus_core::limits::MAX_CONNECTIONS;
 use std::alloc::Global;
@@ -19,20 +19,17 @@ pub fn are_gone(engine: &mut Plain, alloc: Global) -> Option<bool> {
     Some(is_put_out && is_still && first_is_gone && has_come && second_is_gone)
 }
 
-/// Whether a tick takes no memory over as many connections as there may be, which do nothing, once
-/// there was one.
-pub fn is_still_over_all(engine: &mut Plain) -> Option<bool> {
-    for _ in 0..MAX_CONNECTIONS {
-        let opened = Event::Opened {
-            key: engine.free_key(),
-            challenge: None,
-        };
-        let actions = brought(engine, opened)?;
-        engine.give_back(actions);
+/// Whether a tick takes no memory over as many connections as there may be, which have their names
+/// and do nothing, once there was one. One is there already.
+pub fn is_still_over_all(engine: &mut Plain, alloc: Global) -> Option<bool> {
+    let mut last = 0;
+    for _ in 1..MAX_CONNECTIONS {
+        last = engine.free_key();
+        open_named(engine, alloc, last)?;
     }
     let actions = brought(engine, Event::Tick)?;
     engine.give_back(actions);
-    Some(is_still(engine))
+    Some(engine.number_of(last).is_some() && is_still(engine))
 }
 
 /// Whether the last that a tick does is to close the client, which has left; before that its Leave
