@@ -38,5 +38,5 @@ mod turn;
 pub use host::Host;
 pub use opening::OpenFault;
 pub use router_host_core::{
-    EndCause, Ended, Post, Refusal, Socket, StartRequest, TooManyStarts, Unsent, Written,
+    EndCause, Ended, NoRoom, Post, Refusal, Socket, StartRequest, TooManyStarts, Written,
 };

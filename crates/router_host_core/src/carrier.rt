@@ -9,7 +9,7 @@ ghost use Rattle.router_host_core.specs.States.{idle};
 
 use crate::ending::EndCause;
 use crate::lines::Lines;
-use crate::post::{Post, StartRequest, TooManyStarts};
+use crate::post::{NoRoom, Post, StartRequest, TooManyStarts};
 use crate::put_out::{PutOut, Refusal};
 use crate::slots::Slots;
 use crate::socket::Socket;
@@ -178,7 +178,7 @@ impl<V: BusView, P: Post<V>, S: Socket> Carrier<V, P, S> {
         };
         match self.post.put(right, to, envelope) {
             Ok(()) => self.slots.note_own(to.slot),
-            Err(_full) => self.put_out.add(to, Refusal::NoRoom),
+            Err(NoRoom) => self.put_out.add(to, Refusal::NoRoom),
         }
     }
 }

@@ -48,7 +48,7 @@ pub use ending::{EndCause, Ended};
 pub use hints::Todo;
 pub use line::Pulled;
 pub use lines::Lines;
-pub use post::{Post, StartRequest, TooManyStarts, Unsent};
+pub use post::{NoRoom, Post, StartRequest, TooManyStarts};
 pub use put_out::{PutOut, Refusal, SLOTS};
 pub use slots::Slots;
 pub use socket::Socket;

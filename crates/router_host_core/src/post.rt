@@ -1,6 +1,6 @@
 //! The ways between routers.
 
-ghost use Rattle.std.specs.Prelude.{◌≡◌, IfErr, IfSome, IfNone, OnOk, OnErr};
+ghost use Rattle.std.specs.Prelude.{◌≡◌, IfSome, IfNone, OnOk, OnErr};
 ghost use Rattle.router_core.specs.Deeds.{IsOwnNote};
 
 use bus_view::BusView;
@@ -8,9 +8,9 @@ use names::BusName;
 use outbox_core::Envelope;
 use seq_bus_core::Conn;
 
-/// An envelope that there was no room for.
-#[derive(Drop)]
-pub struct Unsent<N: Drop>(pub Envelope<N>);
+/// There is no room for one more envelope for a connection.
+#[derive(Clone, Copy, Debug, PartialEq, Eq)]
+pub struct NoRoom;
 
 /// That the program of a service is to be run.
 #[derive(Clone, Copy, Debug, PartialEq, Eq)]
@@ -51,20 +51,14 @@ pub trait Post<V: BusView>: Drop {
     /// When it may have no envelope for a slot of this router.
     ghost lacks: { Self → ℕ → Type 0 };
 
-    /// Puts an envelope for a connection of whatever router. Where there is no room for it, it
-    /// comes back.
-    fn put(
-        &mut self,
-        right: &V::Right,
-        to: Conn,
-        envelope: Envelope<V::Note>,
-    ) -> Result<(), Unsent<V::Note>>
+    /// Puts an envelope for a connection of whatever router. Where there is no room for it, nothing
+    /// happens.
+    fn put(&mut self, right: &V::Right, to: Conn, envelope: Envelope<V::Note>) -> Result<(), NoRoom>
         requires { IsOwnNote V.registry_of (registry self.old) envelope.note }
         ensures registry { registry self.new ≡ registry self.old }
         ensures put { OnOk result (puts self.old to envelope self.new) }
         ensures refused { OnErr result (self.new ≡ self.old) }
-        ensures full { OnErr result (refuses self.old to) }
-        ensures back { IfErr result (λ unsent. unsent.0 ≡ envelope) };
+        ensures full { OnErr result (refuses self.old to) };
 
     /// The program of a service is to be run. Where there is no room to tell of it, nothing
     /// happens: it is to be asked for again.
@@ -82,8 +76,8 @@ pub trait Post<V: BusView>: Drop {
         ensures none { IfNone result (self.new ≡ self.old) }
         ensures empty { IfNone result (lacks self.old slot) };
 
-    /// An event is about to be served: it may change the bus, and what comes of that is not put
-    /// yet.
+    /// An event is about to be served that may change the bus, and what comes of that is not put
+    /// yet. Of one that can't, the post hears only that it was served.
     fn event_begins(&mut self)
         ensures { self.new ≡ self.old };
 

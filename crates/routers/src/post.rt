@@ -1,6 +1,6 @@
 //! The ways between the routers of one process.
 
-ghost use Rattle.std.specs.Prelude.{◌≡◌, ◌+◌, ◌-◌, ◌*◌, ◌^◌, ◌<◌, true, length, map, min, IfErr, IfNone, IfOk, IfSome, OnOk, OnErr};
+ghost use Rattle.std.specs.Prelude.{◌≡◌, ◌+◌, ◌-◌, ◌*◌, ◌^◌, ◌<◌, true, length, map, min, IfNone, IfOk, IfSome, OnOk, OnErr};
 ghost use Rattle.routers.specs.Posts.{AsksFor, IsFullFor, IsOwn, Sends, Waited, new_slot_mail, places_of};
 
 use crate::coordinator::{Coordinator, Wake};
@@ -9,7 +9,7 @@ use outbox::{EnvelopeOf, Full, Lane, Tap};
 use outbox_core::{BusMessage, Content};
 use registry_snapshots::{Desk, Naming, Note};
 use router::Traced;
-use router_host::{Post, StartRequest, TooManyStarts, Unsent};
+use router_host::{NoRoom, Post, StartRequest, TooManyStarts};
 use seq_bus_core::Conn;
 use std::alloc::{AllocError, Global};
 use std::marker::Model;
@@ -219,39 +219,37 @@ impl<'a, J: Naming, W: Wake + Drop> LanePost<'a, J, W> {
         slot: usize,
         place: usize,
         envelope: EnvelopeOf<J>,
-    ) -> Result<(), Unsent<Note<J>>>
+    ) -> Result<(), NoRoom>
         requires { (slot ≡ self.old.first + place) × (place < length self.old.places) }
         ensures put { OnOk result (Sends self.old slot envelope self.new) }
         ensures refused { OnErr result (self.new ≡ self.old) }
         ensures full { OnErr result (IsFullFor self.old slot) }
-        ensures back { IfErr result (λ unsent. unsent.0 ≡ envelope) }
     {
         let waiting = self.waiting(right, slot);
         match self.places[place].put(envelope, waiting, self.events) {
             Ok(()) => Ok(()),
-            Err(Full(back)) => Err(Unsent(back)),
+            Err(Full(_envelope)) => Err(NoRoom),
         }
     }
 
     /// Puts an envelope into the outbox of a slot of another router, and tells that one. It is
-    /// handed back only where that was full at some moment.
+    /// refused only where that was full at some moment.
     fn put_away<R: Wait>(
         &mut self,
         right: &R,
         slot: usize,
         envelope: EnvelopeOf<J>,
-    ) -> Result<(), Unsent<Note<J>>>
+    ) -> Result<(), NoRoom>
         requires { IsOwn self.old slot → ⊥ }
         ensures put { OnOk result (Sends self.old slot envelope self.new) }
         ensures refused { OnErr result (self.new ≡ self.old) }
         ensures full { OnErr result (IsFullFor self.old slot) }
-        ensures back { IfErr result (λ unsent. unsent.0 ≡ envelope) }
     {
         if slot >= self.lane.slots() {
-            return Err(Unsent(envelope));
+            return Err(NoRoom);
         }
-        if let Err(Full(back)) = self.lane.put(right, slot, envelope) {
-            return Err(Unsent(back));
+        if let Err(Full(_envelope)) = self.lane.put(right, slot, envelope) {
+            return Err(NoRoom);
         }
         self.coordinator.tell_of_mail(slot);
         Ok(())
@@ -354,11 +352,10 @@ impl<'a, 'b, J: Naming, W: Wake + Drop, R: Wait> Post<Traced<Desk<'b, J, R>>>
 
     ghost lacks = { λ before slot. HasNoneFor before slot };
 
-    fn put(&mut self, right: &R, to: Conn, envelope: EnvelopeOf<J>) -> Result<(), Unsent<Note<J>>>
+    fn put(&mut self, right: &R, to: Conn, envelope: EnvelopeOf<J>) -> Result<(), NoRoom>
         ensures put { OnOk result (Sends self.old to.slot envelope self.new) }
         ensures refused { OnErr result (self.new ≡ self.old) }
         ensures full { OnErr result (IsFullFor self.old to.slot) }
-        ensures back { IfErr result (λ unsent. unsent.0 ≡ envelope) }
     {
         self.await_earlier(right, &envelope);
         let slot = usize::from(to.slot);

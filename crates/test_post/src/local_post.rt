@@ -1,10 +1,10 @@
 //! Mail in memory.
 
-ghost use Rattle.std.specs.Prelude.{◌≡◌, ◌∷◌, ◌++◌, [], IfErr, IfNone, IfSome, OnErr, OnOk};
+ghost use Rattle.std.specs.Prelude.{◌≡◌, ◌∷◌, ◌++◌, [], IfNone, IfSome, OnErr, OnOk};
 ghost use Rattle.test_post.specs.LocalMail.{IsEmptyAt, Puts, Takes};
 
 use outbox_core::Envelope;
-use router_host_core::{Post, SLOTS, StartRequest, TooManyStarts, Unsent};
+use router_host_core::{NoRoom, Post, SLOTS, StartRequest, TooManyStarts};
 use seq_bus::SeqBus;
 use seq_bus_core::Conn;
 use std::alloc::{AllocError, Global};
@@ -30,17 +30,16 @@ impl Model for Mail {
 }
 
 impl Mail {
-    fn put(&mut self, envelope: Envelope<()>) -> Result<(), Unsent<()>>
+    fn put(&mut self, envelope: Envelope<()>) -> Result<(), NoRoom>
         ensures put { OnOk result (self.new ≡ self.old ++ envelope ∷ []) }
         ensures refused { OnErr result (self.new ≡ self.old) }
-        ensures back { IfErr result (λ unsent. unsent.0 ≡ envelope) }
     {
         if self.envelopes.len() >= MOST {
-            return Err(Unsent(envelope));
+            return Err(NoRoom);
         }
         match self.envelopes.push_back(envelope) {
             Ok(()) => Ok(()),
-            Err(failed) => Err(Unsent(failed.value)),
+            Err(_failed) => Err(NoRoom),
         }
     }
 
@@ -115,14 +114,13 @@ impl Post<SeqBus> for LocalPost {
 
     ghost lacks = { λ before slot. IsEmptyAt before slot };
 
-    fn put(&mut self, _right: &(), to: Conn, envelope: Envelope<()>) -> Result<(), Unsent<()>>
+    fn put(&mut self, _right: &(), to: Conn, envelope: Envelope<()>) -> Result<(), NoRoom>
         ensures put { OnOk result (Puts self.old to.slot envelope self.new) }
         ensures refused { OnErr result (self.new ≡ self.old) }
-        ensures back { IfErr result (λ unsent. unsent.0 ≡ envelope) }
     {
         let slot = usize::from(to.slot);
         if slot >= self.mails.len() {
-            return Err(Unsent(envelope));
+            return Err(NoRoom);
         }
         self.mails[slot].put(envelope)
     }

@@ -10,10 +10,6 @@ returns-in-Err-clause-refused g c =
     let same = at_slot c.self.inside.lane c.args.slot (search rules) (λ e is. (c.in-Err.ensures.rule e is).1) in
     (λ i. record ways { lane = same i }) ∙ c.self.view_is
 
-pub returns-in-Err-clause-back : goal.returns-in-Err-clause-back
-returns-in-Err-clause-back g c =
-    at_slot c.self.inside.lane c.args.slot (search rules) (λ e is. (c.in-Err.ensures.rule e is).0)
-
 pub returns-clause-put : goal.returns-clause-put
 returns-clause-put g c =
     let ways : Ways _ _ = record { lane = c.self.inside.lane; places = c.self.inside.places.items; first = c.self.inside.first; starts = c.self.inside.starts } in
