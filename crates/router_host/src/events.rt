@@ -38,13 +38,16 @@ impl<V: BusView, G: Gate, P: Post<V>, S: Socket> Host<V, G, P, S> {
         Err(AllocError)
     }
 
-    /// Carries out what events brought that is not carried out yet, before one more is served.
-    fn begin_event(&mut self, right: &V::Right) -> Result<(), AllocError>
+    /// Carries out what events brought that is not carried out yet, before one more is served. The
+    /// post hears of one that may change the bus.
+    fn begin_event(&mut self, right: &V::Right, event: &Event<V::Note>) -> Result<(), AllocError>
         ensures catches_up { CatchesUp P.puts P.refuses P.starts self.old self.new }
         ensures ok { OnOk result (self.new.undone ≡ []) }
     {
         self.catch_up(right)?;
-        self.note_event();
+        if may_change(event) {
+            self.note_event();
+        }
         Ok(())
     }
 
@@ -107,7 +110,7 @@ impl<V: BusView, G: Gate, P: Post<V>, S: Socket> Host<V, G, P, S> {
         ensures err { OnErr result (CatchesUp P.puts P.refuses P.starts self.old self.new) }
         ensures handed_back { OnErr result (event.new ≡ event.old) }
     {
-        self.begin_event(right)?;
+        self.begin_event(right, event)?;
         let actions = self.engine.event(right, event)?;
         self.carry_out(right, actions);
         Ok(())
@@ -159,6 +162,14 @@ fn front(alloc: Global, bytes: &[u8], count: usize) -> Result<Vec<u8>, AllocErro
     ensures { IfOk result (λ piece. piece.items ≡ take count bytes.now) }
 {
     Vec::from_slice(alloc, &bytes[..count])
+}
+
+/// Whether an event may change the bus. Who comes, bytes and mail never do.
+fn may_change<N: Drop>(event: &Event<N>) -> bool {
+    !matches!(
+        event,
+        Event::Opened { .. } | Event::Bytes { .. } | Event::Mail { .. }
+    )
 }
 
 /// Whether an event that brought these actions seems to have added or removed rules: it was
