@@ -33,15 +33,15 @@ use Rattle.router_core.specs.Incoming.{Incoming, Waits, Whole, Faulty}
 use Rattle.router_core.specs.OneThread.{Rest}
 use Rattle.router_core.proofs.Alone.{Readers, Course, alone, effect, rest_of}
 use Rattle.router_core.specs.Scripts.{Script, Gives, Changing, ChangingAll, Asking, Routing, AskingPresence, Noting, Framing, Calling, Gating, Wanting, Requiring, Doing, Announcing, and_then, putting}
-use Rattle.router_core.specs.Serving.{monitors_in, replying, serving}
+use Rattle.router_core.specs.Serving.{OfFate, monitors_in, replying, serving}
 use Rattle.router_core.specs.Standing.{Stage, Authenticating, Unnamed, Named, Closing, Peer, Standing, SpeaksDBus, peer_at, with_peer, closing_peer, next_serial, has_slot, is_conn}
 
 -- ## Scripts one after the other
 
-after_same : {X Y : Type 0} (s : Script X) (f g : X → Script Y) → ((x : X) → f x ≡ g x) → and_then s f ≡ and_then s g
+pub after_same : {X Y : Type 0} (s : Script X) (f g : X → Script Y) → ((x : X) → f x ≡ g x) → and_then s f ≡ and_then s g
 after_same {X = X} {Y = Y} s f g same = ap (λ (h : X → Script Y). and_then s h) (λ i. λ x. same x i)
 
-and_then_assoc : {X Y Z : Type 0} (s : Script X) (f : X → Script Y) (g : Y → Script Z) → and_then (and_then s f) g ≡ and_then s (λ x. and_then (f x) g)
+pub and_then_assoc : {X Y Z : Type 0} (s : Script X) (f : X → Script Y) (g : Y → Script Z) → and_then (and_then s f) g ≡ and_then s (λ x. and_then (f x) g)
 and_then_assoc (Gives x) f g = refl
 and_then_assoc (Changing change goes_on) f g = λ i. Changing change (λ heard. and_then_assoc (goes_on heard) f g i)
 and_then_assoc (ChangingAll changes goes_on) f g = λ i. ChangingAll changes (λ heard. and_then_assoc (goes_on heard) f g i)
@@ -81,7 +81,7 @@ module _ (readers : Readers) {X Y : Type 0} (f : X → Y) where
 -- ## A list with one element changed
 
 module _ {A : Type 0} (d : A) (f : A → A) (of_default : f d ≡ d) where
-  abbrev changed : List A → ℕ → List A
+  abbrev pub changed : List A → ℕ → List A
   changed xs k = set xs k (f (get_or xs k d))
 
   set_changed : (xs : List A) (k : ℕ) (y : A) → changed (set xs k y) k ≡ set xs k (f y)
@@ -94,7 +94,7 @@ module _ {A : Type 0} (d : A) (f : A → A) (of_default : f d ≡ d) where
   changed_set (x ∷ xs) zero y = refl
   changed_set (x ∷ xs) (suc k) y = ap (λ (l : List A). x ∷ l) (changed_set xs k y)
 
-  set_apart : (xs : List A) (k j : ℕ) (y : A) → (j ≡ k → ⊥) → set (changed xs k) j y ≡ changed (set xs j y) k
+  pub set_apart : (xs : List A) (k j : ℕ) (y : A) → (j ≡ k → ⊥) → set (changed xs k) j y ≡ changed (set xs j y) k
   set_apart [] k j y apart = refl
   set_apart (x ∷ xs) zero zero y apart = absurd (apart refl)
   set_apart (x ∷ xs) zero (suc j) y apart = refl
@@ -139,19 +139,19 @@ module _ (piece : List ℕ) (key : ℕ) where
   abbrev as_standing : Standing → List (Option Peer) → Standing
   as_standing s peers = record s { peers = peers }
 
-  more_of_set : (s : Standing) (o : Option Peer) → with_more (with_peer s key o) ≡ with_peer s key (more_if o)
+  pub more_of_set : (s : Standing) (o : Option Peer) → with_more (with_peer s key o) ≡ with_peer s key (more_if o)
   more_of_set s o = ap (as_standing s) (set_changed None more_if refl s.peers key o)
 
-  set_of_more : (s : Standing) (o : Option Peer) → with_peer (with_more s) key o ≡ with_peer s key o
+  pub set_of_more : (s : Standing) (o : Option Peer) → with_peer (with_more s) key o ≡ with_peer s key o
   set_of_more s o = ap (as_standing s) (changed_set None more_if refl s.peers key o)
 
-  more_apart : (s : Standing) (k : ℕ) (o : Option Peer) → (k ≡ key → ⊥) → with_peer (with_more s) k o ≡ with_more (with_peer s k o)
+  pub more_apart : (s : Standing) (k : ℕ) (o : Option Peer) → (k ≡ key → ⊥) → with_peer (with_more s) k o ≡ with_more (with_peer s k o)
   more_apart s k o apart = ap (as_standing s) (set_apart None more_if refl s.peers key k o apart)
 
   pub peer_with_more : (s : Standing) → peer_at (with_more s) key ≡ more_if (peer_at s key)
   peer_with_more s = get_changed None more_if refl s.peers key
 
-  peer_apart : (s : Standing) (k : ℕ) → (k ≡ key → ⊥) → peer_at (with_more s) k ≡ peer_at s k
+  pub peer_apart : (s : Standing) (k : ℕ) → (k ≡ key → ⊥) → peer_at (with_more s) k ≡ peer_at s k
   peer_apart s k apart = get_apart None more_if refl s.peers key k apart
 
   slot_same : (slot : ℕ) (o : Option Peer) → has_slot slot (more_if o) ≡ has_slot slot o
@@ -174,7 +174,7 @@ module _ (piece : List ℕ) (key : ℕ) where
       by_stage (Named conn) = refl
       by_stage (Closing conn) = refl
 
-  stage_same : (p : Peer) (stage : Stage) → (with_bytes piece p stage).stage ≡ p.stage
+  pub stage_same : (p : Peer) (stage : Stage) → (with_bytes piece p stage).stage ≡ p.stage
   stage_same p (Authenticating setting state) = refl
   stage_same p (Unnamed privileged) = refl
   stage_same p (Named conn) = refl
@@ -198,7 +198,7 @@ module _ (piece : List ℕ) (key : ℕ) where
   abbrev pub Natural : (Peer → OfPeer) → Type 0
   Natural w = (p : Peer) → w (more p) ≡ seen_as more (w p)
 
-  closing_natural : (k : ℕ) (why : CloseCause) → Natural (closing k why)
+  pub closing_natural : (k : ℕ) (why : CloseCause) → Natural (closing k why)
   closing_natural k why p = ap (λ (q : Peer). Doing (Closes k why) (Gives q)) (closing_same p p.stage)
 
   abbrev watching : Peer → Peer
@@ -266,14 +266,14 @@ module _ (piece : List ℕ) (key : ℕ) where
   turn_away_natural : (k : ℕ) (m : Message) → Natural (dismissal k m)
   turn_away_natural k m = then_natural (refusing_hello k m LimitsExceeded) (closing k cause.LimitsExceeded) (refuse_with_natural k m LimitsExceeded) (closing_natural k cause.LimitsExceeded)
 
-  serve_natural : (k : ℕ) (m : Message) (conn : Conn) → Natural (λ p. and_then (serving m conn) (λ fate. after_serving k fate p))
-  serve_natural k m conn p =
-      after_same (serving m conn) (λ fate. after_serving k fate (more p)) (λ fate. seen_as more (after_serving k fate p)) (λ fate. fated_natural k fate p)
-      ∙ sym (and_then_assoc (serving m conn) (λ fate. after_serving k fate p) (λ q. Gives (more q)))
+  pub work_natural : (k : ℕ) (work : OfFate) → Natural (λ p. and_then work (λ fate. after_serving k fate p))
+  work_natural k work p =
+      after_same work (λ fate. after_serving k fate (more p)) (λ fate. seen_as more (after_serving k fate p)) (λ fate. fated_natural k fate p)
+      ∙ sym (and_then_assoc work (λ fate. after_serving k fate p) (λ q. Gives (more q)))
 
   -- ## What is done for the connection of a key among all
 
-  here : (s : Standing) (w : Peer → OfPeer) → Natural w → (o : Option Peer) → for_peer (with_more s) key (more_if o) w ≡ seen_as with_more (for_peer s key o w)
+  pub here : (s : Standing) (w : Peer → OfPeer) → Natural w → (o : Option Peer) → for_peer (with_more s) key (more_if o) w ≡ seen_as with_more (for_peer s key o w)
   here s w natural None = ap (λ (t : Standing). Gives t) (set_of_more s None ∙ sym (more_of_set s None))
   here s w natural (Some p) =
       and_then_assoc (w (more p)) (λ q. Gives (Some q)) (λ q. Gives (with_peer (with_more s) key q))
@@ -284,7 +284,7 @@ module _ (piece : List ℕ) (key : ℕ) where
       ∙ sym (and_then_assoc (w p) (λ q. Gives (with_peer s key (Some q))) (λ t. Gives (with_more t)))
       ∙ ap (λ (x : Stands). seen_as with_more x) (sym (and_then_assoc (w p) (λ q. Gives (Some q)) (λ q. Gives (with_peer s key q))))
 
-  there : (s : Standing) (k : ℕ) → (k ≡ key → ⊥) → (w : Peer → OfPeer) (o : Option Peer) → for_peer (with_more s) k o w ≡ seen_as with_more (for_peer s k o w)
+  pub there : (s : Standing) (k : ℕ) → (k ≡ key → ⊥) → (w : Peer → OfPeer) (o : Option Peer) → for_peer (with_more s) k o w ≡ seen_as with_more (for_peer s k o w)
   there s k apart w o =
       after_same (for_entry o w) (λ q. Gives (with_peer (with_more s) k q)) (λ q. Gives (with_more (with_peer s k q))) (λ q. ap (λ (t : Standing). Gives t) (more_apart s k q apart))
       ∙ sym (and_then_assoc (for_entry o w) (λ q. Gives (with_peer s k q)) (λ t. Gives (with_more t)))
@@ -313,7 +313,7 @@ module _ (piece : List ℕ) (key : ℕ) where
   close_found_more s None = refl
   close_found_more s (Some k) = at_key s k (λ p. closing k cause.Left p) (closing_natural k cause.Left) (cases_eq k key)
 
-  close_former_more : (s : Standing) (conn : Conn) → closing_former (with_more s) conn ≡ seen_as with_more (closing_former s conn)
+  pub close_former_more : (s : Standing) (conn : Conn) → closing_former (with_more s) conn ≡ seen_as with_more (closing_former s conn)
   close_former_more s conn =
       ap (λ (found : Option ℕ). closing_if_found (with_more s) found) (position_changed None more_if refl (has_slot conn.slot) (slot_same conn.slot) s.peers key)
       ∙ close_found_more s (position (has_slot conn.slot) s.peers)
@@ -372,7 +372,7 @@ module _ (piece : List ℕ) (key : ℕ) where
 
   -- ## The next message
 
-  watches_same : (p : Peer) (stage : Stage) → (with_bytes piece p stage).watches ≡ p.watches
+  pub watches_same : (p : Peer) (stage : Stage) → (with_bytes piece p stage).watches ≡ p.watches
   watches_same p (Authenticating setting state) = refl
   watches_same p (Unnamed privileged) = refl
   watches_same p (Named conn) = refl
@@ -380,7 +380,7 @@ module _ (piece : List ℕ) (key : ℕ) where
 
   named_serve : (s : Standing) (m : Message) (p : Peer) (conn : Conn) (watches : Bool) → serving_named (with_more s) key m (more p) conn watches ≡ seen_as with_more (serving_named s key m p conn watches)
   named_serve s m p conn true = here s (closing key cause.MonitorSent) (closing_natural key cause.MonitorSent) (Some p)
-  named_serve s m p conn false = here s (λ q. and_then (serving m conn) (λ fate. after_serving key fate q)) (serve_natural key m conn) (Some p)
+  named_serve s m p conn false = here s (λ q. and_then (serving m conn) (λ fate. after_serving key fate q)) (work_natural key (serving m conn)) (Some p)
 
   pub serve_more : (s : Standing) (m : Message) (p : Peer) (stage : Stage) → p.stage ≡ stage → serving_at (with_more s) key m (more p) stage ≡ seen_as with_more (serving_at s key m p stage)
   serve_more s m p (Authenticating setting state) is = refl

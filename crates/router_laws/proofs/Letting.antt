@@ -237,7 +237,7 @@ hearing_goes_on unknown s t key piece text sent p setting state asked deeds is s
 
 -- ## Others
 
-other_key : (key other : ℕ) → eqb other key ≡ false → key ≢ other
+pub other_key : (key other : ℕ) → eqb other key ≡ false → key ≢ other
 other_key key other not =
     elim (eqb_tells other key) [
       | inl h ↦ absurd (true≢false (sym h.0 ∙ not))
@@ -249,7 +249,7 @@ ahead_at : (s t : Standing) (occasion : Occasion) (key : ℕ) (asked : List Exch
 ahead_at s t occasion key asked deeds goes h = let a = of_result (Ahead s) (script s occasion) asked deeds t goes h in (a.login, a.each key)
 
 -- It goes on, if at all.
-other_passes : (s t : Standing) (occasion : Occasion) (key : ℕ) (asked : List Exchange) (deeds : List Deed) → is_of key occasion ≡ false → Goes (script s occasion) asked deeds t →
+pub other_passes : (s t : Standing) (occasion : Occasion) (key : ℕ) (asked : List Exchange) (deeds : List Deed) → is_of key occasion ≡ false → Goes (script s occasion) asked deeds t →
     (t.login ≡ s.login) × PassesAt (peer_at s key) (peer_at t key)
 other_passes s t (Opened other challenge) key asked deeds not goes =
     let new = newcomer (first_stage s.login challenge) in

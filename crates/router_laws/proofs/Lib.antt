@@ -7,6 +7,11 @@ pub mod Courses
 pub mod Counting
 pub mod Agreeing
 pub mod Joining
+pub mod Following
+pub mod Moving
+pub mod Leaving
+pub mod Enough
+pub mod Omitting
 pub mod Recutting
 pub mod Cutting
 pub mod AtOnce

@@ -1,51 +1,36 @@
 -- However bytes are cut, the same comes of them.
-use Rattle.std.proofs.Common.{◌≡◌, ◌≢◌, ℕ, true, Option, Some, None, List, [], ◌∷◌, ◌++◌, refl, sym, ap, ◌∙◌, subst, append_assoc, append-nil}
+use Rattle.std.proofs.Common.{◌≡◌, ℕ, true, false, Option, Some, None, List, [], ◌∷◌, ◌++◌, refl, sym, ap, ◌∙◌, subst, append_assoc, append-nil}
 use Rattle.std.specs.Prelude.{IfSome}
 use Rattle.sasl.specs.declared.phase.Phase.{Phase}
 use Rattle.sasl.specs.declared.phase.Phase.TheVariants.{WaitingForNul, WaitingForAuth, WaitingForData, WaitingForBegin, Done, Closed}
 use Rattle.sasl.specs.Settings.{Setting}
 use Rattle.sasl.specs.Hearing.{Conversed, conversed}
-use Rattle.message_core.specs.Said.{said as message_said}
 use Rattle.bus_view.specs.Views.{Knowledge}
-use Rattle.router_core.specs.Acts.{Exchange, Framed, Wanted, Goes, IsGranted, IsLawful, IsServedBy}
+use Rattle.router_core.specs.Acts.{Exchange, Wanted, Goes, IsGranted, IsLawful, IsServedBy}
 use Rattle.router_core.specs.Deeds.{Deed}
-use Rattle.router_core.specs.Events.{Occasion, Bytes, Next, Stands, answering, after_conversing, with_bytes, for_peer, hearing, serving_next, next_at, serving_incoming, serving_at}
-use Rattle.router_core.specs.Incoming.{Incoming, Waits, Whole, Faulty, IsIncoming}
-use Rattle.router_core.specs.OneThread.{Rest, bytes_to}
+use Rattle.router_core.specs.Events.{Occasion, Bytes, Next, Turn, Stands, answering, after_conversing, for_peer, hearing, serving_next, next_at, serving_incoming}
+use Rattle.router_core.specs.Incoming.{Incoming, Waits, IsIncoming}
+use Rattle.router_core.specs.OneThread.{Rest, bytes_to, keys_after}
 use Rattle.router_core.proofs.Alone.{Course, Readers, alone, doing, effect}
-use Rattle.router_core.specs.Scripts.{Script, Gives, Changing, ChangingAll, Asking, Routing, AskingPresence, Noting, Framing, Calling, Gating, Wanting, Requiring, Doing, Announcing, and_then}
-use Rattle.router_core.specs.Standing.{Peer, Stage, Standing, SpeaksDBus, Authenticating, Unnamed, Named, Closing, peer_at, closing_peer, with_peer}
+use Rattle.router_core.specs.Scripts.{Script, Gives, Framing, Wanting, Doing, and_then}
+use Rattle.router_core.specs.Standing.{Peer, Stage, Standing, SpeaksDBus, Authenticating, Unnamed, Named, Closing, peer_at, with_peer}
 use Rattle.router_core.proofs.Functions.{effect_is}
 use Rattle.router.proofs.Conversations.{hears_joined}
-use Rattle.router.proofs.Feeding.{bytes_given, closed_more, more, more_if, peer_with_more, pieces_joined, rest_more, seen_as, serve_more, with_more}
+use Rattle.router.proofs.Feeding.{bytes_given, pieces_joined, rest_more}
 use Rattle.router_core.proofs.Grants.{granted_parts, read_parts}
-use Rattle.router.proofs.Speaking.{Speaks, SpeaksAt, more_speaks, next_speaks}
-use Rattle.router_laws.specs.Turns.{Turn, exchanges_of}
-use Rattle.router_laws.specs.Cuts.{HasCome, LinesAreNotServed, PiecesAreJoined, ShortMessagesWait, WholeMessagesComeFirst}
+use Rattle.router.proofs.Speaking.{Speaks, SpeaksAt, more_speaks}
+use Rattle.router_laws.specs.Turns.{Turn as Served, exchanges_of}
+use Rattle.router_laws.specs.Cuts.{BytesComeWhenever, HasCome, HaveAllOf, LinesAreNotServed, PiecesAreJoined, ShortMessagesWait, TurnsLeaveOut, without_key}
+use Rattle.router_laws.specs.Logins.{is_of}
 use Rattle.router_laws.specs.GrantedRuns.{IsGrantedRun}
-use Rattle.router_core.specs.Readings.{with_behind}
 use Rattle.router_laws.proofs.Agreeing.{run_right, runs_are_one}
-use Rattle.router_core.proofs.Incoming.{incoming_is_one, incoming_stays}
+use Rattle.router_core.proofs.Incoming.{incoming_is_one}
+use Rattle.router_laws.proofs.Enough.{does_the_same}
+use Rattle.router_laws.proofs.Omitting.{without_it}
 use Rattle.router_laws.proofs.Joining.{StandFor, between, granted_append}
+use Rattle.router_laws.proofs.Letting.{other_passes}
+use Rattle.router_laws.proofs.Stages.{Passes, PassesAt, as_it_was, unnamed_still, has_name, was_closed}
 use Rattle.router_core.proofs.Readers.{read_so, readers_of}
-
--- ## Scripts whose result is looked at in another way
-
-goes_seen : {X Y : Type 0} (f : X → Y) (s : Script X) (asked : List Exchange) (deeds : List Deed) (x : X) → Goes s asked deeds x → Goes (seen_as f s) asked deeds (f x)
-goes_seen f (Gives y) asked deeds x h = (h.0, h.1, ap f h.2)
-goes_seen f (Changing change goes_on) asked deeds x h = (h.0, h.1, h.2, goes_seen f (goes_on h.0) h.1 deeds x h.3)
-goes_seen f (ChangingAll changes goes_on) asked deeds x h = (h.0, h.1, h.2, goes_seen f (goes_on h.0) h.1 deeds x h.3)
-goes_seen f (Asking query goes_on) asked deeds x h = (h.0, h.1, h.2, goes_seen f (goes_on h.0) h.1 deeds x h.3)
-goes_seen f (Routing from facts goes_on) asked deeds x h = (h.0, h.1, h.2, goes_seen f (goes_on h.0) h.1 deeds x h.3)
-goes_seen f (AskingPresence number goes_on) asked deeds x h = (h.0, h.1, h.2, goes_seen f (goes_on h.0) h.1 deeds x h.3)
-goes_seen f (Noting told s) asked deeds x h = (h.0, h.1, goes_seen f s h.0 deeds x h.2)
-goes_seen f (Framing bytes goes_on) asked deeds x h = (h.0, h.1, h.2, goes_seen f (goes_on h.0) h.1 deeds x h.3)
-goes_seen f (Calling m goes_on) asked deeds x h = (h.0, h.1, h.2, goes_seen f (goes_on h.0) h.1 deeds x h.3)
-goes_seen f (Gating call s) asked deeds x h = (h.0, h.1, h.2, goes_seen f s h.1 deeds x h.3)
-goes_seen f (Wanting goes_on) asked deeds x h = (h.0, h.1, h.2, goes_seen f (goes_on h.0) h.1 deeds x h.3)
-goes_seen f (Requiring holds s) asked deeds x h = (h.0, goes_seen f s asked deeds x h.1)
-goes_seen f (Doing deed s) asked deeds x h = (h.0, h.1, goes_seen f s asked h.0 x h.2)
-goes_seen f (Announcing signals s) asked deeds x h = (h.0, h.1, goes_seen f s asked h.0 x h.2)
 
 abbrev as_rest : Standing → Knowledge → Rest
 as_rest s k = record { standing = s; view = k }
@@ -154,7 +139,7 @@ module _ (key : ℕ) (piece : List ℕ) where
         h.granted,
       )
 
-abbrev turn_of : List Exchange → List Deed → Turn
+abbrev turn_of : List Exchange → List Deed → Served
 turn_of asked deeds = record { asked = asked; deeds = deeds }
 
 -- two pieces bring the bytes that both at once bring, and leave the same
@@ -280,121 +265,71 @@ bytes_may_so key piece r speaks =
     let readers : Readers = readers_of [] in
     subst (λ (end : List Deed × Rest). MayBring key piece r end) (bytes_given readers piece key r speaks) (bytes_may key piece readers r)
 
--- bytes that come after a message of the same connection was served
-bytes_after : (key : ℕ) (piece : List ℕ) (r after : Rest) (one two : Turn) (run : IsGrantedRun r (Next key ∷ Bytes key piece ∷ []) (one ∷ two ∷ []) after) → SpeaksAt key r.standing →
-    (two.deeds ≡ []) × (run.served.2.0 ≡ rest_more piece key run.served.0)
-bytes_after key piece r after one two run speaks =
-    let now : Rest = run.served.0 in
-    let readers : Readers = readers_of (exchanges_of (one ∷ two ∷ [])) in
-    let read = read_so (exchanges_of (one ∷ two ∷ [])) (run_right r after (Next key ∷ Bytes key piece ∷ []) (one ∷ two ∷ []) run) in
-    let grants = granted_parts one.asked (two.asked ++ []) run.granted in
-    let reads = read_parts readers one.asked (two.asked ++ []) read in
-    let last_grants = granted_parts two.asked [] grants.1 in
-    let last_reads = read_parts readers two.asked [] reads.1 in
-    let a = effect_is readers r now (Next key) one.asked one.deeds run.served.1 grants.0 reads.0 in
-    let b = effect_is readers now run.served.2.0 (Bytes key piece) two.asked two.deeds run.served.2.1 last_grants.0 last_reads.0 in
-    let still : SpeaksAt key now.standing = subst (λ (s : Rest). SpeaksAt key s.standing) (sym a.1) (next_speaks readers key r speaks) in
-    let fed_so = bytes_given readers piece key now still in
-    (b.0 ∙ ap (λ (end : List Deed × Rest). end.0) fed_so, b.1 ∙ ap (λ (end : List Deed × Rest). end.1) fed_so)
+-- who has begun its messages goes on so while others are served
+still_speaks : (a b : Option Peer) → IfSome a Speaks → PassesAt a b → IfSome b Speaks
+still_speaks None b speaks h = subst (λ (o : Option Peer). IfSome o Speaks) (sym h) tt
+still_speaks (Some p) b speaks h = subst (λ (o : Option Peer). IfSome o Speaks) (sym h.1) (one h.0 h.2)
+  where
+    one : (q : Peer) → Passes p q → Speaks q
+    one q (as_it_was e) = subst (λ (x : Peer). Speaks x) (sym e) speaks
+    one q (unnamed_still privileged before is) = subst (λ (stage : Stage). SpeaksDBus stage) (sym is) tt
+    one q (has_name conn before is) = subst (λ (stage : Stage). SpeaksDBus stage) (sym is) tt
+    one q (was_closed conn before is) = subst (λ (stage : Stage). SpeaksDBus stage) (sym is) tt
 
-module _ (key : ℕ) (piece : List ℕ) (r : Rest) (p : Peer) where
-  abbrev left_with : Peer → List ℕ → Peer
-  left_with q bytes = record q { unread = bytes }
-
-  abbrev later_standing : Standing
-  later_standing = with_more piece key r.standing
-
-  abbrev later_peer : Peer
-  later_peer = more piece key p
-
-  -- bytes are taken at this stage
-  record Takes (stage : Stage) : Type 0 where
-    is : p.stage ≡ stage
-    grows : with_bytes piece p stage ≡ left_with p (p.unread ++ piece)
-    left : (rest : List ℕ) → with_bytes piece (left_with p rest) stage ≡ left_with p (rest ++ piece)
-
-  grown : (stage : Stage) → Takes stage → later_peer ≡ left_with p (p.unread ++ piece)
-  grown stage t = ap (λ (st : Stage). with_bytes piece p st) t.is ∙ t.grows
-
-  -- what is read goes on in the same way
-  read_more : (stage : Stage) → Takes stage → (incoming : Incoming) → incoming ≢ Waits → (asked : List Exchange) (deeds : List Deed) (x : Standing) → Goes (serving_incoming r.standing key p incoming) asked deeds x →
-      Goes (serving_incoming later_standing key later_peer (with_behind piece incoming)) asked deeds (with_more piece key x)
-  read_more stage t Waits not_so asked deeds x goes = absurd (not_so refl)
-  read_more stage t (Whole message rest) not_so asked deeds x goes =
-      let here : more piece key (left_with p rest) ≡ left_with p (rest ++ piece) = ap (λ (st : Stage). with_bytes piece (left_with p rest) st) t.is ∙ t.left rest in
-      let same : serving_incoming later_standing key later_peer (Whole message (rest ++ piece)) ≡ seen_as (with_more piece key) (serving_incoming r.standing key p (Whole message rest)) =
-      ap (λ (q : Peer). serving_incoming later_standing key q (Whole message (rest ++ piece))) (grown stage t)
-      ∙ ap (λ (q : Peer). serving_at later_standing key (message_said message) q p.stage) (sym here)
-      ∙ serve_more piece key r.standing (message_said message) (left_with p rest) p.stage refl in
-      subst (λ (script : Stands). Goes script asked deeds (with_more piece key x)) (sym same) (goes_seen (with_more piece key) (serving_incoming r.standing key p (Whole message rest)) asked deeds x goes)
-  read_more stage t (Faulty fault) not_so asked deeds x goes =
-      let closed : with_peer later_standing key (Some (closing_peer later_peer)) ≡ with_more piece key (with_peer r.standing key (Some (closing_peer p))) = ap (λ (rest : Rest). rest.standing) (closed_more key piece r p) in
-      (goes.0, goes.1, (goes.2.0, goes.2.1, ap (λ (standing : Standing). with_more piece key standing) goes.2.2 ∙ sym closed))
-
-  -- the next message is served in the same way
-  record GoesAgain (stage : Stage) (k m : Knowledge) (asked : List Exchange) (deeds : List Deed) (x : Standing) : Type 0 where
-    again : List Exchange
-    goes : Goes (next_at later_standing key later_peer stage) again deeds (with_more piece key x)
-    lawful : IsLawful true k again m
-    granted : IsGranted asked → IsGranted again
-
-  module _ (incoming : Incoming) (not_so : incoming ≢ Waits) (is_incoming : IsIncoming p.unread incoming) (k m : Knowledge) (asked : List Exchange) (deeds : List Deed) (x : Standing) where
-    abbrev behind : Incoming
-    behind = with_behind piece incoming
-
-    framing : (stage : Stage) → Takes stage → Goes (Framing p.unread (λ f. serving_incoming r.standing key p f)) asked deeds x → IsLawful true k asked m →
-        (later : List Exchange) × Goes (serving_incoming later_standing key later_peer behind) later deeds (with_more piece key x) × IsIncoming later_peer.unread behind × IsLawful true k later m × (IsGranted asked → IsGranted later)
-    framing stage t goes lawful =
-        let there = subst (λ (a : List Exchange). IsLawful true k a m) goes.2 lawful in
-        let so = subst (λ (f : Incoming). Goes (serving_incoming r.standing key p f) goes.1 deeds x) (incoming_is_one p.unread goes.0 incoming there.0 is_incoming) goes.3 in (
-          goes.1,
-          read_more stage t incoming not_so goes.1 deeds x so,
-          subst (λ (q : Peer). IsIncoming q.unread behind) (sym (grown stage t)) (incoming_stays p.unread piece incoming not_so is_incoming),
-          there.1,
-          λ granted. subst (λ (a : List Exchange). IsGranted a) goes.2 granted,
-        )
-
-    next_again : (stage : Stage) → p.stage ≡ stage → Goes (next_at r.standing key p stage) asked deeds x → IsLawful true k asked m → GoesAgain stage k m asked deeds x
-    next_again (Unnamed privileged) is goes lawful =
-        let h = framing (Unnamed privileged) (record { is = is; grows = refl; left = λ rest. refl }) goes lawful in
-        record { again = Framed later_peer.unread behind ∷ h.0; goes = (behind, h.0, refl, h.1); lawful = (h.2, h.3); granted = h.4 }
-    next_again (Named conn) is goes lawful =
-        let h = framing (Named conn) (record { is = is; grows = refl; left = λ rest. refl }) goes lawful in
-        record { again = Framed later_peer.unread behind ∷ h.0; goes = (behind, h.0, refl, h.1); lawful = (h.2, h.3); granted = h.4 }
-    next_again (Authenticating setting state) is goes lawful =
-        record { again = asked; goes = (goes.0, goes.1, ap (λ (standing : Standing). with_more piece key standing) goes.2); lawful = lawful; granted = λ granted. granted }
-    next_again (Closing conn) is goes lawful =
-        record { again = asked; goes = (goes.0, goes.1, ap (λ (standing : Standing). with_more piece key standing) goes.2); lawful = lawful; granted = λ granted. granted }
-
-  kept_stage : (stage : Stage) → (with_bytes piece p stage).stage ≡ p.stage
-  kept_stage (Authenticating setting state) = refl
-  kept_stage (Unnamed privileged) = refl
-  kept_stage (Named conn) = refl
-  kept_stage (Closing conn) = refl
-
-  in_turn : (incoming : Incoming) → incoming ≢ Waits → IsIncoming p.unread incoming → peer_at r.standing key ≡ Some p → SpeaksDBus p.stage →
-      StandFor r (Next key ∷ Bytes key piece ∷ []) (Bytes key piece ∷ Next key ∷ [])
-  in_turn incoming not_so is here begun [] after run = absurd run.served
-  in_turn incoming not_so is here begun (one ∷ []) after run = absurd run.served.2
-  in_turn incoming not_so is here begun (one ∷ two ∷ three ∷ turns) after run = absurd run.served.2.2
-  in_turn incoming not_so is here begun (one ∷ two ∷ []) after run =
+module _ (key : ℕ) (piece : List ℕ) (occasion : Occasion) (r : Rest) where
+  -- bytes that come behind the event
+  bytes_after : (after : Rest) (one two : Served) (run : IsGrantedRun r (occasion ∷ Bytes key piece ∷ []) (one ∷ two ∷ []) after) → SpeaksAt key (run.served.0).standing →
+      (two.deeds ≡ []) × (run.served.2.0 ≡ rest_more piece key run.served.0)
+  bytes_after after one two run speaks =
       let now : Rest = run.served.0 in
-      let goes = subst (λ (o : Option Peer). Goes (serving_next r.standing key o) one.asked one.deeds now.standing) here run.served.1.goes in
-      let h = next_again incoming not_so is r.view now.view one.asked one.deeds now.standing p.stage refl goes run.served.1.lawful in
-      let there : peer_at later_standing key ≡ Some later_peer = peer_with_more piece key r.standing ∙ ap (λ (o : Option Peer). more_if piece key o) here in
-      let again = subst (λ (o : Option Peer). Goes (serving_next later_standing key o) h.again one.deeds (with_more piece key now.standing)) (sym there)
-      (subst (λ (stage : Stage). Goes (next_at later_standing key later_peer stage) h.again one.deeds (with_more piece key now.standing)) (sym (kept_stage p.stage)) h.goes) in
+      let readers : Readers = readers_of (exchanges_of (one ∷ two ∷ [])) in
+      let read = read_so (exchanges_of (one ∷ two ∷ [])) (run_right r after (occasion ∷ Bytes key piece ∷ []) (one ∷ two ∷ []) run) in
+      let grants = granted_parts one.asked (two.asked ++ []) run.granted in
+      let reads = read_parts readers one.asked (two.asked ++ []) read in
+      let last_grants = granted_parts two.asked [] grants.1 in
+      let last_reads = read_parts readers two.asked [] reads.1 in
+      let b = effect_is readers now run.served.2.0 (Bytes key piece) two.asked two.deeds run.served.2.1 last_grants.0 last_reads.0 in
+      let fed_so = bytes_given readers piece key now speaks in
+      (b.0 ∙ ap (λ (end : List Deed × Rest). end.0) fed_so, b.1 ∙ ap (λ (end : List Deed × Rest). end.1) fed_so)
+
+  -- they may come before it
+  whenever : (p : Peer) → is_of key occasion ≡ false → HaveAllOf key occasion p.unread → peer_at r.standing key ≡ Some p → SpeaksDBus p.stage →
+      StandFor r (occasion ∷ Bytes key piece ∷ []) (Bytes key piece ∷ occasion ∷ [])
+  whenever p other has here begun [] after run = absurd run.served
+  whenever p other has here begun (one ∷ []) after run = absurd run.served.2
+  whenever p other has here begun (one ∷ two ∷ three ∷ turns) after run = absurd run.served.2.2
+  whenever p other has here begun (one ∷ two ∷ []) after run =
+      let now : Rest = run.served.0 in
+      let goes = run.served.1.goes in
+      let h = does_the_same key piece r.standing p occasion other here has r.view now.view one.asked one.deeds now.standing goes run.served.1.lawful (granted_parts one.asked (two.asked ++ []) run.granted).0 in
       let speaks : SpeaksAt key r.standing = subst (λ (o : Option Peer). IfSome o Speaks) (sym here) begun in
-      let came = bytes_after key piece r after one two run speaks in
-      let may = bytes_may_so key piece r speaks in
-      let granted = h.granted (granted_parts one.asked (two.asked ++ []) run.granted).0 in (
+      let still : SpeaksAt key now.standing =
+      still_speaks (peer_at r.standing key) (peer_at now.standing key) speaks (other_passes r.standing now.standing occasion key one.asked one.deeds other goes).1 in
+      let came = bytes_after after one two run still in
+      let may = bytes_may_so key piece r speaks in (
         turn_of may.0 [] ∷ turn_of h.again one.deeds ∷ [],
         record {
-          served = (rest_more piece key r, may.1, (rest_more piece key now, record { goes = again; lawful = h.lawful }, run.served.2.2 ∙ came.1));
-          granted = granted_append may.0 (h.again ++ []) may.2 (granted_append h.again [] granted tt);
+          served = (rest_more piece key r, may.1, (rest_more piece key now, record { goes = h.goes; lawful = h.lawful }, run.served.2.2 ∙ came.1));
+          granted = granted_append may.0 (h.again ++ []) may.2 (granted_append h.again [] h.granted tt);
         },
-        λ opening keys. sym (ap (λ (ds : List Deed). bytes_to opening keys one.deeds ++ (bytes_to opening keys ds ++ [])) came.0),
+        λ opening keys.
+            let later : List ℕ = keys_after occasion keys in
+            sym (ap (λ (ds : List Deed). bytes_to opening later one.deeds ++ (bytes_to opening later ds ++ [])) came.0),
       )
+
+-- ## A turn without a connection that has no whole message
+
+left_out : (key : ℕ) (keys : List ℕ) (r : Rest) (p : Peer) → (SpeaksDBus p.stage → IsIncoming p.unread Waits) → peer_at r.standing key ≡ Some p → StandFor r (Turn keys ∷ []) (Turn (without_key key keys) ∷ [])
+left_out key keys r p short here [] after run = absurd run.served
+left_out key keys r p short here (one ∷ two ∷ turns) after run = absurd run.served.2
+left_out key keys r p short here (one ∷ []) after run =
+    let now : Rest = run.served.0 in
+    let served = run.served.1 in
+    let h = without_it key keys r.standing p here short r.view now.view one.asked one.deeds now.standing served.goes served.lawful (granted_parts one.asked [] run.granted).0 in (
+      turn_of h.again one.deeds ∷ [],
+      record { served = (now, record { goes = h.goes; lawful = h.lawful }, run.served.2); granted = granted_append h.again [] h.granted tt },
+      λ opening ks. refl,
+    )
 
 -- ## In whole runs
 
@@ -403,7 +338,7 @@ pieces_are_joined before earlier later key first second =
     between before earlier (Bytes key first ∷ Bytes key second ∷ []) (Bytes key (first ++ second) ∷ []) later (λ keys. refl) (λ turns now run. joined key first second now)
 
 -- where the connection is, after any run of these events
-found : (before : Rest) (earlier : List Occasion) (key : ℕ) (h : HasCome before earlier key) (turns : List Turn) (now : Rest) → IsGrantedRun before earlier turns now →
+found : (before : Rest) (earlier : List Occasion) (key : ℕ) (h : HasCome before earlier key) (turns : List Served) (now : Rest) → IsGrantedRun before earlier turns now →
     peer_at now.standing key ≡ Some h.peer
 found before earlier key h turns now run =
     subst (λ (r : Rest). peer_at r.standing key ≡ Some h.peer) (sym (runs_are_one before now h.now earlier turns h.turns run h.run).1) h.here
@@ -418,7 +353,12 @@ lines_are_not_served before earlier later key h says =
     between before earlier (Next key ∷ []) [] later (λ keys. refl)
     (λ turns now run. waits key now h.peer (found before earlier key h turns now run) (lines_are_left key now.standing h.peer h.peer.stage says))
 
-pub whole_messages_come_first : WholeMessagesComeFirst
-whole_messages_come_first before earlier later key piece incoming h not_so is begun =
-    between before earlier (Next key ∷ Bytes key piece ∷ []) (Bytes key piece ∷ Next key ∷ []) later (λ keys. refl)
-    (λ turns now run. in_turn key piece now h.peer incoming not_so is (found before earlier key h turns now run) begun)
+pub bytes_come_whenever : BytesComeWhenever
+bytes_come_whenever before earlier later key piece occasion h other has begun =
+    between before earlier (occasion ∷ Bytes key piece ∷ []) (Bytes key piece ∷ occasion ∷ []) later (λ keys. refl)
+    (λ turns now run. whenever key piece occasion now h.peer other has (found before earlier key h turns now run) begun)
+
+pub turns_leave_out : TurnsLeaveOut
+turns_leave_out before earlier later key keys h short =
+    between before earlier (Turn keys ∷ []) (Turn (without_key key keys) ∷ []) later (λ ks. refl)
+    (λ turns now run. left_out key keys now h.peer short (found before earlier key h turns now run))
