@@ -21,3 +21,5 @@ pub mod Results
 pub mod Stages
 pub mod Passing
 pub mod Letting
+pub mod Asking
+pub mod Hellos

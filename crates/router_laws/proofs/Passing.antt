@@ -195,12 +195,12 @@ made_if : (joints : List Joint) (s : Standing) (granted : Bool) → Always (Ahea
 made_if joints s true = λ heard. changes_pass joints s heard
 made_if joints s false = each_passes joints s
 
-all_pass : (joints : List Joint) (s : Standing) → Always (Ahead s) (ev.making_all joints s)
+pub all_pass : (joints : List Joint) (s : Standing) → Always (Ahead s) (ev.making_all joints s)
 all_pass [] s = ahead_none s
 all_pass (j ∷ []) s = each_passes (j ∷ []) s
 all_pass (j ∷ k ∷ joints) s = λ granted. made_if (j ∷ k ∷ joints) s granted
 
-abbrev Gathers : Standing → ev.Gathered → Type 0
+abbrev pub Gathers : Standing → ev.Gathered → Type 0
 Gathers s g = Ahead s g.standing
 
 joints_pass : (joints : List Joint) (s : Standing) (work : Standing → ev.Stands) → ((t : Standing) → Always (Ahead t) (work t)) → Always (Gathers s) (ev.after_joints joints s work)
@@ -243,7 +243,7 @@ module _ (joints : List Joint) (s : Standing) (key : ℕ) (message : List ℕ) (
   message_passes true = apart_passes joints s key
   message_passes false = by_test (Gathers s) (may_join (message_said message)) _ _ (λ granted. join_passes granted) (apart_passes joints s key)
 
-gathering_passes : (joints : List Joint) (s : Standing) (key : ℕ) (peer : Option Peer) → peer_at s key ≡ peer → Always (Gathers s) (ev.gathering joints s key peer)
+pub gathering_passes : (joints : List Joint) (s : Standing) (key : ℕ) (peer : Option Peer) → peer_at s key ≡ peer → Always (Gathers s) (ev.gathering joints s key peer)
 gathering_passes joints s key None is = ahead_none s
 gathering_passes joints s key (Some p) is = by_stage p.stage refl
   where

@@ -6,7 +6,10 @@ use Rattle.sasl.specs.Lines.{line_end, begin}
 use Rattle.sasl.specs.Conversations.{State as AuthState, opening, Converses}
 use Rattle.sasl.specs.Laws.{HasShown}
 use Rattle.bus_view.specs.Views.{Knowledge}
-use Rattle.router_core.specs.Acts.{Exchange, Goes}
+use Rattle.seq_bus_core.specs.declared.change.Change.{Change}
+use Rattle.seq_bus_core.specs.declared.change.Change.TheVariants.{Hello}
+use Rattle.std.specs.List.{AllByRecursion}
+use Rattle.router_core.specs.Acts.{Exchange, Changed, ChangedAll, Goes}
 use Rattle.router_core.specs.Deeds.{Deed}
 use Rattle.router_core.specs.Events.{Occasion, Opened, Bytes, Closed, gathering, gathering_of_none, is_user, script}
 use Rattle.router_core.specs.Laws.{HasNotBegun, IsClosing}
@@ -123,3 +126,26 @@ LinesArePassedOver = (joints : List Joint) (s : Standing) (key : ℕ) (p : Peer)
 -- So is whoever was closed.
 abbrev pub ClosedArePassedOver : Type 0
 ClosedArePassedOver = (joints : List Joint) (s : Standing) (key : ℕ) (p : Peer) → IsClosing s key p → gathering joints s key (peer_at s key) ≡ gathering_of_none joints s
+
+-- ## Hello
+
+-- If the change is a Hello, its privilege is such.
+abbrev pub IsHelloOf : (Bool → Type 0) → Change → Type 0
+IsHelloOf Such (Hello privileged) = Such privileged
+IsHelloOf Such change = Unit {0}
+
+-- Each Hello that was asked of the bus is such.
+abbrev pub AsksHellosOf : (Bool → Type 0) → List Exchange → Type 0
+AsksHellosOf Such [] = Unit {0}
+AsksHellosOf Such (Changed change heard ∷ later) = IsHelloOf Such change × AsksHellosOf Such later
+AsksHellosOf Such (ChangedAll changes heard ∷ later) = AllByRecursion (IsHelloOf Such) changes × AsksHellosOf Such later
+AsksHellosOf Such (other ∷ later) = AsksHellosOf Such later
+
+-- From the first event on: each Hello that an event asks of the bus is of a connection that its bytes until then have let in, and is as
+-- privileged as they say.
+abbrev pub HellosAreOfThoseLetIn : Type 0
+HellosAreOfThoseLetIn =
+    (alone : Bool) (login : Option Login) (view : Knowledge) (occasions : List Occasion) (turns : List Turn) (now : Rest) →
+    AreServedBy alone (record { standing = fresh login; view = view }) occasions turns now →
+    (occasion : Occasion) (asked : List Exchange) (deeds : List Deed) (t : Standing) → Goes (script now.standing occasion) asked deeds t →
+    AsksHellosOf (λ privileged. (key : ℕ) × (client : Client) × (client_of key None occasions ≡ Some client) × IsLetIn login client.challenge client.text privileged) asked

@@ -1,6 +1,6 @@
 //! Who is let in.
 
-ghost use Rattle.router_laws.specs.Logins.{ClosedArePassedOver, ClosedStayClosed, ComersHaveSaidNothing, EachHasShown, HearingGoesOn, LinesArePassedOver, OthersLeaveItAlone};
+ghost use Rattle.router_laws.specs.Logins.{ClosedArePassedOver, ClosedStayClosed, ComersHaveSaidNothing, EachHasShown, HearingGoesOn, HellosAreOfThoseLetIn, LinesArePassedOver, OthersLeaveItAlone};
 
 use sasl::laws::nobody_is_let_in_unknown;
 
@@ -8,6 +8,15 @@ use sasl::laws::nobody_is_let_in_unknown;
 /// has shown, by the bytes that came for it, who it is, or nobody asked it.
 pub fn each_has_shown_who_it_is()
     ensures { EachHasShown }
+{
+    nobody_is_let_in_unknown();
+}
+
+/// So, whatever happens next: each Hello that a router asks of the bus is of a connection that its
+/// bytes have let in, and makes it the bus's own user, who may become a monitor, only where these
+/// bytes have shown the right digest, or nobody asked it who it is.
+pub fn hellos_are_of_those_let_in()
+    ensures { HellosAreOfThoseLetIn }
 {
     nobody_is_let_in_unknown();
 }
