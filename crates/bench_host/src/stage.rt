@@ -5,14 +5,14 @@ ghost use Rattle.std.specs.Prelude.{◌≡◌};
 use crate::client::Client;
 use crate::rounds::Rounds;
 use crate::scenes::Scene;
-use anyhow::{Context, Result};
+use anyhow::Result;
 use bench_core::Report;
 use bus_view::BusView;
-use outbox::{Outboxes, open_queue};
+use outbox::{EnvelopeOf, Lane, Outboxes, Tap, open_queue};
 use registry_snapshots::{Desk, Naming, Seat, Serve, Shared};
 use router::{Engine, Traced};
 use router_core::{Gate, OpenGate};
-use router_host::{Host, Post};
+use router_host::{Host, Post, StartRequest};
 use routers::{Coordinator, LanePost, Wake};
 use std::alloc::{AllocError, Global};
 use std::sync::Wait;
@@ -58,43 +58,106 @@ impl<'a, R: Print + Clock + Wait> Serve for Stage<'a, R> {
     fn serve<J: Naming + Send + Sync>(self, shared: Shared<J>, seats: Vec<Seat<J>>) -> Result<()> {
         let measured = over_registry(self.report, self.alloc, self.scene, &shared, seats);
         shared.end(self.report.rt);
-        measured
+        Ok(measured?)
     }
 }
 
-/// The host of the one router, over a desk of its seat and its lane.
+/// What a router serves with: a seat, a lane, the taps of its places, and a lane for starts.
+#[derive(Drop)]
+struct Ends<S, L, T, Q> {
+    seat: S,
+    lane: L,
+    taps: T,
+    starts: Q,
+}
+
+/// The ends of a router of a registry.
+type EndsOf<J> = Ends<Seat<J>, Lane<EnvelopeOf<J>>, Vec<Tap<EnvelopeOf<J>>>, Lane<StartRequest>>;
+
+/// The last of each, of which the router is the last to have one. Nobody takes from the queue of
+/// starts.
+fn last_ends<S: Drop, L: Drop, T: Drop, Q: Drop, N: Drop>(
+    mut seats: Vec<S>,
+    outboxes: Result<(Vec<L>, Vec<T>), AllocError>,
+    queue: Result<(Vec<Q>, N), AllocError>,
+) -> Option<Ends<S, L, T, Q>> {
+    let (mut lanes, mut taps) = outboxes.ok()?;
+    let (mut starts, _requests) = queue.ok()?;
+    Some(Ends {
+        seat: seats.pop()?,
+        lane: lanes.pop()?,
+        taps: taps.pop()?,
+        starts: starts.pop()?,
+    })
+}
+
+/// What a router is made of: a view of the bus, and a post.
+#[derive(Drop)]
+struct Side<V, P> {
+    view: V,
+    post: P,
+}
+
+/// The same, where there is a post.
+fn beside<V: Drop, P: Drop>(view: V, post: Option<P>) -> Option<Side<V, P>> {
+    Some(Side { view, post: post? })
+}
+
+/// A router of a registry, over a desk of its seat and its lane.
+type SideOf<'b, J, R> = Side<Traced<Desk<'b, J, R>>, LanePost<'b, J, NoWaker>>;
+
+/// What the router is made of, if there is memory for it.
+fn side_of<'b, J: Naming, R: Wait>(
+    alloc: Global,
+    ends: Option<EndsOf<J>>,
+    shared: &'b Shared<J>,
+    coordinator: &'b Coordinator<NoWaker>,
+) -> Option<SideOf<'b, J, R>> {
+    let Ends {
+        seat,
+        lane,
+        taps,
+        starts,
+    } = ends?;
+    let post = LanePost::new(alloc, 0, lane, taps, starts, coordinator).ok();
+    let desk: Desk<'b, J, R> = Desk::new(seat, shared);
+    beside(Traced::silent(alloc, desk), post)
+}
+
+/// What the one router would tell others by.
+fn coordinator(alloc: Global) -> Result<Coordinator<NoWaker>, AllocError> {
+    Coordinator::new(alloc, vec![in alloc; NoWaker]?, NoWaker)
+}
+
+/// The host of the one router.
 fn over_registry<J: Naming, R: Print + Clock + Wait>(
     report: &Report<'_, R>,
     alloc: Global,
     scene: Scene,
     shared: &Shared<J>,
-    mut seats: Vec<Seat<J>>,
-) -> Result<()> {
-    let (mut lanes, mut taps) = Outboxes::new(alloc, shared)?;
-    let (mut starts, _requests) = open_queue(alloc, 2)?;
-    let coordinator = Coordinator::new(alloc, vec![in alloc; NoWaker]?, NoWaker)?;
-    let seat = seats.pop().context("there are two seats")?;
-    let lane = lanes.pop().context("there are two lanes")?;
-    let taps = taps.pop().context("there is a router")?;
-    let starts = starts.pop().context("there are two lanes for starts")?;
-    let desk: Desk<'_, J, R> = Desk::new(seat, shared);
-    let view = Traced::silent(alloc, desk);
-    let post = LanePost::new(alloc, 0, lane, taps, starts, &coordinator)?;
-    over_view(report, alloc, scene, report.rt, view, post)?;
-    Ok(())
+    seats: Vec<Seat<J>>,
+) -> Result<(), SceneFault> {
+    let coordinator = coordinator(alloc)?;
+    let ends = last_ends(seats, Outboxes::new(alloc, shared), open_queue(alloc, 2));
+    let measured = match side_of(alloc, ends, shared, &coordinator) {
+        Some(side) => over_side(report, alloc, scene, report.rt, side),
+        None => Err(SceneFault::from(AllocError)),
+    };
+    drop(coordinator);
+    measured
 }
 
 /// The host of the one router, over its view and its post.
-fn over_view<V: BusView + Drop, P: Post<V> + Drop, R: Print + Clock>(
+fn over_side<V: BusView + Drop, P: Post<V> + Drop, R: Print + Clock>(
     report: &Report<'_, R>,
     alloc: Global,
     scene: Scene,
     right: &V::Right,
-    view: V,
-    post: P,
+    side: Side<V, P>,
 ) -> Result<(), SceneFault>
-    requires { P.registry post ≡ (V.knows view).registry }
+    requires { P.registry side.post ≡ (V.knows side.view).registry }
 {
+    let Side { view, post } = side;
     let engine = Engine::new(alloc, view, OpenGate, None)?;
     let mut rounds = Rounds {
         scene,
