@@ -1,6 +1,6 @@
 //! How a bus ends.
 
-use crate::playing::play;
+use crate::playing::expect_told;
 use crate::scenario::{ClientMessage, Condition, Scenario, Step, Tracing};
 use routers::Fault;
 use std::test::Fail;
@@ -77,41 +77,39 @@ client 1
 over: no name in time
 ";
 
-const AFTER_HELLO: &str = "client 0
+const STOPPED_TOLD: &str = "client 0
 1 reply 1 :1.1
 2 org.freedesktop.DBus NameAcquired :1.1
 ";
 
+const FAILING_TOLD: &str = "client 0
+1 reply 1 :1.1
+2 org.freedesktop.DBus NameAcquired :1.1
+fault: memory
+";
+
+const REFUSED_TOLD: &str = "client 0
+1 reply 1 :1.1
+2 org.freedesktop.DBus NameAcquired :1.1
+refused: nobody may log in
+";
+
 #[test]
 fn the_first_fault_ends_all(rt: HostRuntime) -> Result<(), Fail> {
-    let told = play(&rt, rt.alloc(), &FAILING)?.told;
-    assert!(rt;
-        told.strip_prefix(AFTER_HELLO) == Some("fault: memory\n"),
-        "{told}"
-    );
-    Ok(())
+    expect_told(&rt, rt.alloc(), &FAILING, FAILING_TOLD)
 }
 
 #[test]
 fn a_bus_is_stopped(rt: HostRuntime) -> Result<(), Fail> {
-    let told = play(&rt, rt.alloc(), &STOPPED)?.told;
-    assert_eq!(rt; told.as_str(), AFTER_HELLO);
-    Ok(())
+    expect_told(&rt, rt.alloc(), &STOPPED, STOPPED_TOLD)
 }
 
 #[test]
 fn who_has_no_name_in_time_is_over(rt: HostRuntime) -> Result<(), Fail> {
-    let told = play(&rt, rt.alloc(), &SILENT)?.told;
-    assert_eq!(rt; told.as_str(), SILENT_TOLD);
-    Ok(())
+    expect_told(&rt, rt.alloc(), &SILENT, SILENT_TOLD)
 }
 
 #[test]
 fn a_connection_is_refused(rt: HostRuntime) -> Result<(), Fail> {
-    let told = play(&rt, rt.alloc(), &REFUSED)?.told;
-    assert!(rt;
-        told.strip_prefix(AFTER_HELLO) == Some("refused: nobody may log in\n"),
-        "{told}"
-    );
-    Ok(())
+    expect_told(&rt, rt.alloc(), &REFUSED, REFUSED_TOLD)
 }

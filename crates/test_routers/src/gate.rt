@@ -1,6 +1,6 @@
 //! Two routers that serve at the same time.
 
-use crate::playing::play;
+use crate::playing::expect_told;
 use crate::progress::{Progress, pause};
 use crate::scenario::{ClientMessage, Condition, Scenario, Step, Tracing};
 use bus_view::BusView;
@@ -103,7 +103,5 @@ client 1
 
 #[test]
 fn gate_two_routers(rt: HostRuntime) -> Result<(), Fail> {
-    let told = play(&rt, rt.alloc(), &GATED)?.told;
-    assert_eq!(rt; told.as_str(), GATED_TOLD);
-    Ok(())
+    expect_told(&rt, rt.alloc(), &GATED, GATED_TOLD)
 }

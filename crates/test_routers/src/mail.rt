@@ -1,6 +1,6 @@
 //! What comes from the clients of one router to those of another.
 
-use crate::playing::play;
+use crate::playing::{expect_told, play};
 use crate::scenario::{ClientMessage, Condition, Scenario, Step, Tracing};
 use std::alloc::{AllocError, Global};
 use std::test::Fail;
@@ -165,8 +165,7 @@ fn mail_goes_to_whom_it_is_for(rt: HostRuntime) -> Result<(), Fail> {
         (OWNER, OWNER_TOLD),
         (SLOW, SLOW_TOLD),
     ] {
-        let told = play(&rt, rt.alloc(), &scenario)?.told;
-        assert_eq!(rt; told.as_str(), expected);
+        expect_told(&rt, rt.alloc(), &scenario, expected)?;
     }
     Ok(())
 }
@@ -210,30 +209,37 @@ const LISTENING: Scenario = Scenario {
     tracing: Tracing::Off,
 };
 
-/// Adds the lines of signals of this sender, whose serials follow one another.
-fn add_ticks(lines: &mut String, sender: &str, first: u32, count: u32) -> Result<(), AllocError> {
-    for number in 0..count {
-        writeln!(lines, "{} {sender} Ticked", first.saturating_add(number))?;
+/// Adds what a client is told that says Hello and has this number then.
+fn add_welcome(lines: &mut String, client: u32, number: u32) -> Result<(), AllocError> {
+    writeln!(lines, "client {client}")?;
+    writeln!(lines, "1 reply 1 :1.{number}")?;
+    writeln!(lines, "2 org.freedesktop.DBus NameAcquired :1.{number}")
+}
+
+/// Adds the lines of signals of the client of this number, whose serials follow one another.
+fn add_ticks(lines: &mut String, sender: u32, first: u32, count: u32) -> Result<(), AllocError> {
+    for place in 0..count {
+        writeln!(lines, "{} :1.{sender} Ticked", first.saturating_add(place))?;
+    }
+    Ok(())
+}
+
+/// What is told of those that listen, and of whom they hear.
+fn add_listening(lines: &mut String) -> Result<(), AllocError> {
+    add_welcome(lines, 0, 4)?;
+    for listener in 1..=3 {
+        add_welcome(lines, listener, listener)?;
+        writeln!(lines, "3 reply 2")?;
+        add_ticks(lines, 4, 2, 100)?;
     }
     Ok(())
 }
 
 #[test]
 fn signals_come_to_all_in_order(rt: HostRuntime) -> Result<(), Fail> {
-    let told = play(&rt, rt.alloc(), &LISTENING)?.told;
     let mut expected = String::new(rt.alloc());
-    writeln!(expected, "client 0\n1 reply 1 :1.4")?;
-    writeln!(expected, "2 org.freedesktop.DBus NameAcquired :1.4")?;
-    for listener in 1..=3 {
-        writeln!(expected, "client {listener}\n1 reply 1 :1.{listener}")?;
-        writeln!(
-            expected,
-            "2 org.freedesktop.DBus NameAcquired :1.{listener}\n3 reply 2"
-        )?;
-        add_ticks(&mut expected, ":1.4", 2, 100)?;
-    }
-    assert_eq!(rt; told.as_str(), expected.as_str());
-    Ok(())
+    add_listening(&mut expected)?;
+    expect_told(&rt, rt.alloc(), &LISTENING, expected.as_str())
 }
 
 /// Six clients send as much at once as is served of them in one turn, to one that reads.
@@ -270,23 +276,23 @@ const BURST: Scenario = Scenario {
     tracing: Tracing::Off,
 };
 
-#[test]
-fn who_reads_all_is_not_put_out(rt: HostRuntime) -> Result<(), Fail> {
-    let told = play(&rt, rt.alloc(), &BURST)?.told;
-    let mut expected = String::new(rt.alloc());
-    writeln!(expected, "client 0\n1 reply 1 :1.1")?;
-    writeln!(expected, "2 org.freedesktop.DBus NameAcquired :1.1")?;
+/// What is told of one that reads, and of those that it hears.
+fn add_burst(lines: &mut String) -> Result<(), AllocError> {
+    add_welcome(lines, 0, 1)?;
     for sender in 2..=7 {
-        let name = format!(in rt.alloc(); ":1.{sender}")?;
-        add_ticks(&mut expected, name.as_str(), 2, 64)?;
+        add_ticks(lines, sender, 2, 64)?;
     }
     for client in 1..=6 {
-        let number = client + 1;
-        writeln!(expected, "client {client}\n1 reply 1 :1.{number}")?;
-        writeln!(expected, "2 org.freedesktop.DBus NameAcquired :1.{number}")?;
+        add_welcome(lines, client, client + 1)?;
     }
-    assert_eq!(rt; told.as_str(), expected.as_str());
     Ok(())
+}
+
+#[test]
+fn who_reads_all_is_not_put_out(rt: HostRuntime) -> Result<(), Fail> {
+    let mut expected = String::new(rt.alloc());
+    add_burst(&mut expected)?;
+    expect_told(&rt, rt.alloc(), &BURST, expected.as_str())
 }
 
 /// A client is sent more at once, by another router, than its outbox has room for.
@@ -315,15 +321,11 @@ const FAR_BURST: Scenario = Scenario {
 
 #[test]
 fn who_reads_all_is_not_put_out_by_another_router(rt: HostRuntime) -> Result<(), Fail> {
-    let told = play(&rt, rt.alloc(), &FAR_BURST)?.told;
     let mut expected = String::new(rt.alloc());
-    writeln!(expected, "client 0\n1 reply 1 :1.1")?;
-    writeln!(expected, "2 org.freedesktop.DBus NameAcquired :1.1")?;
-    add_ticks(&mut expected, ":1.2", 2, 1000)?;
-    writeln!(expected, "client 1\n1 reply 1 :1.2")?;
-    writeln!(expected, "2 org.freedesktop.DBus NameAcquired :1.2")?;
-    assert_eq!(rt; told.as_str(), expected.as_str());
-    Ok(())
+    add_welcome(&mut expected, 0, 1)?;
+    add_ticks(&mut expected, 2, 2, 1000)?;
+    add_welcome(&mut expected, 1, 2)?;
+    expect_told(&rt, rt.alloc(), &FAR_BURST, expected.as_str())
 }
 
 /// What five clients of the first router send to the second reader, each.
@@ -392,16 +394,20 @@ const CROSSING: Scenario = Scenario {
     tracing: Tracing::Off,
 };
 
-/// The lines that tell what came of a sender.
-fn ticks_of(alloc: Global, told: &str, sender: &str) -> Result<String, Fail> {
-    let end = format!(in alloc; " {sender} Ticked")?;
-    let mut ticks = String::new(alloc);
+/// Adds the lines that tell what came of the client of this number.
+fn keep_ticks(
+    alloc: Global,
+    told: &str,
+    sender: u32,
+    ticks: &mut String,
+) -> Result<(), AllocError> {
+    let end = format!(in alloc; " :1.{sender} Ticked")?;
     for line in told.lines() {
         if line.ends_with(end.as_str()) {
             writeln!(ticks, "{line}")?;
         }
     }
-    Ok(ticks)
+    Ok(())
 }
 
 #[test]
@@ -412,11 +418,9 @@ fn who_reads_all_is_not_put_out_where_routers_flood_each_other(
     let told = play(&rt, alloc, &CROSSING)?.told;
     let mut ticks = String::new(alloc);
     let mut expected = String::new(alloc);
-    for number in 3..=12 {
-        let sender = format!(in alloc; ":1.{number}")?;
-        let came = ticks_of(alloc, told.as_str(), sender.as_str())?;
-        write!(ticks, "{came}")?;
-        add_ticks(&mut expected, sender.as_str(), 2, 200)?;
+    for sender in 3..=12 {
+        keep_ticks(alloc, told.as_str(), sender, &mut ticks)?;
+        add_ticks(&mut expected, sender, 2, 200)?;
     }
     assert_eq!(rt; ticks.as_str(), expected.as_str());
     Ok(())
@@ -504,16 +508,10 @@ const RESUMED: Scenario = Scenario {
 
 #[test]
 fn who_reads_again_gets_all(rt: HostRuntime) -> Result<(), Fail> {
-    let told = play(&rt, rt.alloc(), &RESUMED)?.told;
     let mut expected = String::new(rt.alloc());
-    writeln!(expected, "client 0\n1 reply 1 :1.1")?;
-    writeln!(expected, "2 org.freedesktop.DBus NameAcquired :1.1")?;
-    add_ticks(&mut expected, ":1.2", 2, 257)?;
-    writeln!(expected, "client 1\n1 reply 1 :1.2")?;
-    writeln!(
-        expected,
-        "2 org.freedesktop.DBus NameAcquired :1.2\n3 reply 259 :1.1"
-    )?;
-    assert_eq!(rt; told.as_str(), expected.as_str());
-    Ok(())
+    add_welcome(&mut expected, 0, 1)?;
+    add_ticks(&mut expected, 2, 2, 257)?;
+    add_welcome(&mut expected, 1, 2)?;
+    writeln!(expected, "3 reply 259 :1.1")?;
+    expect_told(&rt, rt.alloc(), &RESUMED, expected.as_str())
 }

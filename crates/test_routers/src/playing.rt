@@ -7,15 +7,17 @@ ghost use Rattle.registry_snapshots.specs.Openings.{identity};
 
 use crate::gate::HoldingGate;
 use crate::progress::{FlagWaker, MAIN, Progress};
-use crate::scenario::Scenario;
+use crate::scenario::{Scenario, Step};
 use crate::source::ScenarioSource;
 use crate::stopper::Stopper;
 use crate::trace_sink::SharedTrace;
-use outbox::{Outboxes, open_queue};
+use outbox::{EnvelopeOf, Lane, Outboxes, Tap, open_queue};
 use registry_snapshots::{Naming, NewHistory, Seat, Shared};
+use router_host::StartRequest;
 use routers::{Coordinator, Fault, RouterSetup, SeatSetup, serve};
 use std::alloc::{AllocError, Global};
 use std::marker::Brand;
+use std::process::Abort;
 use std::rt::Clock;
 use std::sync::Wait;
 use std::test::Fail;
@@ -39,6 +41,18 @@ pub(crate) fn play<R: Threads + Wait + Clock + Sync>(
 ) -> Result<Played, Fail> {
     let routers = u8::try_from(scenario.steps.len()).unwrap_or(0);
     open::<Brand, R>(rt, alloc, NewHistory::new(), routers, scenario)
+}
+
+/// Runs a scenario, of which this is to be told.
+pub(crate) fn expect_told<R: Threads + Wait + Clock + Abort + Sync>(
+    rt: &R,
+    alloc: Global,
+    scenario: &Scenario,
+    told: &str,
+) -> Result<(), Fail> {
+    let played = play(rt, alloc, scenario)?;
+    assert_eq!(rt; played.told.as_str(), told);
+    Ok(())
 }
 
 /// Opens the registry that the routers share.
@@ -88,15 +102,20 @@ fn follow<'a, J: Naming + Send + Sync, R: Threads + Wait + Clock + Sync>(
     progress: &'a Progress,
     scenario: &Scenario,
 ) -> Result<Option<Fault>, Fail> {
+    let outboxes = Outboxes::new(alloc, shared);
+    let queue = open_queue(alloc, usize::from(shared.routers()) + 1);
+    let ways = ways_of(seats, outboxes, queue)?;
+    let setups = setups_of(rt, alloc, ways, progress, scenario)?;
     let coordinator = coordinator_of(alloc, progress, scenario.steps.len())?;
-    let setups = setups_of(rt, alloc, shared, seats, progress, scenario)?;
     let mut stopper = Stopper {
         clock: rt,
         progress,
         coordinator: &coordinator,
         stops: scenario.stops,
     };
-    Ok(serve(rt, alloc, shared, &coordinator, setups, &mut stopper).err())
+    let served = serve(rt, alloc, shared, &coordinator, setups, &mut stopper);
+    drop(coordinator);
+    Ok(served.err())
 }
 
 /// What so many routers and the main thread are woken by.
@@ -112,50 +131,126 @@ fn coordinator_of(
     Coordinator::new(alloc, wakers, progress.waker(MAIN))
 }
 
-/// What the routers begin with.
-type Setups<'a, J, R> = Vec<
-    RouterSetup<J, ScenarioSource<'a, R>, HoldingGate<'a, R>, SharedTrace<'a, R>>,
+/// What a router serves with: a seat, a lane, the taps of its places, and a lane for starts.
+#[derive(Drop)]
+struct Ends<S, L, T, Q> {
+    seat: S,
+    lane: L,
+    taps: T,
+    starts: Q,
+}
+
+/// The ends of a router of a registry.
+type EndsOf<J> = Ends<Seat<J>, Lane<EnvelopeOf<J>>, Vec<Tap<EnvelopeOf<J>>>, Lane<StartRequest>>;
+
+/// What all serve with, the last router's last.
+#[derive(Drop)]
+struct Ways<S, L, T, Q> {
+    seats: Vec<S>,
+    lanes: Vec<L>,
+    taps: Vec<T>,
+    starts: Vec<Q>,
+}
+
+impl<S: Drop, L: Drop, T: Drop, Q: Drop> Ways<S, L, T, Q> {
+    /// What the last router serves with.
+    fn pop(&mut self) -> Result<Ends<S, L, T, Q>, Fail> {
+        match self.pop_each() {
+            Some(ends) => Ok(ends),
+            None => Err(Fail::from("no seat")),
+        }
+    }
+
+    fn pop_each(&mut self) -> Option<Ends<S, L, T, Q>> {
+        Some(Ends {
+            seat: self.seats.pop()?,
+            lane: self.lanes.pop()?,
+            taps: self.taps.pop()?,
+            starts: self.starts.pop()?,
+        })
+    }
+}
+
+/// The ways of the routers of a registry.
+type WaysOf<J> = Ways<Seat<J>, Lane<EnvelopeOf<J>>, Vec<Tap<EnvelopeOf<J>>>, Lane<StartRequest>>;
+
+/// What all serve with, if there is memory for it. Nobody takes from the queue of starts.
+fn ways_of<S: Drop, L: Drop, T: Drop, Q: Drop, N: Drop>(
+    seats: Vec<S>,
+    outboxes: Result<(Vec<L>, Vec<T>), AllocError>,
+    queue: Result<(Vec<Q>, N), AllocError>,
+) -> Result<Ways<S, L, T, Q>, AllocError> {
+    let (lanes, taps) = outboxes?;
+    let (starts, _requests) = queue?;
+    Ok(Ways {
+        seats,
+        lanes,
+        taps,
+        starts,
+    })
+}
+
+/// What a router of a scenario begins with.
+type SetupOf<'a, J, R> = RouterSetup<
+    J,
+    ScenarioSource<'a, R>,
+    HoldingGate<'a, R>,
+    SharedTrace<'a, R>,
 >;
 
 /// What each router begins with.
 fn setups_of<'a, J: Naming, R: Wait + Clock>(
     rt: &'a R,
     alloc: Global,
-    shared: &Shared<J>,
-    mut seats: Vec<Seat<J>>,
+    mut ways: WaysOf<J>,
     progress: &'a Progress,
     scenario: &Scenario,
-) -> Result<Setups<'a, J, R>, Fail> {
-    let (mut lanes, mut taps) = Outboxes::new(alloc, shared)?;
-    let (mut starts, _requests) = open_queue(alloc, usize::from(shared.routers()) + 1)?;
+) -> Result<Vec<SetupOf<'a, J, R>>, Fail> {
     let mut setups = Vec::new(alloc);
     for (me, steps) in scenario.steps.iter().enumerate().rev() {
-        let (Some(seat), Some(lane), Some(taps), Some(starts)) = (
-            seats.pop(),
-            lanes.pop(),
-            taps.pop(),
-            starts.pop(),
-        ) else {
-            return Err(Fail::from("no seat"));
-        };
-        let trace = SharedTrace {
-            rt,
-            progress,
-            tracing: scenario.tracing,
-        };
-        setups.push(RouterSetup {
-            seat: SeatSetup {
-                seat,
-                lane,
-                starts,
-                trace,
-            },
-            taps,
-            source: ScenarioSource::new(rt, progress, me, steps),
-            gate: HoldingGate::new(rt, progress, scenario.holds),
-            login: None,
-        })?;
+        let setup = setup_of(rt, ways.pop()?, progress, scenario, me, steps);
+        add(&mut setups, setup)?;
     }
     setups.reverse();
     Ok(setups)
+}
+
+/// What a router begins with that follows these steps.
+fn setup_of<'a, J: Naming, R: Wait + Clock>(
+    rt: &'a R,
+    ends: EndsOf<J>,
+    progress: &'a Progress,
+    scenario: &Scenario,
+    me: usize,
+    steps: &'static [Step],
+) -> SetupOf<'a, J, R> {
+    let Ends {
+        seat,
+        lane,
+        taps,
+        starts,
+    } = ends;
+    let trace = SharedTrace {
+        rt,
+        progress,
+        tracing: scenario.tracing,
+    };
+    RouterSetup {
+        seat: SeatSetup {
+            seat,
+            lane,
+            starts,
+            trace,
+        },
+        taps,
+        source: ScenarioSource::new(rt, progress, me, steps),
+        gate: HoldingGate::new(rt, progress, scenario.holds),
+        login: None,
+    }
+}
+
+/// One more, where there is memory for it.
+fn add<T: Drop>(items: &mut Vec<T>, item: T) -> Result<(), AllocError> {
+    items.push(item)?;
+    Ok(())
 }
