@@ -8,15 +8,16 @@ use crate::scenes::Scene;
 use anyhow::Result;
 use bench_core::Report;
 use bus_view::BusView;
-use outbox::{EnvelopeOf, Lane, Outboxes, Tap, open_queue};
+use outbox::{Outboxes, open_queue};
 use registry_snapshots::{Desk, Naming, Seat, Serve, Shared};
 use router::{Engine, Traced};
 use router_core::{Gate, OpenGate};
-use router_host::{Host, Post, StartRequest};
+use router_host::{Host, Post};
 use routers::{Coordinator, LanePost, Wake};
 use std::alloc::{AllocError, Global};
 use std::sync::Wait;
 use std::time::Clock;
+use test_post::{Ends, EndsOf, Ways};
 use thiserror::Error;
 
 /// Wakes nobody: there is one thread.
@@ -62,33 +63,11 @@ impl<'a, R: Print + Clock + Wait> Serve for Stage<'a, R> {
     }
 }
 
-/// What a router serves with: a seat, a lane, the taps of its places, and a lane for starts.
-#[derive(Drop)]
-struct Ends<S, L, T, Q> {
-    seat: S,
-    lane: L,
-    taps: T,
-    starts: Q,
-}
-
-/// The ends of a router of a registry.
-type EndsOf<J> = Ends<Seat<J>, Lane<EnvelopeOf<J>>, Vec<Tap<EnvelopeOf<J>>>, Lane<StartRequest>>;
-
-/// The last of each, of which the router is the last to have one. Nobody takes from the queue of
-/// starts.
-fn last_ends<S: Drop, L: Drop, T: Drop, Q: Drop, N: Drop>(
-    mut seats: Vec<S>,
-    outboxes: Result<(Vec<L>, Vec<T>), AllocError>,
-    queue: Result<(Vec<Q>, N), AllocError>,
+/// What the one router serves with, which is the last to have a seat.
+fn last_ends<S: Drop, L: Drop, T: Drop, Q: Drop>(
+    ways: Result<Ways<S, L, T, Q>, AllocError>,
 ) -> Option<Ends<S, L, T, Q>> {
-    let (mut lanes, mut taps) = outboxes.ok()?;
-    let (mut starts, _requests) = queue.ok()?;
-    Some(Ends {
-        seat: seats.pop()?,
-        lane: lanes.pop()?,
-        taps: taps.pop()?,
-        starts: starts.pop()?,
-    })
+    ways.ok()?.pop()
 }
 
 /// What a router is made of: a view of the bus, and a post.
@@ -138,7 +117,8 @@ fn over_registry<J: Naming, R: Print + Clock + Wait>(
     seats: Vec<Seat<J>>,
 ) -> Result<(), SceneFault> {
     let coordinator = coordinator(alloc)?;
-    let ends = last_ends(seats, Outboxes::new(alloc, shared), open_queue(alloc, 2));
+    let outboxes = Outboxes::new(alloc, shared);
+    let ends = last_ends(Ways::new(seats, outboxes, open_queue(alloc, 2)));
     let measured = match side_of(alloc, ends, shared, &coordinator) {
         Some(side) => over_side(report, alloc, scene, report.rt, side),
         None => Err(SceneFault::from(AllocError)),

@@ -1,4 +1,5 @@
-//! Mail in memory, for the tests of hosts over a bus of one thread.
+//! What the tests of hosts serve with: mail in memory over a bus of one thread, and what the routers
+//! of a registry begin with.
 //!
 //! ```
 //! use router_host_core::Post;
@@ -11,6 +12,8 @@
 //! ```
 #![tactic(auto)]
 
+mod ends;
 mod local_post;
 
+pub use ends::{Ends, EndsOf, Ways, WaysOf};
 pub use local_post::LocalPost;

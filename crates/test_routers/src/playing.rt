@@ -11,9 +11,8 @@ use crate::scenario::{Scenario, Step};
 use crate::source::ScenarioSource;
 use crate::stopper::Stopper;
 use crate::trace_sink::SharedTrace;
-use outbox::{EnvelopeOf, Lane, Outboxes, Tap, open_queue};
+use outbox::{Outboxes, open_queue};
 use registry_snapshots::{Naming, NewHistory, Seat, Shared};
-use router_host::StartRequest;
 use routers::{Coordinator, Fault, RouterSetup, SeatSetup, serve};
 use std::alloc::{AllocError, Global};
 use std::marker::Brand;
@@ -22,6 +21,7 @@ use std::rt::Clock;
 use std::sync::Wait;
 use std::test::Fail;
 use std::thread::Threads;
+use test_post::{Ends, EndsOf, Ways, WaysOf};
 
 /// What is told of a scenario.
 #[derive(Drop)]
@@ -104,7 +104,7 @@ fn follow<'a, J: Naming + Send + Sync, R: Threads + Wait + Clock + Sync>(
 ) -> Result<Option<Fault>, Fail> {
     let outboxes = Outboxes::new(alloc, shared);
     let queue = open_queue(alloc, usize::from(shared.routers()) + 1);
-    let ways = ways_of(seats, outboxes, queue)?;
+    let ways = Ways::new(seats, outboxes, queue)?;
     let setups = setups_of(rt, alloc, ways, progress, scenario)?;
     let coordinator = coordinator_of(alloc, progress, scenario.steps.len())?;
     let mut stopper = Stopper {
@@ -131,65 +131,6 @@ fn coordinator_of(
     Coordinator::new(alloc, wakers, progress.waker(MAIN))
 }
 
-/// What a router serves with: a seat, a lane, the taps of its places, and a lane for starts.
-#[derive(Drop)]
-struct Ends<S, L, T, Q> {
-    seat: S,
-    lane: L,
-    taps: T,
-    starts: Q,
-}
-
-/// The ends of a router of a registry.
-type EndsOf<J> = Ends<Seat<J>, Lane<EnvelopeOf<J>>, Vec<Tap<EnvelopeOf<J>>>, Lane<StartRequest>>;
-
-/// What all serve with, the last router's last.
-#[derive(Drop)]
-struct Ways<S, L, T, Q> {
-    seats: Vec<S>,
-    lanes: Vec<L>,
-    taps: Vec<T>,
-    starts: Vec<Q>,
-}
-
-impl<S: Drop, L: Drop, T: Drop, Q: Drop> Ways<S, L, T, Q> {
-    /// What the last router serves with.
-    fn pop(&mut self) -> Result<Ends<S, L, T, Q>, Fail> {
-        match self.pop_each() {
-            Some(ends) => Ok(ends),
-            None => Err(Fail::from("no seat")),
-        }
-    }
-
-    fn pop_each(&mut self) -> Option<Ends<S, L, T, Q>> {
-        Some(Ends {
-            seat: self.seats.pop()?,
-            lane: self.lanes.pop()?,
-            taps: self.taps.pop()?,
-            starts: self.starts.pop()?,
-        })
-    }
-}
-
-/// The ways of the routers of a registry.
-type WaysOf<J> = Ways<Seat<J>, Lane<EnvelopeOf<J>>, Vec<Tap<EnvelopeOf<J>>>, Lane<StartRequest>>;
-
-/// What all serve with, if there is memory for it. Nobody takes from the queue of starts.
-fn ways_of<S: Drop, L: Drop, T: Drop, Q: Drop, N: Drop>(
-    seats: Vec<S>,
-    outboxes: Result<(Vec<L>, Vec<T>), AllocError>,
-    queue: Result<(Vec<Q>, N), AllocError>,
-) -> Result<Ways<S, L, T, Q>, AllocError> {
-    let (lanes, taps) = outboxes?;
-    let (starts, _requests) = queue?;
-    Ok(Ways {
-        seats,
-        lanes,
-        taps,
-        starts,
-    })
-}
-
 /// What a router of a scenario begins with.
 type SetupOf<'a, J, R> = RouterSetup<
     J,
@@ -208,34 +149,34 @@ fn setups_of<'a, J: Naming, R: Wait + Clock>(
 ) -> Result<Vec<SetupOf<'a, J, R>>, Fail> {
     let mut setups = Vec::new(alloc);
     for (me, steps) in scenario.steps.iter().enumerate().rev() {
-        let setup = setup_of(rt, ways.pop()?, progress, scenario, me, steps);
+        let setup = setup_of(rt, ways.pop(), progress, scenario, me, steps);
         add(&mut setups, setup)?;
     }
     setups.reverse();
     Ok(setups)
 }
 
-/// What a router begins with that follows these steps.
+/// What a router begins with that follows these steps, if it has its ends.
 fn setup_of<'a, J: Naming, R: Wait + Clock>(
     rt: &'a R,
-    ends: EndsOf<J>,
+    ends: Option<EndsOf<J>>,
     progress: &'a Progress,
     scenario: &Scenario,
     me: usize,
     steps: &'static [Step],
-) -> SetupOf<'a, J, R> {
+) -> Option<SetupOf<'a, J, R>> {
     let Ends {
         seat,
         lane,
         taps,
         starts,
-    } = ends;
+    } = ends?;
     let trace = SharedTrace {
         rt,
         progress,
         tracing: scenario.tracing,
     };
-    RouterSetup {
+    Some(RouterSetup {
         seat: SeatSetup {
             seat,
             lane,
@@ -246,11 +187,14 @@ fn setup_of<'a, J: Naming, R: Wait + Clock>(
         source: ScenarioSource::new(rt, progress, me, steps),
         gate: HoldingGate::new(rt, progress, scenario.holds),
         login: None,
-    }
+    })
 }
 
-/// One more, where there is memory for it.
-fn add<T: Drop>(items: &mut Vec<T>, item: T) -> Result<(), AllocError> {
-    items.push(item)?;
+/// One more, where it could be made.
+fn add<T: Drop>(items: &mut Vec<T>, item: Option<T>) -> Result<(), Fail> {
+    match item {
+        Some(item) => items.push(item)?,
+        None => return Err(Fail::from("no seat")),
+    }
     Ok(())
 }

@@ -12,18 +12,19 @@ use crate::relays::{
     together,
 };
 use bus_view::BusView;
-use outbox::{EnvelopeOf, Lane, Outboxes, Tap, open_queue};
+use outbox::{EnvelopeOf, Lane, Outboxes, open_queue};
 use outbox_core::{Content, Envelope};
 use registry_snapshots::{Desk, Naming, Seat, Serve, Shared, start};
 use router::{Engine, Traced};
 use router_core::{CloseCause, OpenGate};
-use router_host::{EndCause, Host, Post, StartRequest};
+use router_host::{EndCause, Host, Post};
 use routers::{Coordinator, Fault, LanePost, Router, TraceSink, TraceWriter, Wake};
 use seq_bus_core::SharedBytes;
 use std::alloc::{AllocError, Global};
 use std::cell::RefCell;
 use std::rc::Rc;
 use std::sync::{Arc, Wait};
+use test_post::{Ends, EndsOf, Ways};
 use test_support::messages::{ACQUIRED, WELCOME};
 
 /// How many places for connections each of two routers has.
@@ -273,61 +274,14 @@ impl<'a, R: Wait> Serve for Pair<'a, R> {
     }
 }
 
-/// What a router serves with: a seat, a lane, the taps of its places, and a lane for starts.
-#[derive(Drop)]
-struct Ends<S, L, T, Q> {
-    seat: S,
-    lane: L,
-    taps: T,
-    starts: Q,
-}
-
-/// The ends of a router of a registry.
-type EndsOf<J> = Ends<Seat<J>, Lane<EnvelopeOf<J>>, Vec<Tap<EnvelopeOf<J>>>, Lane<StartRequest>>;
-
-/// What all serve with, the second router's last.
-#[derive(Drop)]
-struct Ways<S, L, T, Q> {
-    seats: Vec<S>,
-    lanes: Vec<L>,
-    taps: Vec<T>,
-    starts: Vec<Q>,
-}
-
-impl<S: Drop, L: Drop, T: Drop, Q: Drop> Ways<S, L, T, Q> {
-    /// What the last router serves with.
-    fn pop(&mut self) -> Option<Ends<S, L, T, Q>> {
-        Some(Ends {
-            seat: self.seats.pop()?,
-            lane: self.lanes.pop()?,
-            taps: self.taps.pop()?,
-            starts: self.starts.pop()?,
-        })
-    }
-}
-
 /// What the first router serves with, the second, and the lane of the thread that is no router.
 fn part<S: Drop, L: Drop, T: Drop, Q: Drop>(
-    seats: Vec<S>,
-    outboxes: Option<(Vec<L>, Vec<T>)>,
-    starts: Option<Vec<Q>>,
+    ways: Result<Ways<S, L, T, Q>, AllocError>,
 ) -> Option<(Ends<S, L, T, Q>, Ends<S, L, T, Q>, L)> {
-    let (lanes, taps) = outboxes?;
-    let mut ways = Ways {
-        seats,
-        lanes,
-        taps,
-        starts: starts?,
-    };
+    let mut ways = ways.ok()?;
     let second = ways.pop()?;
     let first = ways.pop()?;
     Some((first, second, ways.lanes.pop()?))
-}
-
-/// The lanes of a queue that nobody takes from.
-fn lanes<L: Drop, T: Drop>(queue: Result<(Vec<L>, T), AllocError>) -> Option<Vec<L>> {
-    let (lanes, _tap) = queue.ok()?;
-    Some(lanes)
 }
 
 /// Makes what the routers put and take with, and serves.
@@ -337,10 +291,8 @@ fn serve_over<J: Naming, R: Wait>(
     seats: Vec<Seat<J>>,
 ) -> Option<()> {
     let alloc = pair.alloc;
-    let outboxes = Outboxes::new(alloc, shared).ok();
-    // Nobody runs programs.
-    let starts = lanes(open_queue(alloc, 3));
-    let (first, second, lane) = part(seats, outboxes, starts)?;
+    let outboxes = Outboxes::new(alloc, shared);
+    let (first, second, lane) = part(Ways::new(seats, outboxes, open_queue(alloc, 3)))?;
     serve_ends(pair, shared, first, second, lane)
 }
 
