@@ -12,11 +12,11 @@ use Rattle.router_core.specs.Events.{closing, for_entry, for_peer, closing_if_fo
 use Rattle.router_core.specs.Scripts.{Gives, World, Comes, and_then}
 use Rattle.router_core.specs.Standing.{Stage, Authenticating, Unnamed, Named, Closing, Peer, Standing, SpeaksDBus, peer_at, with_peer, has_slot}
 use Rattle.router_steps.proofs.Sequels.{comes_then}
-use Rattle.router.specs.Indexed.{IsNameless, IsUnnamed}
+use Rattle.router.specs.Indexed.{IsNameless, AwaitsHello}
 use Rattle.router.specs.Welcomes.{welcome_conn}
 
 -- one without a name has begun its messages
-pub speaks : (stage : Stage) → IsUnnamed stage → SpeaksDBus stage
+pub speaks : (stage : Stage) → AwaitsHello stage → SpeaksDBus stage
 speaks (Authenticating setting state) unnamed = absurd unnamed
 speaks (Unnamed privileged) unnamed = tt
 speaks (Named conn) unnamed = absurd unnamed
@@ -36,7 +36,7 @@ pub nameless_slot : (slot : ℕ) (o : Option Peer) → IsNameless o → has_slot
 nameless_slot slot None nameless = refl
 nameless_slot slot (Some p) nameless = by_stage p.stage nameless
   where
-    by_stage : (stage : Stage) → IsUnnamed stage → has_slot slot (Some (record p { stage = stage })) ≡ false
+    by_stage : (stage : Stage) → AwaitsHello stage → has_slot slot (Some (record p { stage = stage })) ≡ false
     by_stage (Authenticating setting state) unnamed = absurd unnamed
     by_stage (Unnamed privileged) unnamed = refl
     by_stage (Named conn) unnamed = absurd unnamed

@@ -8,7 +8,7 @@ use Rattle.seq_bus_core.specs.declared.connection.Conn.{Conn}
 use Rattle.slab.specs.Slab.{Slab, Updates}
 use Rattle.router_core.specs.Standing.{Peer, Stage, Authenticating, Unnamed, Named, Closing, has_slot, is_conn, trimmed}
 use Rattle.router_core.proofs.Trimmed.{get-trimmed}
-use Rattle.router.specs.Indexed.{slot_count, IsIndexed, IsVacant, IsUnnamed}
+use Rattle.router.specs.Indexed.{slot_count, IsIndexed, IsVacant, AwaitsHello}
 use Rattle.router.proofs.Slabs.{first_of_all, none_at_all}
 
 -- ---- what is found
@@ -200,10 +200,10 @@ vacant_closed slot key new peers key_of_slot indexed has gone = λ k below still
     ]
 
 -- a connection without a name has no slot
-pub unnamed_keeps : (p q : Peer) → IsUnnamed p.stage → q.stage ≡ p.stage → Keeps None (Some q)
-unnamed_keeps p q unnamed same = λ slot has. absurd (false≢true (sym (none slot q.stage (subst (λ (stage : Stage). IsUnnamed stage) (sym same) unnamed)) ∙ has))
+pub unnamed_keeps : (p q : Peer) → AwaitsHello p.stage → q.stage ≡ p.stage → Keeps None (Some q)
+unnamed_keeps p q unnamed same = λ slot has. absurd (false≢true (sym (none slot q.stage (subst (λ (stage : Stage). AwaitsHello stage) (sym same) unnamed)) ∙ has))
   where
-    none : (slot : ℕ) (stage : Stage) → IsUnnamed stage → has_slot slot (Some (record q { stage = stage })) ≡ false
+    none : (slot : ℕ) (stage : Stage) → AwaitsHello stage → has_slot slot (Some (record q { stage = stage })) ≡ false
     none slot (Authenticating setting state) is = absurd is
     none slot (Unnamed privileged) is = refl
     none slot (Named conn) is = absurd is

@@ -16,13 +16,13 @@ abbrev pub IsVacant : ℕ → List (Option Peer) → Type 0
 IsVacant slot peers = (key : ℕ) → slot < slot_count → has_slot slot (slice_index_or peers key None) ≡ true → ⊥
 
 -- a connection that has no name yet
-abbrev pub IsUnnamed : Stage → Type 0
-IsUnnamed (Authenticating setting state) = ⊥
-IsUnnamed (Unnamed privileged) = Unit {0}
-IsUnnamed (Named conn) = ⊥
-IsUnnamed (Closing conn) = ⊥
+abbrev pub AwaitsHello : Stage → Type 0
+AwaitsHello (Authenticating setting state) = ⊥
+AwaitsHello (Unnamed privileged) = Unit {0}
+AwaitsHello (Named conn) = ⊥
+AwaitsHello (Closing conn) = ⊥
 
 -- a connection is there that has no name yet
 abbrev pub IsNameless : Option Peer → Type 0
 IsNameless None = ⊥
-IsNameless (Some p) = IsUnnamed p.stage
+IsNameless (Some p) = AwaitsHello p.stage

@@ -9,7 +9,7 @@ use Rattle.router_core.specs.Standing.{Peer, Stage, Standing, Unnamed, next_seri
 use Rattle.router_steps.specs.Reading.{ComesOfNext}
 use Rattle.router_steps.specs.declared.first.HelloCall.{HelloCall}
 use Rattle.router_steps.specs.Refusing.{AreRefusals}
-use Rattle.router.specs.Indexed.{IsNameless, IsUnnamed}
+use Rattle.router.specs.Indexed.{IsNameless, AwaitsHello}
 use Rattle.router.specs.Tables.{Table}
 use Rattle.router.proofs.HelloTaken.{serves_hello, hello_next, no_slot}
 use Rattle.router.proofs.Indexing.{Keeps, index_at, like_keeps}
@@ -106,7 +106,7 @@ serve_hello-requires-clause-nameless g c =
     let after = record slab { slots = set slab.slots key (Some left) } in
     let left_there = stands after c.self.inside.due_leaves.items c.self.inside.login key (Some left) (get_or-set_same slab.slots key (Some left) None (there_within slab.slots key was there)) ∙ next_is.3 in
     let unnamed : q.stage ≡ Unnamed c.in-Some-2.field-0.privileged = ap (λ (x : Peer). x.stage) next_is.4.rest ∙ next_is.4.stage in
-    subst (λ (o : Option Peer). IsNameless o) (sym left_there) (subst (λ (stage : Stage). IsUnnamed stage) (sym unnamed) tt)
+    subst (λ (o : Option Peer). IsNameless o) (sym left_there) (subst (λ (stage : Stage). AwaitsHello stage) (sym unnamed) tt)
 
 pub serve_hello-requires-clause-written : goal.serve_hello-requires-clause-written
 serve_hello-requires-clause-written g c =
