@@ -8,7 +8,7 @@ ghost use Rattle.router_host.specs.Happening.{CatchesUp, HappensBy};
 use crate::host::Host;
 use bus_view::BusView;
 use router_core::{Event, Gate};
-use router_host_core::{EndCause, Ended, Post, SLOTS, Socket, Todo};
+use router_host_core::{EndCause, Ended, Post, SLOTS, Socket};
 use seq_bus_core::Conn;
 use std::alloc::AllocError;
 
@@ -22,17 +22,9 @@ impl<V: BusView, G: Gate, P: Post<V>, S: Socket> Host<V, G, P, S> {
         ensures does { DoesBy V.BusView G.Gate P.Post self.old self.new }
         ensures ok { OnOk result (self.new.kept ≡ None) }
     {
-        match self.carrier.lines.take_over() {
-            Todo::All => {
-                for key in 0..self.carrier.lines.len() {
-                    self.close_in_turn(right, key)?;
-                }
-            }
-            Todo::Keys(keys) => {
-                for key in &keys {
-                    self.close_in_turn(right, *key)?;
-                }
-                self.carrier.lines.give_back_over(keys);
+        for _ in 0..self.carrier.lines.begin_over() {
+            if let Some(key) = self.carrier.lines.next_over() {
+                self.close_in_turn(right, key)?;
             }
         }
         Ok(())

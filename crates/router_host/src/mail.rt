@@ -7,7 +7,7 @@ ghost use Rattle.router_host.specs.Happening.{IsSlotBlocked};
 use crate::host::Host;
 use bus_view::BusView;
 use router_core::{Event, Gate};
-use router_host_core::{Post, Socket, Todo};
+use router_host_core::{Post, Socket};
 use std::alloc::AllocError;
 
 /// How many envelopes are taken of a slot at once.
@@ -20,20 +20,9 @@ impl<V: BusView, G: Gate, P: Post<V>, S: Socket> Host<V, G, P, S> {
         ensures does { DoesBy V.BusView G.Gate P.Post self.old self.new }
         ensures ok { OnOk result (self.new.kept ≡ None) }
     {
-        match self.carrier.slots.take() {
-            Todo::All => {
-                let first = self.carrier.slots.first();
-                for i in 0..self.carrier.slots.count() {
-                    self.deliver(right, first.saturating_add(i))?;
-                }
-            }
-            Todo::Keys(slots) => {
-                for slot in &slots {
-                    if let Ok(slot) = u16::try_from(*slot) {
-                        self.deliver(right, slot)?;
-                    }
-                }
-                self.carrier.slots.give_back(slots);
+        for _ in 0..self.carrier.slots.begin() {
+            if let Some(slot) = self.carrier.slots.next() {
+                self.deliver(right, slot)?;
             }
         }
         Ok(())

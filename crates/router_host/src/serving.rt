@@ -7,7 +7,7 @@ use crate::host::Host;
 use crate::kept::Kept;
 use bus_view::BusView;
 use router_core::{Event, Gate};
-use router_host_core::{Post, Pulled, Socket, Todo};
+use router_host_core::{Post, Pulled, Socket};
 use seq_bus_core::limits::MAX_BATCH;
 use std::alloc::AllocError;
 
@@ -29,17 +29,9 @@ impl<V: BusView, G: Gate, P: Post<V>, S: Socket> Host<V, G, P, S> {
         ensures does { DoesBy V.BusView G.Gate P.Post self.old self.new }
         ensures ok { OnOk result (self.new.kept ≡ None) }
     {
-        match self.carrier.lines.take_ready() {
-            Todo::All => {
-                for key in 0..self.carrier.lines.len() {
-                    self.serve_in_turn(right, key)?;
-                }
-            }
-            Todo::Keys(keys) => {
-                for key in &keys {
-                    self.serve_in_turn(right, *key)?;
-                }
-                self.carrier.lines.give_back_ready(keys);
+        for _ in 0..self.carrier.lines.begin_ready() {
+            if let Some(key) = self.carrier.lines.next_ready() {
+                self.serve_in_turn(right, key)?;
             }
         }
         Ok(())

@@ -7,60 +7,66 @@ use std::mem;
 /// to be looked at.
 #[derive(Drop)]
 pub(crate) struct Hints {
-    alloc: Global,
-    keys: Vec<usize>,
-    /// Room for the keys that come while these are looked at.
-    spare: Vec<usize>,
-    all: bool,
-}
-
-/// What hints come to.
-pub enum Todo {
-    /// All keys are to be looked at.
-    All,
-    /// These are, in order.
-    Keys(Vec<usize>),
+    /// Those that were noted since it was begun to look.
+    noted: Vec<usize>,
+    /// All are to be looked at.
+    is_all: bool,
+    /// Those that are looked at now.
+    current: Vec<usize>,
+    /// The first of all, where all are looked at now.
+    first: Option<usize>,
+    /// How many were looked at.
+    looked: usize,
 }
 
 impl Hints {
     pub(crate) fn new(alloc: Global) -> Hints {
         Hints {
-            alloc,
-            keys: Vec::new(alloc),
-            spare: Vec::new(alloc),
-            all: false,
+            noted: Vec::new(alloc),
+            is_all: false,
+            current: Vec::new(alloc),
+            first: None,
+            looked: 0,
         }
     }
 
     /// A key is to be looked at.
     pub(crate) fn add(&mut self, key: usize) {
-        if self.keys.push(key).is_err() {
-            self.all = true;
+        if self.noted.push(key).is_err() {
+            self.is_all = true;
         }
     }
 
     /// All keys are to be looked at.
     pub(crate) fn add_all(&mut self) {
-        self.all = true;
+        self.is_all = true;
     }
 
     pub(crate) fn is_empty(&self) -> bool {
-        !self.all && self.keys.is_empty()
+        !self.is_all && self.noted.is_empty()
     }
 
-    /// What is to be looked at; then nothing is.
-    pub(crate) fn take(&mut self) -> Todo {
-        if mem::replace(&mut self.all, false) {
-            self.keys.clear();
-            return Todo::All;
+    /// Begins to look at what was noted, or at all keys, which are so many from the first. Tells how
+    /// many are to be looked at. What is noted from now on is for the next time.
+    pub(crate) fn begin(&mut self, first: usize, count: usize) -> usize {
+        mem::swap(&mut self.noted, &mut self.current);
+        self.noted.clear();
+        self.looked = 0;
+        if mem::replace(&mut self.is_all, false) {
+            self.first = Some(first);
+            return count;
         }
-        let spare = mem::replace(&mut self.spare, Vec::new(self.alloc));
-        Todo::Keys(mem::replace(&mut self.keys, spare))
+        self.first = None;
+        self.current.len()
     }
 
-    /// Takes back the room of keys that were looked at.
-    pub(crate) fn give_back(&mut self, keys: Vec<usize>) {
-        self.spare = keys;
-        self.spare.clear();
+    /// The next key to be looked at.
+    pub(crate) fn next(&mut self) -> Option<usize> {
+        let place = self.looked;
+        self.looked = place.saturating_add(1);
+        match self.first {
+            Some(first) => Some(first.saturating_add(place)),
+            None => self.current.get(place).copied(),
+        }
     }
 }

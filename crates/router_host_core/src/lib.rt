@@ -45,7 +45,6 @@ mod written;
 
 pub use carrier::Carrier;
 pub use ending::{EndCause, Ended};
-pub use hints::Todo;
 pub use line::Pulled;
 pub use lines::Lines;
 pub use post::{NoRoom, Post, StartRequest, TooManyStarts};

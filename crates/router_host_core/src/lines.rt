@@ -6,7 +6,7 @@ ghost use Rattle.router_host_core.specs.Sockets.{IsFlushedAt, IsPulledAt, cause_
 ghost use Rattle.router_host_core.specs.States.{new_line};
 
 use crate::ending::EndCause;
-use crate::hints::{Hints, Todo};
+use crate::hints::Hints;
 use crate::line::{Line, Pulled};
 use crate::socket::Socket;
 use router_core::WrittenBytes;
@@ -138,18 +138,32 @@ impl<S: Socket> Lines<S> {
         self.over.add_all();
     }
 
-    /// Those to be served, who are then no longer among them.
-    pub fn take_ready(&mut self) -> Todo
+    /// Begins to look at those that are to be served. Tells how many they are.
+    pub fn begin_ready(&mut self) -> usize
         ensures { self.new ≡ self.old }
     {
-        self.ready.take()
+        self.ready.begin(0, self.table.len())
     }
 
-    /// Those that are over, who are then no longer among them.
-    pub fn take_over(&mut self) -> Todo
+    /// The next of those that are to be served.
+    pub fn next_ready(&mut self) -> Option<usize>
         ensures { self.new ≡ self.old }
     {
-        self.over.take()
+        self.ready.next()
+    }
+
+    /// Begins to look at those that may be over. Tells how many they are.
+    pub fn begin_over(&mut self) -> usize
+        ensures { self.new ≡ self.old }
+    {
+        self.over.begin(0, self.table.len())
+    }
+
+    /// The next of those that may be over.
+    pub fn next_over(&mut self) -> Option<usize>
+        ensures { self.new ≡ self.old }
+    {
+        self.over.next()
     }
 
     /// Whether the connection of a key is to be served now, which may have a name.
@@ -313,19 +327,25 @@ impl<S: Socket> Lines<S> {
     pub fn flush_all(&mut self)
         ensures { (keys : List ℕ) × Each IsFlushedAt keys self.old self.new }
     {
-        match self.dirty.take() {
-            Todo::All => {
-                for key in 0..self.table.len() {
-                    self.flush(key);
-                }
-            }
-            Todo::Keys(keys) => {
-                for key in &keys {
-                    self.flush(*key);
-                }
-                self.dirty.give_back(keys);
+        for _ in 0..self.begin_dirty() {
+            if let Some(key) = self.next_dirty() {
+                self.flush(key);
             }
         }
+    }
+
+    /// Begins to look at those that are to be flushed. Tells how many they are.
+    fn begin_dirty(&mut self) -> usize
+        ensures { self.new ≡ self.old }
+    {
+        self.dirty.begin(0, self.table.len())
+    }
+
+    /// The next of those that are to be flushed.
+    fn next_dirty(&mut self) -> Option<usize>
+        ensures { self.new ≡ self.old }
+    {
+        self.dirty.next()
     }
 
     /// Gives the socket of a connection what waits for it.
@@ -346,20 +366,6 @@ impl<S: Socket> Lines<S> {
         if line.is_released() && line.mark_listed() {
             self.ready.add(key);
         }
-    }
-
-    /// Takes back the room of keys that were served.
-    pub fn give_back_ready(&mut self, keys: Vec<usize>)
-        ensures { self.new ≡ self.old }
-    {
-        self.ready.give_back(keys);
-    }
-
-    /// Takes back the room of keys that were over.
-    pub fn give_back_over(&mut self, keys: Vec<usize>)
-        ensures { self.new ≡ self.old }
-    {
-        self.over.give_back(keys);
     }
 
     /// Lets go of the connection of a key, where it is over. Tells why.

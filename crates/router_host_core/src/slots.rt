@@ -1,6 +1,6 @@
 //! The slots of a router.
 
-use crate::hints::{Hints, Todo};
+use crate::hints::Hints;
 use crate::put_out::SLOTS;
 use std::alloc::Global;
 
@@ -57,9 +57,15 @@ impl Slots {
         self.hints.is_empty()
     }
 
-    /// The slots that mail may have come for; then there are none.
-    pub fn take(&mut self) -> Todo {
-        self.hints.take()
+    /// Begins to look at the slots that mail may have come for. Tells how many there are.
+    pub fn begin(&mut self) -> usize {
+        self.hints
+            .begin(usize::from(self.first), usize::from(self.count))
+    }
+
+    /// The next slot that mail may have come for.
+    pub fn next(&mut self) -> Option<u16> {
+        u16::try_from(self.hints.next()?).ok()
     }
 
     /// The slot is looked at.
@@ -67,20 +73,5 @@ impl Slots {
         if let Some(is_noted) = self.is_noted.get_mut(usize::from(slot)) {
             *is_noted = false;
         }
-    }
-
-    /// Takes back the room of slots that were looked at.
-    pub fn give_back(&mut self, slots: Vec<usize>) {
-        self.hints.give_back(slots);
-    }
-
-    /// The first of them.
-    pub fn first(&self) -> u16 {
-        self.first
-    }
-
-    /// How many they are.
-    pub fn count(&self) -> u16 {
-        self.count
     }
 }

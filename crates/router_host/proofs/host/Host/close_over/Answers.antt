@@ -1,21 +1,14 @@
+use Rattle.std.proofs.Common.{◌≡◌, refl}
 use Rattle.router_host.proofs.Doings.{does_then}
 use Rattle.router_host.proofs.host.Host.close_over.Goals as goal
+use Rattle.router_host.proofs.host.Host.close_over.Goals.{in-Some+in_ok-close_in_turn, in_default}
 
-pub loop-key-preserved : goal.loop-key-preserved
-loop-key-preserved g c = (does_then c.loop-key.invariant.0 c.close_in_turn.ensures.does, c.in_ok-close_in_turn-in-All.ensures.ok)
+pub loop-preserved : goal.loop-preserved
+loop-preserved g c = elim c.match-next_over.branch [
+  | in-Some+in_ok-close_in_turn w ↦
+      rw w.self-is (does_then c.loop.invariant.0 (rw (← c.self-in-loop.view_is, ← c.self-inside-in-loop.view_is, ← c.next_over.ensures) w.close_in_turn.ensures.does), w.in_ok-close_in_turn.ensures.ok)
+  | in_default w ↦ let same : c.match-next_over.self ≡ c.loop.self = rw (w.self-is, ← c.self-in-loop.view_is, ← c.self-inside-in-loop.view_is, ← c.next_over.ensures) refl in rw same c.loop.invariant
+]
 
-pub returns-in_err-close_in_turn-in-All-clause-does : goal.returns-in_err-close_in_turn-in-All-clause-does
-returns-in_err-close_in_turn-in-All-clause-does g c = does_then c.loop-key.invariant.0 c.close_in_turn.ensures.does
-
-pub returns-in_err-close_in_turn-in-Keys-clause-does : goal.returns-in_err-close_in_turn-in-Keys-clause-does
-returns-in_err-close_in_turn-in-Keys-clause-does g c =
-    does_then c.loop-key-2.invariant.0 c.close_in_turn-in-loop-key-2.ensures.does
-
-pub loop-key-2-preserved : goal.loop-key-2-preserved
-loop-key-2-preserved g c = (does_then c.loop-key-2.invariant.0 c.close_in_turn-in-loop-key-2.ensures.does, c.in_ok-close_in_turn-in-Keys.ensures.ok)
-
-pub invariant_of-self-in-Keys-1 : goal.invariant_of-self-in-Keys-1
-invariant_of-self-in-Keys-1 g c = rw (← c.self-inside.view_is) at c.self.invariant
-
-pub invariant_of-self-in-Keys : goal.invariant_of-self-in-Keys
-invariant_of-self-in-Keys g c = rw (← c.self-inside-in-Keys.view_is) at c.self-in-Keys.invariant
+pub returns-in_err-close_in_turn-clause-does : goal.returns-in_err-close_in_turn-clause-does
+returns-in_err-close_in_turn-clause-does g c = does_then c.loop.invariant.0 (rw (← c.self-in-loop.view_is, ← c.self-inside-in-loop.view_is, ← c.next_over.ensures) c.close_in_turn.ensures.does)

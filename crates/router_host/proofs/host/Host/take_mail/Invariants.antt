@@ -3,12 +3,7 @@ use Rattle.std.proofs.Common.{◌≡◌, None}
 use Rattle.router_host.specs.Doing.{Does}
 use Rattle.router_host.proofs.host.Host.take_mail.Given as goal
 
-abbrev pub invariant-loop-i : goal.invariant-loop-i
-invariant-loop-i g l =
-    (Does g.V.BusView.told g.V.BusView.registry_of g.G.Gate.passes g.V.BusView.alone g.P.Post.puts g.P.Post.refuses g.P.Post.starts g.P.Post.takes l.fn.self l.self)
-    × (l.self.kept ≡ None)
-
-abbrev pub invariant-loop-slot : goal.invariant-loop-slot
-invariant-loop-slot g l =
+abbrev pub invariant-loop : goal.invariant-loop
+invariant-loop g l =
     (Does g.V.BusView.told g.V.BusView.registry_of g.G.Gate.passes g.V.BusView.alone g.P.Post.puts g.P.Post.refuses g.P.Post.starts g.P.Post.takes l.fn.self l.self)
     × (l.self.kept ≡ None)
