@@ -10,5 +10,6 @@ pub mod Alone
 pub mod Readers
 pub mod Functions
 pub mod FirstMessages
+pub mod Quiet
 pub mod Trimmed
 pub mod Keys

@@ -8,6 +8,7 @@ pub mod Serving
 pub mod Together
 pub mod Standing
 pub mod Events
+pub mod Changing
 pub mod Acts
 pub mod OneThread
 pub mod Readings

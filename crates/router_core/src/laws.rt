@@ -1,6 +1,7 @@
 //! Laws of the definitions.
 
 ghost use Rattle.std.specs.Prelude.{◌≡◌};
+ghost use Rattle.router_core.specs.Changing.{OthersChangeNothing};
 ghost use Rattle.router_core.specs.Laws.{ClosedAreNotServed, ClosedHaveNoTurn, ClosedTakeNothing, ClosedGetNoMail, NobodySpeaksBeforeBegin, NobodyHasATurnBeforeBegin, OnlyBeginBegins, UnknownTypesBringNothing, OnlyHelloIsServed, MonitorsSendNothing, ComersHaveTheirKeys, GoneKeysAreFree, AnswersAreLawful, NotesAreOwn, OneThreadIsAFunction, BytesAreAFunction};
 ghost use Rattle.router_core.specs.Standing.{next_serial};
 
@@ -60,6 +61,13 @@ pub fn monitors_send_nothing<V: BusView, G: Gate>()
 pub fn keys_are_given_back<V: BusView, G: Gate>()
     ensures come { ComersHaveTheirKeys }
     ensures gone { GoneKeysAreFree V.BusView G.Gate }
+{}
+
+/// Who comes, the bytes of a connection, and mail ask for no change of the bus, whatever else the
+/// bus answers.
+#[tactic(auto, using(crate::proofs::Quiet::others_change_nothing))]
+pub fn others_change_nothing<V: BusView>()
+    ensures { OthersChangeNothing V.BusView }
 {}
 
 /// What an event brings is what it brings for some answers that the bus may give.

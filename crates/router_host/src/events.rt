@@ -4,6 +4,7 @@ ghost use Rattle.std.specs.Prelude.{◌≡◌, ◌≤◌, [], None, length, take
 ghost use Rattle.std.specs.List.{AllByRecursion};
 ghost use Rattle.router_core.specs.Deeds.{CarriesOwn};
 ghost use Rattle.router_core.specs.Acts.{CanHappen};
+ghost use Rattle.router_core.specs.Changing.{may_change};
 ghost use Rattle.router_host_core.specs.Carrying.{GoesOn};
 ghost use Rattle.router_host.specs.Doing.{DoesBy, IsBroughtBy};
 ghost use Rattle.router_host.specs.Happening.{CatchesUp, HappensBy};
@@ -165,7 +166,9 @@ fn front(alloc: Global, bytes: &[u8], count: usize) -> Result<Vec<u8>, AllocErro
 }
 
 /// Whether an event may change the bus. Who comes, bytes and mail never do.
-fn may_change<N: Drop>(event: &Event<N>) -> bool {
+fn may_change<N: Drop>(event: &Event<N>) -> bool
+    ensures { result ≡ may_change event.now }
+{
     !matches!(
         event,
         Event::Opened { .. } | Event::Bytes { .. } | Event::Mail { .. }
