@@ -8,11 +8,12 @@ use Rattle.router_core.specs.declared.event.Event.{Event}
 use Rattle.router_core.specs.declared.event.Event.TheVariants as event
 use Rattle.router_core.specs.declared.gate.Gate.{Ghosts as Gate}
 use Rattle.router_core.specs.Deeds.{GatedCall}
+use Rattle.router.specs.Numbers.{number_at}
 use Rattle.router_host_core.specs.declared.ending.EndCause.{EndCause}
 use Rattle.router_host_core.specs.declared.post.StartRequest.{StartRequest}
 use Rattle.router_host_core.specs.declared.post.Post.{Ghosts as Post}
 use Rattle.router_host_core.specs.declared.put_out.FullConn.{FullConn}
-use Rattle.router_host_core.specs.Carrying.{Each, full_at, line_at, with_line, ended_at}
+use Rattle.router_host_core.specs.Carrying.{Each, IsDrained, full_at, line_at, with_line, ended_at}
 use Rattle.router_host_core.specs.Sockets.{Gives, IsFlushedAt, IsReadToEnd, IsUntold, cause_of, let_go, told_full}
 use Rattle.router_host_core.specs.States.{LineState}
 use Rattle.router_host.specs.Happening.{CatchesUp, Happens, IsSlotBlocked}
@@ -62,6 +63,10 @@ module _ {P N G : Type 0} where
   abbrev pub with_full : Hosted P G N → List (Option FullConn) → Hosted P G N
   with_full s full = record s { carried = record s.carried { full = full } }
 
+-- The socket of the connection of a key may be read: one without a name is read only where nothing waits for its socket.
+abbrev pub MayBeRead : {P N G : Type 0} → Hosted P G N → ℕ → Type 0
+MayBeRead s key = number_at s.engine.standing key ≡ None → IsDrained s.carried.lines key
+
 module _ {P N G : Type 0} (told : N → History) (registry_of : N → ℕ) (passes : G → GatedCall → G → Type 0)
     (alone : Bool) (puts : P → Conn → Envelope N → P → Type 0)
     (refuses : P → Conn → Type 0) (starts : P → StartRequest → P → Type 0) where
@@ -92,7 +97,7 @@ module _ {P N G : Type 0} (told : N → History) (registry_of : N → ℕ) (pass
       (e : Event N) × IsWaiting before.kept e
       × IsBrought told registry_of passes alone puts refuses starts (record before { kept = None }) e after
   IsDone (Reads key bytes) before after =
-      (before.kept ≡ None)
+      (before.kept ≡ None) × MayBeRead before key
       × ((l : LineState) × (line_at before.carried.lines key ≡ Some l)
       × ((left : Option (List ℕ)) × Gives l bytes left
       × (after ≡ record (with_lines before
@@ -106,7 +111,8 @@ module _ {P N G : Type 0} (told : N → History) (registry_of : N → ℕ) (pass
       × IsBrought told registry_of passes alone puts refuses starts (with_post before post)
       (event.Mail slot envelope) after)
   IsDone (Ends key cause) before after =
-      (l : LineState) × (line_at before.carried.lines key ≡ Some l) × IsReadToEnd l.left cause
+      MayBeRead before key
+      × (l : LineState) × (line_at before.carried.lines key ≡ Some l) × IsReadToEnd l.left cause
       × (after ≡ with_lines before (ended_at before.carried.lines key cause (Some l)))
   IsDone (Flushes key) before after =
       (lines : List (Option LineState)) × IsFlushedAt key before.carried.lines lines

@@ -1,7 +1,7 @@
 //! The share of a connection in a turn.
 
 ghost use Rattle.std.specs.Prelude.{◌≡◌, None, OnOk};
-ghost use Rattle.router_host.specs.Doing.{DoesBy};
+ghost use Rattle.router_host.specs.Doing.{DoesBy, MayBeRead};
 
 use crate::host::Host;
 use crate::kept::Kept;
@@ -151,6 +151,7 @@ impl<V: BusView, G: Gate, P: Post<V>, S: Socket> Host<V, G, P, S> {
     /// Reads from a connection, once.
     fn read(&mut self, right: &V::Right, key: usize) -> Result<(), AllocError>
         requires none { self.old.kept ≡ None }
+        requires may { MayBeRead self.old key }
         ensures does { DoesBy V.BusView G.Gate P.Post self.old self.new }
         ensures ok { OnOk result (self.new.kept ≡ None) }
     {

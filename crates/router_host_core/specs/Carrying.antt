@@ -55,6 +55,10 @@ ended_at lines key cause (Some l) = with_line lines key (ended_by cause l)
 abbrev pub IsBlockedAt : List (Option LineState) → ℕ → Type 0
 IsBlockedAt lines key = (l : LineState) × (line_at lines key ≡ Some l) × (l.blocked ≡ true)
 
+-- nothing waits for the socket of the connection of a key, if there is one
+abbrev pub IsDrained : List (Option LineState) → ℕ → Type 0
+IsDrained lines key = (l : LineState) → line_at lines key ≡ Some l → l.waits ≡ []
+
 -- ## Mail
 
 abbrev pub envelope_for : {N : Type 0} → Option N → Content → Conn → Envelope N

@@ -154,7 +154,8 @@ impl<S: Socket> Line<S> {
     /// It is looked at, and no longer among those to be served. Tells whether it is to be served:
     /// it is not over, and where it has no name yet, nothing waits for its socket.
     pub(crate) fn begin(&mut self, named: bool) -> bool
-        ensures { self.new ≡ self.old }
+        ensures same { self.new ≡ self.old }
+        ensures drained { result ≡ true → named ≡ false → self.old.waits ≡ [] }
     {
         self.listed = false;
         self.held = !named && !self.out.is_empty();

@@ -1,7 +1,7 @@
 //! The connections of a router.
 
-ghost use Rattle.std.specs.Prelude.{◌≡◌, ◌++◌, ◌<◌, [], ℕ, List, None, true, OnOk, length, replicate};
-ghost use Rattle.router_host_core.specs.Carrying.{Each, line_at, with_line, IsWrittenAt, ended_at, IsBlockedAt};
+ghost use Rattle.std.specs.Prelude.{◌≡◌, ◌++◌, ◌<◌, [], ℕ, List, None, false, true, OnOk, length, replicate};
+ghost use Rattle.router_host_core.specs.Carrying.{Each, line_at, with_line, IsWrittenAt, ended_at, IsBlockedAt, IsDrained};
 ghost use Rattle.router_host_core.specs.Sockets.{IsFlushedAt, IsPulledAt, cause_of, let_go, unblocked_at};
 ghost use Rattle.router_host_core.specs.States.{new_line};
 
@@ -168,7 +168,8 @@ impl<S: Socket> Lines<S> {
 
     /// Whether the connection of a key is to be served now, which may have a name.
     pub fn begin(&mut self, key: usize, named: bool) -> bool
-        ensures { self.new ≡ self.old }
+        ensures same { self.new ≡ self.old }
+        ensures drained { result ≡ true → named ≡ false → IsDrained self.old key }
     {
         if key >= self.table.len() {
             return false;

@@ -21,7 +21,7 @@ returns-in-Bytes-clause-does g c =
     let read = bytes_in lines c.args.key room c.pull.new.self c.in-Bytes.count (line_at lines c.args.key) refl pulled in
     let bytes = take c.in-Bytes.count room in
     does_then {b = record (with_lines c.args.self.now c.pull.new.self) { kept = Some (Piece c.args.key bytes) }}
-    (does_one (Reads c.args.key bytes) (c.requires.none, (read.0, read.1, (read.2.0, read.2.2, ap (λ (ls : List (Option LineState)). record (with_lines c.args.self.now ls) { kept = Some (Piece c.args.key bytes) }) read.2.3))))
+    (does_one (Reads c.args.key bytes) (c.requires.none, c.requires.may, (read.0, read.1, (read.2.0, read.2.2, ap (λ (ls : List (Option LineState)). record (with_lines c.args.self.now ls) { kept = Some (Piece c.args.key bytes) }) read.2.3))))
     (rw (← c.self.view_is, ← c.self-inside.view_is) c.serve_kept.ensures.does)
 
 pub returns-in-Over-clause-does : goal.returns-in-Over-clause-does
@@ -34,6 +34,7 @@ returns-in-Over-clause-does g c =
     let none : waiting c.self.inside.room.items c.self.inside.kept ≡ None = rw (← c.self.view_is) at c.requires.none in
     let still = still_none c.self.inside.room.items room c.self.inside.kept none in
     does_one (Ends c.args.key c.in-Over.cause) (
+      c.requires.may,
       read.0,
       read.1,
       read.2,
