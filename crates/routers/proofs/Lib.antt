@@ -1,4 +1,1 @@
-pub mod Slots
 pub mod Servings
-pub mod Taking
-pub mod Ways

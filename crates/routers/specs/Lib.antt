@@ -1,3 +1,2 @@
-pub mod Posts
 pub mod Serving
 pub mod Sources

@@ -3,47 +3,35 @@
 //! A [`Router`] is a [`Host`](router_host::Host) that is told what happens by a [`Source`], and
 //! reaches the other routers by its [`LanePost`]. [`serve`] runs one for each router's seat, beside
 //! the thread that accepts connections, until all are told to end. What they share stands in the
-//! [`Coordinator`]. Where the run is recorded, each thread writes the lines of its trace to a
-//! [`TraceSink`], those of a turn at its end.
+//! [`Coordinator`] (`routers_core`). Where the run is recorded, each thread writes the lines of its
+//! trace to a [`TraceSink`], those of a turn at its end.
 //!
 //! ```
-//! use routers::{Coordinator, Fault, Wake};
-//! use std::alloc::{AllocError, Global};
+//! use routers::{Coordinator, Fault, MainTask, Wake};
 //! use std::sync::Wait;
 //!
-//! /// What wakes a thread that does not wait.
+//! /// The main thread of a bus that is to end at once.
 //! #[derive(Drop)]
-//! struct Awake;
-//!
-//! impl Wake for Awake {
-//!     fn wake(&self) {}
+//! struct EndsAll<'a, W: Wake + Drop> {
+//!     coordinator: &'a Coordinator<W>,
 //! }
 //!
-//! /// A router can't go on: all threads are to end.
-//! fn ends_all<R: Wait>(rt: &R, alloc: Global) -> Result<bool, AllocError> {
-//!     let wakers = vec![in alloc; Awake, Awake]?;
-//!     let coordinator = Coordinator::new(alloc, wakers, Awake)?;
-//!     coordinator.fail(rt, Fault::Memory);
-//!     Ok(coordinator.is_over() && coordinator.fault() == Some(Fault::Memory))
+//! impl<'a, W: Wake + Drop> MainTask for EndsAll<'a, W> {
+//!     fn run<R: Wait>(&mut self, _rt: &R) -> Result<(), Fault> {
+//!         self.coordinator.stop();
+//!         Ok(())
+//!     }
 //! }
 //! ```
 #![tactic(auto)]
 
-mod coordinator;
-mod fault;
-mod flag;
-mod post;
 mod router_loop;
-mod slot_mail;
 mod source;
-mod telling;
 mod threads;
 mod trace_sink;
 
-pub use coordinator::{Coordinator, MAIN_THREAD, Wake};
-pub use fault::Fault;
-pub use post::LanePost;
 pub use router_loop::Router;
+pub use routers_core::{Coordinator, Fault, LanePost, MAIN_THREAD, Wake};
 pub use source::{RETRY_AFTER, Source, SourceEvent, Timeout};
 pub use threads::{MainTask, RouterSetup, SeatSetup, serve};
 pub use trace_sink::{TraceSink, TraceWriter, traced};

@@ -4,13 +4,12 @@ ghost use Rattle.std.specs.Prelude.{◌≡◌};
 ghost use Rattle.routers.specs.Serving.{WorksOnBy};
 ghost use Rattle.routers.specs.Sources.{IsBrought};
 
-use crate::coordinator::{Coordinator, Wake};
-use crate::fault::Fault;
 use crate::source::{Source, SourceEvent, Timeout};
 use crate::trace_sink::TraceWriter;
 use bus_view::BusView;
 use router_core::Gate;
 use router_host::{Host, Post, Socket};
+use routers_core::{Coordinator, Fault, Wake};
 use std::alloc::AllocError;
 use std::marker::Model;
 use std::sync::Wait;

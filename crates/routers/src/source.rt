@@ -3,8 +3,8 @@
 ghost use Rattle.std.specs.Prelude.{IfSome};
 ghost use Rattle.routers.specs.Sources.{IsBrought};
 
-use crate::fault::Fault;
 use router_host::{Ended, OpenFault, Socket};
+use routers_core::Fault;
 use std::sync::Wait;
 
 /// How long is waited before what the system or memory refused is tried again, in milliseconds.

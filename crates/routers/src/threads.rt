@@ -3,9 +3,6 @@
 ghost use denote.Param.Send.{IsSend};
 ghost use Rattle.std.specs.Prelude.{◌≡◌};
 
-use crate::coordinator::{Coordinator, Wake};
-use crate::fault::Fault;
-use crate::post::LanePost;
 use crate::router_loop::Router;
 use crate::source::Source;
 use crate::trace_sink::{TraceSink, TraceWriter, traced};
@@ -15,6 +12,7 @@ use registry_snapshots::{Desk, Naming, Seat, Shared};
 use router::{Engine, Login};
 use router_core::Gate;
 use router_host::{Host, Post, Socket, StartRequest};
+use routers_core::{Coordinator, Fault, LanePost, Wake};
 use std::alloc::{AllocError, Global};
 use std::marker::PhantomData;
 use std::sync::Wait;

@@ -2,14 +2,12 @@
 
 ghost use Rattle.std.specs.Prelude.{◌≡◌};
 
-use crate::coordinator::Wake;
-use crate::fault::Fault;
-use crate::post::LanePost;
 use bus_view::BusView;
 use registry_snapshots::{Desk, Naming};
 use router::Traced;
 use router_core::Gate;
 use router_host::{Host, Post, Socket};
+use routers_core::{Fault, LanePost, Wake};
 use std::alloc::Global;
 use std::sync::Wait;
 

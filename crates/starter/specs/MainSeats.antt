@@ -4,7 +4,7 @@ use Rattle.seq_bus_core.specs.Histories.{History}
 use Rattle.outbox_core.specs.declared.envelope.Envelope.{Envelope}
 use Rattle.router_core.specs.declared.gate.OpenGate.{OpenGate}
 use Rattle.router_host_core.specs.declared.post.StartRequest.{StartRequest}
-use Rattle.routers.specs.Posts.{AsksFor, IsFullFor, Receives, Sends, Ways}
+use Rattle.routers_core.specs.Posts.{AsksFor, IsFullFor, Receives, Sends, Ways}
 use Rattle.starter.specs.declared.programs.Programs.{Ghosts as Programs}
 use Rattle.starter.specs.Starting.{MakesSteps}
 use Rattle.starter.specs.States.{StarterState}
