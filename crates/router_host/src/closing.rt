@@ -82,6 +82,7 @@ impl<V: BusView, G: Gate, P: Post<V>, S: Socket> Host<V, G, P, S> {
     fn note_ended(&mut self, key: usize, cause: EndCause)
         ensures { self.new ≡ self.old }
     {
+        self.gone = self.gone.saturating_add(1);
         if self.ended.len() < MOST_ENDED {
             let number = self.engine.number_of(key);
             let _unnoted = self.ended.push(Ended { key, number, cause });

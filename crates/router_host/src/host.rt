@@ -39,6 +39,8 @@ pub struct Host<V: BusView, G: Gate, P: Post<V>, S: Socket> {
     /// What was read last.
     pub(crate) room: Vec<u8>,
     pub(crate) ended: Vec<Ended>,
+    /// How many connections were let go of since this was asked last.
+    pub(crate) gone: u64,
     /// Which of these connections are present is to be checked at the next tick.
     pub(crate) check_due: bool,
     /// The last event seems to have added or removed rules. Such calls come in numbers, and share a
@@ -81,6 +83,7 @@ impl<V: BusView + Drop, G: Gate + Drop, P: Post<V>, S: Socket> Drop for Host<V, 
             kept,
             room,
             ended,
+            gone: _,
             check_due: _,
             changes_rules: _,
             untold: _,
@@ -115,6 +118,7 @@ impl<V: BusView + Drop, G: Gate + Drop, P: Post<V>, S: Socket> Host<V, G, P, S> 
             kept: None,
             room,
             ended: Vec::new(alloc),
+            gone: 0,
             check_due: false,
             changes_rules: false,
             untold: 0,
@@ -264,5 +268,13 @@ impl<V: BusView, G: Gate, P: Post<V>, S: Socket> Host<V, G, P, S> {
         ensures { self.new ≡ self.old }
     {
         mem::replace(&mut self.ended, Vec::new(self.alloc))
+    }
+
+    /// How many connections were let go of since this was asked last, also those that
+    /// [`take_ended`](Host::take_ended) does not tell.
+    pub fn take_gone(&mut self) -> u64
+        ensures { self.new ≡ self.old }
+    {
+        mem::replace(&mut self.gone, 0)
     }
 }

@@ -169,13 +169,13 @@ impl<'a, V: BusView, G: Gate, P: Post<V>, S: Socket, E: Source<S>, W: Wake + Dro
             self.old self.new }
     {
         if !self.source.watch(self.host.free_key(), &mut socket) {
-            self.coordinator.note_gone(self.me);
+            self.coordinator.note_gone(self.me, 1);
             return;
         }
         let opened = self.host.open(right, socket, challenge);
         if let Err(fault) = opened {
             self.source.refused(fault);
-            self.coordinator.note_gone(self.me);
+            self.coordinator.note_gone(self.me, 1);
         }
     }
 
@@ -215,14 +215,14 @@ impl<'a, V: BusView, G: Gate, P: Post<V>, S: Socket, E: Source<S>, W: Wake + Dro
         self.host.tick(right)
     }
 
-    /// Tells the source which connections are over.
+    /// Tells the source which connections are over, and that their places are free.
     fn tell_ended(&mut self)
         ensures same { self.new ≡ self.old }
     {
         for ended in self.host.take_ended() {
             self.source.ended(ended);
-            self.coordinator.note_gone(self.me);
         }
+        self.coordinator.note_gone(self.me, self.host.take_gone());
     }
 
     /// Tells the host what other routers brought.

@@ -332,11 +332,14 @@ impl<W: Wake + Drop> Coordinator<W> {
         self.mail.get(slot).is_some_and(|flag| lower(flag))
     }
 
-    /// A connection that came to a router is gone: it is over, or was not served. So the router has
-    /// a place for another one ([`has_place`](Coordinator::has_place)).
-    pub fn note_gone(&self, router: usize) {
+    /// So many connections that came to a router are gone: over, or not served. So the router has
+    /// places for others ([`has_place`](Coordinator::has_place)).
+    pub fn note_gone(&self, router: usize, count: u64) {
+        if count == 0 {
+            return;
+        }
         if let Some(state) = self.state(router) {
-            state.gone.fetch_add(1, Ordering::SeqCst);
+            state.gone.fetch_add(count, Ordering::SeqCst);
         }
     }
 

@@ -214,3 +214,29 @@ pub fn are_let_in(alloc: Global) -> bool {
     };
     are_both_served(alloc, &comer, &[SENT, WELCOME, ACQUIRED])
 }
+
+/// What a client sends that says Hello and hangs up.
+const GOES: &[&[u8]] = &[HELLO, b""];
+
+/// How many connections a host tells to be gone, once it has served a client that goes.
+fn gone_after(host: &mut ScriptedHost, alloc: Global) -> Result<u64, AllocError> {
+    let key = open(host, alloc, &plain(GOES))?;
+    serve(host, key);
+    Ok(host.take_gone())
+}
+
+/// Opens a host that serves a client that goes.
+fn gone_of_one(alloc: Global) -> Result<u64, AllocError> {
+    let mut host = open_host(alloc)?;
+    let gone = gone_after(&mut host, alloc);
+    drop(host);
+    gone
+}
+
+/// Whether a host tells of a client that goes, once, though there may be no memory to note why.
+pub fn is_told_gone(alloc: Global) -> bool {
+    match gone_of_one(alloc) {
+        Ok(count) => count == 1,
+        Err(AllocError) => gone_of_one(alloc) == Ok(1),
+    }
+}

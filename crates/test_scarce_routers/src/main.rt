@@ -1,7 +1,7 @@
 //! What routers do where memory is refused.
 //!
 //! The program lets a client in, and as the host of a router serves clients, also such as take
-//! nothing yet or say who they are, and relays between them. By two routers that share a registry
+//! nothing yet, say who they are or hang up, and relays between them. By two routers that share a registry
 //! it puts a client out. An engine it brings mail, lets calls wait there for a service, serves
 //! messages in one turn, lets its clients go and the next say who it is. It says of each whether
 //! all was answered as it should be: with what was wanted; or that memory ran out, all as it was
@@ -38,16 +38,18 @@ enum Part {
     Host,
     BlockedHost,
     AskingHost,
+    LeftHost,
     Relays,
     TwoRouters,
 }
 
 /// The parts before the engine, each by what it tells.
-const PARTS: [(&str, Part); 6] = [
+const PARTS: [(&str, Part); 7] = [
     ("authentication", Part::Authentication),
     ("host", Part::Host),
     ("a host that can't write yet", Part::BlockedHost),
     ("a host that asks who comes", Part::AskingHost),
+    ("a host whose client goes", Part::LeftHost),
     ("relays of a host", Part::Relays),
     ("two routers", Part::TwoRouters),
 ];
@@ -74,6 +76,7 @@ fn is_answered<R: Wait>(rt: &R, alloc: Global, part: Part) -> bool {
         Part::Host => hosts::are_served(alloc),
         Part::BlockedHost => hosts::are_served_late(alloc),
         Part::AskingHost => hosts::are_let_in(alloc),
+        Part::LeftHost => hosts::is_told_gone(alloc),
         Part::Relays => relays::are_relayed(alloc),
         Part::TwoRouters => two_routers::put_out(rt, alloc),
     }
