@@ -185,14 +185,15 @@ impl<'a, V: BusView, G: Gate, P: Post<V>, S: Socket, E: Source<S>, W: Wake + Dro
             self.old self.new }
     {
         self.take_flags();
-        self.end_login_time();
         let ticked = self.tick(right);
         let turned = self.host.turn(right);
         self.must_retry = ticked.is_err() || turned.is_err();
+        self.end_login_time();
         self.tell_ended();
     }
 
-    /// The login time passes, where there is anyone without a name.
+    /// The login time passes, where there is anyone without a name. That is looked at behind what
+    /// the turn served, so that it does not run once all have their names.
     fn end_login_time(&mut self)
         ensures serves { WorksOnBy V.BusView G.Gate P.Post E.Source S.Sink
             self.old self.new }

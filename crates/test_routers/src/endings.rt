@@ -60,6 +60,7 @@ const SILENT: Scenario = Scenario {
         Step::LoginTimePasses,
         Step::LoginTimePasses,
         Step::Awaits(Condition::Over(1)),
+        Step::Rests,
         Step::Sends(1, ClientMessage::GetNameOwner(":1.1")),
         Step::Awaits(Condition::Received(1, 3)),
         Step::Ends,

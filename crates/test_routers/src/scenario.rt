@@ -57,6 +57,8 @@ pub(crate) enum Step {
     TakesAll(ClientIndex),
     /// The time in which who connects is to have a name passes.
     LoginTimePasses,
+    /// Nothing, until the router waits for what happens and that time does not run.
+    Rests,
     /// The wait for what happens fails.
     Fails(Fault),
     /// Nothing happens any more.

@@ -22,6 +22,10 @@ pub(crate) struct ScenarioSource<'a, R: Wait + Clock> {
     steps: &'static [Step],
     /// The keys of the clients' sockets.
     keys: [usize; CLIENTS],
+    /// The login time runs.
+    is_timed: bool,
+    /// It waits until something happens, and the login time does not run.
+    is_resting: bool,
 }
 
 impl<'a, R: Wait + Clock> ScenarioSource<'a, R> {
@@ -37,6 +41,8 @@ impl<'a, R: Wait + Clock> ScenarioSource<'a, R> {
             me,
             steps,
             keys: [0; CLIENTS],
+            is_timed: false,
+            is_resting: false,
         }
     }
 
@@ -65,10 +71,12 @@ impl<'a, R: Wait + Clock> ScenarioSource<'a, R> {
     fn next_step(&mut self) -> Option<Step> {
         for _ in 0..self.steps.len() {
             let (step, rest) = self.steps.split_first()?;
-            let Step::Awaits(condition) = *step else {
-                return Some(*step);
+            let holds = match *step {
+                Step::Awaits(condition) => self.progress.holds(self.rt, self.me, condition),
+                Step::Rests => self.is_resting,
+                step => return Some(step),
             };
-            if !self.progress.holds(self.rt, self.me, condition) {
+            if !holds {
                 return None;
             }
             self.steps = rest;
@@ -86,6 +94,7 @@ impl<'a, R: Wait + Clock> Source<ClientSocket<'a, R>> for ScenarioSource<'a, R> 
     ghost asks = { λ _ _. Unit {0} };
 
     fn wait(&mut self, timeout: Timeout) -> Result<(), Fault> {
+        self.is_resting = timeout == Timeout::Never && !self.is_timed;
         let looks = match timeout {
             Timeout::Zero => 0,
             Timeout::Short => 1,
@@ -112,7 +121,7 @@ impl<'a, R: Wait + Clock> Source<ClientSocket<'a, R>> for ScenarioSource<'a, R> 
     fn next<Q: Wait>(&mut self, _rt: &Q) -> Option<SourceEvent<ClientSocket<'a, R>>> {
         let step = self.next_step()?;
         let event = match step {
-            Step::Awaits(_) | Step::LoginTimePasses | Step::Fails(_) => return None,
+            Step::Awaits(_) | Step::Rests | Step::LoginTimePasses | Step::Fails(_) => return None,
             Step::Connects(index) => self.accepted(index, None)?,
             Step::IsAsked(index) => self.accepted(index, Some([7; 16]))?,
             Step::Sends(index, message) => {
@@ -142,6 +151,7 @@ impl<'a, R: Wait + Clock> Source<ClientSocket<'a, R>> for ScenarioSource<'a, R> 
     }
 
     fn login_time_passes(&mut self, is_wanted: bool) -> bool {
+        self.is_timed = is_wanted;
         let Some(Step::LoginTimePasses) = self.next_step() else {
             return false;
         };
