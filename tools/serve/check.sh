@@ -355,7 +355,7 @@ told_to() {
 # Clients are let in who know the cookie, and nobody else. Whoever is closed for a fault, or is one too many without a
 # name, is told of where that is wanted.
 logins() {
-    local bus_name=org.freedesktop.DBus notice="busd: closed: 31: the first byte is not zero"
+    local bus_name=org.freedesktop.DBus notice="busd: unnamed: closed: 31: the first byte is not zero"
     begin routers=1 --verbose
     COOKIE=1000:c0ffee told_to "$bus_name :1.1" ask ListNames
     COOKIE=1000:decaf told_to "it isn't let in" ask ListNames
@@ -379,7 +379,7 @@ places() {
 # Who connects and says nothing is let go of after half a minute to a whole one; who has a name stays. That is waited for
 # beside all else, and for longer where the machine is slow.
 patience() {
-    start address=patient routers=1 --anonymous
+    start address=patient routers=1 --anonymous --verbose
     "$BUSD" "${words[@]}" > patient_said 2>&1 < /dev/null &
     patient=$!
     waits test -S patient || wrong "listens nowhere"
@@ -395,7 +395,8 @@ patience_ends() {
         wrong "lets go of a client that says nothing after $seconds s, with $names"
     kill "$patient"
     wait "$patient" || true
-    [ ! -s patient_said ] || wrong "says of a client that says nothing: $(< patient_said)"
+    [ "$(< patient_said)" = 'busd: unnamed: no name in time' ] ||
+        wrong "tells of a client that says nothing: $(< patient_said)"
     rm patient
     tried=$((tried + 1))
 }

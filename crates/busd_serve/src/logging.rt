@@ -28,7 +28,7 @@ impl fmt::Display for Notice {
     fn fmt<W: fmt::Write>(&self, f: &mut fmt::Formatter<W>) -> fmt::Result {
         match self.0.number {
             Some(number) => write!(f, "busd: :1.{number}: {}", self.0.cause)?,
-            None => write!(f, "busd: {}", self.0.cause)?,
+            None => write!(f, "busd: unnamed: {}", self.0.cause)?,
         }
         match self.0.cause {
             EndCause::Closed(cause) => {
