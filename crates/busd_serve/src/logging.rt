@@ -114,8 +114,4 @@ impl<R: Eprint + Clock> AcceptLog for AcceptLogger<'_, R> {
     fn failed(&mut self, error: &io::Error) {
         self.write(error);
     }
-
-    fn refused(&mut self) {
-        self.write(&"too many connections wait for a router");
-    }
 }

@@ -14,13 +14,13 @@ use std::time::Duration;
 /// The token of the listener.
 const LISTENER: Token = Token(0);
 
+/// How long is waited before it is looked whether a router has room again, in milliseconds.
+const ROOM_AFTER: u64 = 5;
+
 /// Who is told that connections can't be accepted.
 pub trait AcceptLog {
     /// The system refused to accept one.
     fn failed(&mut self, error: &io::Error);
-
-    /// A connection was closed, since its router's queue of new connections is full.
-    fn refused(&mut self);
 }
 
 /// What the thread that accepts does besides.
@@ -51,13 +51,15 @@ enum Accepted {
     All,
     /// More may wait.
     More,
-    /// It fails now, as where there are too many open files. Nothing tells when it no longer does.
+    /// None can be now, as where there are too many open files. Nothing tells when that is over.
     Later,
+    /// No router has room for one more. It will once it has had its turn.
+    NoRoom,
 }
 
 /// Accepts connections and hands them to the routers in turn, beside its chores. A router whose
-/// places are taken is passed over while others have some. What doesn't fit into a router's queue
-/// is closed.
+/// places are taken is passed over while others have some, and one whose queue is full until there
+/// is room. While no queue has any, connections wait with the system.
 #[derive(Drop)]
 pub struct Acceptor<'a, F: Read + Drop, L: AcceptLog + Drop, C: Chores + Drop> {
     poll: Poll,
@@ -117,37 +119,56 @@ impl<'a, F: Read + Drop, L: AcceptLog + Drop, C: Chores + Drop> Acceptor<'a, F, 
     fn accept_some<R: Wait>(&mut self, rt: &R) -> Result<Accepted, Fault> {
         let mut accepted = Accepted::More;
         for _ in 0..self.new_connections.len().saturating_mul(MAX_WAITING) {
-            match self.listener.accept() {
-                Ok((stream, _address)) => self.hand_over(rt, stream)?,
-                Err(error) => match error.kind() {
-                    ErrorKind::WouldBlock => {
-                        accepted = Accepted::All;
-                        break;
-                    }
-                    ErrorKind::Interrupted | ErrorKind::ConnectionAborted => {}
-                    _ => {
-                        self.log.failed(&error);
-                        accepted = Accepted::Later;
-                        break;
-                    }
-                },
+            accepted = self.accept_one(rt)?;
+            if accepted != Accepted::More {
+                break;
             }
         }
         self.coordinator.wake_owed();
         Ok(accepted)
     }
 
-    /// Hands a connection to a router, or closes it where that one's queue is full.
-    fn hand_over<R: Wait>(&mut self, rt: &R, stream: UnixStream) -> Result<(), Fault> {
+    /// Accepts a connection, if one waits and a router has room for it.
+    fn accept_one<R: Wait>(&mut self, rt: &R) -> Result<Accepted, Fault> {
+        let Some(router) = self.next_router() else {
+            return Ok(Accepted::NoRoom);
+        };
+        match self.listener.accept() {
+            Ok((stream, _address)) => {
+                self.hand_over(rt, router, stream)?;
+                Ok(Accepted::More)
+            }
+            Err(error) => Ok(self.accepted_with(&error)),
+        }
+    }
+
+    /// How it stands where the system accepted none.
+    fn accepted_with(&mut self, error: &io::Error) -> Accepted {
+        match error.kind() {
+            ErrorKind::WouldBlock => Accepted::All,
+            ErrorKind::Interrupted | ErrorKind::ConnectionAborted => Accepted::More,
+            _ => {
+                self.log.failed(error);
+                Accepted::Later
+            }
+        }
+    }
+
+    /// Hands a connection to a router, which has room for it: nobody else puts any into its queue.
+    fn hand_over<R: Wait>(
+        &mut self,
+        rt: &R,
+        router: usize,
+        stream: UnixStream,
+    ) -> Result<(), Fault> {
         let mut challenge = [0; 16];
         if self.random.read_exact(&mut challenge).is_err() {
             return Err(Fault::Random);
         }
-        let router = self.next_router();
         if let Some(new_connections) = self.new_connections.get(router) {
-            match new_connections.push(rt, NewConnection { stream, challenge }) {
-                Ok(()) => self.count_handed(router),
-                Err(_full) => self.log.refused(),
+            let new = NewConnection { stream, challenge };
+            if new_connections.push(rt, new).is_ok() {
+                self.count_handed(router);
             }
             self.coordinator.tell_of_connection(router);
         }
@@ -155,18 +176,31 @@ impl<'a, F: Read + Drop, L: AcceptLog + Drop, C: Chores + Drop> Acceptor<'a, F, 
         Ok(())
     }
 
-    /// The first router that has a place, from the one on whose turn it is; that one where none
-    /// has.
-    fn next_router(&self) -> usize {
+    /// The router that the next connection goes to: the first with room in its queue, from the one
+    /// on whose turn it is, of those that have a place. Where none has a place it is the first of
+    /// all, which answers that the bus is full.
+    fn next_router(&self) -> Option<usize> {
         let count = self.handed.len();
         let first = if self.next < count { self.next } else { 0 };
+        let any_will_do = !self.has_any_place();
         for steps in 0..count {
             let router = (first.saturating_add(steps)) % count.max(1);
-            if self.has_place(router) {
-                return router;
+            if self.has_room(router) && (any_will_do || self.has_place(router)) {
+                return Some(router);
             }
         }
-        first
+        None
+    }
+
+    fn has_any_place(&self) -> bool {
+        (0..self.handed.len()).any(|router| self.has_place(router))
+    }
+
+    /// Whether the queue of a router has room for one more.
+    fn has_room(&self, router: usize) -> bool {
+        self.new_connections
+            .get(router)
+            .is_some_and(|queue| !queue.is_full())
     }
 
     fn has_place(&self, router: usize) -> bool {
@@ -187,8 +221,8 @@ fn wait_of(accepted: Accepted, due: Option<u64>) -> Option<Duration> {
     let due = match (accepted, due) {
         (Accepted::All, due) => due?,
         (Accepted::More, _) => 0,
-        (Accepted::Later, Some(due)) => due.min(RETRY_AFTER),
-        (Accepted::Later, None) => RETRY_AFTER,
+        (Accepted::Later, due) => due.map_or(RETRY_AFTER, |due| due.min(RETRY_AFTER)),
+        (Accepted::NoRoom, due) => due.map_or(ROOM_AFTER, |due| due.min(ROOM_AFTER)),
     };
     Some(Duration::from_millis(due))
 }

@@ -3,7 +3,8 @@
 use crossbeam_queue::ArrayQueue;
 use mio::net::UnixStream;
 
-/// How many connections wait for a router at most, and come to it in a turn.
+/// How many connections wait for a router at most, and come to it in a turn. More wait with the
+/// system.
 pub const MAX_WAITING: usize = 64;
 
 /// A connection that was accepted, and what it is asked.
