@@ -191,6 +191,14 @@ service_files() {
     refused 4 'busd: services: 356.service: 59' services=many
     mkdir -p folder/a.service
     refused 4 'busd: device: input' services=folder
+    # A file whose name is no text, or ends otherwise, is none of a service.
+    service passed_over a "$group" 'Name=com.example.A' 'Exec=true'
+    service passed_over b "$group"
+    mv passed_over/b.service $'passed_over/\377.service'
+    : > passed_over/c
+    begin services=passed_over --anonymous
+    told_to "org.freedesktop.DBus com.example.A" ask ListActivatableNames
+    finish
 }
 
 # The first of several faults is told.
