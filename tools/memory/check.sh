@@ -2,7 +2,8 @@
 # Refuses each allocation of `busd run`, of the start of `busd serve`, of bus-check, and of test_scarce and
 # test_scarce_routers in turn, on all processors, and fails where one answers otherwise than it should. The first three
 # are started for each allocation, of the last two only the part runs again that makes it. What has passed on this
-# machine is not tried again: it is kept in the user's cache, by the checksum of all that was run and compared.
+# machine is not tried again: it is kept in the user's cache, by the checksum of all that was run and compared. At one
+# more start of `busd serve` the system has no memory for the socket.
 set -euo pipefail
 cd "$(dirname "$0")/../.."
 crates=$PWD/crates
@@ -73,6 +74,13 @@ run_serve() {
 
 judge_serve() {
     said 5 /dev/null "busd: memory" || said 4 /dev/null "$full"
+}
+
+# The system itself may have no memory for the socket.
+refuse_socket() {
+    own=$room
+    BIND=refused run_serve 0
+    said 5 /dev/null "busd: memory" || { echo "no memory for the socket: status $status, $(< "$own/err")"; exit 1; }
 }
 
 run_check() {
@@ -203,6 +211,7 @@ each() {
 
 each stream busd 'busd run' 0 "$crates/busd/stdout" ''
 each serve busd 'busd serve' 4 /dev/null "$full"
+refuse_socket
 each check trace_check bus-check 0 "$crates/trace_check/stdout" ''
 for scarce in test_scarce test_scarce_routers; do
     each scarce "$scarce" "$scarce" 0 "$crates/$scarce/stdout" ''

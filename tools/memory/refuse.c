@@ -1,12 +1,14 @@
 /* Refuses one allocation of a program, as glibc makes them: that whose number stands in REFUSE, counted from 1 as the
  * program begins. With ROUND it refuses one of each round, which ends with so many lines on standard output: they are
  * counted anew then, and the number refused is by STEP higher. At the end of the program two numbers are written to the
- * descriptor 9: how many allocations there were since the last round ended, and how many were refused in all. */
+ * descriptor 9: how many allocations there were since the last round ended, and how many were refused in all. With BIND
+ * no socket is given an address, for want of memory. */
 #define _GNU_SOURCE
 #include <errno.h>
 #include <stddef.h>
 #include <stdio.h>
 #include <stdlib.h>
+#include <sys/socket.h>
 #include <sys/syscall.h>
 #include <unistd.h>
 
@@ -50,6 +52,13 @@ void *aligned_alloc(size_t align, size_t size) { return is_refused() ? NULL : __
 int posix_memalign(void **block, size_t align, size_t size) {
     *block = is_refused() ? NULL : __libc_memalign(align, size);
     return *block ? 0 : ENOMEM;
+}
+
+int bind(int socket, const struct sockaddr *address, socklen_t length) {
+    if (!getenv("BIND"))
+        return syscall(SYS_bind, socket, address, length);
+    errno = ENOMEM;
+    return -1;
 }
 
 ssize_t write(int to, const void *bytes, size_t length) {

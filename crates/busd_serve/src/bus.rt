@@ -1,12 +1,13 @@
 //! A bus that clients can connect to.
 
+use crate::fault::listen_fault;
 use crate::login::LoginSettings;
 use crate::polls::{Polls, open_polls};
 use crate::runtime::DaemonRuntime;
 use crate::serving::serve_bus;
 use crate::tracing::{TraceFile, begin_files, open_files};
 use busd_core::{
-    Device, Options, ServeFault, SocketPath, TraceFiles, open_random, random_bytes, read_cookie,
+    Options, ServeFault, SocketPath, TraceFiles, open_random, random_bytes, read_cookie,
     read_services, rising_names,
 };
 use busd_sockets::{Entrance, NewConnections, PollWaker};
@@ -181,9 +182,7 @@ impl<'a> Bus<'a> {
         let prepared = prepare(rt, &options)?;
         keep_free_memory(rt.alloc());
         let path = options.path;
-        let Ok(listener) = UnixListener::bind(rt, path.as_str()) else {
-            return Err(ServeFault::Device(Device::Listen));
-        };
+        let listener = UnixListener::bind(rt, path.as_str()).map_err(listen_fault)?;
         match set_up(rt, options, prepared, listener) {
             Ok(made) => Ok(made),
             Err(fault) => {

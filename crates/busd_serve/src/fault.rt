@@ -9,6 +9,11 @@ pub(crate) fn poll_fault(error: io::Error) -> ServeFault {
     device_fault(error, Device::Poll)
 }
 
+/// The fault of the socket that clients connect to.
+pub(crate) fn listen_fault(error: io::Error) -> ServeFault {
+    device_fault(error, Device::Listen)
+}
+
 /// The fault of routers.
 pub(crate) fn fault_of(fault: Fault) -> ServeFault {
     match fault {
