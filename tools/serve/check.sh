@@ -669,6 +669,11 @@ sessions() {
     printf '#!/bin/sh\nexit 9\n' > a=b/nine
     chmod +x a=b/nine
     session 9 ./a=b/nine
+    # It hears of a pipe that nobody reads as its caller does, though the session itself ignores that.
+    local piped=0
+    sh -c 'kill -PIPE "$$"' || piped=$?
+    session "$piped" sh -c 'kill -PIPE "$$"'
+    unheard_sessions
     recorded_session
     renewed_key
     sessions_at_once
@@ -679,6 +684,33 @@ sessions() {
     HOME=$room/linked XDG_RUNTIME_DIR=$room/session timeout 20 "$session" true > out 2> err < /dev/null || status=$?
     [ "$status" = 0 ] && [ -z "$(find elsewhere session -mindepth 1)" ] || wrong "in a session with a link"
     killed_session
+}
+
+# unheard STATUS ARGUMENT..: a session whose standard error nobody reads ends so, and leaves nothing
+unheard() {
+    local wanted_status=$1
+    shift
+    mkfifo unread
+    # Opened for both first, as it opens for writing only where there is a reader.
+    exec 4<> unread 5> unread
+    exec 4>&-
+    status=0
+    HOME=$room/home XDG_RUNTIME_DIR=$room/session timeout 20 "$session" "$@" > out 2>&5 < /dev/null || status=$?
+    exec 5>&-
+    rm unread
+    tried=$((tried + 1))
+    [ "$status" = "$wanted_status" ] && [ -z "$(find home session -mindepth 1)" ] || wrong "in a session nobody hears: $*"
+}
+
+# What the session tells then is lost, and what its bus tells of connections.
+unheard_sessions() {
+    printf '#!/bin/sh\nexit 1\n' > no_bus.sh
+    chmod +x no_bus.sh
+    : > err
+    BUSD=$room/no_bus.sh unheard 125 true
+    unheard 0 --anonymous --verbose -- \
+        sh -c 'for asked in "bytes 41" "ask ListNames"; do "$0" "$DBUS_SESSION_BUS_ADDRESS" $asked || exit; done' "$client"
+    [ "$(< out)" = 'org.freedesktop.DBus :1.1' ] || wrong "in a session nobody hears: a client is told $(< out)"
 }
 
 nobody_runs() {
