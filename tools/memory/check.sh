@@ -2,8 +2,8 @@
 # Refuses each allocation of `busd run`, of the start of `busd serve`, of bus-check, and of test_scarce and
 # test_scarce_routers in turn, on all processors, and fails where one answers otherwise than it should. The first three
 # are started for each allocation, of the last two only the part runs again that makes it. What has passed on this
-# machine is not tried again: it is kept in the user's cache, by the checksum of all that was run and compared. At one
-# more start of `busd serve` the system has no memory for the socket.
+# machine is not tried again: it is kept in the user's cache, by the checksum of all that was run and compared. The system
+# refuses the socket and the threads of `busd serve`, too.
 set -euo pipefail
 cd "$(dirname "$0")/../.."
 crates=$PWD/crates
@@ -53,7 +53,7 @@ judge_stream() {
         said 5 "$room/welcome" "busd: memory" || said 5 "$crates/busd/stdout" "busd: memory"
 }
 
-# A daemon opens its bus, and ends since its address can't be told.
+# A daemon opens its bus, and ends since its address can't be told, where that is wanted.
 full='busd: device: output'
 printf '5 1700000000 c0ffee\n' > "$room/keyring"
 mkdir "$room/services"
@@ -61,26 +61,46 @@ for name in A B; do
     printf '%s\n' '[D-BUS Service]' "Name=com.example.$name" 'Exec=true one two' > "$room/services/$name.service"
 done
 
-run_serve() {
+# serve NUMBER OPTION..: runs a daemon so, with more options
+serve() {
     number=$1
+    shift
     status=0
     rm -rf "$own/bus" "$own/trace"
     mkdir "$own/trace"
     : > "$own/out"
     (cd "$own" && exec timeout 20 env REFUSE="$number" LD_PRELOAD="$room/refuse.so" "$crates/busd/out/busd" serve \
         --address bus --routers 2 --services "$room/services" --keyring "$room/keyring" --user 1000 --trace trace \
-        --print-address) > /dev/full 2> "$own/err" 9> "$own/count" || status=$?
+        "$@") > /dev/full 2> "$own/err" 9> "$own/count" || status=$?
+}
+
+run_serve() {
+    serve "$1" --print-address
 }
 
 judge_serve() {
     said 5 /dev/null "busd: memory" || said 4 /dev/null "$full"
 }
 
-# The system itself may have no memory for the socket.
-refuse_socket() {
+# lacks NAME VALUE: a daemon that is refused this by the system lacks memory, and leaves no socket.
+lacks() {
     own=$room
-    BIND=refused run_serve 0
-    said 5 /dev/null "busd: memory" || { echo "no memory for the socket: status $status, $(< "$own/err")"; exit 1; }
+    export "$1=$2"
+    serve 0
+    unset "$1"
+    said 5 /dev/null "busd: memory" && [ ! -e "$own/bus" ] && return
+    echo "busd serve under $1=$2: status $status, $(< "$own/err")"
+    exit 1
+}
+
+# Its threads are one that starts the programs of services, and behind it those of its two routers.
+refused_by_system() {
+    local thread
+    lacks REFUSE_BIND yes
+    for thread in 1 2 3; do
+        lacks REFUSE_THREAD "$thread"
+    done
+    echo "busd serve: its socket and its threads refused, each answered as it should be"
 }
 
 run_check() {
@@ -211,7 +231,7 @@ each() {
 
 each stream busd 'busd run' 0 "$crates/busd/stdout" ''
 each serve busd 'busd serve' 4 /dev/null "$full"
-refuse_socket
+refused_by_system
 each check trace_check bus-check 0 "$crates/trace_check/stdout" ''
 for scarce in test_scarce test_scarce_routers; do
     each scarce "$scarce" "$scarce" 0 "$crates/$scarce/stdout" ''

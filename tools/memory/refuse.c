@@ -1,14 +1,17 @@
 /* Refuses one allocation of a program, as glibc makes them: that whose number stands in REFUSE, counted from 1 as the
  * program begins. With ROUND it refuses one of each round, which ends with so many lines on standard output: they are
  * counted anew then, and the number refused is by STEP higher. At the end of the program two numbers are written to the
- * descriptor 9: how many allocations there were since the last round ended, and how many were refused in all. With BIND
- * no socket is given an address, for want of memory. */
+ * descriptor 9: how many allocations there were since the last round ended, and how many were refused in all.
+ *
+ * With REFUSE_BIND the system has no memory for the name of a socket, with REFUSE_THREAD it does not start the thread of
+ * that number. */
 #define _GNU_SOURCE
+#include <dlfcn.h>
 #include <errno.h>
+#include <pthread.h>
 #include <stddef.h>
 #include <stdio.h>
 #include <stdlib.h>
-#include <sys/socket.h>
 #include <sys/syscall.h>
 #include <unistd.h>
 
@@ -54,13 +57,6 @@ int posix_memalign(void **block, size_t align, size_t size) {
     return *block ? 0 : ENOMEM;
 }
 
-int bind(int socket, const struct sockaddr *address, socklen_t length) {
-    if (!getenv("BIND"))
-        return syscall(SYS_bind, socket, address, length);
-    errno = ENOMEM;
-    return -1;
-}
-
 ssize_t write(int to, const void *bytes, size_t length) {
     ssize_t written = syscall(SYS_write, to, bytes, length);
     int is_line = to == 1 && written > 0 && ((const char *)bytes)[written - 1] == '\n';
@@ -70,6 +66,23 @@ ssize_t write(int to, const void *bytes, size_t length) {
         refused += step;
     }
     return written;
+}
+
+int bind(int socket, const void *name, unsigned length) {
+    if (!getenv("REFUSE_BIND"))
+        return (int)syscall(SYS_bind, socket, name, length);
+    errno = ENOMEM;
+    return -1;
+}
+
+int pthread_create(pthread_t *thread, const pthread_attr_t *attributes, void *(*start)(void *), void *given) {
+    static int (*create)(pthread_t *, const pthread_attr_t *, void *(*)(void *), void *);
+    static long threads;
+    if (++threads == number_in("REFUSE_THREAD"))
+        return EAGAIN;
+    if (!create)
+        *(void **)&create = dlsym(RTLD_NEXT, "pthread_create");
+    return create(thread, attributes, start, given);
 }
 
 __attribute__((destructor)) static void tell(void) {

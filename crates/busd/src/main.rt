@@ -35,7 +35,7 @@ Exit status:
   3  `busd run`: the bus closed the connection
   4  a file, a socket or another device of the system fails, or a keyring or a
      service file does not read
-  5  there is no memory";
+  5  there is no memory, or `busd serve` can start no thread";
 
 /// What stands behind the help of `busd run`.
 const RUN_NOTES: &str =

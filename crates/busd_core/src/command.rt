@@ -32,7 +32,7 @@ Exit status:
   4  the keyring, a service file, or a device of the system fails: input (a file
      that is read), output (the standard one), trace (a file of it), random
      (/dev/urandom), listen (the socket), poll (word of what sockets are ready)
-  5  there is no memory";
+  5  there is no memory, or no thread can be started";
 
 fn value<'a>(alloc: Global, name: &'a str, shown: &'a str, help: &'a str) -> Arg<'a> {
     Arg::new(alloc, name)

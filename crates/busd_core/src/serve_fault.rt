@@ -61,6 +61,7 @@ pub enum ServeFault {
     Services { file: FileName, code: ServiceCode },
     #[error("device: {0}")]
     Device(Device),
+    /// There is no memory, or a thread can't be started.
     #[error("memory")]
     Memory,
 }

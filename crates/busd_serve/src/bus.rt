@@ -208,8 +208,9 @@ impl<'a> Bus<'a> {
     ///
     /// # Errors
     ///
-    /// What the system gave no more: memory, word of the sockets, random bytes, or files of the
-    /// trace that take its lines. Then all connections are closed.
+    /// What the system gave no more: memory, threads, which is told as want of memory, word of the
+    /// sockets, random bytes, or files of the trace that take its lines. Then all connections are
+    /// closed.
     pub fn serve<R: DaemonRuntime>(
         &self,
         rt: &R,
