@@ -101,6 +101,10 @@ fn options<'a>(alloc: Global) -> Result<Vec<Arg<'a>>, AllocError> {
 }
 
 /// The subcommand `serve`, whose matches [`Options::of`](crate::Options::of) reads.
+///
+/// # Errors
+///
+/// There is no memory for it.
 pub fn serve_command<'a>(alloc: Global) -> Result<Command<'a>, AllocError> {
     let options = options(alloc)?;
     Command::new(alloc, "serve")

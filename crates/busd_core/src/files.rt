@@ -22,7 +22,7 @@ fn cookie_of(alloc: Global, bytes: &[u8]) -> Result<Cookie, ServeFault> {
 /// # Errors
 ///
 /// `Device(Input)` where the file can't be read, `Keyring` where one of its lines isn't that of a
-/// cookie or there is none.
+/// cookie or it has none; `Memory` where there is no memory for what is read.
 pub fn read_cookie<R: Files + AllocGlobal>(rt: &R, path: &str) -> Result<Cookie, ServeFault> {
     match fs::read(rt, path) {
         Ok(bytes) => cookie_of(rt.alloc(), bytes.as_slice()),
@@ -34,7 +34,7 @@ pub fn read_cookie<R: Files + AllocGlobal>(rt: &R, path: &str) -> Result<Cookie,
 ///
 /// # Errors
 ///
-/// `Device(Random)` where there is none.
+/// `Device(Random)` where there is none, `Memory` where the system has no memory to open it.
 pub fn open_random<R: Files>(rt: &R) -> Result<R::File, ServeFault> {
     File::open(rt, "/dev/urandom").map_err(|error| device_fault(error, Device::Random))
 }
@@ -43,7 +43,7 @@ pub fn open_random<R: Files>(rt: &R) -> Result<R::File, ServeFault> {
 ///
 /// # Errors
 ///
-/// `Device(Random)` where it gives none.
+/// `Device(Random)` where it gives none, `Memory` where it does so for want of memory.
 pub fn random_bytes<F: Read>(source: &mut F) -> Result<[u8; 16], ServeFault> {
     let mut bytes = [0; 16];
     match source.read_exact(&mut bytes) {

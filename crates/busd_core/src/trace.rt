@@ -157,7 +157,8 @@ impl<F: OpenFile + Write + Drop> TraceFiles<'_, F> {
     ///
     /// # Errors
     ///
-    /// `Device(Trace)` where a file can't be written.
+    /// `Device(Trace)` where a file can't be written, `Memory` where there is no memory for the
+    /// head.
     pub fn begin<R: Files + AllocGlobal>(
         self,
         rt: &R,
@@ -196,7 +197,8 @@ impl<F: OpenFile + Write + Drop> TraceFiles<'_, F> {
 ///
 /// # Errors
 ///
-/// `Device(Trace)` where a file can't be opened or made.
+/// `Device(Trace)` where a file can't be opened or made, `Memory` where there is no memory for its
+/// path.
 pub fn open_trace<'a, R: Files + AllocGlobal>(
     rt: &R,
     folder: &'a str,

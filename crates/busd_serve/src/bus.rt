@@ -173,8 +173,9 @@ impl<'a> Bus<'a> {
     /// # Errors
     ///
     /// What is wrong at the start, the first of: the keyring, the services, the files of the trace,
-    /// random bytes, the socket, the polls, the trace that can't be written. Then no socket is left
-    /// that was made, and where there was one already, an earlier trace stands as it stood.
+    /// random bytes, the socket, the polls, the trace that can't be written; `Memory` where there
+    /// is none for one of them. Then no socket is left that was made, and where there was one
+    /// already, an earlier trace stands as it stood.
     pub fn open<R: Net + Files + AllocGlobal + Clone + Drop>(
         rt: &R,
         options: Options<'a>,
